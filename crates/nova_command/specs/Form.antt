@@ -1,0 +1,43 @@
+-- The form of the command line, and what words give to it.
+use Rattle.std.specs.Prelude.{ℕ, List, [], ◌∷◌, codes, Option, Some, None, fold}
+use Rattle.clap.specs.Walk.{Row, Rule, first_of}
+use Rattle.clap.specs.Simple.{App, matches_of, new_app, new_rule, with_rule}
+use Rattle.clap.specs.Kinds.{Kinds}
+use Rattle.clap.specs.Faults.{fault_of}
+
+-- the bytes of a word
+abbrev pub Text : Type 0
+Text = List ℕ
+
+-- `--limit N`, one million where it is not given
+abbrev pub limit_option : Rule
+limit_option =
+    record (new_rule (codes "limit")) { long = Some (codes "limit"); defaults = codes "1000000" ∷ [] }
+
+-- the word of the command, up to two names, and the limit
+abbrev pub form : App
+form = fold with_rule (new_app (codes "nova")) (new_rule (codes "command") ∷ new_rule (codes "first") ∷ new_rule (codes "second") ∷ limit_option ∷ [])
+
+-- what words give to each of the four
+pub record Given : Type 0 where
+  pub command : Option Text
+  pub first : Option Text
+  pub second : Option Text
+  pub limit : Option Text
+
+abbrev pub given_in : List Row → Given
+given_in rows = record {
+  command = first_of (codes "command") rows;
+  first = first_of (codes "first") rows;
+  second = first_of (codes "second") rows;
+  limit = first_of (codes "limit") rows;
+}
+
+-- nothing where there is a fault of some kind, as which a call for help counts too
+abbrev pub unless_fault : Kinds → Given → Option Given
+unless_fault [] given = Some given
+unless_fault (kind ∷ kinds) given = None
+
+-- what words give to the form, where the first of them is the program's name, or nothing
+unfoldable pub given : List Text → Option Given
+given words = unless_fault (fault_of form words) (given_in (matches_of form words))

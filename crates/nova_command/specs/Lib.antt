@@ -1,0 +1,6 @@
+pub mod Command
+pub mod CommandFault
+pub mod Form
+pub mod Limit
+pub mod Verb
+pub mod Words

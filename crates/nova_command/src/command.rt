@@ -1,0 +1,20 @@
+use crate::name::Name;
+
+/// What the program is asked to do.
+#[derive(Debug, Drop)]
+pub enum Command {
+    /// Run a scenario with one thread.
+    Solo {
+        /// The file of the scenario.
+        scenario: Name,
+
+        /// The most turns, from 1 to 10,000,000.
+        limit: u32,
+    },
+
+    /// Say whether a scenario is valid.
+    Check {
+        /// The file of the scenario.
+        scenario: Name,
+    },
+}

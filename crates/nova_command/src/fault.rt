@@ -1,0 +1,38 @@
+ghost use Rattle.std.specs.Prelude.{◌≡◌, Some};
+ghost use Rattle.nova_command.specs.declared.fault.CommandFault.TheVariants.{Memory};
+ghost use Rattle.nova_command.specs.CommandFault.{message_of};
+
+use std::alloc::AllocError;
+use std::error::Error;
+use std::fmt;
+
+/// Why no command was read.
+#[derive(Clone, Copy, Debug, PartialEq, Eq)]
+pub enum CommandFault {
+    /// The words are no command.
+    Usage,
+
+    /// Memory was refused.
+    Memory,
+}
+
+impl fmt::Display for CommandFault {
+    ghost output = { λ fault. Some (message_of fault) };
+
+    fn fmt<W: fmt::Write>(&self, f: &mut fmt::Formatter<W>) -> fmt::Result {
+        f.write_str(match self {
+            CommandFault::Usage => "usage: nova run|solo|check|bench NAME [ORDER] [--limit N]",
+            CommandFault::Memory => "out of memory",
+        })
+    }
+}
+
+impl Error for CommandFault {}
+
+impl From<AllocError> for CommandFault {
+    ghost from_gives = { λ _ fault. fault ≡ Memory };
+
+    fn from(_: AllocError) -> Self {
+        CommandFault::Memory
+    }
+}

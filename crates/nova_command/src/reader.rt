@@ -1,0 +1,60 @@
+// Words to a command.
+ghost use Rattle.std.specs.Prelude.{◌≡◌, map, string_bytes, IfOk};
+ghost use Rattle.clap.specs.Walk.{rows_of};
+ghost use Rattle.clap.specs.Matches.{found_of};
+ghost use Rattle.nova_command.specs.Form.{given_in};
+ghost use Rattle.nova_command.specs.Command.{command, command_of, HasLimit};
+ghost use Rattle.nova_command.specs.CommandFault.{Answers};
+
+use crate::command::Command;
+use crate::fault::CommandFault;
+use crate::form::{matches_of, text_of, with_program_name};
+use crate::limit::read_limit;
+use crate::name::Name;
+use crate::verb::Verb;
+use clap::ArgMatches;
+use std::alloc::{AllocError, Global};
+
+/// Reads the words behind the program's own name as a command: `solo NAME` or `check NAME`, with the option `--limit N`
+/// anywhere among them.
+///
+/// N is decimal digits, or `0x` and hexadecimal digits, and a number from 1 to 10,000,000, for `check` too, which has no
+/// use for it; where it is not given, the limit is 1,000,000. `Usage` comes exactly where the words are no command, and
+/// asking for help or for the version is none. `Memory` says nothing of the words.
+#[tactic(auto, unfolding(crate::specs::Command::command))]
+pub fn read_command(alloc: Global, words: &[String]) -> Result<Command, CommandFault>
+    ensures exact { Answers (command (map string_bytes words.now)) result }
+    ensures limit { IfOk result HasLimit }
+{
+    let named = with_program_name(alloc, words)?;
+    let matches = matches_of(alloc, named.as_slice())?;
+    command_of(alloc, &matches)
+}
+
+/// The command that was given, of its verb, its names and its limit.
+fn command_of(alloc: Global, matches: &ArgMatches) -> Result<Command, CommandFault>
+    ensures exact { Answers (command_of (given_in (rows_of (found_of matches.now)))) result }
+    ensures limit { IfOk result HasLimit }
+{
+    let verb = text_of(matches, "command").and_then(Verb::from_word);
+    let first = text_of(matches, "first");
+    let second = text_of(matches, "second");
+    let limit = text_of(matches, "limit").and_then(read_limit);
+    match (verb, first, second, limit) {
+        (Some(Verb::Solo), Some(scenario), None, Some(limit)) => Ok(Command::Solo {
+            scenario: name_of(alloc, scenario)?,
+            limit,
+        }),
+        (Some(Verb::Check), Some(scenario), None, Some(_)) => Ok(Command::Check {
+            scenario: name_of(alloc, scenario)?,
+        }),
+        _ => Err(CommandFault::Usage),
+    }
+}
+
+/// A text as a name of its own.
+fn name_of(alloc: Global, text: &str) -> Result<Name, AllocError>
+    ensures { IfOk result (λ name. name ≡ text.now) }
+{
+    Ok(Name::from(String::from_str(alloc, text)?))
+}

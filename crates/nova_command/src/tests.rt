@@ -1,0 +1,89 @@
+use super::*;
+use std::alloc::{AllocError, Global};
+use std::test::Fail;
+
+/// What a line of words asks for, as text.
+fn asked(alloc: Global, line: &str) -> Result<String, AllocError> {
+    let mut words = Vec::new(alloc);
+    for word in line.split_whitespace() {
+        words.push(String::from_str(alloc, word)?)?;
+    }
+    match read_command(alloc, words.as_slice()) {
+        Ok(Command::Solo { scenario, limit }) => {
+            let name = scenario.as_str();
+            format!(in alloc; "run {name} for {limit}")
+        }
+        Ok(Command::Check { scenario }) => {
+            let name = scenario.into_string();
+            format!(in alloc; "check {name}")
+        }
+        Err(fault) => format!(in alloc; "{fault}"),
+    }
+}
+
+#[test]
+fn reads_commands(rt: HostRuntime) -> Result<(), Fail> {
+    for (line, meant) in [
+        ("solo a", "run a for 1000000"),
+        ("check a", "check a"),
+        ("solo a --limit 7", "run a for 7"),
+        ("solo a --limit 007", "run a for 7"),
+        ("solo a --limit=0x10", "run a for 16"),
+        ("solo --limit=0xfF a", "run a for 255"),
+        ("--limit 5 solo a", "run a for 5"),
+        ("solo a --limit 1", "run a for 1"),
+        ("solo a --limit 10000000", "run a for 10000000"),
+        ("check a --limit 7", "check a"),
+        ("solo -- a", "run a for 1000000"),
+        ("-- solo a", "run a for 1000000"),
+        ("solo -- --limit", "run --limit for 1000000"),
+        ("solo -", "run - for 1000000"),
+        ("check solo", "check solo"),
+    ] {
+        let read = asked(rt.alloc(), line)?;
+        assert_eq!(rt; read.as_str(), meant, "at {line}");
+    }
+    Ok(())
+}
+
+#[test]
+fn refuses_other_words(rt: HostRuntime) -> Result<(), Fail> {
+    for line in [
+        "",
+        "solo",
+        "check",
+        "solo a b",
+        "solo a b c",
+        "check a b",
+        "run a b",
+        "bench 7",
+        "Solo a",
+        "a solo",
+        "check a --limit 0",
+        "solo a --limit 10000001",
+        "solo a --limit 4294967297",
+        "solo a --limit 0X1",
+        "solo a --limit 0x",
+        "solo a --limit -1",
+        "solo a --limit=",
+        "solo a --limit",
+        "solo a --limit 5 --limit 6",
+        "solo a --lim 5",
+        "solo a --turns 5",
+        "solo -a",
+        "help",
+        "--help",
+        "-h",
+        "solo a --help",
+        "--version",
+        "-V",
+    ] {
+        let read = asked(rt.alloc(), line)?;
+        assert_eq!(rt;
+            read.as_str(),
+            "usage: nova run|solo|check|bench NAME [ORDER] [--limit N]",
+            "at {line}"
+        );
+    }
+    Ok(())
+}

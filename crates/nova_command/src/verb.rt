@@ -1,0 +1,23 @@
+ghost use Rattle.std.specs.Prelude.{◌≡◌};
+
+/// What a command's first word tells the program to do.
+#[derive(Clone, Copy)]
+pub(crate) enum Verb {
+    Solo,
+    Check,
+}
+
+impl Verb {
+    ghost use Rattle.nova_command.specs.Verb.{verb_of};
+
+    /// The verb that a word stands for.
+    pub(crate) fn from_word(word: &str) -> Option<Verb>
+        ensures { result ≡ verb_of word.now }
+    {
+        match word {
+            "solo" => Some(Verb::Solo),
+            "check" => Some(Verb::Check),
+            _ => None,
+        }
+    }
+}

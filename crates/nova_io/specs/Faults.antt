@@ -1,0 +1,19 @@
+-- Counts of faults, and of calls.
+use Rattle.std.specs.Prelude.{◌≡◌, ℕ, ◌+◌, ◌-◌, ◌^◌, ◌<◌, ◌≤◌, ◌⊎◌, min, List}
+
+-- the count rose; one that stood at its last value counts as risen
+abbrev pub Rose : ℕ → ℕ → Type 0
+Rose before after = (before < after) ⊎ (before ≡ 2 ^ 64 - 1)
+
+-- the count of no name fell
+abbrev pub NeverFalls : (List ℕ → ℕ) → (List ℕ → ℕ) → Type 0
+NeverFalls before after = (name : List ℕ) → before name ≤ after name
+
+-- one more, up to the last value
+abbrev pub raised : ℕ → ℕ
+raised count = min (count + 1) (2 ^ 64 - 1)
+
+-- the faults of a depot that tells one number of each kind for every name
+pub record FaultCounts : Type 0 where
+  pub fetches : ℕ
+  pub appends : ℕ

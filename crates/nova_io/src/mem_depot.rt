@@ -1,0 +1,167 @@
+// A depot in memory.
+ghost use Rattle.std.specs.Prelude.{◌≡◌, ◌-◌, ◌^◌, ◌<◌, ◌≤◌, ◌⊎◌, ◌↔◌, None, Some, true, false, length, take, drop, min, IsErr, IfOk, OnOk, OnErr, Contains};
+ghost use Rattle.std.specs.Option.{option_map};
+ghost use Rattle.std.specs.FinMap.{get};
+ghost use Rattle.nova_io.specs.Faults.{Rose, raised};
+ghost use Rattle.nova_io.specs.Files.{bytes_of, appended};
+ghost use Rattle.nova_io.specs.Held.{files_given, rooms_given};
+ghost use Rattle.nova_io.specs.Memory.{after_call, room_of, lowered};
+
+use crate::calls::Calls;
+use crate::depots::Depot;
+use crate::faults::Failed;
+use crate::held::{Held, MemFile, hold, put, store_of};
+use std::alloc::{AllocError, Global};
+use std::marker::Model;
+
+/// A depot that keeps its files in memory, and tells them.
+///
+/// A fetch gives what there is and the buffer takes, and an append takes the whole piece. A call is a fault if its
+/// number is among those that are to fail, a fetch also if there is no file of that name, and an append if the piece is
+/// longer than the room that is left to the file. A name without a file has no room. Fetches and appends are numbered
+/// apart, from 1, and each of these two kinds has one count of faults for every name.
+#[derive(Drop)]
+pub struct MemDepot {
+    files: Vec<Held>,
+    fetches: Calls,
+    appends: Calls,
+}
+
+impl Model for MemDepot {
+    ghost use Rattle.nova_io.specs.Memory.{DepotState, depot_code};
+
+    ghost Value = { DepotState };
+
+    ghost coded = { depot_code };
+
+    ghost use Rattle.nova_io.specs.Held.{files_held, rooms_held};
+
+    ghost view = { λ d. record {
+      files = files_held d.files.items;
+      rooms = rooms_held d.files.items;
+      fetches = d.fetches;
+      appends = d.appends;
+    } };
+}
+
+impl MemDepot {
+    /// A depot of these files, of whose fetches and appends those with these numbers are to fail. Of files with one name
+    /// the first counts.
+    pub fn new(
+        alloc: Global,
+        files: Vec<MemFile>,
+        fetches: Vec<u64>,
+        appends: Vec<u64>,
+    ) -> Result<MemDepot, AllocError>
+        ensures { IfOk result (λ depot. depot ≡ record {
+          files = files_given files.items;
+          rooms = rooms_given files.items;
+          fetches = record { made = 0; faults = 0; failing = fetches.items };
+          appends = record { made = 0; faults = 0; failing = appends.items };
+        }) }
+    {
+        Ok(MemDepot {
+            files: hold(alloc, files)?,
+            fetches: Calls::new(fetches),
+            appends: Calls::new(appends),
+        })
+    }
+
+    /// The bytes of a file, or None where there is no such name.
+    pub fn bytes(&self, name: &str) -> Option<&[u8]>
+        ensures { option_map (λ bytes. bytes.now) result ≡ get self.now.files name.now }
+    {
+        let store = store_of(&self.files, name)?;
+        Some(store.bytes())
+    }
+}
+
+impl Depot for MemDepot {
+    ghost files = { λ d. Some d.files };
+
+    ghost fetch_faults = { λ d _. d.fetches.faults };
+
+    ghost append_faults = { λ d _. d.appends.faults };
+
+    fn fetch(&mut self, name: &str, at: u64, buf: &mut [u8]) -> Result<usize, Failed>
+        requires { at < 2 ^ 62 }
+        ensures fails { IsErr result ↔ (Contains self.old.fetches.failing (raised self.old.fetches.made)
+            ⊎ (get self.old.files name.now ≡ None)) }
+        ensures count { IfOk result (λ count. count ≡ min (length (bytes_of self.old.files name.now) - at) (length buf.new)) }
+        ensures front { IfOk result (λ count. take count buf.new ≡ take count (drop at (bytes_of self.old.files name.now))) }
+        ensures rest { IfOk result (λ count. drop count buf.new ≡ drop count buf.old) }
+        ensures given { OnOk result (self.new ≡ record self.old { fetches = after_call self.old.fetches false }) }
+        ensures refused { OnErr result (self.new ≡ record self.old { fetches = after_call self.old.fetches true }) }
+        ensures failed { OnErr result (Rose self.old.fetches.faults self.new.fetches.faults) }
+    {
+        if self.fetches.begin() {
+            return Err(self.fetches.fault());
+        }
+        match store_of(&self.files, name) {
+            Some(store) => Ok(store.copy_to(at, buf)),
+            None => Err(self.fetches.fault()),
+        }
+    }
+
+    fn append(&mut self, name: &str, bytes: &[u8]) -> Result<usize, Failed>
+        ensures fails { IsErr result ↔ (Contains self.old.appends.failing (raised self.old.appends.made)
+            ⊎ (room_of self.old.rooms name.now < length bytes.now)) }
+        ensures count { IfOk result (λ count. count ≡ length bytes.now) }
+        ensures taken { OnOk result (self.new ≡ record self.old {
+          files = appended self.old.files name.now bytes.now;
+          rooms = lowered self.old.rooms name.now (length bytes.now);
+          appends = after_call self.old.appends false;
+        }) }
+        ensures refused { OnErr result (self.new ≡ record self.old { appends = after_call self.old.appends true }) }
+        ensures failed { OnErr result (Rose self.old.appends.faults self.new.appends.faults) }
+    {
+        if self.appends.begin() || !put(&mut self.files, name, bytes) {
+            return Err(self.appends.fault());
+        }
+        Ok(bytes.len())
+    }
+}
+
+#[cfg(test)]
+mod tests {
+    use super::*;
+    use crate::{append_all, fetch_all};
+
+    /// A depot of one file.
+    fn depot(
+        alloc: Global,
+        room: u64,
+        fetches: &[u64],
+        appends: &[u64],
+    ) -> Result<MemDepot, AllocError> {
+        let name = String::from_str(alloc, "log")?;
+        let bytes = Vec::from_slice(alloc, b"ab")?;
+        let files = vec![in alloc; MemFile { name, bytes, room }]?;
+        MemDepot::new(alloc, files, fetches.to_vec(alloc)?, appends.to_vec(alloc)?)
+    }
+
+    #[test]
+    fn gives_whole_files(rt: HostRuntime) {
+        let mut depot = depot(rt.alloc(), 0, &[3], &[]).expect(&rt, "memory");
+        for (name, most, is_whole) in [
+            ("log", 2, true),
+            ("log", 2, false),
+            ("log", 1, false),
+            ("lo", 2, false),
+        ] {
+            let result = fetch_all(rt.alloc(), &mut depot, name, most);
+            assert!(rt; result.is_ok_and(|bytes| bytes.as_slice() == b"ab".as_slice()) == is_whole);
+        }
+    }
+
+    #[test]
+    fn takes_what_fits(rt: HostRuntime) {
+        let mut depot = depot(rt.alloc(), 5, &[], &[2]).expect(&rt, "memory");
+        for (piece, is_taken) in [("cd", true), ("e", false), ("efgh", false), ("efg", true)] {
+            let result = append_all(&mut depot, "log", piece.as_bytes());
+            assert!(rt; result.is_ok() == is_taken, "{piece}");
+        }
+        let bytes = depot.bytes("log");
+        assert!(rt; bytes == Some(b"abcdefg".as_slice()));
+    }
+}

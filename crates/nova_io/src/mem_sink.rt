@@ -1,0 +1,94 @@
+// A sink in memory.
+ghost use Rattle.std.specs.Prelude.{◌≡◌, ◌+◌, ◌-◌, ◌<◌, ◌≤◌, ◌⊎◌, ◌↔◌, ◌++◌, [], Some, length, take, true, false, is_err, IsErr, IfOk, OnOk, OnErr, Contains};
+ghost use Rattle.std.specs.Io.KnownBytes.{append_known};
+ghost use Rattle.nova_io.specs.Faults.{Rose, raised};
+ghost use Rattle.nova_io.specs.Memory.{after_call};
+
+use crate::calls::Calls;
+use crate::faults::Failed;
+use crate::sinks::Sink;
+use crate::stores::Store;
+use std::alloc::{AllocError, Global};
+use std::marker::Model;
+
+/// A sink that keeps what is written in memory.
+///
+/// A write takes the whole piece. It is a fault if its number is among those that are to fail, or if the piece is
+/// longer than the room that is left. Writes are numbered from 1.
+#[derive(Drop)]
+pub struct MemSink {
+    store: Store,
+    writes: Calls,
+}
+
+impl Model for MemSink {
+    ghost use Rattle.nova_io.specs.Memory.{SinkState};
+
+    ghost Value = { SinkState };
+
+    ghost view = { λ s. record { bytes = s.store.bytes; room = s.store.room; writes = s.writes } };
+}
+
+impl MemSink {
+    /// An empty sink with room for so many bytes, of whose writes those with these numbers are to fail.
+    pub fn new(alloc: Global, room: u64, writes: Vec<u64>) -> Result<MemSink, AllocError>
+        ensures { IfOk result (λ sink. sink ≡ record {
+          bytes = [];
+          room = room;
+          writes = record { made = 0; faults = 0; failing = writes.items };
+        }) }
+    {
+        Ok(MemSink {
+            store: Store::new(Vec::new(alloc), room)?,
+            writes: Calls::new(writes),
+        })
+    }
+
+    /// The bytes that were taken.
+    pub fn bytes(&self) -> &[u8]
+        ensures { result.now ≡ self.now.bytes }
+    {
+        self.store.bytes()
+    }
+}
+
+impl Sink for MemSink {
+    ghost written = { λ s. Some s.bytes };
+
+    ghost faults = { λ s. s.writes.faults };
+
+    fn write(&mut self, bytes: &[u8]) -> Result<usize, Failed>
+        ensures fails { IsErr result ↔ (Contains self.old.writes.failing (raised self.old.writes.made)
+            ⊎ (self.old.room < length bytes.now)) }
+        ensures count { IfOk result (λ count. count ≡ length bytes.now) }
+        ensures taken { OnOk result (self.new ≡ record {
+          bytes = self.old.bytes ++ bytes.now;
+          room = self.old.room - length bytes.now;
+          writes = after_call self.old.writes false;
+        }) }
+        ensures refused { OnErr result (self.new ≡ record self.old { writes = after_call self.old.writes true }) }
+        ensures failed { OnErr result (Rose self.old.writes.faults self.new.writes.faults) }
+    {
+        if self.writes.begin() || !self.store.put(bytes) {
+            return Err(self.writes.fault());
+        }
+        Ok(bytes.len())
+    }
+}
+
+#[cfg(test)]
+mod tests {
+    use super::*;
+    use crate::write_all;
+
+    #[test]
+    fn keeps_what_fits(rt: HostRuntime) {
+        let writes = vec![in rt.alloc(); 2].expect(&rt, "memory");
+        let mut sink = MemSink::new(rt.alloc(), 5, writes).expect(&rt, "memory");
+        for (piece, is_taken) in [("ab", true), ("cd", false), ("cdef", false), ("cde", true)] {
+            let result = write_all(&mut sink, piece.as_bytes());
+            assert!(rt; result.is_ok() == is_taken, "{piece}");
+        }
+        assert!(rt; sink.bytes() == b"abcde".as_slice());
+    }
+}

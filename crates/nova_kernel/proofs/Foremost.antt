@@ -1,0 +1,111 @@
+-- The best that a search keeps is the one before which no other goes.
+use Rattle.std.proofs.Common.{◌≡◌, ℕ, ◌++◌, List, [], ◌∷◌, refl, ap, ◌∙◌, sym, arith, append_assoc}
+use Rattle.std.specs.Prelude.{Bool, true, false, not, Option, Some, None, if◌then◌else◌}
+use Rattle.std.specs.List.{find, list_all}
+use Rattle.std.proofs.lemmas.List.{append-nil}
+use Rattle.std.proofs.lemmas.List.Folds.{list_all-append}
+use Rattle.nova_model.specs.Choice.{goes_before, foremost, choice, candidates}
+use Rattle.nova_model.specs.State.{KernelState}
+use Rattle.nova_model.specs.declared.budget.Candidate.{Candidate}
+use Rattle.nova_kernel.specs.Best.{better}
+
+-- the best of the one so far and those of a list
+abbrev pub best_of : Option Candidate → List Candidate → Option Candidate
+best_of best [] = best
+best_of best (c ∷ cs) = best_of (better best (Some c)) cs
+
+goes_before-self : (a : Candidate) → goes_before a a ≡ false
+goes_before-self a = grind arith
+
+goes_before-back : (a b : Candidate) → goes_before a b ≡ true → goes_before b a ≡ false
+goes_before-back a b h = grind arith
+
+goes_before-through : (a b c : Candidate) → goes_before a b ≡ true → goes_before b c ≡ true → goes_before a c ≡ true
+goes_before-through a b c h k = grind arith
+
+-- one that goes before another goes before all that don't go before that
+goes_before-past : (a b c : Candidate) → goes_before a b ≡ true → goes_before c b ≡ false → goes_before a c ≡ true
+goes_before-past a b c h k = grind arith
+
+-- one that goes before a second, which goes before all of these
+list_all-through : (a b : Candidate) (cs : List Candidate) → goes_before a b ≡ true →
+    list_all (λ c. goes_before b c) cs ≡ true → list_all (λ c. goes_before a c) cs ≡ true
+list_all-through a b [] h all = refl
+list_all-through a b (c ∷ cs) h all = grind (arith, list_all-through a b cs h, goes_before-through a b c h)
+
+list_all-past : (a b : Candidate) (cs : List Candidate) → goes_before a b ≡ true →
+    list_all (λ c. not (goes_before c b)) cs ≡ true → list_all (λ c. goes_before a c) cs ≡ true
+list_all-past a b [] h all = refl
+list_all-past a b (c ∷ cs) h all = grind (arith, list_all-past a b cs h, goes_before-past a b c h)
+
+list_all-back : (b : Candidate) (cs : List Candidate) → list_all (λ c. goes_before b c) cs ≡ true →
+    list_all (λ c. not (goes_before c b)) cs ≡ true
+list_all-back b [] all = refl
+list_all-back b (c ∷ cs) all = grind (arith, list_all-back b cs, goes_before-back b c)
+
+-- nothing of these is found where b stands among all and goes before each
+find-past : (b : Candidate) (front back some rest : List Candidate) → list_all (λ c. goes_before b c) some ≡ true →
+    find (λ a. list_all (λ c. not (goes_before c a)) (front ++ b ∷ back)) (some ++ rest)
+    ≡ find (λ a. list_all (λ c. not (goes_before c a)) (front ++ b ∷ back)) rest
+find-past b front back [] rest all = refl
+find-past b front back (a ∷ some) rest all =
+    grind (arith, find-past b front back some rest, list_all-append (λ c. not (goes_before c a)) front (b ∷ back))
+
+-- b stands behind those that it goes before, and none of those behind it goes before it
+record IsBest (front : List Candidate) (b : Candidate) (back : List Candidate) : Type 0 where
+  before_front : list_all (λ c. goes_before b c) front ≡ true
+  none_behind : list_all (λ c. not (goes_before c b)) back ≡ true
+
+foremost-best : (front : List Candidate) (b : Candidate) (back : List Candidate) → IsBest front b back →
+    foremost (front ++ b ∷ back) ≡ Some b
+foremost-best front b back best =
+    let first : list_all (λ c. not (goes_before c b)) (front ++ b ∷ back) ≡ true =
+    grind (arith, list_all-append (λ c. not (goes_before c b)) front (b ∷ back), list_all-back b front best.before_front, best.none_behind, goes_before-self b) in
+    find-past b front back front (b ∷ back) best.before_front ∙ grind (arith, first)
+
+-- what a further one makes of the best
+IsBest-kept : (front : List Candidate) (b : Candidate) (back : List Candidate) (c : Candidate) → IsBest front b back →
+    goes_before c b ≡ false → IsBest front b (back ++ c ∷ [])
+IsBest-kept front b back c best h = record {
+  before_front = best.before_front;
+  none_behind = grind (arith, list_all-append (λ a. not (goes_before a b)) back (c ∷ []), best.none_behind);
+}
+
+IsBest-changed : (front : List Candidate) (b : Candidate) (back : List Candidate) (c : Candidate) → IsBest front b back →
+    goes_before c b ≡ true → IsBest (front ++ b ∷ back) c []
+IsBest-changed front b back c best h = record {
+  before_front = grind (arith, list_all-append (λ a. goes_before c a) front (b ∷ back), list_all-through c b front h best.before_front, list_all-past c b back h best.none_behind);
+  none_behind = refl;
+}
+
+-- a further one: with the better of both, the rest gives the foremost of all
+best_of-further : (front : List Candidate) (b : Candidate) (back : List Candidate) (c : Candidate) (rest : List Candidate) → IsBest front b back →
+    ((f : List Candidate) (a : Candidate) (k : List Candidate) → IsBest f a k → best_of (Some a) rest ≡ foremost ((f ++ a ∷ k) ++ rest)) →
+    (t : Bool) → goes_before c b ≡ t →
+    best_of (if t then Some c else Some b) rest ≡ foremost ((front ++ b ∷ back) ++ c ∷ rest)
+best_of-further front b back c rest best others true h =
+    let e : ((front ++ b ∷ back) ++ c ∷ []) ++ rest ≡ (front ++ b ∷ back) ++ c ∷ rest = append_assoc (front ++ b ∷ back) (c ∷ []) rest in
+    others (front ++ b ∷ back) c [] (IsBest-changed front b back c best h) ∙ ap foremost e
+best_of-further front b back c rest best others false h =
+    let e : (front ++ b ∷ (back ++ c ∷ [])) ++ rest ≡ (front ++ b ∷ back) ++ c ∷ rest =
+    append_assoc front (b ∷ (back ++ c ∷ [])) rest
+    ∙ ap (λ (l : List Candidate). front ++ b ∷ l) (append_assoc back (c ∷ []) rest)
+    ∙ sym (append_assoc front (b ∷ back) (c ∷ rest)) in
+    others front b (back ++ c ∷ []) (IsBest-kept front b back c best h) ∙ ap foremost e
+
+best_of-some : (front : List Candidate) (b : Candidate) (back rest : List Candidate) → IsBest front b back →
+    best_of (Some b) rest ≡ foremost ((front ++ b ∷ back) ++ rest)
+best_of-some front b back [] best =
+    let e : (front ++ b ∷ back) ++ [] ≡ front ++ b ∷ back = append-nil (front ++ b ∷ back) in
+    sym (ap foremost e ∙ foremost-best front b back best)
+best_of-some front b back (c ∷ rest) best =
+    best_of-further front b back c rest best (λ f a k h. best_of-some f a k rest h) (goes_before c b) refl
+
+pub best_of-foremost : (cs : List Candidate) → best_of None cs ≡ foremost cs
+best_of-foremost [] = refl
+best_of-foremost (c ∷ cs) = best_of-some [] c [] cs (record { before_front = refl; none_behind = refl })
+
+-- a search that ended has the choice
+pub choice-best : (k : KernelState) (cpu : ℕ) (best : Option Candidate) → best_of best [] ≡ best_of None (candidates k cpu) → best ≡ choice k cpu
+unfolding choice
+choice-best k cpu best h = h ∙ best_of-foremost (candidates k cpu)

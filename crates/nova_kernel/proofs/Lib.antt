@@ -1,0 +1,5 @@
+pub mod Foremost
+pub mod Steps
+pub mod Counts
+pub mod Booted
+pub mod Quiet

@@ -1,0 +1,12 @@
+pub use Rattle.nova_model.specs.Memory
+pub use Rattle.nova_model.specs.Delegations
+pub use Rattle.nova_model.specs.AddressSpaces
+pub use Rattle.nova_model.specs.State
+pub use Rattle.nova_model.specs.Choice
+pub use Rattle.nova_model.specs.Turn
+pub use Rattle.nova_model.specs.Runs
+pub use Rattle.nova_model.specs.Boot
+pub mod Views
+pub mod Parts
+pub mod Best
+pub mod Reach

@@ -1,0 +1,32 @@
+-- What a caller sees of a kernel.
+use Rattle.std.specs.Prelude.{ℕ, Option, option_map, nat_le, slice_get}
+use Rattle.std.specs.List.{find}
+use Rattle.nova_model.specs.State.{KernelState, Semaphore, entry, budget_at}
+use Rattle.nova_model.specs.declared.delegation.Derivation.{Derivation}
+use Rattle.nova_model.specs.declared.event.Turn.{Turn}
+use Rattle.nova_model.specs.declared.event.Turn.TheVariants.{Stepped, Idle}
+
+-- the state, and how many more bytes the console log takes
+pub record KernelView : Type 0 where
+  pub state : KernelState
+  pub room : ℕ
+
+-- the turns that a scheduling context paid for, and those left of its quantum
+abbrev pub ticks_of : KernelState → ℕ → Option ℕ
+ticks_of k sc = option_map (λ b. b.ticks) (budget_at k sc)
+
+abbrev pub left_of : KernelState → ℕ → Option ℕ
+left_of k sc = option_map (λ b. b.left) (budget_at k sc)
+
+-- a semaphore, where one of that number is there
+abbrev pub semaphore_at : KernelState → ℕ → Option Semaphore
+semaphore_at k sm = entry (slice_get k.semaphores sm)
+
+-- the derivation of least id at or after a given one
+abbrev pub derivation_from : KernelState → ℕ → Option Derivation
+derivation_from k id = find (λ d. nat_le id d.id) k.delegations.list
+
+-- the turns that an answer stands for
+abbrev pub turns_taken : Turn → ℕ
+turns_taken Idle = 0
+turns_taken (Stepped event) = 1

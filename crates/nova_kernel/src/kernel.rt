@@ -1,0 +1,200 @@
+ghost use Rattle.std.specs.Prelude.{◌≡◌, ◌+◌, ◌*◌, ◌^◌, ◌<◌, ◌≤◌, length, slice_get, IsOk, IfOk, option_map};
+ghost use Rattle.std.specs.Option.{option_copied};
+ghost use Rattle.nova_model.specs.State.{context_at};
+ghost use Rattle.nova_model.specs.Choice.{choose, is_quiet};
+ghost use Rattle.nova_model.specs.Turn.{turn, state_after, answer_of};
+ghost use Rattle.nova_model.specs.Boot.{bare, laid};
+ghost use Rattle.nova_kernel.specs.Views.{ticks_of, left_of, semaphore_at, derivation_from, turns_taken};
+
+use super::parts::Parts;
+use super::reach::Reach;
+use nova_frames::{Frames, LogByte};
+use nova_model::{Budget, Derivation, EcKind, EcState, Kind, Object, Rights, Root, State, Turn};
+use rv_core::Regs;
+use std::alloc::{AllocError, Global};
+use std::marker::Model;
+
+/// The kernel of a multiprocessor: protection domains and their delegations, execution and
+/// scheduling contexts, and memory. Time is counted in turns.
+#[derive(Drop)]
+pub struct Kernel {
+    parts: Parts,
+}
+
+impl Model for Kernel {
+    ghost use Rattle.nova_kernel.specs.Views.{KernelView};
+
+    ghost Value = { KernelView };
+
+    ghost use Rattle.nova_kernel.specs.Parts.{shown, IsCounted};
+
+    ghost view = { λ k. record { state = shown k.parts; room = k.parts.reach.room } };
+
+    ghost invariant = { λ k. IsCounted (shown k.parts) };
+}
+
+impl Kernel {
+    /// The state in which a machine boots, without images: so many processors, `2^ram` frames of RAM,
+    /// so many consoles, a root domain with one thread, and room in the console log for `log_room`
+    /// bytes. The order is at most 14 and the consoles are at most 16.
+    pub fn new(
+        alloc: Global,
+        cpus: u32,
+        ram: u8,
+        consoles: u32,
+        root: Root,
+        log_room: u64,
+    ) -> Result<Kernel, AllocError>
+        requires ram { ram ≤ 14 }
+        requires consoles { consoles ≤ 16 }
+        ensures { IfOk result (λ k. k ≡ record { state = bare cpus ram consoles root; room = log_room }) }
+    {
+        let parts = Parts::new(alloc, cpus, ram, consoles, root, log_room)?;
+        Ok(Kernel { parts })
+    }
+
+    /// Lays bytes into RAM one after another from an address on. They lie in RAM.
+    pub fn put(&mut self, address: u32, bytes: &[u8])
+        requires { address + length bytes.now ≤ 4096 * length self.old.state.memory.ram }
+        ensures { self.new ≡ record self.old { state = record self.old.state { memory = laid self.old.state.memory address bytes.now } } }
+    {
+        self.parts.reach.put(address, bytes);
+    }
+
+    /// One turn of an existing processor: the execution context at the chosen scheduling context
+    /// acts, and the scheduling context is charged. Idle, with nothing changed, exactly where no
+    /// scheduling context of the processor is runnable. Needs spare log, of which a turn uses at most
+    /// one place, and fewer than 2^31 turns taken before.
+    pub fn turn(&mut self, cpu: u32) -> Result<Turn, AllocError>
+        requires cpu { cpu < self.old.state.cpus }
+        requires room { 0 < self.old.room }
+        requires turns { self.old.state.turns < 2 ^ 31 }
+        ensures ok { IsOk result }
+        ensures answer { IfOk result (λ t. t ≡ answer_of (turn self.old.state cpu)) }
+        ensures state { self.new.state ≡ state_after self.old.state (turn self.old.state cpu) }
+        ensures room { self.old.room ≤ self.new.room + 1 }
+        ensures idle { IfOk result (λ t. t ≡ Turn.Idle → self.new ≡ self.old) }
+        ensures counted { IfOk result (λ t. self.new.state.turns ≡ self.old.state.turns + turns_taken t) }
+        ensures cpus { self.new.state.cpus ≡ self.old.state.cpus }
+    {
+        Ok(self.parts.turn(cpu))
+    }
+
+    /// The scheduling context that the processor's next turn is charged to; none where it is idle.
+    pub fn choose(&self, cpu: u32) -> Option<u32>
+        ensures { result ≡ choose self.now.state cpu }
+    {
+        Some(self.parts.choice(cpu)?.sc)
+    }
+
+    /// Whether every processor is idle.
+    pub fn quiet(&self) -> bool
+        ensures { result ≡ is_quiet self.now.state }
+    {
+        self.parts.is_quiet()
+    }
+
+    /// How many turns were taken.
+    pub fn turns(&self) -> u64
+        ensures { result ≡ self.now.state.turns }
+    {
+        self.parts.turns
+    }
+
+    /// How many processors there are.
+    pub fn cpus(&self) -> u32
+        ensures { result ≡ self.now.state.cpus }
+    {
+        self.parts.cpus
+    }
+
+    /// The number of RAM frames. The first console is the frame of that number.
+    pub fn ram(&self) -> u32
+        ensures { result ≡ length self.now.state.memory.ram }
+    {
+        self.parts.reach.frames.ram_frames()
+    }
+
+    /// How many consoles there are.
+    pub fn consoles(&self) -> u32
+        ensures { result ≡ self.now.state.consoles }
+    {
+        self.parts.reach.frames.consoles()
+    }
+
+    /// The object of a number, as it was made; none where there is none.
+    pub fn object(&self, id: u32) -> Option<&Object>
+        ensures { option_copied result ≡ slice_get self.now.state.objects id }
+    {
+        self.parts.objects.get(id as usize)
+    }
+
+    /// The objects, by number.
+    pub fn objects(&self) -> &[Object]
+        ensures { result.now ≡ self.now.state.objects }
+    {
+        self.parts.objects.as_slice()
+    }
+
+    /// The execution context of a number; none where no execution context has it.
+    pub fn ec(&self, ec: u32) -> Option<&EcState>
+        ensures { option_map (λ x. x.now) result ≡ context_at self.now.state ec }
+    {
+        self.parts.contexts.get(ec as usize)?.as_ref()
+    }
+
+    /// The turns that a scheduling context paid for; none where no scheduling context has the number.
+    pub fn ticks(&self, sc: u32) -> Option<u64>
+        ensures { result ≡ ticks_of self.now.state sc }
+    {
+        match self.parts.budgets.get(sc as usize) {
+            Some(Some(budget)) => Some(budget.ticks),
+            _ => None,
+        }
+    }
+
+    /// The turns that are left of a scheduling context's quantum; none where no scheduling context
+    /// has the number.
+    pub fn left(&self, sc: u32) -> Option<u32>
+        ensures { result ≡ left_of self.now.state sc }
+    {
+        match self.parts.budgets.get(sc as usize) {
+            Some(Some(budget)) => Some(budget.left),
+            _ => None,
+        }
+    }
+
+    /// The counter of a semaphore and how many execution contexts wait at it; none where no semaphore
+    /// has the number. None can be made yet.
+    pub fn semaphore(&self, sm: u32) -> Option<(u32, u32)>
+        ensures { result ≡ option_map (λ s. (s.count, length s.waiting)) (semaphore_at self.now.state sm) }
+    {
+        self.parts.semaphore(sm)
+    }
+
+    /// What was stored to the consoles, in order.
+    pub fn log(&self) -> &[LogByte]
+        ensures { result.now ≡ self.now.state.memory.log }
+    {
+        self.parts.reach.frames.log()
+    }
+
+    /// The derivations that are there, by rising id.
+    pub fn derivations(&self) -> &[Derivation]
+        ensures { result.now ≡ self.now.state.delegations.list }
+    {
+        self.parts.reach.derivations.as_slice()
+    }
+
+    /// The derivation of least id at or after a given one; none where there is none.
+    pub fn derivation_from(&self, id: u32) -> Option<Derivation>
+        ensures { result ≡ derivation_from self.now.state id }
+    {
+        for derivation in &self.parts.reach.derivations {
+            if id <= derivation.id {
+                return Some(*derivation);
+            }
+        }
+        None
+    }
+}

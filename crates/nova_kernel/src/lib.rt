@@ -1,0 +1,16 @@
+//! The kernel of NOVA on a simulated multiprocessor: its state, and its turn.
+#![tactic(auto)]
+
+mod boot;
+mod charge;
+mod choice;
+mod kernel;
+mod parts;
+mod reach;
+mod turn;
+
+pub use kernel::Kernel;
+pub use nova_model::{
+    Derivation, EcKind, EcState, Event, EventKind, Kind, LogByte, Mark, Object, Rights, Root,
+    State, Turn,
+};

@@ -1,0 +1,42 @@
+-- Delegations: a flat list of derivations, by rising id. (NOVA's mapping database.)
+use Rattle.std.specs.Prelude.{ℕ, ◌+◌, ◌-◌, ◌^◌, ◌==◌, ◌&&◌, Bool, true, false, nat_lt, nat_le, bit_and, List, Option, option_map}
+use Rattle.std.specs.List.{find}
+use Rattle.nova_model.specs.declared.delegation.Derivation.{Derivation}
+use Rattle.nova_model.specs.declared.delegation.Page.{Page}
+use Rattle.nova_model.specs.declared.delegation.Kind.{Kind}
+use Rattle.nova_model.specs.declared.delegation.Kind.TheVariants.{Mem, Obj}
+use Rattle.nova_model.specs.declared.rights.Rights.{Rights}
+
+-- the derivations that are there, and the id that the next one takes
+pub record Delegations : Type 0 where
+  pub list : List Derivation
+  pub next : ℕ
+
+-- rights of a memory range
+abbrev pub read_right : ℕ
+read_right = 1
+
+abbrev pub write_right : ℕ
+write_right = 2
+
+abbrev pub execute_right : ℕ
+execute_right = 4
+
+-- the right is among the rights
+abbrev pub allows : Rights → ℕ → Bool
+allows rights right = bit_and rights.0 right == right
+
+abbrev pub is_memory : Kind → Bool
+is_memory Mem = true
+is_memory Obj = false
+
+-- the derivation lies in the memory space of the protection domain, and covers the page
+abbrev pub covers_page : ℕ → ℕ → Derivation → Bool
+covers_page pd page d = is_memory d.kind && (d.pd == pd && (nat_le d.base page && nat_lt page (d.base + 2 ^ d.order)))
+
+abbrev pub page_in : ℕ → Derivation → Page
+page_in page d = record { frame = d.target + (page - d.base); rights = d.rights }
+
+-- what a page of a protection domain leads to: the one derivation that covers it, or nothing
+abbrev pub reach : List Derivation → ℕ → ℕ → Option Page
+reach list pd page = option_map (page_in page) (find (covers_page pd page) list)

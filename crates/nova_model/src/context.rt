@@ -1,0 +1,35 @@
+use rv_model::Regs;
+
+/// What an execution context is about to do.
+#[derive(Clone, Copy)]
+pub enum State {
+    /// It has not raised its startup exit.
+    Fresh,
+    /// Its next is an instruction.
+    Ready,
+    /// A local thread without a caller.
+    Parked,
+    /// It raised an exit, by reason and two qualifications, which is not sent.
+    Exiting(u32, u32, u32),
+    /// It ended.
+    Dead,
+}
+
+/// How a handler's caller came: by a call, or by an exit.
+#[derive(Clone, Copy)]
+pub enum Mark {
+    Call,
+    Exit,
+}
+
+/// An execution context at work: its number, its processor, what it is about to do, its registers,
+/// the caller that it serves, and whether its recall was asked for.
+#[derive(Drop)]
+pub struct EcState {
+    pub id: u32,
+    pub cpu: u32,
+    pub state: State,
+    pub regs: Regs,
+    pub caller: Option<(u32, Mark)>,
+    pub recall: bool,
+}

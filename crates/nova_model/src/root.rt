@@ -1,0 +1,9 @@
+/// How the root's execution context and scheduling context begin: pc, a multiple of 4; the stack
+/// pointer, in x2; the priority; and the quantum, at least 1 turn.
+#[derive(Clone, Copy)]
+pub struct Root {
+    pub pc: u32,
+    pub sp: u32,
+    pub priority: u8,
+    pub quantum: u32,
+}

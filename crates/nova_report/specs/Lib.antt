@@ -1,0 +1,3 @@
+pub use Rattle.nova_model.specs.State
+pub mod Words
+pub mod Report

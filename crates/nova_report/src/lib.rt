@@ -1,0 +1,12 @@
+//! The report of a run: its turns, its events, and what the kernel holds at the end, as text.
+#![tactic(auto)]
+
+mod consoles;
+mod derivations;
+mod events;
+mod objects;
+mod run;
+#[cfg(test)]
+mod tests;
+
+pub use run::report;

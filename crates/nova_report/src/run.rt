@@ -1,0 +1,42 @@
+ghost use Rattle.std.specs.Prelude.{◌≡◌, ◌++◌, IfOk, OnOk, string_bytes};
+ghost use Rattle.nova_report.specs.Words.{quiet_word};
+ghost use Rattle.nova_report.specs.Report.{report, run_line};
+
+use super::consoles::write_consoles;
+use super::derivations::write_derivations;
+use super::events::write_events;
+use super::objects::{write_budgets, write_contexts, write_semaphores};
+use nova_kernel::Kernel;
+use nova_model::Event;
+use std::alloc::{AllocError, Global};
+
+/// The report of a kernel and of the events of its turns, in order. The only error is that memory
+/// ran out.
+#[tactic(auto, unfolding(crate::specs::Report::report))]
+pub fn report(alloc: Global, kernel: &Kernel, trace: &[Event]) -> Result<Vec<u8>, AllocError>
+    ensures { IfOk result (λ text. text.items ≡ report kernel.now.state trace.now) }
+{
+    let mut out = String::new(alloc);
+    write_run(&mut out, kernel)?;
+    write_events(&mut out, trace)?;
+    write_contexts(&mut out, kernel)?;
+    write_budgets(&mut out, kernel)?;
+    write_semaphores(&mut out, kernel)?;
+    write_consoles(&mut out, kernel)?;
+    write_derivations(&mut out, kernel.derivations())?;
+    Ok(out.into_bytes())
+}
+
+fn quiet_word<'a>(quiet: bool) -> &'a str
+    ensures { result.now ≡ quiet_word quiet }
+{
+    if quiet { "quiet" } else { "open" }
+}
+
+fn write_run(out: &mut String, kernel: &Kernel) -> Result<(), AllocError>
+    ensures { OnOk result (string_bytes out.new ≡ string_bytes out.old ++ run_line kernel.now.state) }
+{
+    let outcome = quiet_word(kernel.quiet());
+    let turns = kernel.turns();
+    writeln!(out, "run {outcome} {turns}")
+}

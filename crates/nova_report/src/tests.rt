@@ -1,0 +1,213 @@
+ghost use Rattle.std.specs.Prelude.{◌≡◌, ◌≤◌, ◌<◌, ◌+◌, IfOk};
+
+use super::report;
+use nova_kernel::Kernel;
+use nova_model::{Root, Turn};
+use std::alloc::{AllocError, Global};
+use std::process::Abort;
+use std::test::Fail;
+
+// A turn of processor 0.
+fn take_turn(rt: &impl Abort, kernel: &mut Kernel) -> Result<Turn, AllocError>
+    requires { 0 < kernel.old.room }
+    ensures { kernel.old.room ≤ kernel.new.room + 1 }
+{
+    assert!(rt; 0 < kernel.cpus());
+    assert!(rt; kernel.turns() < 1 << 31);
+    kernel.turn(0)
+}
+
+// A kernel of one processor and one frame of RAM, with a program at address 0.
+fn kernel_of(
+    rt: &impl Abort,
+    alloc: Global,
+    consoles: u32,
+    program: &[u32],
+) -> Result<Kernel, AllocError>
+    ensures { IfOk result (λ k. k.room ≡ 20) }
+{
+    let root = Root {
+        pc: 0,
+        sp: 0,
+        priority: 1,
+        quantum: 10,
+    };
+    assert!(rt; consoles <= 16);
+    let mut kernel = Kernel::new(alloc, 1, 0, consoles, root, 20)?;
+    let mut bytes = Vec::new(alloc);
+    for word in program {
+        bytes.extend_from_slice(&word.to_le_bytes())?;
+    }
+    assert!(rt; bytes.len() <= 4096 && kernel.ram() == 1);
+    kernel.put(0, bytes.as_slice());
+    Ok(kernel)
+}
+
+// The report after at most 20 turns of a program.
+fn report_of(
+    rt: &impl Abort,
+    alloc: Global,
+    consoles: u32,
+    program: &[u32],
+) -> Result<Vec<u8>, AllocError> {
+    let mut kernel = kernel_of(rt, alloc, consoles, program)?;
+    let mut trace = Vec::new(alloc);
+    for _turn in 0..20u32 {
+        let Turn::Stepped(event) = take_turn(rt, &mut kernel)? else {
+            break;
+        };
+        trace.push(event)?;
+    }
+    report(alloc, &kernel, trace.as_slice())
+}
+
+#[test]
+fn a_run_is_open_before_its_first_turn(rt: HostRuntime) -> Result<(), Fail> {
+    let kernel = kernel_of(&rt, rt.alloc(), 0, &[0x0010_0073])?;
+    let text = String::from_utf8(report(rt.alloc(), &kernel, &[])?);
+    let lines = "\
+run open 0
+ec 1 global ready 00000000
+sc 2 0 0
+cap 0 - 0 mem 0 0 7 0
+cap 1 - 0 obj 0 0 1 0
+cap 2 - 0 obj 1 0 7 1
+cap 3 - 0 obj 2 0 1 2
+";
+    assert!(rt; text.is_ok_and(|text| text.as_str() == lines));
+    Ok(())
+}
+
+#[test]
+fn programs_are_reported(rt: HostRuntime) -> Result<(), Fail> {
+    let runs: [(u32, &[u32], &str); 5] = [
+        (
+            0,
+            &[0x0010_0073],
+            "\
+run quiet 2
+at 1 0 1 raise 7 0
+at 2 0 1 died 7 0
+ec 1 global dead 00000000
+sc 2 0 2
+cap 0 - 0 mem 0 0 7 0
+cap 1 - 0 obj 0 0 1 0
+cap 2 - 0 obj 1 0 7 1
+cap 3 - 0 obj 2 0 1 2
+",
+        ),
+        (
+            1,
+            &[
+                0x0000_12b7,
+                0x0480_0313,
+                0x0062_8023,
+                0x0690_0313,
+                0x0062_8023,
+                0x0010_0073,
+            ],
+            "\
+run quiet 7
+at 6 0 1 raise 7 0
+at 7 0 1 died 7 0
+ec 1 global dead 00000014 x5=00001000 x6=00000069
+sc 2 0 7
+console 0 4869
+cap 0 - 0 mem 0 0 7 0
+cap 1 - 0 mem 1 0 3 1
+cap 2 - 0 obj 0 0 1 0
+cap 3 - 0 obj 1 0 7 1
+cap 4 - 0 obj 2 0 1 2
+",
+        ),
+        (
+            0,
+            &[
+                0x00d0_0293,
+                0x0002_80e7,
+                0x0010_0073,
+                0x0010_0313,
+                0x0000_0363,
+            ],
+            "\
+run quiet 5
+at 4 0 1 raise 5 22
+at 5 0 1 died 5 22
+ec 1 global dead 00000010 x1=00000008 x5=0000000d x6=00000001
+sc 2 0 5
+cap 0 - 0 mem 0 0 7 0
+cap 1 - 0 obj 0 0 1 0
+cap 2 - 0 obj 1 0 7 1
+cap 3 - 0 obj 2 0 1 2
+",
+        ),
+        (
+            0,
+            &[0x0000_12b7, 0xffe2_a303],
+            "\
+run quiet 3
+at 2 0 1 raise 5 4094
+at 3 0 1 died 5 4094
+ec 1 global dead 00000004 x5=00001000
+sc 2 0 3
+cap 0 - 0 mem 0 0 7 0
+cap 1 - 0 obj 0 0 1 0
+cap 2 - 0 obj 1 0 7 1
+cap 3 - 0 obj 2 0 1 2
+",
+        ),
+        (
+            0,
+            &[0x0000_12b7, 0x0002_a303],
+            "\
+run quiet 3
+at 2 0 1 raise 3 4096
+at 3 0 1 died 3 4096
+ec 1 global dead 00000004 x5=00001000
+sc 2 0 3
+cap 0 - 0 mem 0 0 7 0
+cap 1 - 0 obj 0 0 1 0
+cap 2 - 0 obj 1 0 7 1
+cap 3 - 0 obj 2 0 1 2
+",
+        ),
+    ];
+    for (consoles, program, lines) in runs {
+        let text = String::from_utf8(report_of(&rt, rt.alloc(), consoles, program)?);
+        assert!(rt; text.is_ok_and(|text| text.as_str() == lines));
+    }
+    Ok(())
+}
+
+#[test]
+fn each_console_has_its_bytes(rt: HostRuntime) -> Result<(), Fail> {
+    let program = [
+        0x0000_12b7,
+        0x0480_0313,
+        0x0062_8023,
+        0x0000_23b7,
+        0x0690_0313,
+        0x0063_8023,
+        0x0010_0073,
+    ];
+    let text = String::from_utf8(report_of(&rt, rt.alloc(), 3, &program)?);
+    let lines = "\
+run quiet 8
+at 7 0 1 raise 7 0
+at 8 0 1 died 7 0
+ec 1 global dead 00000018 x5=00001000 x6=00000069 x7=00002000
+sc 2 0 8
+console 0 48
+console 1 69
+console 2 -
+cap 0 - 0 mem 0 0 7 0
+cap 1 - 0 mem 1 0 3 1
+cap 2 - 0 mem 2 0 3 2
+cap 3 - 0 mem 3 0 3 3
+cap 4 - 0 obj 0 0 1 0
+cap 5 - 0 obj 1 0 7 1
+cap 6 - 0 obj 2 0 1 2
+";
+    assert!(rt; text.is_ok_and(|text| text.as_str() == lines));
+    Ok(())
+}

@@ -1,0 +1,6 @@
+pub mod LineLemmas
+pub mod NumberLemmas
+pub mod Scans
+pub mod SliceLemmas
+pub mod TextLemmas
+pub mod TokenLemmas

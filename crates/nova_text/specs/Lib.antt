@@ -1,0 +1,5 @@
+pub mod Bytes
+pub mod Line
+pub mod Number
+pub mod Piece
+pub mod Token

@@ -1,0 +1,14 @@
+//! The top call of the hypervisor: from the words of the command line and the bytes of a scenario to
+//! the bytes of a report.
+#![tactic(auto)]
+
+mod exit;
+mod form;
+mod main_call;
+mod rounds;
+mod solo;
+#[cfg(test)]
+mod tests;
+
+pub use exit::Exit;
+pub use main_call::nova_main;

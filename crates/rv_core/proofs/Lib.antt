@@ -1,0 +1,4 @@
+pub mod Found
+pub mod Fields
+pub mod Encoded
+pub mod WordAgain

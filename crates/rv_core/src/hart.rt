@@ -1,0 +1,231 @@
+ghost use Rattle.std.specs.Prelude.{◌≡◌, ◌<◌, ◌*◌, ◌%◌, ◌^◌, ◌⊎◌};
+ghost use Rattle.rv_model.specs.Table.{instr_from};
+ghost use Rattle.rv_model.specs.Step.{next, sets, goes, jumps, branches, loads, stores};
+ghost use Rattle.rv_model.specs.Step.{shift_right_signed, executed, one};
+ghost use Rattle.rv_core.specs.Rows.{HasRegisters};
+ghost use Rattle.rv_core.specs.Steps.{space_of, Follows, FollowsAlone, extension_of};
+
+use crate::bus::Bus;
+use crate::decoder;
+use crate::outcome::{
+    BREAKPOINT, ENVIRONMENT_CALL, FETCH_FAULT, ILLEGAL, LOAD_FAULT, MISALIGNED, Outcome,
+    STORE_FAULT,
+};
+use rv_model::{Mnemonic, Operands, Regs};
+
+/// On to the next instruction.
+fn go_on(regs: &mut Regs) -> Outcome
+    ensures done { result ≡ Outcome.Next }
+    ensures registers { regs.new ≡ next regs.old }
+{
+    regs.set_pc(regs.pc().wrapping_add(4));
+    Outcome::Next
+}
+
+/// On to the next instruction, with a value in rd.
+fn set(regs: &mut Regs, rd: u32, value: u32) -> Outcome
+    requires { rd < 32 }
+    ensures { FollowsAlone (sets regs.old rd value) regs.old result regs.new }
+{
+    regs.set(rd, value);
+    go_on(regs)
+}
+
+/// To an address, which must be a multiple of 4.
+fn go(regs: &mut Regs, target: u32) -> Outcome
+    ensures { FollowsAlone (goes regs.old target) regs.old result regs.new }
+{
+    if target % 4 != 0 {
+        return raise(MISALIGNED, target, 0);
+    }
+    regs.set_pc(target);
+    Outcome::Next
+}
+
+/// To an address, which must be a multiple of 4, with the address of the next instruction in rd.
+fn jump(regs: &mut Regs, rd: u32, target: u32) -> Outcome
+    requires { rd < 32 }
+    ensures { FollowsAlone (jumps regs.old rd target) regs.old result regs.new }
+{
+    if target % 4 != 0 {
+        return raise(MISALIGNED, target, 0);
+    }
+    let next = regs.pc().wrapping_add(4);
+    regs.set(rd, next);
+    regs.set_pc(target);
+    Outcome::Next
+}
+
+/// To pc and an offset where the test holds, else on.
+fn branch(regs: &mut Regs, test: bool, offset: u32) -> Outcome
+    ensures { FollowsAlone (branches regs.old test offset) regs.old result regs.new }
+{
+    if test {
+        let target = regs.pc().wrapping_add(offset);
+        go(regs, target)
+    } else {
+        go_on(regs)
+    }
+}
+
+/// A raise.
+fn raise(reason: u32, q0: u32, q1: u32) -> Outcome
+    ensures { result ≡ Outcome.Raise reason q0 q1 }
+{
+    Outcome::Raise { reason, q0, q1 }
+}
+
+/// How a number that was loaded becomes a word.
+#[derive(Clone, Copy)]
+enum Extension {
+    Zero,
+    Sign,
+}
+
+/// Loads a number of a width from an aligned address into rd.
+fn load<B: Bus>(
+    regs: &mut Regs,
+    bus: &mut B,
+    rd: u32,
+    extension: Extension,
+    width: u32,
+    addr: u32,
+) -> Outcome
+    requires rd { rd < 32 }
+    requires width { (width ≡ 1) ⊎ ((width ≡ 2) ⊎ (width ≡ 4)) }
+    requires signed { extension ≡ Extension.Sign → width < 4 }
+    ensures { let space = space_of B.fetched B.loaded B.takes (B.state bus.old) in
+        let once = loads regs.old space rd (extension_of extension width) width addr in
+        Follows B.stored once regs.old (B.state bus.old) result regs.new (B.state bus.new) }
+{
+    if addr % width != 0 {
+        return raise(MISALIGNED, addr, 1);
+    }
+    let Some(number) = bus.load(addr, width) else {
+        return raise(LOAD_FAULT, addr, width);
+    };
+    let value = match extension {
+        Extension::Zero => number,
+        Extension::Sign => decoder::extend(number, 8 * width),
+    };
+    set(regs, rd, value)
+}
+
+/// Stores the low bytes of a value to an aligned address.
+fn store<B: Bus>(regs: &mut Regs, bus: &mut B, width: u32, addr: u32, value: u32) -> Outcome
+    requires width { (width ≡ 1) ⊎ ((width ≡ 2) ⊎ (width ≡ 4)) }
+    requires room { B.room (B.state bus.old) }
+    ensures { let space = space_of B.fetched B.loaded B.takes (B.state bus.old) in
+        let once = stores regs.old space width addr value in
+        Follows B.stored once regs.old (B.state bus.old) result regs.new (B.state bus.new) }
+{
+    if addr % width != 0 {
+        return raise(MISALIGNED, addr, 2);
+    }
+    if bus.store(addr, width, low_bytes(value, width)) {
+        go_on(regs)
+    } else {
+        raise(STORE_FAULT, addr, width)
+    }
+}
+
+/// The number in the lowest bytes of a word.
+fn low_bytes(value: u32, width: u32) -> u32
+    requires width { (width ≡ 1) ⊎ ((width ≡ 2) ⊎ (width ≡ 4)) }
+    ensures low { result ≡ value % 2 ^ (8 * width) }
+    ensures fits { result < 2 ^ (8 * width) }
+{
+    match width {
+        1 => decoder::field_of(value, 0, 8),
+        2 => decoder::field_of(value, 0, 16),
+        _ => value,
+    }
+}
+
+/// What an instruction does, by its name and operands.
+fn execute<B: Bus>(regs: &mut Regs, bus: &mut B, mnemonic: Mnemonic, operands: Operands) -> Outcome
+    requires registers { HasRegisters operands }
+    requires room { B.room (B.state bus.old) }
+    ensures { let space = space_of B.fetched B.loaded B.takes (B.state bus.old) in
+        let once = executed regs.old space (instr_from mnemonic operands) in
+        Follows B.stored once regs.old (B.state bus.old) result regs.new (B.state bus.new) }
+{
+    let Operands { rd, rs1, rs2, imm } = operands;
+    let (pc, left, right) = (regs.pc(), regs.get(rs1), regs.get(rs2));
+    let addr = left.wrapping_add(imm);
+    match mnemonic {
+        Mnemonic::Lui => set(regs, rd, imm),
+        Mnemonic::Auipc => set(regs, rd, pc.wrapping_add(imm)),
+        Mnemonic::Jal => jump(regs, rd, pc.wrapping_add(imm)),
+        Mnemonic::Jalr => jump(regs, rd, addr & !1),
+        Mnemonic::Beq => branch(regs, left == right, imm),
+        Mnemonic::Bne => branch(regs, left != right, imm),
+        Mnemonic::Blt => branch(regs, left.cast_signed() < right.cast_signed(), imm),
+        Mnemonic::Bge => branch(regs, left.cast_signed() >= right.cast_signed(), imm),
+        Mnemonic::Bltu => branch(regs, left < right, imm),
+        Mnemonic::Bgeu => branch(regs, left >= right, imm),
+        Mnemonic::Lb => load(regs, bus, rd, Extension::Sign, 1, addr),
+        Mnemonic::Lh => load(regs, bus, rd, Extension::Sign, 2, addr),
+        Mnemonic::Lw => load(regs, bus, rd, Extension::Zero, 4, addr),
+        Mnemonic::Lbu => load(regs, bus, rd, Extension::Zero, 1, addr),
+        Mnemonic::Lhu => load(regs, bus, rd, Extension::Zero, 2, addr),
+        Mnemonic::Sb => store(regs, bus, 1, addr, right),
+        Mnemonic::Sh => store(regs, bus, 2, addr, right),
+        Mnemonic::Sw => store(regs, bus, 4, addr, right),
+        Mnemonic::Addi => set(regs, rd, left.wrapping_add(imm)),
+        Mnemonic::Slti => set(regs, rd, u32::from(left.cast_signed() < imm.cast_signed())),
+        Mnemonic::Sltiu => set(regs, rd, u32::from(left < imm)),
+        Mnemonic::Xori => set(regs, rd, left ^ imm),
+        Mnemonic::Ori => set(regs, rd, left | imm),
+        Mnemonic::Andi => set(regs, rd, left & imm),
+        Mnemonic::Slli => set(regs, rd, left << (imm % 32)),
+        Mnemonic::Srli => set(regs, rd, left >> (imm % 32)),
+        Mnemonic::Srai => set(regs, rd, shift_right_signed(left, imm)),
+        Mnemonic::Add => set(regs, rd, left.wrapping_add(right)),
+        Mnemonic::Sub => set(regs, rd, left.wrapping_sub(right)),
+        Mnemonic::Sll => set(regs, rd, left << (right % 32)),
+        Mnemonic::Slt => set(
+            regs,
+            rd,
+            u32::from(left.cast_signed() < right.cast_signed()),
+        ),
+        Mnemonic::Sltu => set(regs, rd, u32::from(left < right)),
+        Mnemonic::Xor => set(regs, rd, left ^ right),
+        Mnemonic::Srl => set(regs, rd, left >> (right % 32)),
+        Mnemonic::Sra => set(regs, rd, shift_right_signed(left, right)),
+        Mnemonic::Or => set(regs, rd, left | right),
+        Mnemonic::And => set(regs, rd, left & right),
+        Mnemonic::Fence => go_on(regs),
+        Mnemonic::Ecall => raise(ENVIRONMENT_CALL, 0, 0),
+        Mnemonic::Ebreak => raise(BREAKPOINT, 0, 0),
+    }
+}
+
+/// A value shifted to the right by the low five bits of an amount, with copies of its sign.
+fn shift_right_signed(value: u32, amount: u32) -> u32
+    ensures { result ≡ shift_right_signed value amount }
+{
+    (value.cast_signed() >> (amount % 32)).cast_unsigned()
+}
+
+/// One instruction: the first raise that holds, which changes no register and no memory, or the
+/// next registers and at most one store. (RV32I, chapter 2.)
+#[tactic(auto, unfolding(rv_model::specs::Step::one))]
+pub fn step<B: Bus>(regs: &mut Regs, bus: &mut B) -> Outcome
+    requires { B.room (B.state bus.old) }
+    ensures { let space = space_of B.fetched B.loaded B.takes (B.state bus.old) in
+        let once = one regs.old space in
+        Follows B.stored once regs.old (B.state bus.old) result regs.new (B.state bus.new) }
+{
+    let pc = regs.pc();
+    if pc % 4 != 0 {
+        return raise(MISALIGNED, pc, 0);
+    }
+    let Some(word) = bus.fetch(pc) else {
+        return raise(FETCH_FAULT, pc, 0);
+    };
+    let Some((mnemonic, operands)) = decoder::parts(word) else {
+        return raise(ILLEGAL, word, 0);
+    };
+    execute(regs, bus, mnemonic, operands)
+}
