@@ -72,10 +72,10 @@ length-written_in : (m : Memory) (o : Option (List ℕ)) (frame offset width val
 length-written_in m (Some bytes) frame offset width value = length-set m.ram frame _
 length-written_in m None frame offset width value = refl
 
-length-laid : (m : Memory) (address : ℕ) (bytes : List ℕ) → length (laid m address bytes).ram ≡ length m.ram
-length-laid m address [] = refl
-length-laid m address (b ∷ bs) =
-    length-laid (written m (address / 4096) (address % 4096) 1 b) (address + 1) bs
+pub laid_length : (m : Memory) (address : ℕ) (bytes : List ℕ) → length (laid m address bytes).ram ≡ length m.ram
+laid_length m address [] = refl
+laid_length m address (b ∷ bs) =
+    laid_length (written m (address / 4096) (address % 4096) 1 b) (address + 1) bs
     ∙ length-written_in m (slice_get m.ram (address / 4096)) (address / 4096) (address % 4096) 1 b
 
 pub laid_placed : (frames : FrameStore) (old : FrameStore) (address : ℕ) (bytes : List ℕ) (list : List Derivation) →
@@ -83,7 +83,7 @@ pub laid_placed : (frames : FrameStore) (old : FrameStore) (address : ℕ) (byte
     LeadToFrames (length frames.memory.ram + frames.consoles) list
 laid_placed frames old address bytes list is placed =
     subst (λ (f : FrameStore). LeadToFrames (length f.memory.ram + f.consoles) list) (sym is)
-    (subst (λ (n : ℕ). LeadToFrames (n + old.consoles) list) (sym (length-laid old.memory address bytes)) placed)
+    (subst (λ (n : ℕ). LeadToFrames (n + old.consoles) list) (sym (laid_length old.memory address bytes)) placed)
 
 pub new_placed : (frames : FrameStore) (order consoles room : ℕ) → order ≤ 14 → consoles ≤ 16 →
     frames ≡ record { memory = record { ram = replicate (2 ^ order) (replicate 4096 0); log = [] }; consoles = consoles; room = room } →

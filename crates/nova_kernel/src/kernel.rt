@@ -54,9 +54,11 @@ impl Kernel {
     }
 
     /// Lays bytes into RAM one after another from an address on. They lie in RAM.
+    #[tactic(auto, using(crate::proofs::Booted::laid_length))]
     pub fn put(&mut self, address: u32, bytes: &[u8])
         requires { address + length bytes.now ≤ 4096 * length self.old.state.memory.ram }
-        ensures { self.new ≡ record self.old { state = record self.old.state { memory = laid self.old.state.memory address bytes.now } } }
+        ensures laid { self.new ≡ record self.old { state = record self.old.state { memory = laid self.old.state.memory address bytes.now } } }
+        ensures frames { length self.new.state.memory.ram ≡ length self.old.state.memory.ram }
     {
         self.parts.reach.put(address, bytes);
     }

@@ -1,4 +1,4 @@
 pub mod Turns
 pub mod Ends
-pub mod Words
 pub mod Finish
+pub mod Complete

@@ -1,22 +1,33 @@
--- The statuses of the program, and what it says of an end.
-use Rattle.std.specs.Prelude.{ℕ, List, codes}
+-- The statuses of the program, and the end that each fault makes.
+use Rattle.std.specs.Prelude.{ℕ}
+use Rattle.nova_command.specs.declared.fault.CommandFault.{CommandFault}
+use Rattle.nova_command.specs.declared.fault.CommandFault.TheVariants as command
+use Rattle.nova_io.specs.declared.faults.FetchFault.{FetchFault}
+use Rattle.nova_io.specs.declared.faults.FetchFault.TheVariants as fetch
+use Rattle.nova_scenario.specs.declared.fault.ScenarioFault.{ScenarioFault}
+use Rattle.nova_scenario.specs.declared.fault.ScenarioFault.TheVariants as text
 use Rattle.nova_top.specs.declared.exit.Exit.{Exit}
-use Rattle.nova_top.specs.declared.exit.Exit.TheVariants.{Done, Usage, ReadFault, NotYet, WriteFault, Limit, Memory}
+use Rattle.nova_top.specs.declared.exit.Exit.TheVariants.{Done, Usage, ReadFault, Scenario, WriteFault, Limit, Memory}
+use Rattle.nova_top.specs.declared.exit.ScenarioWhy.TheVariants.{TooLong, Text}
 
 abbrev pub status_of : Exit → ℕ
 status_of Done = 0
 status_of Usage = 2
 status_of ReadFault = 3
+status_of (Scenario line why) = 4
 status_of WriteFault = 6
 status_of Limit = 7
 status_of Memory = 8
-status_of NotYet = 9
 
-abbrev pub line_of : Exit → List ℕ
-line_of Done = codes "done"
-line_of Usage = codes "usage: nova run|solo|check|bench NAME [ORDER] [--limit N]"
-line_of ReadFault = codes "read fault"
-line_of NotYet = codes "not built yet"
-line_of WriteFault = codes "write fault"
-line_of Limit = codes "not quiet"
-line_of Memory = codes "out of memory"
+abbrev pub of_command : CommandFault → Exit
+of_command command.Usage = Usage
+of_command command.Memory = Memory
+
+abbrev pub of_fetch : FetchFault → Exit
+of_fetch fetch.Failed = ReadFault
+of_fetch fetch.TooLong = Scenario 0 TooLong
+of_fetch fetch.Memory = Memory
+
+abbrev pub of_scenario : ScenarioFault → Exit
+of_scenario (text.At line why) = Scenario line (Text why)
+of_scenario text.Memory = Memory

@@ -1,7 +1,5 @@
 pub mod Rounds
-pub mod Form
-pub mod Taken
-pub mod Solo
 pub mod Exit
-pub mod Ran
+pub mod Outcome
+pub mod Prepared
 pub mod Main

@@ -1,11 +1,21 @@
--- What the top call answers for the bytes that it fetched.
-use Rattle.std.specs.Prelude.{◌≡◌, ℕ, ◌+◌, ◌<◌, ◌⊎◌, List, length, Option, Some, IfSome}
+-- What the top call answers, with the cause of each answer and what is written then.
+use Rattle.std.specs.Prelude.{◌≡◌, ℕ, ◌+◌, ◌<◌, ◌≤◌, ◌⊎◌, Bool, true, false, List, length, take, Option, Some, Ok, Err, IsOk, IfSome}
 use Rattle.std.specs.FinMap.{get}
+use Rattle.std.specs.Io.KnownBytes.{append_known}
+use Rattle.nova_command.specs.declared.command.Command.{Command}
+use Rattle.nova_command.specs.declared.command.Command.TheVariants.{Solo, Check}
 use Rattle.nova_io.specs.Files.{Files, bytes_of}
 use Rattle.nova_io.specs.Fetched.{Gave, Came, CameWhole}
-use Rattle.nova_top.specs.Solo.{Answers}
+use Rattle.nova_scenario.specs.Scenario.{scenario}
+use Rattle.nova_top.specs.Outcome.{Outcome, outcome, IsSpentOn}
 use Rattle.nova_top.specs.declared.exit.Exit.{Exit}
-use Rattle.nova_top.specs.declared.exit.Exit.TheVariants.{Done, Usage, ReadFault, NotYet, WriteFault, Limit, Memory}
+use Rattle.nova_top.specs.declared.exit.Exit.TheVariants.{Done, Usage, ReadFault, Scenario, WriteFault, Limit, Memory}
+use Rattle.nova_top.specs.declared.exit.ScenarioWhy.TheVariants.{TooLong, Text}
+
+-- the file that a command fetches
+abbrev pub name_of : Command → List ℕ
+name_of (Solo name most) = name
+name_of (Check name) = name
 
 -- the most bytes of a scenario: 16 MiB
 abbrev pub most_bytes : ℕ
@@ -20,13 +30,53 @@ abbrev pub CameTooMany : {D : Type 0} → Gave D → Option Files → List ℕ �
 CameTooMany gave files name old new =
     ((bytes : List ℕ) × Came gave name old bytes new × (length bytes ≡ most_bytes + 1)) × IfSome files (λ held. most_bytes < length (bytes_of held name))
 
--- each answer with its cause and what is written then
-abbrev pub IsAnswered : (List ℕ → Type 0) → Type 0 → Type 0 → Type 0 → Option (List ℕ) → Option (List ℕ) → Exit → Type 0
-IsAnswered came too_many read_fault write_fault old new Usage = ⊥
-IsAnswered came too_many read_fault write_fault old new ReadFault = read_fault × (new ≡ old)
-IsAnswered came too_many read_fault write_fault old new NotYet =
-    ((bytes : List ℕ) × came bytes × Answers NotYet bytes old new write_fault) ⊎ (too_many × (new ≡ old))
-IsAnswered came too_many read_fault write_fault old new WriteFault = (bytes : List ℕ) × came bytes × Answers WriteFault bytes old new write_fault
-IsAnswered came too_many read_fault write_fault old new Done = (bytes : List ℕ) × came bytes × Answers Done bytes old new write_fault
-IsAnswered came too_many read_fault write_fault old new Limit = (bytes : List ℕ) × came bytes × Answers Limit bytes old new write_fault
-IsAnswered came too_many read_fault write_fault old new Memory = new ≡ old
+-- the text of the command on these bytes is written whole behind what was written before
+pub record IsWritten (command : Command) (bytes : List ℕ) (complete : Bool) (old new : Option (List ℕ)) : Type 0 where
+  pub text : List ℕ
+  pub found : outcome command bytes ≡ Ok (record { complete = complete; text = text })
+  pub written : new ≡ append_known old text
+
+-- or a part of it, from its first byte on
+pub record IsCut (command : Command) (bytes : List ℕ) (old new : Option (List ℕ)) : Type 0 where
+  pub whole : Outcome
+  pub found : outcome command bytes ≡ Ok whole
+  pub count : ℕ
+  pub within : count < length whole.text
+  pub written : new ≡ append_known old (take count whole.text)
+
+-- the answer to bytes that came
+abbrev pub AnswersBytes : Command → Exit → List ℕ → Option (List ℕ) → Option (List ℕ) → Type 0 → Type 0
+AnswersBytes command Done bytes old new fault = IsWritten command bytes true old new
+AnswersBytes command Limit bytes old new fault = IsWritten command bytes false old new × IsSpentOn command (scenario bytes)
+AnswersBytes command (Scenario line (Text why)) bytes old new fault = (scenario bytes ≡ Err (record { line = line; why = why })) × (new ≡ old)
+AnswersBytes command (Scenario line TooLong) bytes old new fault = ⊥
+AnswersBytes command WriteFault bytes old new fault = IsCut command bytes old new × fault
+AnswersBytes command Memory bytes old new fault = new ≡ old
+AnswersBytes command Usage bytes old new fault = ⊥
+AnswersBytes command ReadFault bytes old new fault = ⊥
+
+-- the answer to a command
+abbrev pub Answers : Command → (List ℕ → Type 0) → Type 0 → Type 0 → Type 0 → Option (List ℕ) → Option (List ℕ) → Exit → Type 0
+Answers command came too_many read_fault write_fault old new Usage = ⊥
+Answers command came too_many read_fault write_fault old new ReadFault = read_fault × (new ≡ old)
+Answers command came too_many read_fault write_fault old new (Scenario line TooLong) = (line ≡ 0) × too_many × (new ≡ old)
+Answers command came too_many read_fault write_fault old new (Scenario line (Text why)) =
+    (bytes : List ℕ) × came bytes × AnswersBytes command (Scenario line (Text why)) bytes old new write_fault
+Answers command came too_many read_fault write_fault old new WriteFault = (bytes : List ℕ) × came bytes × AnswersBytes command WriteFault bytes old new write_fault
+Answers command came too_many read_fault write_fault old new Done = (bytes : List ℕ) × came bytes × AnswersBytes command Done bytes old new write_fault
+Answers command came too_many read_fault write_fault old new Limit = (bytes : List ℕ) × came bytes × AnswersBytes command Limit bytes old new write_fault
+Answers command came too_many read_fault write_fault old new Memory = new ≡ old
+
+-- the depot tells the file of that name, its bytes are a scenario, and nothing fails outside
+pub record IsServable (files : Option Files) (name : List ℕ) (read_fault write_fault : Type 0) : Type 0 where
+  pub held : Files
+  pub told : files ≡ Some held
+  pub bytes : List ℕ
+  pub there : get held name ≡ Some bytes
+  pub fits : length bytes ≤ most_bytes
+  pub valid : IsOk (scenario bytes)
+  pub read : read_fault → ⊥
+  pub written : write_fault → ⊥
+
+abbrev pub IsDoneOrStopped : Exit → Type 0
+IsDoneOrStopped exit = (exit ≡ Done) ⊎ ((exit ≡ Limit) ⊎ (exit ≡ Memory))

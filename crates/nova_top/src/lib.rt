@@ -3,12 +3,11 @@
 #![tactic(auto)]
 
 mod exit;
-mod form;
 mod main_call;
+mod outcome;
 mod rounds;
-mod solo;
 #[cfg(test)]
 mod tests;
 
-pub use exit::Exit;
+pub use exit::{Exit, ScenarioWhy};
 pub use main_call::nova_main;

@@ -1,69 +1,96 @@
-ghost use Rattle.std.specs.Prelude.{◌≡◌, ◌↔◌, map, string_bytes, None, IfSome, option_map};
+ghost use Rattle.std.specs.Prelude.{◌≡◌, ◌⊎◌, map, string_bytes, None, IfSome};
+ghost use Rattle.nova_command.specs.Command.{command, HasLimit};
 ghost use Rattle.nova_io.specs.Faults.{Rose};
-ghost use Rattle.nova_top.specs.Solo.{scenario_in};
-ghost use Rattle.nova_top.specs.Main.{IsAnswered, CameAs, CameTooMany};
+ghost use Rattle.nova_top.specs.Main.{Answers, AnswersBytes, CameAs, CameTooMany, IsServable, IsDoneOrStopped, name_of};
 
 use super::exit::Exit;
-use super::solo::solo;
-use nova_io::{Depot, FetchFault, Sink, fetch_all};
+use super::outcome::prepare;
+use nova_command::{Command, read_command};
+use nova_io::{Depot, Sink, fetch_all, write_all};
 use std::alloc::Global;
 
 /// The most bytes of a scenario.
 const MOST_BYTES: u64 = 16 * 1024 * 1024;
 
-/// The scenario that the words ask to run: they are `solo` and one name.
-fn scenario_in(words: &[String]) -> Option<&str>
-    ensures { option_map (λ name. name.now) result ≡ scenario_in (map string_bytes words.now) }
+/// The file that a command fetches.
+fn name_of(command: &Command) -> &str
+    ensures { result.now ≡ name_of command.now }
 {
-    match words {
-        [command, name] if command.as_str() == "solo" => Some(name.as_str()),
-        _ => None,
+    match command {
+        Command::Solo { scenario, .. } | Command::Check { scenario } => scenario.as_str(),
     }
 }
 
-/// Fetches a scenario and runs it.
-fn run_scenario<D: Depot, O: Sink>(alloc: Global, name: &str, depot: &mut D, out: &mut O) -> Exit
-    ensures answer { IsAnswered (CameAs D.gave (D.files depot.old) name.now depot.old depot.new)
-        (CameTooMany D.gave (D.files depot.old) name.now depot.old depot.new)
-        (Rose (D.fetch_faults depot.old name.now) (D.fetch_faults depot.new name.now))
+/// Does a command on the bytes of its scenario, and writes the text.
+fn perform<O: Sink>(alloc: Global, command: &Command, bytes: &[u8], out: &mut O) -> Exit
+    requires { HasLimit command.now }
+    ensures { AnswersBytes command.now result bytes.now (O.written out.old) (O.written out.new) (Rose (O.faults out.old) (O.faults out.new)) }
+{
+    let outcome = match prepare(alloc, command, bytes) {
+        Ok(outcome) => outcome,
+        Err(exit) => return exit,
+    };
+    match write_all(out, &outcome.text) {
+        Ok(()) if outcome.is_complete => Exit::Done,
+        Ok(()) => Exit::Limit,
+        Err(_) => Exit::WriteFault,
+    }
+}
+
+/// Fetches the scenario of a command, and does the command on it.
+fn serve<D: Depot, O: Sink>(alloc: Global, command: &Command, depot: &mut D, out: &mut O) -> Exit
+    requires { HasLimit command.now }
+    ensures answer { Answers command.now
+        (CameAs D.gave (D.files depot.old) (name_of command.now) depot.old depot.new)
+        (CameTooMany D.gave (D.files depot.old) (name_of command.now) depot.old depot.new)
+        (Rose (D.fetch_faults depot.old (name_of command.now)) (D.fetch_faults depot.new (name_of command.now)))
         (Rose (O.faults out.old) (O.faults out.new)) (O.written out.old) (O.written out.new) result }
+    ensures complete { IsServable (D.files depot.old) (name_of command.now)
+        (Rose (D.fetch_faults depot.old (name_of command.now)) (D.fetch_faults depot.new (name_of command.now)))
+        (Rose (O.faults out.old) (O.faults out.new)) → IsDoneOrStopped result }
     ensures files { D.files depot.new ≡ D.files depot.old }
 {
-    match fetch_all(alloc, depot, name, MOST_BYTES) {
-        Ok(bytes) => solo(alloc, &bytes, out),
-        Err(FetchFault::Failed) => Exit::ReadFault,
-        Err(FetchFault::TooLong) => Exit::NotYet,
-        Err(FetchFault::Memory) => Exit::Memory,
+    match fetch_all(alloc, depot, name_of(command), MOST_BYTES) {
+        Ok(bytes) => perform(alloc, command, &bytes, out),
+        Err(fault) => Exit::from(fault),
     }
 }
 
-/// The top call: runs the command that the words ask for, over the depot's files, and writes the
-/// report to `out`. The words are those behind the program's own name; they must be `solo` and the
-/// name of a scenario.
+/// The top call: does the command that the words ask for, over the depot's files, and writes its text
+/// to `out`. The words are those behind the program's own name: `solo NAME` or `check NAME`, with
+/// `--limit N` anywhere among them, from 1 to 10,000,000 turns, 1,000,000 where it isn't given.
 ///
-/// The answer is Usage exactly where they aren't. It is ReadFault only where the count of failed
-/// fetches of that name rose in this call; NotYet exactly where the bytes that came are not of the
-/// form that is read so far, or are more than 16 MiB; WriteFault only where the sink's count of
-/// faults rose in this call. It is Done exactly where the run of the bytes is quiet at its end, and
-/// Limit exactly where it isn't, which then took 1,000,000 turns. With Done or Limit the report of
-/// that run is written; with WriteFault the beginning of it; else nothing. The depot's files stay.
+/// The answer is Usage exactly where the words are no command. It is ReadFault only where the count of
+/// failed fetches of that name rose in this call; Scenario exactly where the bytes that came are no
+/// scenario, with the first line at fault and why, or are more than 16 MiB, with line 0; WriteFault
+/// only where the sink's count of faults rose in this call. Otherwise `check` answers Done and writes
+/// `ok`; `solo` writes the report of the run by round robin, and answers Done exactly where that run is
+/// quiet at its end, and Limit exactly where it isn't, which then took N turns. Memory may come in
+/// place of each. With Done or Limit the text is written whole; with WriteFault a part of it from its
+/// first byte on; else nothing. The depot's files stay.
 pub fn nova_main<D: Depot, O: Sink>(
     alloc: Global,
     words: &[String],
     depot: &mut D,
     out: &mut O,
 ) -> Exit
-    ensures usage { (result ≡ Exit.Usage) ↔ (scenario_in (map string_bytes words.now) ≡ None) }
-    ensures unused { scenario_in (map string_bytes words.now) ≡ None → O.written out.new ≡ O.written out.old }
-    ensures answer { IfSome (scenario_in (map string_bytes words.now)) (λ name.
-        IsAnswered (CameAs D.gave (D.files depot.old) name depot.old depot.new)
-        (CameTooMany D.gave (D.files depot.old) name depot.old depot.new)
-        (Rose (D.fetch_faults depot.old name) (D.fetch_faults depot.new name))
+    ensures usage { result ≡ Exit.Usage → command (map string_bytes words.now) ≡ None }
+    ensures no_command { command (map string_bytes words.now) ≡ None → (result ≡ Exit.Usage) ⊎ (result ≡ Exit.Memory) }
+    ensures unused { command (map string_bytes words.now) ≡ None → O.written out.new ≡ O.written out.old }
+    ensures answer { IfSome (command (map string_bytes words.now)) (λ command.
+        Answers command
+        (CameAs D.gave (D.files depot.old) (name_of command) depot.old depot.new)
+        (CameTooMany D.gave (D.files depot.old) (name_of command) depot.old depot.new)
+        (Rose (D.fetch_faults depot.old (name_of command)) (D.fetch_faults depot.new (name_of command)))
         (Rose (O.faults out.old) (O.faults out.new)) (O.written out.old) (O.written out.new) result) }
+    ensures complete { IfSome (command (map string_bytes words.now)) (λ command.
+        IsServable (D.files depot.old) (name_of command)
+        (Rose (D.fetch_faults depot.old (name_of command)) (D.fetch_faults depot.new (name_of command)))
+        (Rose (O.faults out.old) (O.faults out.new)) → IsDoneOrStopped result) }
     ensures files { D.files depot.new ≡ D.files depot.old }
 {
-    let Some(name) = scenario_in(words) else {
-        return Exit::Usage;
-    };
-    run_scenario(alloc, name, depot, out)
+    match read_command(alloc, words) {
+        Ok(command) => serve(alloc, &command, depot, out),
+        Err(fault) => Exit::from(fault),
+    }
 }

@@ -1,0 +1,44 @@
+ghost use Rattle.std.specs.Prelude.{◌≡◌, ◌≤◌, ◌*◌, ◌^◌, IfOk};
+ghost use Rattle.nova_model.specs.Boot.{boot};
+ghost use Rattle.nova_boot.specs.Boot.{scenario_of, LieInRam};
+
+use nova_kernel::{Kernel, Root};
+use nova_scenario::Scenario;
+use std::alloc::{AllocError, Global};
+
+/// The root of a scenario.
+fn root_of(scenario: &Scenario) -> Root
+    ensures { result ≡ (scenario_of scenario.now).root }
+{
+    Root {
+        pc: scenario.pc,
+        sp: scenario.sp,
+        priority: scenario.priority,
+        quantum: scenario.quantum,
+    }
+}
+
+/// The kernel that a scenario begins with: the machine boots with its root domain, and then the
+/// images are laid into RAM. The console log has room for `log_room` bytes.
+///
+/// The order of RAM is at most 14, the consoles are at most 16, and the images lie in RAM.
+pub fn boot(alloc: Global, scenario: &Scenario, log_room: u64) -> Result<Kernel, AllocError>
+    requires ram { scenario.now.ram ≤ 14 }
+    requires consoles { scenario.now.consoles ≤ 16 }
+    requires images { LieInRam (4096 * 2 ^ scenario.now.ram) scenario.now.images }
+    ensures { IfOk result (λ k. k ≡ record { state = boot (scenario_of scenario.now); room = log_room }) }
+{
+    let root = root_of(scenario);
+    let mut kernel = Kernel::new(
+        alloc,
+        scenario.cpus,
+        scenario.ram,
+        scenario.consoles,
+        root,
+        log_room,
+    )?;
+    for image in scenario.images.as_slice() {
+        kernel.put(image.address, image.bytes.as_slice());
+    }
+    Ok(kernel)
+}

@@ -1,0 +1,12 @@
+pub mod Fault
+pub mod Statement
+pub mod Settings
+pub mod Items
+pub mod Words
+pub mod Images
+pub mod Occupied
+pub mod Kept
+pub mod Scenario
+pub mod Read
+pub mod Blocks
+pub mod Sound

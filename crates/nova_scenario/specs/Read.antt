@@ -1,0 +1,41 @@
+-- What the reader answers.
+use Rattle.std.specs.Prelude.{◌≡◌, ℕ, List, false, Result, Ok, Err}
+use Rattle.nova_text.specs.Line.{Row}
+use Rattle.nova_scenario.specs.Fault.{At}
+use Rattle.nova_scenario.specs.Images.{Draft}
+use Rattle.nova_scenario.specs.Items.{items}
+use Rattle.nova_scenario.specs.Scenario.{read_items}
+use Rattle.nova_scenario.specs.declared.fault.ScenarioFault.{ScenarioFault}
+use Rattle.nova_scenario.specs.declared.fault.ScenarioFault.TheVariants.{At as AtLine, Memory}
+use Rattle.nova_scenario.specs.declared.fault.Why.{Why}
+use Rattle.nova_scenario.specs.declared.scenario.Scenario.{Scenario}
+
+-- a fault is the one that is wanted. Want of memory may be answered instead of anything
+abbrev pub IsFault : {A : Type 0} → Result A At → ScenarioFault → Type 0
+IsFault wanted (AtLine line why) = wanted ≡ Err (record { line = line; why = why })
+IsFault wanted Memory = Unit {0}
+
+-- what was found, as it is seen, is what is wanted
+abbrev pub Gives : {A B : Type 0} → (A → B) → Result B At → Result A ScenarioFault → Type 0
+Gives seen wanted (Ok found) = wanted ≡ Ok (seen found)
+Gives seen wanted (Err fault) = IsFault wanted fault
+
+abbrev pub IsRead : Result Scenario At → Result Scenario ScenarioFault → Type 0
+IsRead wanted result = Gives (λ scenario. scenario) wanted result
+
+-- the same of what is changed in place: after a fault nothing is said of it
+abbrev pub Becomes : {A : Type 0} → Result A Why → A → Result (Unit {0}) Why → Type 0
+Becomes wanted new (Ok done) = wanted ≡ Ok new
+Becomes wanted new (Err why) = wanted ≡ Err why
+
+abbrev pub BecomesAt : {A : Type 0} → Result A At → A → Result (Unit {0}) ScenarioFault → Type 0
+BecomesAt wanted new result = Gives (λ done. new) wanted result
+
+-- the scenario that comes of a draft with the lines that are left
+abbrev pub read_rest : List ℕ → Draft → List Row → Result Scenario At
+read_rest bytes draft rows = read_items bytes draft (items false rows)
+
+-- lines were read: the same comes of what is left. A fault of them is one of all
+abbrev pub IsReadOn : List ℕ → Draft → List Row → Draft → List Row → Result (Unit {0}) ScenarioFault → Type 0
+IsReadOn bytes old rows new rest (Ok done) = read_rest bytes old rows ≡ read_rest bytes new rest
+IsReadOn bytes old rows new rest (Err fault) = IsFault (read_rest bytes old rows) fault

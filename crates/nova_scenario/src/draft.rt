@@ -1,0 +1,124 @@
+ghost use Rattle.std.specs.Prelude.{◌≡◌, [], ◌∷◌, ◌++◌, false, OnOk, OnErr};
+ghost use Rattle.std.specs.List.{list_any};
+ghost use Rattle.nova_scenario.specs.Images.{empty, begun, end_of, shares, with_image, is_word_address};
+ghost use Rattle.nova_scenario.specs.Read.{Becomes, BecomesAt};
+ghost use Rattle.nova_scenario.specs.Fault.{on_line};
+ghost use Rattle.nova_scenario.specs.Scenario.{finished, with_settings};
+ghost use Rattle.nova_scenario.specs.Settings.{with_setting};
+
+use crate::fault::{ScenarioFault, Why};
+use crate::image::{Image, Images};
+use crate::occupied::Occupied;
+use crate::scenario::Scenario;
+use crate::settings::Settings;
+use crate::statement::Setting;
+use std::alloc::{AllocError, Global};
+use std::marker::Model;
+
+/// What the text says so far. Contracts see the settings and the list of images.
+#[derive(Drop)]
+pub struct Draft {
+    settings: Settings,
+    images: Vec<Image>,
+    occupied: Occupied,
+}
+
+impl Model for Draft {
+    ghost use Rattle.nova_scenario.specs.Images.{Draft as DraftValue};
+
+    ghost Value = { DraftValue };
+
+    ghost use Rattle.nova_scenario.specs.Kept.{IsKept};
+
+    ghost view = { λ d. record { settings = d.settings; images = d.images.items } };
+
+    ghost invariant = { λ d. IsKept d.settings d.images.items d.occupied };
+}
+
+impl Draft {
+    /// Nothing is said.
+    pub fn new(alloc: Global) -> Draft
+        ensures { result ≡ empty }
+    {
+        Draft {
+            settings: Settings::new(),
+            images: Vec::new(alloc),
+            occupied: Occupied::new(alloc),
+        }
+    }
+
+    /// Adds a setting.
+    pub fn set(&mut self, setting: Setting) -> Result<(), Why>
+        ensures { Becomes (with_settings self.old (with_setting self.old.settings setting)) self.new result }
+    {
+        self.settings = self.settings.with(setting)?;
+        Ok(())
+    }
+
+    /// The address of an image that begins.
+    pub fn begin(&self, address: Option<u32>) -> Result<u32, Why>
+        ensures { result ≡ begun self.now.settings address }
+    {
+        if !self.settings.is_whole() {
+            return Err(Why::Missing);
+        }
+        match address {
+            Some(address) if is_word_address(self.settings.ram_size(), address) => Ok(address),
+            _ => Err(Why::Range),
+        }
+    }
+
+    /// Adds an image that ends at a line.
+    pub fn add(&mut self, image: Image, line: u64) -> Result<(), ScenarioFault>
+        ensures { BecomesAt (on_line line (with_image self.old image)) self.new result }
+    {
+        let start = u64::from(image.address);
+        let end = start + image.bytes.as_slice().len() as u64;
+        if self.settings.ram_size() < end {
+            return Err(Why::Range.at(line));
+        }
+        if self.occupied.meets(start, end) {
+            return Err(Why::Overlap.at(line));
+        }
+        self.keep(image, start, end)?;
+        Ok(())
+    }
+
+    // Adds an image that lies from one address up to another, where no other one does.
+    fn keep(&mut self, image: Image, start: u64, end: u64) -> Result<(), AllocError>
+        requires start { start ≡ image.address }
+        requires end { end ≡ end_of image }
+        requires free { list_any (shares image) self.old.images ≡ false }
+        ensures kept { OnOk result (self.new ≡ record self.old { images = self.old.images ++ image ∷ [] }) }
+        ensures err { OnErr result (self.new ≡ self.old) }
+    {
+        self.images.reserve(1)?;
+        self.occupied.add(start, end)?;
+        self.images.push(image).unwrap();
+        Ok(())
+    }
+
+    /// The scenario, if all settings stand.
+    pub fn finish(self) -> Option<Scenario>
+        ensures { result ≡ finished self }
+    {
+        let root = self.settings.root?;
+        Some(Scenario {
+            cpus: self.settings.cpus?,
+            ram: self.settings.ram?,
+            consoles: self.settings.consoles?,
+            pc: root.pc,
+            sp: root.sp,
+            priority: root.priority,
+            quantum: root.quantum,
+            images: self.images.into(),
+        })
+    }
+}
+
+// Whether an address is a multiple of 4 in RAM of so many bytes.
+fn is_word_address(ram: u64, address: u32) -> bool
+    ensures { result ≡ is_word_address ram address }
+{
+    address % 4 == 0 && u64::from(address) + 4 <= ram
+}

@@ -1,0 +1,90 @@
+ghost use Rattle.std.specs.Prelude.{◌≡◌, Some};
+ghost use Rattle.nova_scenario.specs.declared.fault.ScenarioFault.TheVariants.{At, Memory};
+ghost use Rattle.nova_scenario.specs.Fault.{name_of, message_of};
+
+use rv_asm::AsmFault;
+use std::alloc::AllocError;
+use std::error::Error;
+use std::fmt;
+
+/// What is wrong with a line of a text that is no scenario. Of several faults of one line the first in this order is meant.
+#[derive(Clone, Copy, Debug, PartialEq, Eq)]
+pub enum Why {
+    /// It is not of the form of its place.
+    Syntax,
+
+    /// An earlier line sets the same.
+    Repeated,
+
+    /// Not all settings stand before an image; or, on the line behind the last, a setting or a line `end` is not there.
+    Missing,
+
+    /// A number is outside its range or is 2^32 or more, or an image reaches past RAM.
+    Range,
+
+    /// The image that ends here shares a byte with an earlier one.
+    Overlap,
+
+    /// The assembler's fault. Its span counts bytes from the start of the line behind the image's first.
+    Asm(AsmFault),
+}
+
+impl Why {
+    /// This at a line.
+    pub(crate) fn at(self, line: u64) -> ScenarioFault
+        ensures { result ≡ At line self }
+    {
+        ScenarioFault::At { line, why: self }
+    }
+}
+
+impl fmt::Display for Why {
+    ghost output = { λ why. Some (name_of why) };
+
+    fn fmt<W: fmt::Write>(&self, f: &mut fmt::Formatter<W>) -> fmt::Result {
+        f.write_str(match self {
+            Why::Syntax => "Syntax",
+            Why::Repeated => "Repeated",
+            Why::Missing => "Missing",
+            Why::Range => "Range",
+            Why::Overlap => "Overlap",
+            Why::Asm(AsmFault::UnknownName(_)) => "UnknownName",
+            Why::Asm(AsmFault::BadOperand(_)) => "BadOperand",
+            Why::Asm(AsmFault::OutOfRange(_)) => "OutOfRange",
+            Why::Asm(AsmFault::TwiceLabel(_)) => "TwiceLabel",
+            Why::Asm(AsmFault::NoLabel(_)) => "NoLabel",
+            Why::Asm(AsmFault::Memory) => "Memory",
+        })
+    }
+}
+
+/// Why a text was not read as a scenario.
+#[derive(Clone, Copy, Debug, PartialEq, Eq)]
+pub enum ScenarioFault {
+    /// It is no scenario: this is the first line at fault, counted from 1.
+    At { line: u64, why: Why },
+
+    /// Memory was refused.
+    Memory,
+}
+
+impl fmt::Display for ScenarioFault {
+    ghost output = { λ fault. Some (message_of fault) };
+
+    fn fmt<W: fmt::Write>(&self, f: &mut fmt::Formatter<W>) -> fmt::Result {
+        match self {
+            ScenarioFault::At { line, why } => write!(f, "line {line}: {why}"),
+            ScenarioFault::Memory => f.write_str("out of memory"),
+        }
+    }
+}
+
+impl Error for ScenarioFault {}
+
+impl From<AllocError> for ScenarioFault {
+    ghost from_gives = { λ _ fault. fault ≡ Memory };
+
+    fn from(_: AllocError) -> Self {
+        ScenarioFault::Memory
+    }
+}

@@ -1,0 +1,97 @@
+ghost use Rattle.std.specs.Prelude.{◌≡◌, ◌∷◌, ◌+◌, ◌≤◌, length, IfOk, OnOk};
+ghost use Rattle.std.specs.List.{after_first};
+ghost use Rattle.nova_text.specs.Line.{row_of, lines};
+ghost use Rattle.nova_scenario.specs.Items.{is_end, block};
+ghost use Rattle.nova_scenario.specs.Read.{IsRead, BecomesAt, IsReadOn};
+ghost use Rattle.nova_scenario.specs.Scenario.{with_block, scenario};
+ghost use Rattle.nova_scenario.specs.Sound.{IsSound};
+ghost use Rattle.nova_scenario.specs.declared.fault.Why.TheVariants.{Missing};
+
+use crate::asm::asm_block;
+use crate::draft::Draft;
+use crate::fault::{ScenarioFault, Why};
+use crate::hex::hex_block;
+use crate::image::Image;
+use crate::scenario::Scenario;
+use crate::statement::{Form, Head, Statement, said};
+use nova_text::{Line, Lines};
+use std::alloc::Global;
+
+// The fault of what is not there at the end of a text: it is on the line behind the last.
+fn missing(bytes: &[u8]) -> ScenarioFault
+    ensures { result ≡ ScenarioFault.At (length (lines bytes.now) + 1) Missing }
+{
+    let mut next = 1;
+    for line in Lines::new(bytes) {
+        next = line.number + 1;
+    }
+    Why::Missing.at(next)
+}
+
+// Adds the image that a line begins, with the lines of its block.
+fn read_image(
+    alloc: Global,
+    bytes: &[u8],
+    draft: &mut Draft,
+    first: Line,
+    head: Head,
+    lines: &mut Lines,
+) -> Result<(), ScenarioFault>
+    ensures draft { BecomesAt (with_block bytes.now draft.old head (block (row_of first.entry) lines.old)) draft.new result }
+    ensures lines { OnOk result (lines.new ≡ after_first is_end lines.old) }
+{
+    let address = draft
+        .begin(head.address)
+        .map_err(|why| why.at(first.number))?;
+    let block = match head.form {
+        Form::Hex => hex_block(alloc, lines)?,
+        Form::Asm => asm_block(alloc, bytes, first, lines)?,
+    };
+    let image = Image {
+        address,
+        bytes: block.bytes.into(),
+    };
+    match block.end {
+        Some(end) => draft.add(image, end),
+        None => Err(missing(bytes)),
+    }
+}
+
+// Adds what a line says. Where it begins an image, the lines of its block are taken too.
+fn read_item(
+    alloc: Global,
+    bytes: &[u8],
+    draft: &mut Draft,
+    line: Line,
+    lines: &mut Lines,
+) -> Result<(), ScenarioFault>
+    ensures read { IsReadOn bytes.now draft.old (row_of line.entry ∷ lines.old) draft.new lines.new result }
+    ensures fewer { OnOk result (length lines.new ≤ length lines.old) }
+{
+    match said(line) {
+        Ok(None) => Ok(()),
+        Ok(Some(Statement::Sets(setting))) => draft.set(setting).map_err(|why| why.at(line.number)),
+        Ok(Some(Statement::Begins(head))) => read_image(alloc, bytes, draft, line, head, lines),
+        Err(why) => Err(why.at(line.number)),
+    }
+}
+
+/// Reads a scenario.
+///
+/// `At` comes exactly where the text is none, and names the first line at fault with its first fault. What is missing at the end is
+/// missing on the line behind the last. `Memory` comes where memory is refused.
+#[tactic(auto, unfolding(crate::specs::Scenario::scenario))]
+pub fn read(alloc: Global, bytes: &[u8]) -> Result<Scenario, ScenarioFault>
+    ensures exact { IsRead (scenario bytes.now) result }
+    ensures sound { IfOk result IsSound }
+{
+    let mut lines = Lines::new(bytes);
+    let mut draft = Draft::new(alloc);
+    while let Some(line) = lines.next() {
+        read_item(alloc, bytes, &mut draft, line, &mut lines)?;
+    }
+    match draft.finish() {
+        Some(scenario) => Ok(scenario),
+        None => Err(missing(bytes)),
+    }
+}

@@ -1,0 +1,136 @@
+ghost use Rattle.std.specs.Prelude.{◌≡◌, ◌≤◌, IfSome, IfOk};
+ghost use Rattle.nova_scenario.specs.Settings.{within, aligned, root_of, set_once, with_setting, is_whole, ram_size, unset, HasSmallRam};
+
+use crate::fault::Why;
+use crate::statement::Setting;
+
+/// How the first thread starts, and its scheduling context.
+#[derive(Clone, Copy)]
+pub struct Root {
+    pub pc: u32,
+    pub sp: u32,
+    pub priority: u8,
+    pub quantum: u32,
+}
+
+/// What the lines so far set.
+#[derive(Clone, Copy)]
+pub struct Settings {
+    pub cpus: Option<u32>,
+    pub ram: Option<u8>,
+    pub consoles: Option<u32>,
+    pub root: Option<Root>,
+}
+
+// A number of a range.
+fn within(low: u32, high: u32, number: Option<u32>) -> Option<u32>
+    ensures number { result ≡ within low high number }
+    ensures bound { IfSome result (λ n. n ≤ high) }
+{
+    number.filter(|n| low <= *n && *n <= high)
+}
+
+// A number of a range of bytes.
+fn byte_within(high: u8, number: Option<u32>) -> Option<u8>
+    ensures number { result ≡ within 0 high number }
+    ensures bound { IfSome result (λ n. n ≤ high) }
+{
+    match within(0, u32::from(high), number) {
+        Some(n) => Some(n as u8),
+        None => None,
+    }
+}
+
+// A number that is a multiple of 4.
+fn aligned(number: Option<u32>) -> Option<u32>
+    ensures { result ≡ aligned number }
+{
+    number.filter(|n| *n % 4 == 0)
+}
+
+// What is set where it was `old`.
+fn set_once<T: Copy>(old: Option<T>, new: Option<T>) -> Result<T, Why>
+    ensures { result ≡ set_once old new }
+{
+    match (old, new) {
+        (Some(_), _) => Err(Why::Repeated),
+        (None, None) => Err(Why::Range),
+        (None, Some(new)) => Ok(new),
+    }
+}
+
+impl Root {
+    // The first thread of these numbers, where each is in its range.
+    fn of(
+        pc: Option<u32>,
+        sp: Option<u32>,
+        priority: Option<u32>,
+        quantum: Option<u32>,
+    ) -> Option<Root>
+        ensures { result ≡ root_of (aligned pc) sp (within 0 255 priority) (within 1 16777215 quantum) }
+    {
+        Some(Root {
+            pc: aligned(pc)?,
+            sp: sp?,
+            priority: byte_within(255, priority)?,
+            quantum: within(1, 16_777_215, quantum)?,
+        })
+    }
+}
+
+impl Settings {
+    /// Nothing is set.
+    pub fn new() -> Settings
+        ensures { result ≡ unset }
+    {
+        Settings {
+            cpus: None,
+            ram: None,
+            consoles: None,
+            root: None,
+        }
+    }
+
+    /// The settings with one more.
+    pub fn with(self, setting: Setting) -> Result<Settings, Why>
+        ensures setting { result ≡ with_setting self setting }
+        ensures ram { HasSmallRam self → IfOk result HasSmallRam }
+    {
+        let mut settings = self;
+        match setting {
+            Setting::Cpus(n) => settings.cpus = Some(set_once(self.cpus, within(1, 8, n))?),
+            Setting::Ram(m) => settings.ram = Some(set_once(self.ram, byte_within(14, m))?),
+            Setting::Consoles(c) => {
+                settings.consoles = Some(set_once(self.consoles, within(0, 16, c))?);
+            }
+            Setting::Root {
+                pc,
+                sp,
+                priority,
+                quantum,
+            } => {
+                let root = Root::of(pc, sp, priority, quantum);
+                settings.root = Some(set_once(self.root, root)?);
+            }
+        }
+        Ok(settings)
+    }
+
+    /// Whether all are set.
+    pub fn is_whole(self) -> bool
+        ensures { result ≡ is_whole self }
+    {
+        self.cpus.is_some() && self.ram.is_some() && self.consoles.is_some() && self.root.is_some()
+    }
+
+    /// How many bytes RAM has. Where it is not set it has none.
+    pub fn ram_size(self) -> u64
+        requires { HasSmallRam self }
+        ensures { result ≡ ram_size self }
+    {
+        match self.ram {
+            Some(m) => 4096 << m,
+            None => 0,
+        }
+    }
+}

@@ -1,0 +1,13 @@
+pub mod Scans
+pub mod Cuts
+pub mod Passes
+pub mod Ranges
+pub mod Fits
+pub mod ProgramRead
+pub mod Odd
+pub mod Parts
+pub mod NumbersBack
+pub mod OperandsBack
+pub mod PrintedBack
+pub mod Reassembled
+pub mod LabelPlaces

@@ -1,0 +1,12 @@
+use Rattle.std.proofs.Common.{rules}
+use Rattle.std.proofs.lemmas.Iterator.{YieldsList-from_slice}
+use Rattle.std.proofs.lemmas.Iterator.Search.{position_from_yields_List}
+use borrow.Author.Tests.{tests}
+use Rattle.std.proofs.Common.{◌==◌}
+use Rattle.rv_asm.proofs.Scans.{unwrap_or-position}
+use Rattle.rv_asm.proofs.syntax.len_before.Goals as goal
+
+pub returns-clause-len : goal.returns-clause-len
+returns-clause-len c =
+    let found = position_from_yields_List (λ b. b == c.args.sign) _ _ c.position.result c.position.ensures.ran (YieldsList-from_slice c.args.bytes.now cc) (λ x b q k. search (rules, tests)) in
+    unwrap_or-position (λ b. b == c.args.sign) c.args.bytes.now c.position.result _ c.unwrap_or.ensures found

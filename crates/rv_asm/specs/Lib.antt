@@ -1,0 +1,12 @@
+pub mod Register
+pub mod Syntax
+pub mod Shown
+pub mod Operand
+pub mod Digits
+pub mod Places
+pub mod Name
+pub mod Program
+pub mod Words
+pub mod Assembled
+pub mod Printed
+pub mod Read
