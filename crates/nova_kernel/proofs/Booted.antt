@@ -58,13 +58,17 @@ ticks-bare cpus ram consoles root (suc zero) = omega arith
 ticks-bare cpus ram consoles root (suc (suc zero)) = omega arith
 ticks-bare cpus ram consoles root (suc (suc (suc n))) = omega arith
 
-pub IsCounted_bare : (cpus ram consoles : ℕ) (root : Root) → IsCounted (bare cpus ram consoles root)
-IsCounted_bare cpus ram consoles root = record {
-  objects = omega arith;
-  processors = length-replicate cpus 0;
-  stamps = omega arith;
-  ticks = ticks-bare cpus ram consoles root;
-  stirs = zeros cpus;
+pub IsCounted_bare : (cpus ram consoles : ℕ) (root : Root) → consoles ≤ 16 → IsCounted (bare cpus ram consoles root)
+IsCounted_bare cpus ram consoles root few = record {
+  charged = record {
+    turns = omega arith;
+    processors = length-replicate cpus 0;
+    stamps = omega arith;
+    ticks = ticks-bare cpus ram consoles root;
+    stirs = zeros cpus;
+  };
+  numbered = record { objects = omega arith; derivations = omega arith };
+  tables = record { contexts = refl; budgets = refl; identifiers = refl; semaphores = refl };
 }
 
 -- bytes laid into RAM leave the number of its frames

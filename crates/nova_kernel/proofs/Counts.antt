@@ -1,55 +1,41 @@
 -- What is counted stays bounded by the turns that were taken.
-use Rattle.std.proofs.Common.{◌≡◌, ℕ, zero, suc, ◌+◌, ◌≤◌, List, [], ◌∷◌, refl, ◌∙◌, subst, arith}
-use Rattle.std.specs.Prelude.{Bool, true, false, Option, Some, None, slice_get, slice_index, slice_set}
-use Rattle.rv_model.specs.Step.{Once, Raised, Went, one}
-use Rattle.nova_model.specs.AddressSpaces.{space}
-use Rattle.nova_model.specs.State.{KernelState, context_at, budget_at, entry}
-use Rattle.nova_model.specs.Turn.{acted, acted_as, acted_in, ready, stepped, called, address_space, charged, is_spent, budget_after, stamp_after, quantum_in, counted, paid_by, act, Act}
-use Rattle.nova_model.specs.declared.event.EventKind.{EventKind}
+use Rattle.std.proofs.Common.{◌≡◌, ℕ, zero, suc, ◌+◌, ◌^◌, ◌<◌, ◌≤◌, List, [], ◌∷◌, refl, sym, ◌∙◌, subst, arith, rules}
+use Rattle.std.specs.Prelude.{Bool, true, false, Option, Some, None, Result, Ok, Err, OnOk, IsSome, IfSome, slice_get, slice_index, slice_set}
 use Rattle.std.proofs.lemmas.List.{length-set}
-use Rattle.nova_model.specs.declared.budget.Budget.{Budget}
+use Rattle.std.specs.declared.alloc.AllocError.{AllocError}
+use Rattle.nova_model.specs.State.{KernelState, budget_at, entry}
+use Rattle.nova_kernel.specs.Acts.{MayAct}
+use Rattle.nova_kernel.specs.declared.deed.Deed.{Deed}
 use Rattle.nova_model.specs.declared.context.EcState.{EcState}
 use Rattle.nova_model.specs.declared.context.State.{State}
-use Rattle.nova_model.specs.declared.context.State.TheVariants.{Fresh, Ready, Parked, Exiting, Dead}
-use Rattle.nova_kernel.specs.Parts.{IsCounted, IsPaidWithin, KeepsCounts}
+use Rattle.nova_model.specs.Turn.{Act, acted_in, charged, is_spent, budget_after, stamp_after, quantum_in, counted, paid_by}
+use Rattle.nova_model.specs.declared.budget.Budget.{Budget}
+use Rattle.nova_kernel.specs.Parts.{AreTables, IsCharged, IsCounted, IsNumbered, IsPaidWithin, KeepsCounts}
+use Rattle.nova_kernel.proofs.Keeps.{acted_in-keeps}
 
-called-keeps : (k : KernelState) (ec : ℕ) (x : EcState) (reason q0 q1 : ℕ) (test : Bool) → KeepsCounts k (called k ec x reason q0 q1 test).kernel
-called-keeps k ec x reason q0 q1 true = record { objects = refl; budgets = refl; next_stamp = refl; turns = refl; cpus = refl; stirs = refl }
-called-keeps k ec x reason q0 q1 false = record { objects = refl; budgets = refl; next_stamp = refl; turns = refl; cpus = refl; stirs = refl }
+-- the state after an act
+pub act-keeps : (k new : KernelState) (ec : ℕ) (state : State) (result : Result Deed AllocError) (o : Option EcState) → IsSome o →
+    IfSome o (λ x. MayAct (acted_in k ec x state) k result new) → OnOk result (KeepsCounts k new)
+act-keeps k new ec state result None there h = cc
+act-keeps k new ec state (Ok deed) (Some x) there h = subst (λ (d : Act). KeepsCounts k d.kernel) h (acted_in-keeps k ec x state)
+act-keeps k new ec state (Err error) (Some x) there h = search rules
 
-stepped-keeps : (k : KernelState) (ec : ℕ) (x : EcState) (o : Once) → KeepsCounts k (stepped k ec x o).kernel
-stepped-keeps k ec x (Raised reason q0 q1) = called-keeps k ec x reason q0 q1 _
-stepped-keeps k ec x (Went regs store) = record { objects = refl; budgets = refl; next_stamp = refl; turns = refl; cpus = refl; stirs = refl }
-
-ready-keeps : (k : KernelState) (ec : ℕ) (x : EcState) (recall : Bool) → KeepsCounts k (ready k ec x recall).kernel
-ready-keeps k ec x true = record { objects = refl; budgets = refl; next_stamp = refl; turns = refl; cpus = refl; stirs = refl }
-ready-keeps k ec x false = stepped-keeps k ec x (one x.regs (space (address_space k ec)))
-
-acted_in-keeps : (k : KernelState) (ec : ℕ) (x : EcState) (s : State) → KeepsCounts k (acted_in k ec x s).kernel
-acted_in-keeps k ec x Fresh = record { objects = refl; budgets = refl; next_stamp = refl; turns = refl; cpus = refl; stirs = refl }
-acted_in-keeps k ec x Ready = ready-keeps k ec x x.recall
-acted_in-keeps k ec x (Exiting reason q0 q1) = record { objects = refl; budgets = refl; next_stamp = refl; turns = refl; cpus = refl; stirs = refl }
-acted_in-keeps k ec x Parked = record { objects = refl; budgets = refl; next_stamp = refl; turns = refl; cpus = refl; stirs = refl }
-acted_in-keeps k ec x Dead = record { objects = refl; budgets = refl; next_stamp = refl; turns = refl; cpus = refl; stirs = refl }
-
-acted_as-keeps : (k : KernelState) (ec : ℕ) (o : Option EcState) → KeepsCounts k (acted_as k ec o).kernel
-acted_as-keeps k ec (Some x) = acted_in-keeps k ec x x.state
-acted_as-keeps k ec None = record { objects = refl; budgets = refl; next_stamp = refl; turns = refl; cpus = refl; stirs = refl }
-
--- an act leaves all that is counted
-pub acted-keeps : (k : KernelState) (ec : ℕ) → KeepsCounts k (acted k ec).kernel
-unfolding acted
-acted-keeps k ec = acted_as-keeps k ec (context_at k ec)
-
--- the state with other lists that are counted
-pub IsCounted-kept : (old new : KernelState) → KeepsCounts old new → IsCounted old → IsCounted new
-IsCounted-kept old new kept counted = record {
-  objects = rw kept.objects counted.objects;
-  processors = rw (kept.stirs, kept.cpus) counted.processors;
-  stamps = rw (kept.next_stamp, kept.turns) counted.stamps;
-  ticks = λ sc. rw (kept.turns, kept.budgets) (counted.ticks sc);
-  stirs = λ cpu. rw (kept.stirs, kept.turns) (counted.stirs cpu);
+pub IsCharged-kept : (old new : KernelState) → KeepsCounts old new → IsCharged old → IsCharged new
+IsCharged-kept old new kept charged = record {
+  turns = rw kept.turns charged.turns;
+  processors = rw (kept.processors, kept.cpus) charged.processors;
+  stamps = rw (kept.next_stamp, kept.turns) charged.stamps;
+  ticks = λ sc. rw (kept.turns, kept.budgets sc) (charged.ticks sc);
+  stirs = λ cpu. rw (kept.processors, kept.turns) (charged.stirs cpu);
 }
+
+pub IsNumbered-kept : (old new : KernelState) → KeepsCounts old new → IsNumbered old.turns old → IsNumbered (new.turns + 1) new
+IsNumbered-kept old new kept numbered = record {
+  objects = let h = kept.objects in let t = kept.turns in let n = numbered.objects in omega arith;
+  derivations = let h = kept.derivations in let t = kept.turns in let n = numbered.derivations in omega arith;
+}
+
+-- a charge
 
 ticks-after : (turns quantum stamp : ℕ) (spent : Bool) (b : Budget) → b.ticks ≤ turns → IsPaidWithin (turns + 1) (Some (budget_after spent quantum stamp b))
 ticks-after turns quantum stamp true b h = omega arith
@@ -78,17 +64,17 @@ index-set turns (x ∷ xs) zero (suc n) v new old = omega arith
 index-set turns (x ∷ xs) (suc i) zero v new old = omega arith
 index-set turns (x ∷ xs) (suc i) (suc n) v new old = index-set turns xs i n v new old
 
--- a charge keeps the bounds
-IsCounted-paid : (k : KernelState) (cpu sc quantum : ℕ) (o : Option Budget) → budget_at k sc ≡ o → IsCounted k → IsCounted (counted (paid_by k sc quantum o) cpu)
-IsCounted-paid k cpu sc quantum None at c = record {
-  objects = c.objects;
+IsCharged-paid : (k : KernelState) (cpu sc quantum : ℕ) (o : Option Budget) → budget_at k sc ≡ o → k.turns < 2 ^ 31 → IsCharged k →
+    IsCharged (counted (paid_by k sc quantum o) cpu)
+IsCharged-paid k cpu sc quantum None at few c = record {
+  turns = omega arith;
   processors = length-set k.stirs.processors cpu (slice_index k.stirs.processors cpu + 1) ∙ c.processors;
   stamps = let h = c.stamps in omega arith;
   ticks = λ n. IsPaidWithin-more k.turns (budget_at k n) (c.ticks n);
   stirs = λ n. index-set k.turns k.stirs.processors cpu n (slice_index k.stirs.processors cpu + 1) (let h = c.stirs cpu in omega arith) (c.stirs n);
 }
-IsCounted-paid k cpu sc quantum (Some b) at c = record {
-  objects = c.objects;
+IsCharged-paid k cpu sc quantum (Some b) at few c = record {
+  turns = omega arith;
   processors = length-set k.stirs.processors cpu (slice_index k.stirs.processors cpu + 1) ∙ c.processors;
   stamps = stamp-after (is_spent b) k.next_stamp k.turns c.stamps;
   ticks = λ n. IsPaidWithin-set k.turns k.budgets sc n (budget_after (is_spent b) quantum k.next_stamp b)
@@ -96,10 +82,41 @@ IsCounted-paid k cpu sc quantum (Some b) at c = record {
   stirs = λ n. index-set k.turns k.stirs.processors cpu n (slice_index k.stirs.processors cpu + 1) (let h = c.stirs cpu in omega arith) (c.stirs n);
 }
 
-pub IsCounted-charged : (k : KernelState) (cpu sc : ℕ) → IsCounted k → IsCounted (charged k cpu sc)
-unfolding charged
-IsCounted-charged k cpu sc c = IsCounted-paid k cpu sc (quantum_in (slice_get k.objects sc)) (budget_at k sc) refl c
+IsNumbered-paid : (k : KernelState) (cpu sc quantum : ℕ) (o : Option Budget) → IsNumbered (k.turns + 1) k → IsNumbered (k.turns + 1) (counted (paid_by k sc quantum o) cpu)
+IsNumbered-paid k cpu sc quantum None n = record { objects = n.objects; derivations = n.derivations }
+IsNumbered-paid k cpu sc quantum (Some b) n = record { objects = n.objects; derivations = n.derivations }
 
--- the state after an act
-pub KeepsCounts-acted : (k new : KernelState) (ec : ℕ) (kind : EventKind) (a b : ℕ) → acted k ec ≡ act new kind a b → KeepsCounts k new
-KeepsCounts-acted k new ec kind a b h = subst (λ (d : Act). KeepsCounts k d.kernel) h (acted-keeps k ec)
+AreTables-paid : (k : KernelState) (cpu sc quantum : ℕ) (o : Option Budget) → AreTables k → AreTables (counted (paid_by k sc quantum o) cpu)
+AreTables-paid k cpu sc quantum None t = record { contexts = t.contexts; budgets = t.budgets; identifiers = t.identifiers; semaphores = t.semaphores }
+AreTables-paid k cpu sc quantum (Some b) t =
+    record { contexts = t.contexts; budgets = length-set k.budgets sc _ ∙ t.budgets; identifiers = t.identifiers; semaphores = t.semaphores }
+
+turns-paid : (k : KernelState) (cpu sc quantum : ℕ) (o : Option Budget) → (counted (paid_by k sc quantum o) cpu).turns ≡ k.turns + 1
+turns-paid k cpu sc quantum None = refl
+turns-paid k cpu sc quantum (Some b) = refl
+
+objects-paid : (k : KernelState) (cpu sc quantum : ℕ) (o : Option Budget) → (counted (paid_by k sc quantum o) cpu).objects ≡ k.objects
+objects-paid k cpu sc quantum None = refl
+objects-paid k cpu sc quantum (Some b) = refl
+
+-- a charge makes no object
+pub objects-charged : (k : KernelState) (cpu sc : ℕ) → (charged k cpu sc).objects ≡ k.objects
+unfolding charged
+objects-charged k cpu sc = objects-paid k cpu sc (quantum_in (slice_get k.objects sc)) (budget_at k sc)
+
+-- an act and its charge keep the bounds
+pub IsCounted-charged : (old k : KernelState) (cpu sc : ℕ) → KeepsCounts old k → old.turns < 2 ^ 31 → IsCounted old → IsCounted (charged k cpu sc)
+unfolding charged
+IsCounted-charged old k cpu sc kept few c =
+    let o = budget_at k sc in
+    let quantum = quantum_in (slice_get k.objects sc) in
+    record {
+      charged = IsCharged-paid k cpu sc quantum o refl (let h = kept.turns in omega arith) (IsCharged-kept old k kept c.charged);
+      numbered = subst (λ (n : ℕ). IsNumbered n (counted (paid_by k sc quantum o) cpu)) (sym (turns-paid k cpu sc quantum o))
+          (IsNumbered-paid k cpu sc quantum o (IsNumbered-kept old k kept c.numbered));
+      tables = AreTables-paid k cpu sc quantum o (kept.tables c.tables);
+    }
+
+-- a scheduling context stays there
+pub budget-kept : (old new : KernelState) (sc : ℕ) → KeepsCounts old new → IsSome (budget_at old sc) → IsSome (budget_at new sc)
+budget-kept old new sc kept there = subst (λ (o : Option Budget). IsSome o) (sym (kept.budgets sc)) there

@@ -12,7 +12,7 @@ use Rattle.nova_model.specs.Delegations.{write_right}
 use Rattle.nova_model.specs.State.{KernelState, context_at, entry}
 use Rattle.nova_model.specs.Turn.{with_context, address_space}
 use Rattle.nova_model.specs.declared.context.EcState.{EcState}
-use Rattle.nova_kernel.specs.Parts.{Executes, ExecutesIn}
+use Rattle.nova_kernel.specs.Acts.{Executes, ExecutesIn}
 use Rattle.nova_kernel.specs.Reach.{ReachState, stored}
 
 -- a store leaves the delegations
@@ -36,7 +36,7 @@ pub record IsReached (k : KernelState) (ec : ℕ) (reach : ReachState) : Type 0 
   pub consoles : reach.consoles ≡ k.consoles
 
 -- a table with an entry put where it is stays the same
-slice_set-same : {T : Type 0} → (xs : List T) (i : ℕ) (x : T) → slice_get xs i ≡ Some x → slice_set xs i x ≡ xs
+pub slice_set-same : {T : Type 0} → (xs : List T) (i : ℕ) (x : T) → slice_get xs i ≡ Some x → slice_set xs i x ≡ xs
 slice_set-same xs i x h =
     sym (ap (slice_set xs i) (get_or_from_slice_get xs i x x h)) ∙ set-get_or xs i x
 

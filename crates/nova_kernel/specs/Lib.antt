@@ -3,10 +3,15 @@ pub use Rattle.nova_model.specs.Delegations
 pub use Rattle.nova_model.specs.AddressSpaces
 pub use Rattle.nova_model.specs.State
 pub use Rattle.nova_model.specs.Choice
+pub use Rattle.nova_model.specs.Capabilities
+pub use Rattle.nova_model.specs.Creation
+pub use Rattle.nova_model.specs.Hypercalls
 pub use Rattle.nova_model.specs.Turn
 pub use Rattle.nova_model.specs.Runs
 pub use Rattle.nova_model.specs.Boot
 pub mod Views
 pub mod Parts
+pub mod Wanted
+pub mod Acts
 pub mod Best
 pub mod Reach

@@ -1,72 +1,99 @@
 -- What the kernel's lists show of its state, and what always holds of them.
-use Rattle.std.specs.Prelude.{IsSome, slice_index, ℕ, ◌+◌, ◌^◌, ◌≤◌, ◌≡◌, length, Option, Some, None}
-use Rattle.nova_model.specs.State.{KernelState, context_at, budget_at}
-use Rattle.nova_model.specs.Boot.{first_messages, first_transfers, first_identifiers, first_semaphores, first_guests}
+use Rattle.std.specs.Prelude.{IsSome, slice_index, ℕ, ◌+◌, ◌^◌, ◌<◌, ◌≤◌, ◌≡◌, List, length, map, replicate, option_map, vec_len, vec_capacity, Option, Some, None}
+use Rattle.nova_objects.specs.declared.object.Object.{Object}
+use Rattle.nova_objects.specs.declared.object.Object.TheVariants.{Ec}
+use Rattle.nova_model.specs.State.{KernelState, Transfer, context_at, budget_at}
+use Rattle.nova_model.specs.Creation.{idle_semaphore}
 use Rattle.nova_model.specs.declared.budget.Budget.{Budget}
-use Rattle.nova_kernel.specs.declared.parts.Parts.{Parts}
-use Rattle.nova_model.specs.Turn.{with_context, address_space, memory_after}
 use Rattle.nova_model.specs.declared.budget.Candidate.{Candidate}
-use Rattle.nova_model.specs.declared.context.EcState.{EcState}
-use Rattle.rv_model.specs.Step.{Once, Raised, Went}
-use Rattle.rv_core.specs.declared.outcome.Outcome.{Outcome}
-use Rattle.nova_kernel.specs.Reach.{ReachState, stored}
-use Rattle.rv_core.specs.declared.outcome.Outcome.TheVariants.{Next, Raise}
+use Rattle.nova_kernel.specs.declared.parts.Parts.{Parts}
 
--- the state that the lists show. What nothing can change yet is as at boot.
+-- the message words of an object where it is an execution context, and what it gives: nothing changes them yet
+abbrev pub words_of : Object → Option (List ℕ)
+words_of (Ec pd cpu kind event) = Some (replicate 128 0)
+words_of _ = None
+
+abbrev pub transfer_of : Object → Option Transfer
+transfer_of (Ec pd cpu kind event) = Some (record { item = 0; cursor = 0; children = 0 })
+transfer_of _ = None
+
+-- no object is a guest yet
+abbrev pub guest_of : Object → Option ℕ
+guest_of _ = None
+
+-- the state that the lists show
 abbrev pub shown : Parts → KernelState
 shown p = record {
   delegations = record { list = p.reach.space.delegations; next = p.next_derivation };
   objects = p.objects.items;
   contexts = p.contexts.items;
-  messages = first_messages;
-  transfers = first_transfers;
+  messages = map words_of p.objects.items;
+  transfers = map transfer_of p.objects.items;
   budgets = p.budgets.items;
-  identifiers = first_identifiers;
-  semaphores = first_semaphores;
+  identifiers = p.identifiers.items;
+  semaphores = map (option_map idle_semaphore) p.counts.items;
   memory = p.reach.space.memory;
   next_stamp = p.next_stamp;
   turns = p.turns;
   cpus = p.cpus;
   consoles = p.reach.consoles;
-  stirs = record { guests = first_guests; processors = p.stirs.items };
+  stirs = record { guests = map guest_of p.objects.items; processors = p.stirs.items };
 }
+
+-- each list has room for one more
+pub record HasRoom (p : Parts) : Type 0 where
+  pub objects : 0 < p.objects.spare
+  pub derivations : 0 < p.reach.spare
+  pub contexts : vec_len p.contexts < vec_capacity p.contexts
+  pub budgets : vec_len p.budgets < vec_capacity p.budgets
+  pub identifiers : vec_len p.identifiers < vec_capacity p.identifiers
+  pub counts : vec_len p.counts < vec_capacity p.counts
+
+-- tables by number: an entry for each object
+pub record AreTables (k : KernelState) : Type 0 where
+  pub contexts : length k.contexts ≡ length k.objects
+  pub budgets : length k.budgets ≡ length k.objects
+  pub identifiers : length k.identifiers ≡ length k.objects
+  pub semaphores : length k.semaphores ≡ length k.objects
+
+-- the numbers that were given: at boot 3 to objects and at most 20 to derivations, and in a turn at most one of each
+pub record IsNumbered (turns : ℕ) (k : KernelState) : Type 0 where
+  pub objects : length k.objects ≤ turns + 3
+  pub derivations : k.delegations.next ≤ turns + 20
 
 -- a scheduling context paid for no more turns than were taken
 abbrev pub IsPaidWithin : ℕ → Option Budget → Type 0
 IsPaidWithin turns (Some b) = b.ticks ≤ turns
 IsPaidWithin turns None = 0 ≤ turns
 
--- what always holds: numbers of objects fit, and counts are bounded by the turns that were taken
-pub record IsCounted (k : KernelState) : Type 0 where
-  pub objects : length k.objects ≤ 2 ^ 32
+-- what turns are charged to is bounded by the turns that were taken
+pub record IsCharged (k : KernelState) : Type 0 where
+  pub turns : k.turns ≤ 2 ^ 31
   pub processors : length k.stirs.processors ≡ k.cpus
   pub stamps : k.next_stamp ≤ k.turns + 1
   pub ticks : (sc : ℕ) → IsPaidWithin k.turns (budget_at k sc)
   pub stirs : (cpu : ℕ) → slice_index k.stirs.processors cpu ≤ k.turns
 
--- an act leaves all that is counted
+-- what always holds
+pub record IsCounted (k : KernelState) : Type 0 where
+  pub charged : IsCharged k
+  pub numbered : IsNumbered k.turns k
+  pub tables : AreTables k
+
+-- an act leaves each execution context there, and what turns are charged to; it gives at most one number to an object and to a
+-- derivation
 pub record KeepsCounts (old new : KernelState) : Type 0 where
-  pub objects : new.objects ≡ old.objects
-  pub budgets : new.budgets ≡ old.budgets
+  pub contexts : (ec : ℕ) → IsSome (context_at old ec) → IsSome (context_at new ec)
+  pub budgets : (sc : ℕ) → budget_at new sc ≡ budget_at old sc
   pub next_stamp : new.next_stamp ≡ old.next_stamp
   pub turns : new.turns ≡ old.turns
   pub cpus : new.cpus ≡ old.cpus
-  pub stirs : new.stirs ≡ old.stirs
+  pub processors : new.stirs.processors ≡ old.stirs.processors
+  pub objects : length new.objects ≤ length old.objects + 1
+  pub derivations : new.delegations.next ≤ old.delegations.next + 1
+  pub tables : AreTables old → AreTables new
 
 -- what a candidate names is there
 pub record IsThere (k : KernelState) (c : Candidate) : Type 0 where
   pub context : IsSome (context_at k c.ec)
   pub budget : IsSome (budget_at k c.sc)
-
--- the outcome of an instruction, and what it leaves of the execution context and of what it reaches
-abbrev pub ExecutesIn : Once → EcState → ReachState → Outcome → EcState → ReachState → Type 0
-ExecutesIn (Raised reason q0 q1) x reach outcome x' reach' = (outcome ≡ Raise reason q0 q1) × (x' ≡ x) × (reach' ≡ reach)
-ExecutesIn (Went regs None) x reach outcome x' reach' = (outcome ≡ Next) × (x' ≡ record x { regs = regs }) × (reach' ≡ reach)
-ExecutesIn (Went regs (Some store)) x reach outcome x' reach' =
-    (outcome ≡ Next) × (x' ≡ record x { regs = regs }) × (reach' ≡ stored store reach)
-
--- the outcome of an instruction and the state that it leaves
-abbrev pub Executes : Once → KernelState → ℕ → EcState → Outcome → KernelState → Type 0
-Executes (Raised reason q0 q1) k ec x outcome new = (outcome ≡ Raise reason q0 q1) × (new ≡ k)
-Executes (Went regs store) k ec x outcome new =
-    (outcome ≡ Next) × (new ≡ with_context (record k { memory = (memory_after (address_space k ec) store).memory }) ec (record x { regs = regs }))

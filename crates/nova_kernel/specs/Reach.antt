@@ -5,11 +5,13 @@ use Rattle.nova_model.specs.Delegations.{is_memory}
 use Rattle.nova_model.specs.AddressSpaces.{AddressSpace, space, after_store}
 use Rattle.nova_model.specs.declared.delegation.Derivation.{Derivation}
 
--- the address space of the execution context that acts, how many frames there are, and how many more bytes the log takes
+-- the address space of the execution context that acts, how many consoles there are, how many more bytes the log takes, and for how
+-- many more derivations there is room
 pub record ReachState : Type 0 where
   pub space : AddressSpace
   pub consoles : ℕ
   pub room : ℕ
+  pub spare : ℕ
 
 abbrev pub fetched : ReachState → ℕ → Option ℕ
 fetched s = (space s.space).fetch
@@ -37,8 +39,7 @@ pub record LeadToFrames (frames : ℕ) (list : List Derivation) : Type 0 where
 
 -- the state that a store leaves: what the log grows by is taken from the room
 abbrev pub stored : Store → ReachState → ReachState
-stored store s = record {
+stored store s = record s {
   space = after_store store s.space;
-  consoles = s.consoles;
   room = s.room + length s.space.memory.log - length (after_store store s.space).memory.log;
 }

@@ -1,7 +1,8 @@
 -- What a caller sees of a kernel.
-use Rattle.std.specs.Prelude.{ℕ, Option, option_map, nat_le, slice_get}
+use Rattle.std.specs.Prelude.{ℕ, ◌<◌, length, Option, option_map, nat_le, slice_get}
 use Rattle.std.specs.List.{find}
 use Rattle.nova_model.specs.State.{KernelState, Semaphore, entry, budget_at}
+use Rattle.nova_model.specs.Runs.{after}
 use Rattle.nova_model.specs.declared.delegation.Derivation.{Derivation}
 use Rattle.nova_model.specs.declared.event.Turn.{Turn}
 use Rattle.nova_model.specs.declared.event.Turn.TheVariants.{Stepped, Idle}
@@ -30,3 +31,11 @@ derivation_from k id = find (λ d. nat_le id d.id) k.delegations.list
 abbrev pub turns_taken : Turn → ℕ
 turns_taken Idle = 0
 turns_taken (Stepped event) = 1
+
+-- from one state to another an object was made
+abbrev pub HasMade : KernelState → KernelState → Type 0
+HasMade old new = length old.objects < length new.objects
+
+-- the turn of a processor makes an object
+abbrev pub IsMaking : KernelState → ℕ → Type 0
+IsMaking k cpu = HasMade k (after k cpu)

@@ -7,6 +7,7 @@ use super::reach::Reach;
 use bitflags::Flags;
 use nova_frames::Frames;
 use nova_model::{Budget, Derivation, EcKind, EcState, Kind, Object, Rights, Root, State};
+use nova_objects::Objects;
 use rv_core::Regs;
 use std::alloc::{AllocError, Global};
 
@@ -15,23 +16,24 @@ const ROOT_EVENTS: u32 = 16;
 
 /// The objects: the root's protection domain, its execution context, a thread, and its scheduling
 /// context.
-fn root_objects(alloc: Global, root: Root) -> Result<Vec<Object>, AllocError>
-    ensures { IfOk result (λ v. v.items ≡ root_objects root) }
+fn root_objects(alloc: Global, root: Root) -> Result<Objects, AllocError>
+    ensures { IfOk result (λ o. o.items ≡ root_objects root) }
 {
-    let mut objects = Vec::with_capacity(alloc, 3)?;
-    objects.push(Object::Pd)?;
-    objects.push(Object::Ec {
+    let mut objects = Objects::new(alloc);
+    objects.reserve(3)?;
+    objects.add(Object::Pd);
+    objects.add(Object::Ec {
         pd: 0,
         cpu: 0,
         kind: EcKind::Global,
         event: ROOT_EVENTS,
-    })?;
-    objects.push(Object::Sc {
+    });
+    objects.add(Object::Sc {
         ec: 1,
         cpu: 0,
         priority: root.priority,
         quantum: root.quantum,
-    })?;
+    });
     Ok(objects)
 }
 
@@ -73,6 +75,13 @@ fn root_budgets(alloc: Global, root: Root) -> Result<Vec<Option<Budget>>, AllocE
         ticks: 0,
     }))?;
     Ok(budgets)
+}
+
+/// A table of what none of the root's objects has: portals' identifiers, or semaphores' counters.
+fn no_entries(alloc: Global) -> Result<Vec<Option<u32>>, AllocError>
+    ensures { IfOk result (λ v. v.items ≡ None ∷ None ∷ None ∷ []) }
+{
+    vec![in alloc; None; 3]
 }
 
 /// All RAM, to be read, written and executed.
@@ -171,6 +180,8 @@ impl Parts {
         let objects = root_objects(alloc, root)?;
         let contexts = root_contexts(alloc, root)?;
         let budgets = root_budgets(alloc, root)?;
+        let identifiers = no_entries(alloc)?;
+        let counts = no_entries(alloc)?;
         let stirs = first_stirs(alloc, cpus)?;
         Ok(Parts {
             reach,
@@ -178,6 +189,8 @@ impl Parts {
             objects,
             contexts,
             budgets,
+            identifiers,
+            counts,
             next_stamp: 1,
             turns: 0,
             cpus,
@@ -201,6 +214,7 @@ impl Reach {
           };
           consoles = consoles;
           room = log_room;
+          spare = 0;
         }) }
     {
         let frames = Frames::new(alloc, ram, consoles, log_room)?;
@@ -208,6 +222,7 @@ impl Reach {
         Ok(Reach {
             frames,
             derivations,
+            spare: 0,
             pd: 0,
             is_thread: true,
         })

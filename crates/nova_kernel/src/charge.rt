@@ -1,7 +1,7 @@
 ghost use Rattle.std.specs.Prelude.{◌≡◌, ◌+◌, ◌^◌, ◌<◌, length, slice_get, slice_index, IsSome, IfSome};
 ghost use Rattle.nova_model.specs.State.{budget_at};
 ghost use Rattle.nova_model.specs.Turn.{quantum_in, is_spent, budget_after, paid_by, counted, charged};
-ghost use Rattle.nova_kernel.specs.Parts.{shown, IsCounted};
+ghost use Rattle.nova_kernel.specs.Parts.{shown, IsCharged};
 
 use super::parts::Parts;
 use nova_model::{Budget, Object};
@@ -39,7 +39,7 @@ impl Parts {
     fn quantum(&self, sc: u32) -> u32
         ensures { result ≡ quantum_in (slice_get (shown self.now).objects sc) }
     {
-        match self.objects.get(sc as usize) {
+        match self.objects.get(sc) {
             Some(Object::Sc { quantum, .. }) => *quantum,
             _ => 0,
         }
@@ -53,7 +53,7 @@ impl Parts {
         ensures turns { self.new.turns ≡ self.old.turns }
         ensures cpus { self.new.cpus ≡ self.old.cpus }
         ensures paid { shown self.new ≡ paid_by (shown self.old) sc (quantum_in (slice_get (shown self.old).objects sc)) (budget_at (shown self.old) sc) }
-        ensures room { self.new.reach.room ≡ self.old.reach.room }
+        ensures log { self.new.reach.room ≡ self.old.reach.room }
     {
         let Some(budget) = self.budgets[sc as usize] else {
             unreachable!();
@@ -72,7 +72,7 @@ impl Parts {
         ensures turns { self.new.turns ≡ self.old.turns + 1 }
         ensures cpus { self.new.cpus ≡ self.old.cpus }
         ensures counted { shown self.new ≡ counted (shown self.old) cpu }
-        ensures room { self.new.reach.room ≡ self.old.reach.room }
+        ensures log { self.new.reach.room ≡ self.old.reach.room }
     {
         self.turns += 1;
         self.stirs[cpu as usize] += 1;
@@ -81,14 +81,14 @@ impl Parts {
     /// A turn of the processor is charged to the scheduling context.
     #[tactic(auto, unfolding(nova_model::specs::Turn::charged))]
     pub fn charge(&mut self, cpu: u32, sc: u32)
-        requires counted { IsCounted (shown self.old) }
+        requires charged { IsCharged (shown self.old) }
         requires turns { self.old.turns < 2 ^ 31 }
         requires cpu { cpu < self.old.cpus }
         requires there { IsSome (budget_at (shown self.old) sc) }
         ensures charged { shown self.new ≡ charged (shown self.old) cpu sc }
         ensures turns { self.new.turns ≡ self.old.turns + 1 }
         ensures cpus { self.new.cpus ≡ self.old.cpus }
-        ensures room { self.new.reach.room ≡ self.old.reach.room }
+        ensures log { self.new.reach.room ≡ self.old.reach.room }
     {
         self.pay(sc);
         self.count(cpu);

@@ -76,12 +76,12 @@ impl Parts {
 
     /// The runnable scheduling context of the processor before which no other goes.
     pub fn choice(&self, cpu: u32) -> Option<Candidate>
-        requires { length self.now.objects.items ≤ 2 ^ 32 }
+        requires { length (shown self.now).objects ≤ 2 ^ 32 }
         ensures choice { result ≡ choice (shown self.now) cpu }
         ensures there { IfSome result (IsThere (shown self.now)) }
     {
         let mut best = None;
-        for (sc, object) in self.objects.iter().enumerate() {
+        for (sc, object) in self.objects.as_slice().iter().enumerate() {
             best = better_of(best, self.candidate(cpu, sc as u32, *object));
         }
         best
@@ -89,7 +89,7 @@ impl Parts {
 
     /// Whether no processor has a turn to take.
     pub fn is_quiet(&self) -> bool
-        requires { length self.now.objects.items ≤ 2 ^ 32 }
+        requires { length (shown self.now).objects ≤ 2 ^ 32 }
         ensures { result ≡ is_quiet (shown self.now) }
     {
         for cpu in 0..self.cpus {

@@ -1,10 +1,10 @@
-ghost use Rattle.std.specs.Prelude.{◌≡◌, ◌+◌, ◌*◌, ◌^◌, ◌<◌, ◌≤◌, length, slice_get, IsOk, IfOk, option_map};
+ghost use Rattle.std.specs.Prelude.{◌≡◌, ◌+◌, ◌*◌, ◌^◌, ◌<◌, ◌≤◌, length, slice_get, IfOk, OnOk, OnErr, option_map};
 ghost use Rattle.std.specs.Option.{option_copied};
 ghost use Rattle.nova_model.specs.State.{context_at};
 ghost use Rattle.nova_model.specs.Choice.{choose, is_quiet};
 ghost use Rattle.nova_model.specs.Turn.{turn, state_after, answer_of};
 ghost use Rattle.nova_model.specs.Boot.{bare, laid};
-ghost use Rattle.nova_kernel.specs.Views.{ticks_of, left_of, semaphore_at, derivation_from, turns_taken};
+ghost use Rattle.nova_kernel.specs.Views.{ticks_of, left_of, semaphore_at, derivation_from, turns_taken, IsMaking};
 
 use super::parts::Parts;
 use super::reach::Reach;
@@ -65,21 +65,23 @@ impl Kernel {
 
     /// One turn of an existing processor: the execution context at the chosen scheduling context
     /// acts, and the scheduling context is charged. Idle, with nothing changed, exactly where no
-    /// scheduling context of the processor is runnable. Needs spare log, of which a turn uses at most
-    /// one place, and fewer than 2^31 turns taken before.
+    /// scheduling context of the processor is runnable. It refuses for want of memory alone, only in
+    /// a turn that makes an object, and then nothing has changed. Needs spare log, of which a turn
+    /// uses at most one place, and fewer than 2^31 turns taken before.
     pub fn turn(&mut self, cpu: u32) -> Result<Turn, AllocError>
         requires cpu { cpu < self.old.state.cpus }
         requires room { 0 < self.old.room }
         requires turns { self.old.state.turns < 2 ^ 31 }
-        ensures ok { IsOk result }
         ensures answer { IfOk result (λ t. t ≡ answer_of (turn self.old.state cpu)) }
-        ensures state { self.new.state ≡ state_after self.old.state (turn self.old.state cpu) }
+        ensures state { OnOk result (self.new.state ≡ state_after self.old.state (turn self.old.state cpu)) }
+        ensures memory { OnErr result (self.new ≡ self.old) }
+        ensures making { OnErr result (IsMaking self.old.state cpu) }
         ensures room { self.old.room ≤ self.new.room + 1 }
         ensures idle { IfOk result (λ t. t ≡ Turn.Idle → self.new ≡ self.old) }
         ensures counted { IfOk result (λ t. self.new.state.turns ≡ self.old.state.turns + turns_taken t) }
         ensures cpus { self.new.state.cpus ≡ self.old.state.cpus }
     {
-        Ok(self.parts.turn(cpu))
+        self.parts.turn(cpu)
     }
 
     /// The scheduling context that the processor's next turn is charged to; none where it is idle.
@@ -128,7 +130,7 @@ impl Kernel {
     pub fn object(&self, id: u32) -> Option<&Object>
         ensures { option_copied result ≡ slice_get self.now.state.objects id }
     {
-        self.parts.objects.get(id as usize)
+        self.parts.objects.get(id)
     }
 
     /// The objects, by number.
@@ -167,7 +169,7 @@ impl Kernel {
     }
 
     /// The counter of a semaphore and how many execution contexts wait at it; none where no semaphore
-    /// has the number. None can be made yet.
+    /// has the number.
     pub fn semaphore(&self, sm: u32) -> Option<(u32, u32)>
         ensures { result ≡ option_map (λ s. (s.count, length s.waiting)) (semaphore_at self.now.state sm) }
     {

@@ -2,11 +2,17 @@
 #![tactic(auto)]
 
 mod boot;
+mod capabilities;
 mod charge;
 mod choice;
+mod creation;
+mod deed;
+mod hypercalls;
 mod kernel;
 mod parts;
 mod reach;
+#[cfg(test)]
+mod tests;
 mod turn;
 
 pub use kernel::Kernel;

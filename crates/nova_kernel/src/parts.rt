@@ -1,29 +1,48 @@
-ghost use Rattle.std.specs.Prelude.{◌≡◌, length, option_map};
+ghost use Rattle.std.specs.Prelude.{◌≡◌, ◌+◌, ◌<◌, ◌≤◌, [], ◌∷◌, ◌++◌, length, option_map, vec_len, vec_capacity};
 ghost use Rattle.nova_kernel.specs.Parts.{shown};
 ghost use Rattle.nova_kernel.specs.Views.{semaphore_at};
 
 use super::reach::Reach;
-use nova_model::{Budget, EcState, Object};
+use nova_model::{Budget, EcState};
+use nova_objects::Objects;
 
-/// What a kernel keeps. Tables are by the number of the object.
+/// What a kernel keeps. Tables are by the number of the object: execution contexts, the budgets of
+/// scheduling contexts, the identifiers of portals, and the counters of semaphores.
 #[derive(Drop)]
 pub struct Parts {
     pub reach: Reach,
     pub next_derivation: u32,
-    pub objects: Vec<Object>,
+    pub objects: Objects,
     pub contexts: Vec<Option<EcState>>,
     pub budgets: Vec<Option<Budget>>,
+    pub identifiers: Vec<Option<u32>>,
+    pub counts: Vec<Option<u32>>,
     pub next_stamp: u64,
     pub turns: u64,
     pub cpus: u32,
     pub stirs: Vec<u64>,
 }
 
+/// Adds an item to a list that has room for it.
+pub fn push<T: Drop>(list: &mut Vec<T>, item: T)
+    requires { vec_len list.old < vec_capacity list.old }
+    ensures items { list.new.items ≡ list.old.items ++ item ∷ [] }
+    ensures len { vec_len list.new ≡ vec_len list.old + 1 }
+    ensures capacity { vec_capacity list.old ≤ vec_capacity list.new }
+{
+    let Ok(()) = list.push(item) else {
+        unreachable!()
+    };
+}
+
 impl Parts {
-    /// The counter of a semaphore and how many wait at it: none is there yet.
-    pub fn semaphore(&self, _sm: u32) -> Option<(u32, u32)>
-        ensures { result ≡ option_map (λ s. (s.count, length s.waiting)) (semaphore_at (shown self.now) _sm) }
+    /// The counter of a semaphore and how many wait at it: nobody can wait yet.
+    pub fn semaphore(&self, sm: u32) -> Option<(u32, u32)>
+        ensures { result ≡ option_map (λ s. (s.count, length s.waiting)) (semaphore_at (shown self.now) sm) }
     {
-        None
+        match self.counts.get(sm as usize) {
+            Some(Some(count)) => Some((*count, 0)),
+            _ => None,
+        }
     }
 }

@@ -1,30 +1,33 @@
-ghost use Rattle.std.specs.Prelude.{◌≡◌, ◌≤◌, ◌+◌, ◌*◌, ◌/◌, ◌%◌, ◌^◌, ◌<◌, ℕ, length, IfSome, option_map};
+ghost use Rattle.std.specs.Prelude.{◌≡◌, ◌≤◌, ◌+◌, ◌-◌, ◌*◌, ◌/◌, ◌%◌, ◌^◌, ◌<◌, ℕ, [], ◌∷◌, ◌++◌, length, max, IfSome, OnOk, OnErr, option_map};
 ghost use Rattle.nova_model.specs.Delegations.{covers_page};
 ghost use Rattle.nova_model.specs.AddressSpaces.{page_at, frame_for};
 ghost use Rattle.nova_model.specs.Boot.{laid};
 ghost use Rattle.nova_kernel.specs.Reach.{IsPlaced};
 
+use super::parts::push;
 use bitflags::Flags;
 use nova_frames::Frames;
 use nova_model::{Derivation, Kind, Page, Rights};
 use rv_core::bus::Bus;
+use std::alloc::AllocError;
 use std::marker::Model;
 
 /// The page of a thread that is its own, where no delegation leads.
 const OWN_PAGE: u32 = 0xfffff;
 
 /// What an instruction reaches: the frames, through the delegations of the protection domain that
-/// acts.
+/// acts. There is room for `spare` more derivations.
 #[derive(Drop)]
 pub struct Reach {
     pub frames: Frames,
     pub derivations: Vec<Derivation>,
+    pub spare: usize,
     pub pd: u32,
     pub is_thread: bool,
 }
 
 impl Model for Reach {
-    ghost use Rattle.std.specs.Prelude.{◌+◌, length};
+    ghost use Rattle.std.specs.Prelude.{◌+◌, ◌≤◌, length, vec_len, vec_capacity};
     ghost use Rattle.nova_kernel.specs.Reach.{ReachState, LeadToFrames};
 
     ghost Value = { ReachState };
@@ -33,9 +36,11 @@ impl Model for Reach {
       space = record { delegations = r.derivations.items; memory = r.frames.memory; pd = r.pd; is_thread = r.is_thread };
       consoles = r.frames.consoles;
       room = r.frames.room;
+      spare = r.spare;
     } };
 
-    ghost invariant = { λ r. LeadToFrames (length r.frames.memory.ram + r.frames.consoles) r.derivations.items };
+    ghost invariant = { λ r. LeadToFrames (length r.frames.memory.ram + r.frames.consoles) r.derivations.items
+        × (vec_len r.derivations + r.spare ≤ vec_capacity r.derivations) };
 }
 
 /// Whether the derivation lies in the memory space of the protection domain and covers the page.
@@ -64,6 +69,30 @@ impl Reach {
         ensures { self.new ≡ record self.old { space = record self.old.space { memory = laid self.old.space.memory address bytes.now } } }
     {
         self.frames.put(address, bytes);
+    }
+
+    /// Makes room for one more derivation. It refuses for want of memory alone, and then nothing has
+    /// changed.
+    pub fn reserve(&mut self) -> Result<(), AllocError>
+        ensures ok { OnOk result (self.new ≡ record self.old { spare = max self.old.spare 1 }) }
+        ensures err { OnErr result (self.new ≡ self.old) }
+    {
+        self.derivations.reserve(1)?;
+        self.spare = self.spare.max(1);
+        Ok(())
+    }
+
+    /// Adds a derivation in the room that was made. It leads to frames, or to an object.
+    pub fn add(&mut self, derivation: Derivation)
+        requires room { 0 < self.old.spare }
+        requires placed { IsPlaced (length self.old.space.memory.ram + self.old.consoles) derivation }
+        ensures { self.new ≡ record self.old {
+          space = record self.old.space { delegations = self.old.space.delegations ++ derivation ∷ [] };
+          spare = self.old.spare - 1;
+        } }
+    {
+        push(&mut self.derivations, derivation);
+        self.spare -= 1;
     }
 
     /// What a page leads to: the one derivation that covers it, or nothing.

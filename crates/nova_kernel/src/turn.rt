@@ -1,43 +1,26 @@
-ghost use Rattle.std.specs.Prelude.{false, ◌≡◌, ◌==◌, ◌&&◌, ◌+◌, ◌^◌, ◌<◌, ◌≤◌, slice_get, IsSome, IfSome};
+ghost use Rattle.std.specs.Prelude.{false, ◌≡◌, ◌==◌, ◌&&◌, ◌+◌, ◌^◌, ◌<◌, ◌≤◌, ℕ, slice_get, IsSome, IfSome, IfOk, OnOk, OnErr};
 ghost use Rattle.rv_model.specs.Registers.{reg, with_reg};
 ghost use Rattle.rv_model.specs.Step.{one, next, environment_call};
 ghost use Rattle.nova_model.specs.AddressSpaces.{space};
 ghost use Rattle.nova_model.specs.State.{context_at, pd_in, is_thread_in};
-ghost use Rattle.nova_model.specs.Turn.{act, called, raised, died, answered, recall, hypercall, ready, stepped, acted_in, acted, address_space, state_after, answer_of, turn};
-ghost use Rattle.nova_kernel.specs.Views.{turns_taken};
-ghost use Rattle.nova_kernel.specs.Parts.{shown, IsCounted, KeepsCounts, Executes, ExecutesIn};
+ghost use Rattle.nova_model.specs.Turn.{act, called, raised, died, recall, ready, stepped, acted_in, acted, address_space, state_after, answer_of, turn};
+ghost use Rattle.nova_kernel.specs.Views.{IsMaking, turns_taken};
+ghost use Rattle.nova_kernel.specs.Parts.{shown, IsCounted, KeepsCounts};
+ghost use Rattle.nova_kernel.specs.Acts.{Executes, ExecutesIn, MayAct};
 
+use super::deed::Deed;
 use super::parts::Parts;
 use super::reach::Reach;
 use nova_model::{EcKind, EcState, Event, EventKind, Object, State, Turn};
 use rv_core::hart::step;
 use rv_core::outcome::{ENVIRONMENT_CALL, Outcome};
+use std::alloc::AllocError;
 
 /// The reason of a startup exit.
 const STARTUP: u32 = 0;
 
 /// The reason of a recall exit.
 const RECALL: u32 = 8;
-
-/// The status of a hypercall that isn't there.
-const BAD_HYP: u32 = 4;
-
-/// What an execution context did: the kind of its event, and the event's two numbers.
-#[derive(Clone, Copy)]
-pub struct Deed {
-    pub kind: EventKind,
-    pub a: u32,
-    pub b: u32,
-}
-
-/// A hypercall ends behind its instruction, with a status in x10.
-fn end_call(context: &mut EcState, status: u32)
-    ensures { context.new ≡ record context.old { regs = next (with_reg context.old.regs 10 status) } }
-{
-    context.regs.set(10, status);
-    let next = context.regs.pc().wrapping_add(4);
-    context.regs.set_pc(next);
-}
 
 /// One instruction of an execution context over what it reaches.
 fn execute_in(context: &mut EcState, reach: &mut Reach) -> Outcome
@@ -49,10 +32,10 @@ fn execute_in(context: &mut EcState, reach: &mut Reach) -> Outcome
 
 impl Parts {
     /// The protection domain of an execution context.
-    fn pd(&self, ec: u32) -> u32
+    pub fn pd(&self, ec: u32) -> u32
         ensures { result ≡ pd_in (slice_get (shown self.now).objects ec) }
     {
-        match self.objects.get(ec as usize) {
+        match self.objects.get(ec) {
             Some(Object::Ec { pd, .. }) => *pd,
             _ => 0,
         }
@@ -62,7 +45,7 @@ impl Parts {
     fn is_thread(&self, ec: u32) -> bool
         ensures { result ≡ is_thread_in (slice_get (shown self.now).objects ec) }
     {
-        match self.objects.get(ec as usize) {
+        match self.objects.get(ec) {
             Some(Object::Ec { kind, .. }) => matches!(kind, EcKind::Local | EcKind::Global),
             _ => false,
         }
@@ -72,7 +55,7 @@ impl Parts {
     fn raise(&mut self, ec: u32, reason: u32, q0: u32, q1: u32) -> Deed
         requires { IsSome (context_at (shown self.old) ec) }
         ensures raised { IfSome (context_at (shown self.old) ec) (λ x. raised (shown self.old) ec x reason q0 q1 ≡ act (shown self.new) result.kind result.a result.b) }
-        ensures room { self.new.reach.room ≡ self.old.reach.room }
+        ensures log { self.new.reach.room ≡ self.old.reach.room }
     {
         let Some(context) = &mut self.contexts[ec as usize] else {
             unreachable!();
@@ -89,7 +72,7 @@ impl Parts {
     fn die(&mut self, ec: u32, reason: u32, q0: u32) -> Deed
         requires { IsSome (context_at (shown self.old) ec) }
         ensures died { IfSome (context_at (shown self.old) ec) (λ x. died (shown self.old) ec x reason q0 ≡ act (shown self.new) result.kind result.a result.b) }
-        ensures room { self.new.reach.room ≡ self.old.reach.room }
+        ensures log { self.new.reach.room ≡ self.old.reach.room }
     {
         let Some(context) = &mut self.contexts[ec as usize] else {
             unreachable!();
@@ -102,50 +85,13 @@ impl Parts {
         }
     }
 
-    /// The number of the hypercall that an execution context makes, in x17.
-    fn number(&self, ec: u32) -> u32
-        requires { IsSome (context_at (shown self.now) ec) }
-        ensures { IfSome (context_at (shown self.now) ec) (λ x. reg x.regs 17 ≡ result) }
-    {
-        let Some(context) = &self.contexts[ec as usize] else {
-            unreachable!();
-        };
-        context.regs.get(17)
-    }
-
-    /// A hypercall ends behind its instruction, with a status in x10.
-    fn answer(&mut self, ec: u32, number: u32, status: u32) -> Deed
-        requires { IsSome (context_at (shown self.old) ec) }
-        ensures answered { IfSome (context_at (shown self.old) ec) (λ x. answered (shown self.old) ec x number status ≡ act (shown self.new) result.kind result.a result.b) }
-        ensures room { self.new.reach.room ≡ self.old.reach.room }
-    {
-        let Some(context) = &mut self.contexts[ec as usize] else {
-            unreachable!();
-        };
-        end_call(context, status);
-        Deed {
-            kind: EventKind::Answer,
-            a: number,
-            b: status,
-        }
-    }
-
-    /// A hypercall: no number is built yet.
-    fn hypercall(&mut self, ec: u32) -> Deed
-        requires { IsSome (context_at (shown self.old) ec) }
-        ensures answered { IfSome (context_at (shown self.old) ec) (λ x. hypercall (shown self.old) ec x ≡ act (shown self.new) result.kind result.a result.b) }
-        ensures room { self.new.reach.room ≡ self.old.reach.room }
-    {
-        let number = self.number(ec);
-        self.answer(ec, number, BAD_HYP)
-    }
-
     /// One instruction over the address space of the execution context.
     fn execute(&mut self, ec: u32) -> Outcome
         requires there { IsSome (context_at (shown self.old) ec) }
-        requires room { 0 < self.old.reach.room }
+        requires log { 0 < self.old.reach.room }
         ensures executed { IfSome (context_at (shown self.old) ec) (λ x. Executes (one x.regs (space (address_space (shown self.old) ec))) (shown self.old) ec x result (shown self.new)) }
-        ensures room { self.old.reach.room ≤ self.new.reach.room + 1 }
+        ensures log { self.old.reach.room ≤ self.new.reach.room + 1 }
+        ensures raised { (reason q0 q1 : ℕ) → result ≡ Outcome.Raise reason q0 q1 → self.new.reach.room ≡ self.old.reach.room }
     {
         let pd = self.pd(ec);
         let is_thread = self.is_thread(ec);
@@ -158,31 +104,34 @@ impl Parts {
     }
 
     /// What an instruction raised: an ECALL of a thread is a hypercall, and any other is an exit.
-    fn signal(&mut self, ec: u32, reason: u32, q0: u32, q1: u32) -> Deed
-        requires { IsSome (context_at (shown self.old) ec) }
-        ensures called { IfSome (context_at (shown self.old) ec) (λ x. called (shown self.old) ec x reason q0 q1 ((reason == environment_call) && is_thread_in (slice_get (shown self.old).objects ec)) ≡ act (shown self.new) result.kind result.a result.b) }
-        ensures room { self.new.reach.room ≡ self.old.reach.room }
+    fn signal(&mut self, ec: u32, reason: u32, q0: u32, q1: u32) -> Result<Deed, AllocError>
+        requires there { IsSome (context_at (shown self.old) ec) }
+        requires counted { IsCounted (shown self.old) }
+        ensures called { IfSome (context_at (shown self.old) ec) (λ x. MayAct (called (shown self.old) ec x reason q0 q1 ((reason == environment_call) && is_thread_in (slice_get (shown self.old).objects ec))) (shown self.old) result (shown self.new)) }
+        ensures log { self.new.reach.room ≡ self.old.reach.room }
     {
         if reason == ENVIRONMENT_CALL && self.is_thread(ec) {
             self.hypercall(ec)
         } else {
-            self.raise(ec, reason, q0, q1)
+            Ok(self.raise(ec, reason, q0, q1))
         }
     }
 
     /// An instruction, and what comes of its raise.
-    fn step(&mut self, ec: u32) -> Deed
+    fn step(&mut self, ec: u32) -> Result<Deed, AllocError>
         requires there { IsSome (context_at (shown self.old) ec) }
-        requires room { 0 < self.old.reach.room }
-        ensures stepped { IfSome (context_at (shown self.old) ec) (λ x. stepped (shown self.old) ec x (one x.regs (space (address_space (shown self.old) ec))) ≡ act (shown self.new) result.kind result.a result.b) }
-        ensures room { self.old.reach.room ≤ self.new.reach.room + 1 }
+        requires counted { IsCounted (shown self.old) }
+        requires log { 0 < self.old.reach.room }
+        ensures stepped { IfSome (context_at (shown self.old) ec) (λ x. MayAct (stepped (shown self.old) ec x (one x.regs (space (address_space (shown self.old) ec)))) (shown self.old) result (shown self.new)) }
+        ensures log { self.old.reach.room ≤ self.new.reach.room + 1 }
+        ensures memory { OnErr result (self.new.reach.room ≡ self.old.reach.room) }
     {
         match self.execute(ec) {
-            Outcome::Next => Deed {
+            Outcome::Next => Ok(Deed {
                 kind: EventKind::Step,
                 a: 0,
                 b: 0,
-            },
+            }),
             Outcome::Raise { reason, q0, q1 } => self.signal(ec, reason, q0, q1),
         }
     }
@@ -202,7 +151,7 @@ impl Parts {
     fn recall(&mut self, ec: u32) -> Deed
         requires { IsSome (context_at (shown self.old) ec) }
         ensures raised { IfSome (context_at (shown self.old) ec) (λ x. raised (shown self.old) ec (record x { recall = false }) recall 0 0 ≡ act (shown self.new) result.kind result.a result.b) }
-        ensures room { self.new.reach.room ≡ self.old.reach.room }
+        ensures log { self.new.reach.room ≡ self.old.reach.room }
     {
         let Some(context) = &mut self.contexts[ec as usize] else {
             unreachable!();
@@ -217,14 +166,16 @@ impl Parts {
     }
 
     /// A recall comes before the next instruction.
-    fn ready(&mut self, ec: u32) -> Deed
+    fn ready(&mut self, ec: u32) -> Result<Deed, AllocError>
         requires there { IsSome (context_at (shown self.old) ec) }
-        requires room { 0 < self.old.reach.room }
-        ensures ready { IfSome (context_at (shown self.old) ec) (λ x. ready (shown self.old) ec x x.recall ≡ act (shown self.new) result.kind result.a result.b) }
-        ensures room { self.old.reach.room ≤ self.new.reach.room + 1 }
+        requires counted { IsCounted (shown self.old) }
+        requires log { 0 < self.old.reach.room }
+        ensures ready { IfSome (context_at (shown self.old) ec) (λ x. MayAct (ready (shown self.old) ec x x.recall) (shown self.old) result (shown self.new)) }
+        ensures log { self.old.reach.room ≤ self.new.reach.room + 1 }
+        ensures memory { OnErr result (self.new.reach.room ≡ self.old.reach.room) }
     {
         if self.is_recalled(ec) {
-            self.recall(ec)
+            Ok(self.recall(ec))
         } else {
             self.step(ec)
         }
@@ -241,54 +192,72 @@ impl Parts {
         context.state
     }
 
-    /// An execution context acts in its state.
-    #[tactic(auto, unfolding(nova_model::specs::Turn::acted))]
-    fn act(&mut self, ec: u32) -> Deed
+    /// An execution context acts as one in this state.
+    fn act_in(&mut self, ec: u32, state: State) -> Result<Deed, AllocError>
         requires there { IsSome (context_at (shown self.old) ec) }
-        requires room { 0 < self.old.reach.room }
-        ensures acted { acted (shown self.old) ec ≡ act (shown self.new) result.kind result.a result.b }
-        ensures room { self.old.reach.room ≤ self.new.reach.room + 1 }
+        requires counted { IsCounted (shown self.old) }
+        requires log { 0 < self.old.reach.room }
+        ensures acted { IfSome (context_at (shown self.old) ec) (λ x. MayAct (acted_in (shown self.old) ec x state) (shown self.old) result (shown self.new)) }
+        ensures log { self.old.reach.room ≤ self.new.reach.room + 1 }
+        ensures memory { OnErr result (self.new.reach.room ≡ self.old.reach.room) }
     {
-        match self.state(ec) {
-            State::Fresh => self.raise(ec, STARTUP, 0, 0),
+        match state {
+            State::Fresh => Ok(self.raise(ec, STARTUP, 0, 0)),
             State::Ready => self.ready(ec),
-            State::Exiting(reason, q0, _) => self.die(ec, reason, q0),
-            State::Parked | State::Dead => Deed {
+            State::Exiting(reason, q0, _) => Ok(self.die(ec, reason, q0)),
+            State::Parked | State::Dead => Ok(Deed {
                 kind: EventKind::Step,
                 a: 0,
                 b: 0,
-            },
+            }),
         }
     }
 
+    /// An execution context acts in its state.
+    #[tactic(auto, unfolding(nova_model::specs::Turn::acted))]
+    fn act(&mut self, ec: u32) -> Result<Deed, AllocError>
+        requires there { IsSome (context_at (shown self.old) ec) }
+        requires counted { IsCounted (shown self.old) }
+        requires log { 0 < self.old.reach.room }
+        ensures acted { MayAct (acted (shown self.old) ec) (shown self.old) result (shown self.new) }
+        ensures kept { OnOk result (KeepsCounts (shown self.old) (shown self.new)) }
+        ensures log { self.old.reach.room ≤ self.new.reach.room + 1 }
+        ensures memory { OnErr result (self.new.reach.room ≡ self.old.reach.room) }
+    {
+        self.act_in(ec, self.state(ec))
+    }
+
     /// One turn of a processor: the execution context of the chosen scheduling context acts, and the
-    /// scheduling context pays.
+    /// scheduling context pays. It refuses for want of memory alone, where the turn would make an
+    /// object, and then nothing has changed.
     #[tactic(auto, unfolding(nova_model::specs::Turn::turn))]
-    pub fn turn(&mut self, cpu: u32) -> Turn
+    pub fn turn(&mut self, cpu: u32) -> Result<Turn, AllocError>
         requires counted { IsCounted (shown self.old) }
         requires turns { self.old.turns < 2 ^ 31 }
         requires cpu { cpu < self.old.cpus }
-        requires room { 0 < self.old.reach.room }
-        ensures state { shown self.new ≡ state_after (shown self.old) (turn (shown self.old) cpu) }
-        ensures answer { result ≡ answer_of (turn (shown self.old) cpu) }
+        requires log { 0 < self.old.reach.room }
+        ensures answer { IfOk result (λ t. t ≡ answer_of (turn (shown self.old) cpu)) }
+        ensures state { OnOk result (shown self.new ≡ state_after (shown self.old) (turn (shown self.old) cpu)) }
+        ensures memory { OnErr result ((shown self.new ≡ shown self.old) × (self.new.reach.room ≡ self.old.reach.room)) }
+        ensures making { OnErr result (IsMaking (shown self.old) cpu) }
         ensures counted { IsCounted (shown self.new) }
-        ensures room { self.old.reach.room ≤ self.new.reach.room + 1 }
-        ensures idle { result ≡ Turn.Idle → self.new.reach.room ≡ self.old.reach.room }
-        ensures turns { self.new.turns ≡ self.old.turns + turns_taken result }
+        ensures log { self.old.reach.room ≤ self.new.reach.room + 1 }
+        ensures idle { IfOk result (λ t. t ≡ Turn.Idle → self.new.reach.room ≡ self.old.reach.room) }
+        ensures turns { IfOk result (λ t. self.new.turns ≡ self.old.turns + turns_taken t) }
         ensures cpus { self.new.cpus ≡ self.old.cpus }
     {
         let Some(chosen) = self.choice(cpu) else {
-            return Turn::Idle;
+            return Ok(Turn::Idle);
         };
-        let deed = self.act(chosen.ec);
+        let deed = self.act(chosen.ec)?;
         self.charge(cpu, chosen.sc);
-        Turn::Stepped(Event {
+        Ok(Turn::Stepped(Event {
             cpu,
             sc: chosen.sc,
             ec: chosen.ec,
             kind: deed.kind,
             a: deed.a,
             b: deed.b,
-        })
+        }))
     }
 }

@@ -5,11 +5,11 @@ use Rattle.rv_model.specs.Registers.{Registers, with_reg}
 use Rattle.nova_model.specs.Memory.{Memory, written}
 use Rattle.nova_model.specs.State.{KernelState, Transfer, Semaphore}
 use Rattle.nova_model.specs.declared.delegation.Derivation.{Derivation}
-use Rattle.nova_model.specs.declared.delegation.Kind.TheVariants.{Mem, Obj}
-use Rattle.nova_model.specs.declared.rights.Rights.{Rights}
-use Rattle.nova_model.specs.declared.object.Object.{Object}
-use Rattle.nova_model.specs.declared.object.Object.TheVariants.{Pd, Ec, Sc}
-use Rattle.nova_model.specs.declared.object.EcKind.TheVariants.{Global}
+use Rattle.nova_range.specs.declared.range.Kind.TheVariants.{Mem, Obj}
+use Rattle.nova_range.specs.declared.rights.Rights.{Rights}
+use Rattle.nova_objects.specs.declared.object.Object.{Object}
+use Rattle.nova_objects.specs.declared.object.Object.TheVariants.{Pd, Ec, Sc}
+use Rattle.nova_objects.specs.declared.object.EcKind.TheVariants.{Global}
 use Rattle.nova_model.specs.declared.context.EcState.{EcState}
 use Rattle.nova_model.specs.declared.context.State.TheVariants.{Ready}
 use Rattle.nova_model.specs.declared.root.Root.{Root}

@@ -4,8 +4,8 @@ use Rattle.std.specs.List.{find, list_all, range_with_len}
 use Rattle.nova_model.specs.State.{KernelState, context_at, budget_at}
 use Rattle.nova_model.specs.declared.budget.Budget.{Budget}
 use Rattle.nova_model.specs.declared.budget.Candidate.{Candidate}
-use Rattle.nova_model.specs.declared.object.Object.{Object}
-use Rattle.nova_model.specs.declared.object.Object.TheVariants.{Sc}
+use Rattle.nova_objects.specs.declared.object.Object.{Object}
+use Rattle.nova_objects.specs.declared.object.Object.TheVariants.{Sc}
 use Rattle.nova_model.specs.declared.context.EcState.{EcState}
 use Rattle.nova_model.specs.declared.context.State.{State}
 use Rattle.nova_model.specs.declared.context.State.TheVariants.{Fresh, Ready, Parked, Exiting, Dead}

@@ -3,9 +3,9 @@ use Rattle.std.specs.Prelude.{ℕ, ◌+◌, ◌-◌, ◌^◌, ◌==◌, ◌&&◌
 use Rattle.std.specs.List.{find}
 use Rattle.nova_model.specs.declared.delegation.Derivation.{Derivation}
 use Rattle.nova_model.specs.declared.delegation.Page.{Page}
-use Rattle.nova_model.specs.declared.delegation.Kind.{Kind}
-use Rattle.nova_model.specs.declared.delegation.Kind.TheVariants.{Mem, Obj}
-use Rattle.nova_model.specs.declared.rights.Rights.{Rights}
+use Rattle.nova_range.specs.declared.range.Kind.{Kind}
+use Rattle.nova_range.specs.declared.range.Kind.TheVariants.{Mem, Obj}
+use Rattle.nova_range.specs.declared.rights.Rights.{Rights}
 
 -- the derivations that are there, and the id that the next one takes
 pub record Delegations : Type 0 where

@@ -3,6 +3,10 @@ pub mod Delegations
 pub mod AddressSpaces
 pub mod State
 pub mod Choice
+pub mod Capabilities
+pub mod Creation
+pub mod Hypercalls
 pub mod Turn
 pub mod Runs
 pub mod Boot
+pub mod Forest

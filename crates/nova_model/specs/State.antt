@@ -2,10 +2,10 @@
 use Rattle.std.specs.Prelude.{ℕ, Bool, true, false, List, Option, Some, None, slice_get}
 use Rattle.nova_model.specs.Memory.{Memory}
 use Rattle.nova_model.specs.Delegations.{Delegations}
-use Rattle.nova_model.specs.declared.object.Object.{Object}
-use Rattle.nova_model.specs.declared.object.Object.TheVariants.{Ec}
-use Rattle.nova_model.specs.declared.object.EcKind.{EcKind}
-use Rattle.nova_model.specs.declared.object.EcKind.TheVariants.{Local, Global, Vcpu}
+use Rattle.nova_objects.specs.declared.object.Object.{Object}
+use Rattle.nova_objects.specs.declared.object.Object.TheVariants.{Ec}
+use Rattle.nova_objects.specs.declared.object.EcKind.{EcKind}
+use Rattle.nova_objects.specs.declared.object.EcKind.TheVariants.{Local, Global, Vcpu}
 use Rattle.nova_model.specs.declared.context.EcState.{EcState}
 use Rattle.nova_model.specs.declared.budget.Budget.{Budget}
 

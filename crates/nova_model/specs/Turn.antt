@@ -1,14 +1,18 @@
 -- One turn of a processor: the execution context of the chosen scheduling context acts, and the scheduling context is charged.
 use Rattle.std.specs.Prelude.{ℕ, ◌+◌, ◌-◌, ◌==◌, ◌&&◌, Bool, true, false, slice_get, slice_index, slice_set, Option, Some, None}
-use Rattle.rv_model.specs.Registers.{reg, with_reg}
-use Rattle.rv_model.specs.Step.{Once, Raised, Went, Store, next, one, environment_call}
+use Rattle.rv_model.specs.Registers.{reg}
+use Rattle.rv_model.specs.Step.{Once, Raised, Went, Store, one, environment_call}
+use Rattle.nova_range.specs.Statuses.{status_code}
+use Rattle.nova_range.specs.declared.status.Status.{Status}
+use Rattle.nova_range.specs.declared.status.Status.TheVariants.{Success}
+use Rattle.nova_model.specs.Hypercalls.{Ending, Refused, Succeeds, ending, answered_registers}
 use Rattle.nova_model.specs.AddressSpaces.{AddressSpace, space, after_store}
 use Rattle.nova_model.specs.State.{KernelState, context_at, budget_at, pd_in, is_thread_in}
 use Rattle.nova_model.specs.Choice.{choice}
 use Rattle.nova_model.specs.declared.budget.Budget.{Budget}
 use Rattle.nova_model.specs.declared.budget.Candidate.{Candidate}
-use Rattle.nova_model.specs.declared.object.Object.{Object}
-use Rattle.nova_model.specs.declared.object.Object.TheVariants.{Sc}
+use Rattle.nova_objects.specs.declared.object.Object.{Object}
+use Rattle.nova_objects.specs.declared.object.Object.TheVariants.{Sc}
 use Rattle.nova_model.specs.declared.context.EcState.{EcState}
 use Rattle.nova_model.specs.declared.context.State.{State}
 use Rattle.nova_model.specs.declared.context.State.TheVariants.{Fresh, Ready, Parked, Exiting, Dead}
@@ -24,10 +28,6 @@ startup = 0
 
 abbrev pub recall : ℕ
 recall = 8
-
--- statuses of hypercalls
-abbrev pub bad_hyp : ℕ
-bad_hyp = 4
 
 -- what an execution context did: the state after it, and what it came to
 pub record Act : Type 0 where
@@ -50,13 +50,23 @@ raised k ec x reason q0 q1 = act (with_context k ec (record x { state = Exiting 
 abbrev pub died : KernelState → ℕ → EcState → ℕ → ℕ → Act
 died k ec x reason q0 = act (with_context k ec (record x { state = Dead })) event.Died reason q0
 
--- a hypercall ends with a status in x10, behind its instruction
-abbrev pub answered : KernelState → ℕ → EcState → ℕ → ℕ → Act
-answered k ec x number status = act (with_context k ec (record x { regs = next (with_reg x.regs 10 status) })) event.Answer number status
+-- a hypercall ends with a status for its caller, as it is then
+abbrev pub answered_as : KernelState → ℕ → ℕ → Status → Option ℕ → Option EcState → Act
+answered_as k ec number status value None = act k event.Answer number (status_code status)
+answered_as k ec number status value (Some x) =
+    act (with_context k ec (record x { regs = answered_registers x.regs status value })) event.Answer number (status_code status)
 
--- the hypercall whose number is in x17: none is built yet
+abbrev pub answered : KernelState → ℕ → ℕ → Status → Option ℕ → Act
+answered k ec number status value = answered_as k ec number status value (context_at k ec)
+
+-- a refused call changes nothing but its caller's registers
+abbrev pub ended : KernelState → ℕ → ℕ → Ending → Act
+ended k ec number (Refused status) = answered k ec number status None
+ended k ec number (Succeeds new value) = answered new ec number Success value
+
+-- the hypercall whose number is in x17
 abbrev pub hypercall : KernelState → ℕ → EcState → Act
-hypercall k ec x = answered k ec x (reg x.regs 17) bad_hyp
+hypercall k ec x = ended k ec (reg x.regs 17) (ending k (pd_in (slice_get k.objects ec)) x.regs)
 
 -- what the addresses of an execution context lead to
 abbrev pub address_space : KernelState → ℕ → AddressSpace

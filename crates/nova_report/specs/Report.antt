@@ -8,9 +8,9 @@ use Rattle.nova_kernel.specs.Views.{ticks_of, semaphore_at}
 use Rattle.nova_model.specs.declared.event.Event.{Event}
 use Rattle.nova_model.specs.declared.event.EventKind.{EventKind}
 use Rattle.nova_model.specs.declared.event.EventKind.TheVariants.{Step, Raise, Answer, Begin, Help, Sent, Died, Abort, Made, Skip, Xlat, Ended, Gone}
-use Rattle.nova_model.specs.declared.object.Object.{Object}
-use Rattle.nova_model.specs.declared.object.Object.TheVariants.{Ec, Sc, Sm}
-use Rattle.nova_model.specs.declared.object.EcKind.{EcKind}
+use Rattle.nova_objects.specs.declared.object.Object.{Object}
+use Rattle.nova_objects.specs.declared.object.Object.TheVariants.{Ec, Sc, Sm}
+use Rattle.nova_objects.specs.declared.object.EcKind.{EcKind}
 use Rattle.nova_model.specs.declared.context.EcState.{EcState}
 use Rattle.nova_model.specs.declared.log.LogByte.{LogByte}
 use Rattle.nova_model.specs.declared.delegation.Derivation.{Derivation}

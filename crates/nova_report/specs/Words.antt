@@ -3,12 +3,12 @@ use Rattle.std.specs.Prelude.{ℕ, ◌-◌, ◌^◌, Bool, true, false, List, []
 use Rattle.std.specs.Fmt.{format_spec, padded_integral, digits}
 use Rattle.nova_model.specs.declared.event.EventKind.{EventKind}
 use Rattle.nova_model.specs.declared.event.EventKind.TheVariants.{Step, Raise, Answer, Begin, Help, Sent, Died, Abort, Made, Skip, Xlat, Ended, Gone}
-use Rattle.nova_model.specs.declared.object.EcKind.{EcKind}
-use Rattle.nova_model.specs.declared.object.EcKind.TheVariants.{Local, Global, Vcpu}
+use Rattle.nova_objects.specs.declared.object.EcKind.{EcKind}
+use Rattle.nova_objects.specs.declared.object.EcKind.TheVariants.{Local, Global, Vcpu}
 use Rattle.nova_model.specs.declared.context.State.{State}
 use Rattle.nova_model.specs.declared.context.State.TheVariants.{Fresh, Ready, Parked, Exiting, Dead}
-use Rattle.nova_model.specs.declared.delegation.Kind.{Kind}
-use Rattle.nova_model.specs.declared.delegation.Kind.TheVariants.{Mem, Obj}
+use Rattle.nova_range.specs.declared.range.Kind.{Kind}
+use Rattle.nova_range.specs.declared.range.Kind.TheVariants.{Mem, Obj}
 
 abbrev pub line_feed : List ℕ
 line_feed = 10 ∷ []

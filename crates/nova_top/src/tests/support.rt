@@ -50,16 +50,34 @@ pub fn scenario_of(alloc: Global, program: &str) -> Result<String, AllocError> {
     format!(in alloc; "{FRONT}{program}\nend\n")
 }
 
-/// A report without a console: the first line, the events, the root, and its turns.
+/// What a program made, as the report lists it: execution contexts, semaphores and capabilities.
+#[derive(Clone, Copy)]
+pub struct Made<'a> {
+    pub contexts: &'a str,
+    pub semaphores: &'a str,
+    pub capabilities: &'a str,
+}
+
+pub const NOTHING: Made<'static> = Made {
+    contexts: "",
+    semaphores: "",
+    capabilities: "",
+};
+
+/// A report without a console: the first line, the events, the root, its turns, and what was made.
 pub fn report_of(
     alloc: Global,
     end: &str,
     turns: u32,
     events: &str,
     root: &str,
+    made: Made,
 ) -> Result<String, AllocError> {
+    let contexts = made.contexts;
+    let semaphores = made.semaphores;
+    let capabilities = made.capabilities;
     format!(in alloc;
-        "run {end} {turns}\n{events}ec 1 global {root}\nsc 2 0 {turns}\ncap 0 - 0 mem 0 0 7 0\ncap 1 - 0 obj 0 0 1 0\ncap 2 - 0 obj 1 0 7 1\ncap 3 - 0 obj 2 0 1 2\n"
+        "run {end} {turns}\n{events}ec 1 global {root}\n{contexts}sc 2 0 {turns}\n{semaphores}cap 0 - 0 mem 0 0 7 0\ncap 1 - 0 obj 0 0 1 0\ncap 2 - 0 obj 1 0 7 1\ncap 3 - 0 obj 2 0 1 2\n{capabilities}"
     )
 }
 

@@ -1,0 +1,166 @@
+ghost use Rattle.std.specs.Prelude.{◌≡◌, IfSome};
+ghost use Rattle.nova_calls.specs.Hypercalls.{call_row, create_pd_row, create_ec_row, create_sc_row, create_pt_row, create_sm_row};
+ghost use Rattle.nova_calls.specs.Hypercalls.{revoke_row, lookup_row, ec_ctrl_row, sc_ctrl_row, pt_ctrl_row, sm_ctrl_row};
+ghost use Rattle.nova_calls.specs.SoundCalls.{IsSoundCall};
+
+use crate::arguments::{ec_kind, flag, range, selector, sm_action};
+use crate::call::Call;
+use nova_range::{Flags, Mtd, read_word};
+use rv_model::Regs;
+
+// Each function reads one row of the table of hypercalls. It answers nothing where an argument is
+// outside what the row takes.
+
+/// 0: x10 portal, x11 flag.
+pub(crate) fn call(regs: &Regs) -> Option<Call>
+    ensures row { result ≡ call_row regs.now }
+    ensures sound { IfSome result IsSoundCall }
+{
+    Some(Call::Call {
+        portal: selector(regs.get(10))?,
+        flag: flag(regs.get(11))?,
+    })
+}
+
+/// 2: x10 target, x11 PD, x12 first range.
+pub(crate) fn create_pd(regs: &Regs) -> Option<Call>
+    ensures row { result ≡ create_pd_row regs.now }
+    ensures sound { IfSome result IsSoundCall }
+{
+    Some(Call::CreatePd {
+        target: selector(regs.get(10))?,
+        pd: selector(regs.get(11))?,
+        first: read_word(regs.get(12)).ok()?,
+    })
+}
+
+/// 3: x10 target, x11 PD, x12 processor in bits 0 to 7 and kind above, x13 initial x2, x14 event base.
+pub(crate) fn create_ec(regs: &Regs) -> Option<Call>
+    ensures row { result ≡ create_ec_row regs.now }
+    ensures sound { IfSome result IsSoundCall }
+{
+    let event = regs.get(14);
+    if event > (1 << 20) - 9 {
+        return None;
+    }
+    Some(Call::CreateEc {
+        target: selector(regs.get(10))?,
+        pd: selector(regs.get(11))?,
+        cpu: regs.get(12) % (1 << 8),
+        kind: ec_kind(regs.get(12) >> 8)?,
+        sp: regs.get(13),
+        event,
+    })
+}
+
+/// 4: x10 target, x11 PD, x12 EC, x13 priority in bits 0 to 7 and quantum above.
+pub(crate) fn create_sc(regs: &Regs) -> Option<Call>
+    ensures row { result ≡ create_sc_row regs.now }
+    ensures sound { IfSome result IsSoundCall }
+{
+    let quantum = regs.get(13) >> 8;
+    if quantum == 0 {
+        return None;
+    }
+    Some(Call::CreateSc {
+        target: selector(regs.get(10))?,
+        pd: selector(regs.get(11))?,
+        ec: selector(regs.get(12))?,
+        quantum,
+        priority: (regs.get(13) % (1 << 8)) as u8,
+    })
+}
+
+/// 5: x10 target, x11 PD, x12 EC, x13 message transfer descriptor, x14 instruction pointer.
+pub(crate) fn create_pt(regs: &Regs) -> Option<Call>
+    ensures row { result ≡ create_pt_row regs.now }
+    ensures sound { IfSome result IsSoundCall }
+{
+    let mtd = regs.get(13);
+    let ip = regs.get(14);
+    if mtd > 15 || ip % 4 != 0 {
+        return None;
+    }
+    Some(Call::CreatePt {
+        target: selector(regs.get(10))?,
+        pd: selector(regs.get(11))?,
+        ec: selector(regs.get(12))?,
+        mtd: Mtd::from_bits_retain(mtd),
+        ip,
+    })
+}
+
+/// 6: x10 target, x11 PD, x12 counter.
+pub(crate) fn create_sm(regs: &Regs) -> Option<Call>
+    ensures row { result ≡ create_sm_row regs.now }
+    ensures sound { IfSome result IsSoundCall }
+{
+    Some(Call::CreateSm {
+        target: selector(regs.get(10))?,
+        pd: selector(regs.get(11))?,
+        count: regs.get(12),
+    })
+}
+
+/// 7: x10 range word, x11 flag.
+pub(crate) fn revoke(regs: &Regs) -> Option<Call>
+    ensures row { result ≡ revoke_row regs.now }
+    ensures sound { IfSome result IsSoundCall }
+{
+    Some(Call::Revoke {
+        range: range(regs.get(10))?,
+        own: flag(regs.get(11))?,
+    })
+}
+
+/// 8: x10 range word.
+pub(crate) fn lookup(regs: &Regs) -> Option<Call>
+    ensures row { result ≡ lookup_row regs.now }
+    ensures sound { IfSome result IsSoundCall }
+{
+    Some(Call::Lookup {
+        range: range(regs.get(10))?,
+    })
+}
+
+/// 9: x10 EC.
+pub(crate) fn ec_ctrl(regs: &Regs) -> Option<Call>
+    ensures row { result ≡ ec_ctrl_row regs.now }
+    ensures sound { IfSome result IsSoundCall }
+{
+    Some(Call::EcCtrl {
+        ec: selector(regs.get(10))?,
+    })
+}
+
+/// 10: x10 SC.
+pub(crate) fn sc_ctrl(regs: &Regs) -> Option<Call>
+    ensures row { result ≡ sc_ctrl_row regs.now }
+    ensures sound { IfSome result IsSoundCall }
+{
+    Some(Call::ScCtrl {
+        sc: selector(regs.get(10))?,
+    })
+}
+
+/// 11: x10 PT, x11 identifier.
+pub(crate) fn pt_ctrl(regs: &Regs) -> Option<Call>
+    ensures row { result ≡ pt_ctrl_row regs.now }
+    ensures sound { IfSome result IsSoundCall }
+{
+    Some(Call::PtCtrl {
+        pt: selector(regs.get(10))?,
+        identifier: regs.get(11),
+    })
+}
+
+/// 12: x10 SM, x11 0 up or 1 down.
+pub(crate) fn sm_ctrl(regs: &Regs) -> Option<Call>
+    ensures row { result ≡ sm_ctrl_row regs.now }
+    ensures sound { IfSome result IsSoundCall }
+{
+    Some(Call::SmCtrl {
+        sm: selector(regs.get(10))?,
+        action: sm_action(regs.get(11))?,
+    })
+}

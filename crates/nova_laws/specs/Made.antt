@@ -1,0 +1,34 @@
+-- What a turn may add to objects and delegations.
+use Rattle.std.specs.Prelude.{◌≡◌, ◌+◌, ◌⊎◌, false, [], ◌∷◌, ◌++◌, length, None}
+use Rattle.nova_objects.specs.declared.object.Object.{Object}
+use Rattle.nova_range.specs.declared.range.Kind.TheVariants.{Obj}
+use Rattle.nova_model.specs.Capabilities.{is_held, rights_to}
+use Rattle.nova_model.specs.State.{KernelState}
+use Rattle.nova_model.specs.declared.delegation.Derivation.{Derivation}
+
+-- the capability of a new object: of the next id and without a parent, at a selector that its domain did not hold, with all rights
+-- to the object, whose number is the next
+pub record IsFirstCapability (k : KernelState) (object : Object) (d : Derivation) : Type 0 where
+  pub id : d.id ≡ k.delegations.next
+  pub parent : d.parent ≡ None
+  pub kind : d.kind ≡ Obj
+  pub order : d.order ≡ 0
+  pub free : is_held k d.pd d.base ≡ false
+  pub rights : d.rights ≡ rights_to object
+  pub target : d.target ≡ length k.objects
+
+-- objects and delegations are as before
+pub record IsSame (old new : KernelState) : Type 0 where
+  pub objects : new.objects ≡ old.objects
+  pub delegations : new.delegations ≡ old.delegations
+
+-- or one object is made
+pub record IsGrown (old new : KernelState) : Type 0 where
+  pub object : Object
+  pub capability : Derivation
+  pub first : IsFirstCapability old object capability
+  pub objects : new.objects ≡ old.objects ++ object ∷ []
+  pub delegations : new.delegations ≡ record { list = old.delegations.list ++ capability ∷ []; next = old.delegations.next + 1 }
+
+abbrev pub Grows : KernelState → KernelState → Type 0
+Grows old new = IsSame old new ⊎ IsGrown old new

@@ -1,0 +1,10 @@
+//! The objects of a kernel, numbered from 0 in the order of their making.
+#![tactic(auto)]
+
+pub mod object;
+pub mod objects;
+#[cfg(test)]
+mod tests;
+
+pub use object::{EcKind, Object};
+pub use objects::Objects;

@@ -1,0 +1,21 @@
+use crate::{EcKind, Object, Objects};
+
+#[test]
+fn objects_are_numbered_as_they_are_made(rt: HostRuntime) {
+    let mut objects = Objects::new(rt.alloc());
+    assert!(rt; objects.is_empty() && objects.get(0).is_none());
+    objects.reserve(2).expect(&rt, "ample memory");
+    assert_eq!(rt; objects.add(Object::Pd), 0);
+    let root = Object::Ec {
+        pd: 0,
+        cpu: 0,
+        kind: EcKind::Global,
+        event: 16,
+    };
+    assert_eq!(rt; objects.add(root), 1);
+    assert!(rt; matches!(objects.get(0), Some(Object::Pd)));
+    assert!(rt; matches!(objects.get(1), Some(Object::Ec { event: 16, .. })));
+    assert!(rt; objects.get(2).is_none());
+    assert_eq!(rt; objects.len(), 2);
+    assert!(rt; matches!(objects.as_slice(), [Object::Pd, Object::Ec { .. }]));
+}

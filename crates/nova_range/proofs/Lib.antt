@@ -1,0 +1,4 @@
+pub mod Multiples
+pub mod Meetings
+pub mod Parts
+pub mod Words

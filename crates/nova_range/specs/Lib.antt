@@ -1,0 +1,6 @@
+pub mod Ranges
+pub mod Rights
+pub mod Mtds
+pub mod RangeWords
+pub mod Clamps
+pub mod Statuses

@@ -1,0 +1,21 @@
+-- Rights: sets of bits, whose meaning goes by what a capability leads to.
+use Rattle.std.specs.Prelude.{◌<◌, ℕ, ◌^◌}
+use Rattle.nova_range.specs.declared.rights.Rights.{Rights}
+use Rattle.nova_range.specs.declared.rights.Target.{Target}
+use Rattle.nova_range.specs.declared.rights.Target.TheVariants.{Memory, Pd, Ec, Sc, Pt, Sm}
+
+-- rights are five bits
+abbrev pub IsRights : Rights → Type 0
+IsRights r = r.0 < 2 ^ 5
+
+abbrev pub rights_of : ℕ → Rights
+rights_of bits = record { 0 = bits }
+
+-- all rights to a target
+abbrev pub all_rights : Target → Rights
+all_rights Memory = rights_of 7  -- read 1, write 2, execute 4
+all_rights Pd = rights_of 1  -- create 1
+all_rights Ec = rights_of 7  -- control 1, bind a scheduling context 2, bind a portal 4
+all_rights Sc = rights_of 1  -- control 1
+all_rights Pt = rights_of 7  -- control 1, call 2, event 4
+all_rights Sm = rights_of 3  -- up 1, down 2
