@@ -1,4 +1,4 @@
-/* Where a program lies in RAM: its code from address 0 on, the data behind the code. The stack comes down from the end of RAM,
+/* Where a program lies in RAM: its code from address 0 on, the data after the code. The stack comes down from the end of RAM,
    and the console's page begins there. The symbol ram_bytes, the size of RAM, is given on the linker's command line. */
 ENTRY(_start)
 

@@ -3,7 +3,7 @@
 #
 # The object file says in its attributes that it holds rv32i2p1 and nothing else, and objdump then
 # refuses the instructions of other extensions (M, A, F, C, Zicsr, Zifencei, ...) by itself.
-# Each word stands in 32 bytes of its own, behind it zeros: a word that objdump takes for a shorter
+# Each word stands in 32 bytes of its own, after it zeros: a word that objdump takes for a shorter
 # or a longer instruction leaves the next word's start where it is.
 set -eu
 export LC_ALL=C PYTHONDONTWRITEBYTECODE=1

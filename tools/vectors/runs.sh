@@ -6,7 +6,7 @@
 #
 # A program starts at its first word with x1 to x31 zero and ends at its last word, an ebreak. It reads and
 # writes the data page alone. QEMU runs these very words: what sets the registers to zero and writes them
-# out (harness.s) lies from 0x00020000 on, behind the 64 KiB that begin with the code.
+# out (harness.s) lies from 0x00020000 on, after the 64 KiB that begin with the code.
 #
 # The unprivileged extensions that QEMU's rv32 processor has by default are switched off.
 set -eu

@@ -26,7 +26,7 @@ BRANCH_OFFSETS = ["-4096", "-2", "0", "0x800", "4094"]
 JUMP_OFFSETS = ["-1048576", "-2048", "-2", "0", "0x800", "4096", "1048574"]
 NUMBERS = ["0", "7", "0x80000000", "4294967295"]
 
-# Programs of several lines: labels before and behind, on lines of their own and before instructions, comments, tabs and blanks.
+# Programs of several lines: labels before and after, on lines of their own and before instructions, comments, tabs and blanks.
 PROGRAMS = [
     "l: j l",
     "j end\nnop\nend:",

@@ -3,16 +3,27 @@
 
 use nova_io::{FileDepot, StdSink};
 use nova_top::{Exit, nova_main};
+use std::env;
 use std::process::ExitCode;
-use std::{env, io};
 
-fn main(rt: HostRuntime) -> io::Result<ExitCode> {
-    let words: Vec<String> = env::args(&rt)?.skip(1).collect(rt.alloc())?;
-    let mut depot = FileDepot::new(rt);
-    let mut out = StdSink::new(rt);
-    let exit = nova_main(rt.alloc(), &words, &mut depot, &mut out);
+/// The words after the program's own name, or the end that it makes where they can't be read.
+fn words(rt: HostRuntime) -> Result<Vec<String>, Exit> {
+    let words = env::args(&rt).map_err(|error| Exit::of_words(error.kind()))?;
+    Ok(words.skip(1).collect(rt.alloc())?)
+}
+
+fn main(rt: HostRuntime) -> ExitCode {
+    let exit = match words(rt) {
+        Ok(words) => {
+            let mut depot = FileDepot::new(rt);
+            let mut out = StdSink::new(rt);
+            nova_main(rt.alloc(), &words, &mut depot, &mut out)
+        }
+        Err(exit) => exit,
+    };
     if exit != Exit::Done {
-        eprintln!(rt; "nova: {exit}")?;
+        // Where standard error takes nothing, the status alone tells the end.
+        let _ = eprintln!(rt; "nova: {exit}");
     }
-    Ok(ExitCode::from(exit.status()))
+    ExitCode::from(exit.status())
 }

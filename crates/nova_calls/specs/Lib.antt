@@ -5,3 +5,4 @@ pub use Rattle.nova_range.specs.Mtds
 pub use Rattle.nova_range.specs.RangeWords
 pub mod Hypercalls
 pub mod SoundCalls
+pub mod Numbers

@@ -8,9 +8,8 @@ pub enum SmAction {
     Down,
 }
 
-/// A hypercall, by rising number from 0 on, with its arguments. A selector is below 2^20: `target` is
-/// that of the object to be made, and `pd`, `ec`, `sc`, `pt`, `sm` and `portal` are those of
-/// capabilities.
+/// A hypercall with its arguments. A selector is below 2^20: `target` is that of the object to be
+/// made, and `pd`, `ec`, `sc`, `pt`, `sm` and `portal` are those of capabilities.
 #[derive(Clone, Copy)]
 pub enum Call {
     /// Calls a portal's handler. With the flag it doesn't wait where the handler is busy.

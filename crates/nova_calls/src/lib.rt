@@ -4,8 +4,8 @@
 mod arguments;
 pub mod call;
 pub mod laws;
+pub mod numbers;
 pub mod read;
-mod rows;
 #[cfg(test)]
 mod tests;
 

@@ -6,8 +6,8 @@ use std::process::Abort;
 /// The greatest selector.
 const LAST: u32 = 0xf_ffff;
 
-/// The first number behind the selectors.
-const BEHIND: u32 = 0x10_0000;
+/// The first number after the selectors.
+const BEYOND: u32 = 0x10_0000;
 
 /// A range in numbers: the type of its words, its base and its order.
 fn place(range: Range) -> [u32; 3] {
@@ -48,7 +48,7 @@ fn numbers(call: Call) -> [u32; 7] {
     }
 }
 
-/// The same of a call that makes an object; all ones for another.
+/// A call that makes an object, in numbers; all ones for another call.
 fn creation_numbers(call: Call) -> [u32; 7] {
     match call {
         Call::CreatePd { target, pd, first } => {
@@ -115,7 +115,7 @@ fn assert_refused(rt: &impl Abort, number: u32, arguments: [u32; 5]) {
 const READ: [([u32; 5], [u32; 7]); 22] = [
     ([LAST, 0, 0, 0, 0], [0, LAST, 0, 0, 0, 0, 0]),
     ([0, 1, 0, 0, 0], [0, 0, 1, 0, 0, 0, 0]),
-    ([BEHIND, BEHIND, BEHIND, 0, BEHIND], [1, 0, 0, 0, 0, 0, 0]),
+    ([BEYOND, BEYOND, BEYOND, 0, BEYOND], [1, 0, 0, 0, 0, 0, 0]),
     ([LAST, LAST, 639, 0, 0], [2, LAST, LAST, 3, 0, 4, 31]),
     ([32, 0, 0, 0, 0], [2, 32, 0, 0, 0, 0, 0]),
     ([32, 0, 0xffff_fffc, 0, 0], [2, 32, 0, 0, 0, 0, 0]),
@@ -161,37 +161,37 @@ fn calls_are_read(rt: HostRuntime) {
 
 /// Numbers of calls with arguments in x10 to x14 that are outside their ranges.
 const REFUSED: [(u32, [u32; 5]); 32] = [
-    (0, [BEHIND, 0, 0, 0, 0]),
+    (0, [BEYOND, 0, 0, 0, 0]),
     (0, [0, 2, 0, 0, 0]),
-    (2, [BEHIND, 0, 0, 0, 0]),
-    (2, [0, BEHIND, 0, 0, 0]),
+    (2, [BEYOND, 0, 0, 0, 0]),
+    (2, [0, BEYOND, 0, 0, 0]),
     (2, [32, 0, 2, 0, 0]), // type 2
     (2, [32, 0, 0x0000_1081, 0, 0]), // base 1, order 1
-    (3, [BEHIND, 0, 0, 0, 0]),
-    (3, [0, BEHIND, 0, 0, 0]),
+    (3, [BEYOND, 0, 0, 0, 0]),
+    (3, [0, BEYOND, 0, 0, 0]),
     (3, [32, 0, 0x300, 0, 0]),
     (3, [32, 0, 0x8000_0000, 0, 0]),
     (3, [32, 0, 0, 0, 0xf_fff8]),
-    (4, [BEHIND, 0, 0, 0x100, 0]),
-    (4, [0, BEHIND, 0, 0x100, 0]),
-    (4, [0, 0, BEHIND, 0x100, 0]),
+    (4, [BEYOND, 0, 0, 0x100, 0]),
+    (4, [0, BEYOND, 0, 0x100, 0]),
+    (4, [0, 0, BEYOND, 0x100, 0]),
     (4, [33, 0, 32, 0xff, 0]),
-    (5, [BEHIND, 0, 0, 0, 0]),
-    (5, [0, BEHIND, 0, 0, 0]),
-    (5, [0, 0, BEHIND, 0, 0]),
+    (5, [BEYOND, 0, 0, 0, 0]),
+    (5, [0, BEYOND, 0, 0, 0]),
+    (5, [0, 0, BEYOND, 0, 0]),
     (5, [33, 0, 32, 16, 0]),
     (5, [33, 0, 32, 0, 2]),
-    (6, [BEHIND, 0, 0, 0, 0]),
-    (6, [0, BEHIND, 0, 0, 0]),
+    (6, [BEYOND, 0, 0, 0, 0]),
+    (6, [0, BEYOND, 0, 0, 0]),
     (7, [0, 0, 0, 0, 0]),
     (7, [4, 0, 0, 0, 0]), // null with other bits
     (7, [1, 2, 0, 0, 0]),
     (8, [0, 0, 0, 0, 0]),
     (8, [0x0000_0a81, 0, 0, 0, 0]), // order 21
-    (9, [BEHIND, 0, 0, 0, 0]),
-    (10, [BEHIND, 0, 0, 0, 0]),
-    (11, [BEHIND, 0, 0, 0, 0]),
-    (12, [BEHIND, 0, 0, 0, 0]),
+    (9, [BEYOND, 0, 0, 0, 0]),
+    (10, [BEYOND, 0, 0, 0, 0]),
+    (11, [BEYOND, 0, 0, 0, 0]),
+    (12, [BEYOND, 0, 0, 0, 0]),
     (12, [32, 2, 0, 0, 0]),
 ];
 
@@ -205,7 +205,7 @@ fn arguments_outside_the_table_are_refused(rt: HostRuntime) {
 #[test]
 fn numbers_above_12_are_unknown(rt: HostRuntime) {
     for number in [13, 99, 256, 0xffff_ffff] {
-        assert!(rt; reading(number, [BEHIND; 5]) == Err(4), "{number}");
+        assert!(rt; reading(number, [BEYOND; 5]) == Err(4), "{number}");
         assert!(rt; reading(number, [0; 5]) == Err(4), "{number}");
     }
 }

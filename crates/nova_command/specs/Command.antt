@@ -19,7 +19,7 @@ abbrev pub command_of : Given → Option Command
 command_of g =
     asked (option_and_then verb_of g.command) g.first g.second (option_and_then limit_of g.limit)
 
--- the command that the words behind the program's name are, or nothing
+-- the command that the words after the program's name are, or nothing
 unfoldable pub command : List Text → Option Command
 command words = option_and_then command_of (given (codes "nova" ∷ words))
 

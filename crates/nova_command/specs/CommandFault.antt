@@ -12,7 +12,7 @@ AnswersBy view there (Ok read) = there ≡ Some (view read)
 AnswersBy view there (Err Usage) = there ≡ None
 AnswersBy view there (Err Memory) = Unit {0}
 
--- the same where what was read is seen as itself
+-- what was read is what is there
 abbrev pub Answers : {T : Type 0} → Option T → Result T CommandFault → Type 0
 Answers there result = AnswersBy (λ read. read) there result
 

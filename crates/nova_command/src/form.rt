@@ -32,7 +32,7 @@ fn form<'a>(alloc: Global) -> Result<Command<'a>, AllocError>
         .arg(limit(alloc))
 }
 
-/// The program's name and then the words behind it.
+/// The program's name and then the words after it.
 pub(crate) fn with_program_name(alloc: Global, words: &[String]) -> Result<Vec<&str>, AllocError>
     ensures { IfOk result (λ named. map (λ word. word.now) named.items ≡ codes "nova" ∷ map string_bytes words.now) }
 {

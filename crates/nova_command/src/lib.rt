@@ -1,4 +1,4 @@
-//! The command line: the words behind the program's own name, read as a command.
+//! The command line: the words after the program's own name, read as a command.
 #![tactic(auto)]
 
 mod command;

@@ -15,7 +15,7 @@ use crate::verb::Verb;
 use clap::ArgMatches;
 use std::alloc::{AllocError, Global};
 
-/// Reads the words behind the program's own name as a command: `solo NAME` or `check NAME`, with the option `--limit N`
+/// Reads the words after the program's own name as a command: `solo NAME` or `check NAME`, with the option `--limit N`
 /// anywhere among them.
 ///
 /// N is decimal digits, or `0x` and hexadecimal digits, and a number from 1 to 10,000,000, for `check` too, which has no

@@ -1,4 +1,4 @@
-use super::*;
+use crate::{Command, read_command};
 use std::alloc::{AllocError, Global};
 use std::test::Fail;
 
@@ -85,5 +85,16 @@ fn refuses_other_words(rt: HostRuntime) -> Result<(), Fail> {
             "at {line}"
         );
     }
+    Ok(())
+}
+
+#[test]
+fn long_names_are_read(rt: HostRuntime) -> Result<(), Fail> {
+    let mut line = String::from_str(rt.alloc(), "check ")?;
+    for _ in 0..70_000 {
+        line.push('a')?;
+    }
+    let read = asked(rt.alloc(), line.as_str())?;
+    assert_eq!(rt; read.as_str(), line.as_str());
     Ok(())
 }

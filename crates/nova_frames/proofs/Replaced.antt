@@ -40,7 +40,7 @@ little_number-replaced_other bytes new offset o width h apart =
     little_from-same width 0 (drop o (replaced bytes offset new)) (drop o bytes)
     (λ k low high. rw (get_or-drop o (replaced bytes offset new) k 0, get_or-drop o bytes k 0)
     (get_or-replaced_other bytes new offset (o + k) h
-    (elim apart [ inl before ↦ inl (omega arith) | inr behind ↦ inr (omega arith) ])))
+    (elim apart [ inl before ↦ inl (omega arith) | inr after ↦ inr (omega arith) ])))
 
 slice_get-set_same : (xs : List (List ℕ)) (i : ℕ) (x : List ℕ) → i < length xs → slice_get (set xs i x) i ≡ Some x
 slice_get-set_same xs i x h =
@@ -76,7 +76,7 @@ read-written_same_frame m frame offset width value o w whole there within apart 
     let count : length new ≡ width = length-bytes_low_first 0 width value in
     rw found (rw (slice_get-set_same m.ram frame (replaced bytes offset new) there)
     (little_number-replaced_other bytes new offset o w (omega arith)
-    (elim apart [ inl before ↦ inl before | inr behind ↦ inr (omega arith) ])))
+    (elim apart [ inl before ↦ inl before | inr after ↦ inr (omega arith) ])))
 
 -- a store leaves what lies apart from its place
 pub read-written_other : (m : Memory) (frame offset width value f o w : ℕ) → AreWhole m.ram → frame < length m.ram → offset + width ≤ 4096

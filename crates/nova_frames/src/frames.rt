@@ -1,4 +1,3 @@
-// RAM, the consoles, and the log.
 ghost use Rattle.std.specs.Prelude.{◌≡◌, ◌+◌, ◌-◌, ◌*◌, ◌/◌, ◌%◌, ◌^◌, ◌<◌, ◌≤◌, [], ◌∷◌, ◌++◌, length, replicate, slice_get, slice_set, Some, IfOk};
 ghost use Rattle.nova_model.specs.Memory.{read, written};
 ghost use Rattle.nova_model.specs.Boot.{laid};
@@ -12,7 +11,7 @@ use std::marker::Model;
 /// How many bytes a frame has.
 pub const FRAME_SIZE: usize = 4096;
 
-/// The frames of a machine, by number: RAM from 0 on, and behind it a frame for each console. What
+/// The frames of a machine, by number: RAM from 0 on, and after it a frame for each console. What
 /// is stored to the consoles goes to one log, whose room is set at the start.
 #[derive(Drop)]
 pub struct Frames {
@@ -68,7 +67,7 @@ impl Frames {
         })
     }
 
-    /// The number of RAM frames. The first console has the number behind them.
+    /// The number of RAM frames. The first console has the number after them.
     pub fn ram_frames(&self) -> u32
         ensures count { result ≡ length self.now.memory.ram }
 

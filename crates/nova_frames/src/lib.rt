@@ -1,13 +1,12 @@
-//! The memory of the machine: RAM in frames of 4,096 bytes, console frames behind it, and the log of
+//! The memory of the machine: RAM in frames of 4,096 bytes, console frames after it, and the log of
 //! what was stored to the consoles. `Frames::new` takes all memory; no other call takes any.
 #![tactic(auto)]
 
-mod frames;
-mod laws;
+pub mod frames;
+pub mod laws;
 #[cfg(test)]
 mod tests;
 mod words;
 
 pub use frames::{FRAME_SIZE, Frames};
-pub use laws::loads_give_what_was_stored;
 pub use nova_model::LogByte;

@@ -1,12 +1,11 @@
-// Words of 1, 2 or 4 bytes at the front of a slice, the lowest byte first.
 ghost use Rattle.std.specs.Prelude.{◌≡◌, ◌*◌, ◌^◌, ◌<◌, ◌≤◌, ◌++◌, length, drop};
 ghost use Rattle.byteorder.specs.Endian.{little_number, little_bytes};
 ghost use Rattle.nova_frames.specs.Store.{IsWidth};
 
 use byteorder::{ByteOrder, LittleEndian};
 
-/// The word of so many bytes at the front.
-pub fn read_word(bytes: &[u8], width: u32) -> u32
+/// The word in the first 1, 2 or 4 bytes of a slice, the lowest byte first.
+pub(crate) fn read_word(bytes: &[u8], width: u32) -> u32
     requires width { IsWidth width }
     requires there { width ≤ length bytes.now }
     ensures number { result ≡ little_number width bytes.now }
@@ -19,8 +18,8 @@ pub fn read_word(bytes: &[u8], width: u32) -> u32
     }
 }
 
-/// Writes the lowest so many bytes of a value to the front.
-pub fn write_word(bytes: &mut [u8], width: u32, value: u32)
+/// Writes the lowest 1, 2 or 4 bytes of a value to the front of a slice, the lowest byte first.
+pub(crate) fn write_word(bytes: &mut [u8], width: u32, value: u32)
     requires width { IsWidth width }
     requires there { width ≤ length bytes.old }
     ensures { bytes.new ≡ little_bytes width value ++ drop width bytes.old }

@@ -1,4 +1,4 @@
--- One append behind another.
+-- One append after another.
 use Rattle.std.proofs.Common.{◌≡◌, ℕ, ◌+◌, ◌-◌, Bool, true, false, List, [], ◌∷◌, ◌++◌, Option, Some, None, cond, unwrap_or, take, drop, length, refl, sym, ◌∙◌, ap, append_assoc, append-nil}
 use Rattle.std.proofs.Math.Seq.{take-add}
 use Rattle.std.proofs.lemmas.List.{take_rest}
@@ -51,11 +51,11 @@ pub append_known-append : (known : Option (List ℕ)) (xs ys : List ℕ) → app
 append_known-append None xs ys = refl
 append_known-append (Some bytes) xs ys = ap Some (append_assoc bytes xs ys)
 
--- the first of the rest behind the first bytes
+-- the first bytes, and then the first of the rest
 take_more_of : (bytes : List ℕ) (done count : ℕ) → take done bytes ++ take count (take (length bytes - done) (drop done bytes)) ≡ take (done + count) bytes
 take_more_of bytes done count = ap (λ rest. take done bytes ++ take count rest) (take_rest bytes done) ∙ sym (take-add done count bytes)
 
--- a turn of a loop: what stood behind the first bytes gets the first of the rest
+-- a turn of a loop: the first bytes were appended, and now the first of the rest
 pub with_appended-more : (files between after : Option Files) (name bytes : List ℕ) (done count : ℕ)
     → between ≡ with_appended files name (take done bytes)
     → after ≡ with_appended between name (take count (take (length bytes - done) (drop done bytes)))

@@ -1,4 +1,4 @@
--- A piece put behind the bytes of the first file of a name.
+-- A piece appended to the first file of a name.
 use Rattle.std.proofs.Common.{◌≡◌, ℕ, zero, suc, ◌-◌, List, [], ◌∷◌, ◌++◌, set, get_or, Some, None, unwrap_or, bytes_eq, string_bytes, sym, ◌∙◌, ap, append-nil, arith}
 use Rattle.std.specs.List.{position}
 use Rattle.std.specs.FinMap.{insert}

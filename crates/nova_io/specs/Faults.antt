@@ -9,6 +9,18 @@ Rose before after = (before < after) ⊎ (before ≡ 2 ^ 64 - 1)
 abbrev pub NeverFalls : (List ℕ → ℕ) → (List ℕ → ℕ) → Type 0
 NeverFalls before after = (name : List ℕ) → before name ≤ after name
 
+-- the count of every name stayed
+abbrev pub Stay : (List ℕ → ℕ) → (List ℕ → ℕ) → Type 0
+Stay before after = (name : List ℕ) → after name ≡ before name
+
+-- one number is told for both names, always
+abbrev pub IsShared : {D : Type 0} → (D → List ℕ → ℕ) → List ℕ → List ℕ → Type 0
+IsShared {D} counts name other = (any : D) → counts any other ≡ counts any name
+
+-- the count of every other name stayed, but where one number is told for it and this name
+abbrev pub OthersStay : {D : Type 0} → (D → List ℕ → ℕ) → List ℕ → D → D → Type 0
+OthersStay counts name before after = (other : List ℕ) → IsShared counts name other ⊎ (counts after other ≡ counts before other)
+
 -- one more, up to the last value
 abbrev pub raised : ℕ → ℕ
 raised count = min (count + 1) (2 ^ 64 - 1)

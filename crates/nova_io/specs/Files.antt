@@ -13,7 +13,7 @@ Files = FinMap (slice_cmp nat_cmp) (List ℕ)
 abbrev pub bytes_of : Files → List ℕ → List ℕ
 bytes_of files name = unwrap_or (get files name) []
 
--- the files with these bytes behind those of the name; no bytes change nothing
+-- the files after these bytes were appended to those of the name; no bytes change nothing
 abbrev pub appended : Files → List ℕ → List ℕ → Files
 appended files name [] = files
 appended files name (b ∷ bs) = insert files name (bytes_of files name ++ b ∷ bs)

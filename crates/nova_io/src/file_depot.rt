@@ -4,8 +4,9 @@ ghost use Rattle.nova_io.specs.Faults.{Rose, raised};
 
 use crate::depots::Depot;
 use crate::faults::{Failed, raise};
+use crate::streams::{ReadFrom, fetch_from, put_to};
 use std::fs::{self, OpenOptions};
-use std::io::{self, Read, Seek, SeekFrom, Write};
+use std::io::{self, Read, Seek, SeekFrom};
 use std::marker::Model;
 use std::rt::Files;
 
@@ -41,19 +42,29 @@ impl<R: Files> FileDepot<R> {
     }
 }
 
-fn read_at(rt: &impl Files, name: &str, at: u64, buf: &mut [u8]) -> io::Result<usize>
-    ensures { IfOk result (λ count. count ≤ length buf.new) }
-{
-    let mut file = fs::open(rt, name)?;
-    file.seek(SeekFrom::Start(at))?;
-    file.read(buf)
+/// An open file. Of its bytes it tells what the file does, but not which stand at which place.
+#[derive(Drop)]
+struct Opened<F> {
+    file: F,
 }
 
-fn write_behind(rt: &impl Files, name: &str, bytes: &[u8]) -> io::Result<usize>
-    ensures { IfOk result (λ count. count ≤ length bytes.now) }
-{
-    let mut file = OpenOptions::new().append(true).create(true).open(rt, name)?;
-    file.write(bytes)
+impl<F: Read> Read for Opened<F> {
+    ghost remaining = { λ o. F.remaining o.file };
+
+    fn read(&mut self, buf: &mut [u8]) -> io::Result<usize> {
+        self.file.read(buf)
+    }
+}
+
+impl<F: Read + Seek> ReadFrom for Opened<F> {
+    ghost bytes = { λ _. None };
+
+    ghost place = { λ o. F.stream_position o.file };
+
+    fn move_to(&mut self, at: u64) -> io::Result<()> {
+        self.file.seek(SeekFrom::Start(at))?;
+        Ok(())
+    }
 }
 
 impl<R: Files> Depot for FileDepot<R> {
@@ -63,6 +74,14 @@ impl<R: Files> Depot for FileDepot<R> {
 
     ghost append_faults = { λ d _. d.appends };
 
+    ghost gave = { λ before _ _ _ _ after. after ≡ before };
+
+    ghost fetch_failed = { λ before _ _ _ after. after ≡ record before { fetches = raised before.fetches } };
+
+    ghost took = { λ before _ _ _ after. after ≡ before };
+
+    ghost append_failed = { λ before _ _ after. after ≡ record before { appends = raised before.appends } };
+
     fn fetch(&mut self, name: &str, at: u64, buf: &mut [u8]) -> Result<usize, Failed>
         requires { at < 2 ^ 62 }
         ensures within { IfOk result (λ count. count ≤ length buf.new) }
@@ -70,8 +89,8 @@ impl<R: Files> Depot for FileDepot<R> {
         ensures refused { OnErr result (self.new ≡ record self.old { fetches = raised self.old.fetches }) }
         ensures failed { OnErr result (Rose self.old.fetches self.new.fetches) }
     {
-        match read_at(&self.rt, name, at, buf) {
-            Ok(count) => Ok(count),
+        match fs::open(&self.rt, name) {
+            Ok(file) => fetch_from(&mut Opened { file }, &mut self.fetch_faults, at, buf),
             Err(_) => Err(raise(&mut self.fetch_faults)),
         }
     }
@@ -83,9 +102,13 @@ impl<R: Files> Depot for FileDepot<R> {
         ensures refused { OnErr result (self.new ≡ record self.old { appends = raised self.old.appends }) }
         ensures failed { OnErr result (Rose self.old.appends self.new.appends) }
     {
-        match write_behind(&self.rt, name, bytes) {
-            Ok(count) if count > 0 || bytes.is_empty() => Ok(count),
-            _ => Err(raise(&mut self.append_faults)),
+        match OpenOptions::new()
+            .append(true)
+            .create(true)
+            .open(&self.rt, name)
+        {
+            Ok(mut file) => put_to(&mut file, &mut self.append_faults, bytes),
+            Err(_) => Err(raise(&mut self.append_faults)),
         }
     }
 }
@@ -103,16 +126,25 @@ mod tests {
         format!(in rt.alloc(); "/tmp/nova_io_{test}_{id}")
     }
 
+    /// A mebibyte, in which no two pages are alike.
+    fn mebibyte(rt: &HostRuntime) -> Result<Vec<u8>, AllocError> {
+        let mut bytes = Vec::new(rt.alloc());
+        for byte in 0..=255 {
+            bytes.extend_from_slice(&[byte; 4096])?;
+        }
+        Ok(bytes)
+    }
+
     #[test]
-    fn reads_a_file_in_pieces(rt: HostRuntime) {
-        let name = path(&rt, "read").expect(&rt, "memory");
-        let text = vec![in rt.alloc(); b'a'; 20_000].expect(&rt, "memory");
-        fs::write(&rt, &name, &text).expect(&rt, "a file");
+    fn writes_and_reads_a_mebibyte(rt: HostRuntime) {
+        let name = path(&rt, "whole").expect(&rt, "memory");
+        let bytes = mebibyte(&rt).expect(&rt, "memory");
         let mut depot = FileDepot::new(&rt);
-        let whole = fetch_all(rt.alloc(), &mut depot, &name, 20_000).expect(&rt, "the whole");
-        let too_long = fetch_all(rt.alloc(), &mut depot, &name, 19_999).err();
+        append_all(&mut depot, &name, &bytes).expect(&rt, "a file");
+        let whole = fetch_all(rt.alloc(), &mut depot, &name, 1_048_576).expect(&rt, "the whole");
+        let too_long = fetch_all(rt.alloc(), &mut depot, &name, 1_048_575).err();
         fs::remove_file(&rt, &name).expect(&rt, "its removal");
-        assert!(rt; whole == text);
+        assert!(rt; whole == bytes);
         assert!(rt; too_long == Some(FetchFault::TooLong));
     }
 

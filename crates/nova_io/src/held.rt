@@ -56,7 +56,7 @@ pub(crate) fn store_of<'a>(files: &'a [Held], name: &str) -> Option<&'a Store>
     Some(&files[place].store)
 }
 
-/// Puts a piece whole behind the bytes of a file if there is room for it, and else changes nothing.
+/// Appends a piece whole to a file if there is room for it, and else changes nothing.
 pub(crate) fn put(files: &mut [Held], name: &str, piece: &[u8]) -> bool
     ensures fits { IsTrue result ↔ (length piece.now ≤ room_of (rooms_held files.old) name.now) }
     ensures bytes { OnTrue result (files_held files.new ≡ appended (files_held files.old) name.now piece.now) }

@@ -11,6 +11,7 @@ mod mem_sink;
 mod sinks;
 mod std_sink;
 mod stores;
+mod streams;
 mod whole;
 
 pub use depots::Depot;

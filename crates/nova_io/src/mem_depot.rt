@@ -5,6 +5,7 @@ ghost use Rattle.std.specs.FinMap.{get};
 ghost use Rattle.nova_io.specs.Faults.{Rose, raised};
 ghost use Rattle.nova_io.specs.Files.{bytes_of, appended};
 ghost use Rattle.nova_io.specs.Held.{files_given, rooms_given};
+ghost use Rattle.nova_io.specs.MemCalls.{MemGave, MemFetchFailed, MemTook, MemAppendFailed, IsToFail};
 ghost use Rattle.nova_io.specs.Memory.{after_call, room_of, lowered};
 
 use crate::calls::Calls;
@@ -83,10 +84,17 @@ impl Depot for MemDepot {
 
     ghost append_faults = { λ d _. d.appends.faults };
 
+    ghost gave = { MemGave };
+
+    ghost fetch_failed = { MemFetchFailed };
+
+    ghost took = { MemTook };
+
+    ghost append_failed = { MemAppendFailed };
+
     fn fetch(&mut self, name: &str, at: u64, buf: &mut [u8]) -> Result<usize, Failed>
         requires { at < 2 ^ 62 }
-        ensures fails { IsErr result ↔ (Contains self.old.fetches.failing (raised self.old.fetches.made)
-            ⊎ (get self.old.files name.now ≡ None)) }
+        ensures fails { IsErr result ↔ (IsToFail self.old.fetches ⊎ (get self.old.files name.now ≡ None)) }
         ensures count { IfOk result (λ count. count ≡ min (length (bytes_of self.old.files name.now) - at) (length buf.new)) }
         ensures front { IfOk result (λ count. take count buf.new ≡ take count (drop at (bytes_of self.old.files name.now))) }
         ensures rest { IfOk result (λ count. drop count buf.new ≡ drop count buf.old) }
@@ -104,8 +112,7 @@ impl Depot for MemDepot {
     }
 
     fn append(&mut self, name: &str, bytes: &[u8]) -> Result<usize, Failed>
-        ensures fails { IsErr result ↔ (Contains self.old.appends.failing (raised self.old.appends.made)
-            ⊎ (room_of self.old.rooms name.now < length bytes.now)) }
+        ensures fails { IsErr result ↔ (IsToFail self.old.appends ⊎ (room_of self.old.rooms name.now < length bytes.now)) }
         ensures count { IfOk result (λ count. count ≡ length bytes.now) }
         ensures taken { OnOk result (self.new ≡ record self.old {
           files = appended self.old.files name.now bytes.now;

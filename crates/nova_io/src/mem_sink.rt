@@ -2,6 +2,7 @@
 ghost use Rattle.std.specs.Prelude.{◌≡◌, ◌+◌, ◌-◌, ◌<◌, ◌≤◌, ◌⊎◌, ◌↔◌, ◌++◌, [], Some, length, take, true, false, is_err, IsErr, IfOk, OnOk, OnErr, Contains};
 ghost use Rattle.std.specs.Io.KnownBytes.{append_known};
 ghost use Rattle.nova_io.specs.Faults.{Rose, raised};
+ghost use Rattle.nova_io.specs.MemCalls.{SinkTook, SinkWriteFailed, IsToFail};
 ghost use Rattle.nova_io.specs.Memory.{after_call};
 
 use crate::calls::Calls;
@@ -57,9 +58,12 @@ impl Sink for MemSink {
 
     ghost faults = { λ s. s.writes.faults };
 
+    ghost took = { SinkTook };
+
+    ghost write_failed = { SinkWriteFailed };
+
     fn write(&mut self, bytes: &[u8]) -> Result<usize, Failed>
-        ensures fails { IsErr result ↔ (Contains self.old.writes.failing (raised self.old.writes.made)
-            ⊎ (self.old.room < length bytes.now)) }
+        ensures fails { IsErr result ↔ (IsToFail self.old.writes ⊎ (self.old.room < length bytes.now)) }
         ensures count { IfOk result (λ count. count ≡ length bytes.now) }
         ensures taken { OnOk result (self.new ≡ record {
           bytes = self.old.bytes ++ bytes.now;

@@ -2,9 +2,10 @@
 ghost use Rattle.std.specs.Prelude.{◌≡◌, ◌≤◌, None, length, IfOk, OnOk, OnErr};
 ghost use Rattle.nova_io.specs.Faults.{Rose, raised};
 
-use crate::faults::{Failed, raise};
+use crate::faults::Failed;
 use crate::sinks::Sink;
-use std::io::{self, Write};
+use crate::streams::put_to;
+use std::io;
 use std::marker::Model;
 
 /// The standard output of the runtime.
@@ -33,19 +34,14 @@ impl<R: Print> StdSink<R> {
     }
 }
 
-fn write_and_flush(rt: &impl Print, bytes: &[u8]) -> io::Result<usize>
-    ensures { IfOk result (λ count. count ≤ length bytes.now) }
-{
-    let mut out = io::writer(rt);
-    let count = out.write(bytes)?;
-    out.flush()?;
-    Ok(count)
-}
-
 impl<R: Print> Sink for StdSink<R> {
     ghost written = { λ _. None };
 
     ghost faults = { λ s. s };
+
+    ghost took = { λ before _ _ after. after ≡ before };
+
+    ghost write_failed = { λ before _ after. after ≡ raised before };
 
     fn write(&mut self, bytes: &[u8]) -> Result<usize, Failed>
         ensures within { IfOk result (λ count. count ≤ length bytes.now) }
@@ -54,10 +50,7 @@ impl<R: Print> Sink for StdSink<R> {
         ensures refused { OnErr result (self.new ≡ raised self.old) }
         ensures failed { OnErr result (Rose self.old self.new) }
     {
-        match write_and_flush(&self.rt, bytes) {
-            Ok(count) if count > 0 || bytes.is_empty() => Ok(count),
-            _ => Err(raise(&mut self.faults)),
-        }
+        put_to(&mut io::writer(&self.rt), &mut self.faults, bytes)
     }
 }
 
@@ -65,13 +58,43 @@ impl<R: Print> Sink for StdSink<R> {
 mod tests {
     use super::*;
     use crate::write_all;
+    use std::fmt::Display;
+    use std::io::{PipeWriter, Read, Write};
+
+    /// A standard output that goes to a pipe, and takes three bytes at most of each write.
+    #[derive(Drop)]
+    struct Narrow(PipeWriter);
+
+    impl Print for Narrow {
+        fn print<D: Display + Drop>(&self, _value: D) -> io::Result<()> {
+            Err(io::Error::from(io::ErrorKind::Unsupported))
+        }
+
+        fn println<D: Display + Drop>(&self, _value: D) -> io::Result<()> {
+            Err(io::Error::from(io::ErrorKind::Unsupported))
+        }
+
+        fn write_all(&self, _bytes: &[u8]) -> io::Result<()> {
+            Err(io::Error::from(io::ErrorKind::Unsupported))
+        }
+
+        fn write_some(&self, bytes: &[u8]) -> io::Result<usize> {
+            let mut out = &self.0;
+            out.write(&bytes[..bytes.len().min(3)])
+        }
+    }
 
     #[test]
-    fn writes_to_standard_output(rt: HostRuntime) {
-        let mut sink = StdSink::new(&rt);
+    fn writes_all_where_little_is_taken_at_a_time(rt: HostRuntime) {
+        let (mut reader, writer) = io::pipe(&rt).expect(&rt, "a pipe");
+        let narrow = Narrow(writer);
+        let mut sink = StdSink::new(&narrow);
         for piece in ["a line ", "", "on standard output\n"] {
             write_all(&mut sink, piece.as_bytes()).expect(&rt, piece);
         }
+        let mut buf = [0; 32];
+        let count = reader.read(&mut buf).expect(&rt, "its bytes");
+        assert!(rt; &buf[..count] == b"a line on standard output\n".as_slice());
         assert!(rt; sink.faults == 0);
     }
 }

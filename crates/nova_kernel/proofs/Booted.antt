@@ -14,6 +14,7 @@ use Rattle.nova_model.specs.Boot.{laid}
 use Rattle.nova_frames.specs.Store.{FrameStore}
 use Rattle.std.proofs.lemmas.List.{length-set}
 use Rattle.nova_kernel.specs.Parts.{IsCounted, IsPaidWithin}
+use Rattle.nova_forest.proofs.Boots.{bare_forest}
 
 -- an object's place is a selector of its space
 object-placed : (frames consoles object rights : ℕ) → object ≤ 2 → IsPlaced frames (object_derivation consoles object rights)
@@ -26,7 +27,7 @@ objects-placed frames consoles (suc zero) = object-placed frames consoles 1 7 (o
 objects-placed frames consoles (suc (suc zero)) = object-placed frames consoles 2 1 (omega arith)
 objects-placed frames consoles (suc (suc (suc n))) = omega arith
 
--- the pages of the consoles lie behind RAM
+-- the pages of the consoles lie after RAM
 consoles-placed : (order consoles from count : ℕ) (rest : List Derivation) → order ≤ 14 → consoles ≤ 16 → 2 ^ order ≤ 16384 → from + count ≤ consoles →
     ((n : ℕ) → IsPlacedAt (2 ^ order + consoles) (slice_get rest n)) →
     (n : ℕ) → IsPlacedAt (2 ^ order + consoles) (slice_get (map (console_derivation order) (range_with_len from count) ++ rest) n)
@@ -69,6 +70,7 @@ IsCounted_bare cpus ram consoles root few = record {
   };
   numbered = record { objects = omega arith; derivations = omega arith };
   tables = record { contexts = refl; budgets = refl; identifiers = refl; semaphores = refl };
+  forest = bare_forest cpus ram consoles root;
 }
 
 -- bytes laid into RAM leave the number of its frames

@@ -1,24 +1,12 @@
 -- What is counted stays bounded by the turns that were taken.
-use Rattle.std.proofs.Common.{◌≡◌, ℕ, zero, suc, ◌+◌, ◌^◌, ◌<◌, ◌≤◌, List, [], ◌∷◌, refl, sym, ◌∙◌, subst, arith, rules}
-use Rattle.std.specs.Prelude.{Bool, true, false, Option, Some, None, Result, Ok, Err, OnOk, IsSome, IfSome, slice_get, slice_index, slice_set}
+use Rattle.std.proofs.Common.{◌≡◌, ℕ, zero, suc, ◌+◌, ◌*◌, ◌^◌, ◌<◌, ◌≤◌, List, [], ◌∷◌, refl, sym, ◌∙◌, subst, arith}
+use Rattle.std.specs.Prelude.{Bool, true, false, Option, Some, None, IsSome, slice_get, slice_index, slice_set}
 use Rattle.std.proofs.lemmas.List.{length-set}
-use Rattle.std.specs.declared.alloc.AllocError.{AllocError}
+use Rattle.nova_model.specs.Forest.{IsForest}
 use Rattle.nova_model.specs.State.{KernelState, budget_at, entry}
-use Rattle.nova_kernel.specs.Acts.{MayAct}
-use Rattle.nova_kernel.specs.declared.deed.Deed.{Deed}
-use Rattle.nova_model.specs.declared.context.EcState.{EcState}
-use Rattle.nova_model.specs.declared.context.State.{State}
-use Rattle.nova_model.specs.Turn.{Act, acted_in, charged, is_spent, budget_after, stamp_after, quantum_in, counted, paid_by}
+use Rattle.nova_model.specs.Turn.{charged, is_spent, budget_after, stamp_after, quantum_in, counted, paid_by}
 use Rattle.nova_model.specs.declared.budget.Budget.{Budget}
 use Rattle.nova_kernel.specs.Parts.{AreTables, IsCharged, IsCounted, IsNumbered, IsPaidWithin, KeepsCounts}
-use Rattle.nova_kernel.proofs.Keeps.{acted_in-keeps}
-
--- the state after an act
-pub act-keeps : (k new : KernelState) (ec : ℕ) (state : State) (result : Result Deed AllocError) (o : Option EcState) → IsSome o →
-    IfSome o (λ x. MayAct (acted_in k ec x state) k result new) → OnOk result (KeepsCounts k new)
-act-keeps k new ec state result None there h = cc
-act-keeps k new ec state (Ok deed) (Some x) there h = subst (λ (d : Act). KeepsCounts k d.kernel) h (acted_in-keeps k ec x state)
-act-keeps k new ec state (Err error) (Some x) there h = search rules
 
 pub IsCharged-kept : (old new : KernelState) → KeepsCounts old new → IsCharged old → IsCharged new
 IsCharged-kept old new kept charged = record {
@@ -53,7 +41,7 @@ IsPaidWithin-set turns (x ∷ xs) zero (suc n) b new old = IsPaidWithin-more tur
 IsPaidWithin-set turns (x ∷ xs) (suc i) zero b new old = IsPaidWithin-more turns x old
 IsPaidWithin-set turns (x ∷ xs) (suc i) (suc n) b new old = IsPaidWithin-set turns xs i n b new old
 
-stamp-after : (spent : Bool) (stamp turns : ℕ) → stamp ≤ turns + 1 → stamp_after spent stamp ≤ (turns + 1) + 1
+stamp-after : (spent : Bool) (stamp turns : ℕ) → stamp ≤ 2 * turns + 1 → stamp_after spent stamp ≤ 2 * (turns + 1) + 1
 stamp-after true stamp turns h = omega arith
 stamp-after false stamp turns h = omega arith
 
@@ -104,10 +92,14 @@ pub objects-charged : (k : KernelState) (cpu sc : ℕ) → (charged k cpu sc).ob
 unfolding charged
 objects-charged k cpu sc = objects-paid k cpu sc (quantum_in (slice_get k.objects sc)) (budget_at k sc)
 
+delegations-paid : (k : KernelState) (cpu sc quantum : ℕ) (o : Option Budget) → (counted (paid_by k sc quantum o) cpu).delegations ≡ k.delegations
+delegations-paid k cpu sc quantum None = refl
+delegations-paid k cpu sc quantum (Some b) = refl
+
 -- an act and its charge keep the bounds
-pub IsCounted-charged : (old k : KernelState) (cpu sc : ℕ) → KeepsCounts old k → old.turns < 2 ^ 31 → IsCounted old → IsCounted (charged k cpu sc)
+pub IsCounted-charged : (old k : KernelState) (cpu sc : ℕ) → KeepsCounts old k → IsForest k.delegations → old.turns < 2 ^ 31 → IsCounted old → IsCounted (charged k cpu sc)
 unfolding charged
-IsCounted-charged old k cpu sc kept few c =
+IsCounted-charged old k cpu sc kept forest few c =
     let o = budget_at k sc in
     let quantum = quantum_in (slice_get k.objects sc) in
     record {
@@ -115,6 +107,7 @@ IsCounted-charged old k cpu sc kept few c =
       numbered = subst (λ (n : ℕ). IsNumbered n (counted (paid_by k sc quantum o) cpu)) (sym (turns-paid k cpu sc quantum o))
           (IsNumbered-paid k cpu sc quantum o (IsNumbered-kept old k kept c.numbered));
       tables = AreTables-paid k cpu sc quantum o (kept.tables c.tables);
+      forest = subst IsForest (sym (delegations-paid k cpu sc quantum o)) forest;
     }
 
 -- a scheduling context stays there

@@ -51,16 +51,16 @@ find-past b front back [] rest all = refl
 find-past b front back (a ∷ some) rest all =
     grind (arith, find-past b front back some rest, list_all-append (λ c. not (goes_before c a)) front (b ∷ back))
 
--- b stands behind those that it goes before, and none of those behind it goes before it
+-- b stands after those that it goes before, and none of those after it goes before it
 record IsBest (front : List Candidate) (b : Candidate) (back : List Candidate) : Type 0 where
   before_front : list_all (λ c. goes_before b c) front ≡ true
-  none_behind : list_all (λ c. not (goes_before c b)) back ≡ true
+  none_after : list_all (λ c. not (goes_before c b)) back ≡ true
 
 foremost-best : (front : List Candidate) (b : Candidate) (back : List Candidate) → IsBest front b back →
     foremost (front ++ b ∷ back) ≡ Some b
 foremost-best front b back best =
     let first : list_all (λ c. not (goes_before c b)) (front ++ b ∷ back) ≡ true =
-    grind (arith, list_all-append (λ c. not (goes_before c b)) front (b ∷ back), list_all-back b front best.before_front, best.none_behind, goes_before-self b) in
+    grind (arith, list_all-append (λ c. not (goes_before c b)) front (b ∷ back), list_all-back b front best.before_front, best.none_after, goes_before-self b) in
     find-past b front back front (b ∷ back) best.before_front ∙ grind (arith, first)
 
 -- what a further one makes of the best
@@ -68,14 +68,14 @@ IsBest-kept : (front : List Candidate) (b : Candidate) (back : List Candidate) (
     goes_before c b ≡ false → IsBest front b (back ++ c ∷ [])
 IsBest-kept front b back c best h = record {
   before_front = best.before_front;
-  none_behind = grind (arith, list_all-append (λ a. not (goes_before a b)) back (c ∷ []), best.none_behind);
+  none_after = grind (arith, list_all-append (λ a. not (goes_before a b)) back (c ∷ []), best.none_after);
 }
 
 IsBest-changed : (front : List Candidate) (b : Candidate) (back : List Candidate) (c : Candidate) → IsBest front b back →
     goes_before c b ≡ true → IsBest (front ++ b ∷ back) c []
 IsBest-changed front b back c best h = record {
-  before_front = grind (arith, list_all-append (λ a. goes_before c a) front (b ∷ back), list_all-through c b front h best.before_front, list_all-past c b back h best.none_behind);
-  none_behind = refl;
+  before_front = grind (arith, list_all-append (λ a. goes_before c a) front (b ∷ back), list_all-through c b front h best.before_front, list_all-past c b back h best.none_after);
+  none_after = refl;
 }
 
 -- a further one: with the better of both, the rest gives the foremost of all
@@ -103,7 +103,7 @@ best_of-some front b back (c ∷ rest) best =
 
 pub best_of-foremost : (cs : List Candidate) → best_of None cs ≡ foremost cs
 best_of-foremost [] = refl
-best_of-foremost (c ∷ cs) = best_of-some [] c [] cs (record { before_front = refl; none_behind = refl })
+best_of-foremost (c ∷ cs) = best_of-some [] c [] cs (record { before_front = refl; none_after = refl })
 
 -- a search that ended has the choice
 pub choice-best : (k : KernelState) (cpu : ℕ) (best : Option Candidate) → best_of best [] ≡ best_of None (candidates k cpu) → best ≡ choice k cpu

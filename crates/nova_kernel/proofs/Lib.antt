@@ -1,12 +1,10 @@
 pub mod Foremost
 pub mod Steps
 pub mod Keeps
-pub mod Endings
-pub mod Signals
 pub mod Counts
 pub mod Making
 pub mod Booted
 pub mod Quiet
 pub mod Placed
 pub mod Added
-pub mod Recalls
+pub mod Least

@@ -1,97 +1,102 @@
 -- What an instruction over the bus is for the state of the kernel.
-use Rattle.std.proofs.Common.{◌≡◌, ℕ, zero, suc, List, [], ◌∷◌, refl, ap, ap₂, sym, ◌∙◌, subst}
-use Rattle.std.specs.Prelude.{Option, Some, None, IsSome, IfSome, slice_index_or, slice_get, slice_set}
-use Rattle.std.proofs.lemmas.List.{set-get_or}
-use Rattle.std.proofs.lemmas.Option.{get_or_from_slice_get}
-use Rattle.nova_model.specs.Memory.{Memory}
-use Rattle.nova_model.specs.declared.delegation.Derivation.{Derivation}
-use Rattle.rv_model.specs.Step.{Once, Raised, Went, Store, one}
+use Rattle.std.proofs.Common.{◌≡◌, ℕ, List, ◌==◌, refl, ap, ap₂, sym, ◌∙◌, subst}
+use Rattle.std.specs.Prelude.{◌&&◌, Bool, Some, None}
+use Rattle.rv_model.specs.Step.{Once, Raised, Went, Store, one, environment_call}
+use Rattle.rv_core.specs.Steps.{space_of}
 use Rattle.rv_core.specs.declared.outcome.Outcome.{Outcome}
-use Rattle.nova_model.specs.AddressSpaces.{AddressSpace, space, put, frame_for, after_store}
-use Rattle.nova_model.specs.Delegations.{write_right}
-use Rattle.nova_model.specs.State.{KernelState, context_at, entry}
-use Rattle.nova_model.specs.Turn.{with_context, address_space}
-use Rattle.nova_model.specs.declared.context.EcState.{EcState}
-use Rattle.nova_kernel.specs.Acts.{Executes, ExecutesIn}
-use Rattle.nova_kernel.specs.Reach.{ReachState, stored}
+use Rattle.rv_core.specs.declared.outcome.Outcome.TheVariants.{Raise}
+use Rattle.nova_ec.specs.Tables.{EcTable, Steps as Steps_of}
+use Rattle.nova_model.specs.AddressSpaces.{AddressSpace, space, space_through, after_store}
+use Rattle.nova_model.specs.Deeds.{address_space, instruction, signalled, stepping, stepped, performed, done}
+use Rattle.nova_model.specs.Delegations.{Delegations}
+use Rattle.nova_model.specs.Memory.{Memory}
+use Rattle.nova_model.specs.State.{KernelState, Contexts, ec_of, with_ec, context, pd_of, is_thread}
+use Rattle.nova_model.specs.declared.deed.Deed.{Deed}
+use Rattle.nova_model.specs.declared.deed.Deed.TheVariants.{Rests, Steps}
+use Rattle.nova_model.specs.declared.delegation.Derivation.{Derivation}
+use Rattle.nova_kernel.specs.Acts.{outcome_of, begun}
+use Rattle.nova_kernel.specs.Reach.{ReachState, reached, fetched, loaded, takes, stored}
 
--- a store leaves the delegations
-delegations-put : (a : AddressSpace) (s : Store) (f : Option ℕ) → (put a s f).delegations ≡ a.delegations
-delegations-put a s (Some f) = refl
-delegations-put a s None = refl
-
--- the state with what an instruction reaches, and with its execution context
-abbrev pub reaching : KernelState → ReachState → ℕ → EcState → KernelState
-reaching k reach ec x =
-    record k {
-      delegations = record k.delegations { list = reach.space.delegations };
-      memory = reach.space.memory;
-      consoles = reach.consoles;
-      contexts = slice_set k.contexts ec (Some x);
-    }
+-- the state with what an instruction reaches, and with another table of execution contexts
+abbrev pub reaching : KernelState → ReachState → Contexts → KernelState
+reaching k reach contexts = record k { delegations = reach.delegations; memory = reach.memory; consoles = reach.consoles; contexts = contexts }
 
 -- what an execution context reaches
 pub record IsReached (k : KernelState) (ec : ℕ) (reach : ReachState) : Type 0 where
-  pub space : reach.space ≡ address_space k ec
+  pub delegations : reach.delegations ≡ k.delegations
+  pub memory : reach.memory ≡ k.memory
   pub consoles : reach.consoles ≡ k.consoles
+  pub pd : reach.pd ≡ pd_of k ec
+  pub is_thread : reach.is_thread ≡ is_thread k ec
 
--- a table with an entry put where it is stays the same
-pub slice_set-same : {T : Type 0} → (xs : List T) (i : ℕ) (x : T) → slice_get xs i ≡ Some x → slice_set xs i x ≡ xs
-slice_set-same xs i x h =
-    sym (ap (slice_set xs i) (get_or_from_slice_get xs i x x h)) ∙ set-get_or xs i x
+space-reached : (k : KernelState) (ec : ℕ) (reach : ReachState) → IsReached k ec reach → reached reach ≡ address_space k ec
+space-reached k ec reach r = spaces (ap (λ (d : Delegations). d.list) r.delegations) r.memory r.pd r.is_thread
+  where
+    spaces : {l l' : List Derivation} {m m' : Memory} {p p' : ℕ} {t t' : Bool} → l ≡ l' → m ≡ m' → p ≡ p' → t ≡ t' → space_through l m p t ≡ space_through l' m' p' t'
+    spaces l m p t = cc
 
--- the state with another list of derivations, another memory, and another table of contexts
-framed : KernelState → List Derivation → Memory → ℕ → List (Option EcState) → KernelState
-framed k list memory consoles contexts =
-    record k { delegations = record k.delegations { list = list }; memory = memory; consoles = consoles; contexts = contexts }
+-- the state with other delegations, another memory, other consoles and another table of contexts
+framed : KernelState → Delegations → Memory → ℕ → Contexts → KernelState
+framed k delegations memory consoles contexts = record k { delegations = delegations; memory = memory; consoles = consoles; contexts = contexts }
 
-framed-ap : (k : KernelState) {l l' : List Derivation} {m m' : Memory} {c c' : ℕ} (x : List (Option EcState)) → l ≡ l' → m ≡ m' → c ≡ c' →
-    framed k l m c x ≡ framed k l' m' c' x
-framed-ap k x l m c = cc
+framed-ap : (k : KernelState) {d d' : Delegations} {m m' : Memory} {c c' : ℕ} {x x' : Contexts} → d ≡ d' → m ≡ m' → c ≡ c' → x ≡ x' →
+    framed k d m c x ≡ framed k d' m' c' x'
+framed-ap k d m c x = cc
 
-reaching-space : (k : KernelState) (ec : ℕ) (x : EcState) (reach : ReachState) → IsReached k ec reach →
-    reaching k reach ec x ≡ with_context k ec x
+reaching-contexts : (k : KernelState) (ec : ℕ) (reach : ReachState) (cs ds : Contexts) → IsReached k ec reach → cs ≡ ds →
+    reaching k reach cs ≡ record k { contexts = ds }
 unfolding framed
-reaching-space k ec x reach reached =
-    framed-ap k (slice_set k.contexts ec (Some x)) (ap (λ (a : AddressSpace). a.delegations) reached.space) (ap (λ (a : AddressSpace). a.memory) reached.space) reached.consoles
+reaching-contexts k ec reach cs ds r is = framed-ap k r.delegations r.memory r.consoles is
 
-reaching-same : (k : KernelState) (ec : ℕ) (x : EcState) (reach : ReachState) → slice_get k.contexts ec ≡ Some (Some x) → IsReached k ec reach →
-    reaching k reach ec x ≡ k
-reaching-same k ec x reach there reached =
-    reaching-space k ec x reach reached ∙ ap (λ (l : List (Option EcState)). record k { contexts = l }) (slice_set-same k.contexts ec (Some x) there)
-
-reaching-stored : (k : KernelState) (ec : ℕ) (x : EcState) (reach : ReachState) (s : Store) → IsReached k ec reach →
-    reaching k (stored s reach) ec x ≡ with_context (record k { memory = (after_store s (address_space k ec)).memory }) ec x
+reaching-stored : (k : KernelState) (ec : ℕ) (reach : ReachState) (s : Store) (cs ds : Contexts) → IsReached k ec reach → cs ≡ ds →
+    reaching k (stored s reach) cs ≡ record k { memory = after_store (address_space k ec) s k.memory; contexts = ds }
 unfolding framed
-reaching-stored k ec x reach s reached =
-    framed-ap k (slice_set k.contexts ec (Some x))
-    (delegations-put reach.space s (frame_for reach.space write_right s.address) ∙ ap (λ (a : AddressSpace). a.delegations) reached.space)
-    (ap (λ (a : AddressSpace). (after_store s a).memory) reached.space) reached.consoles
+reaching-stored k ec reach s cs ds r is =
+    framed-ap k r.delegations (ap₂ (λ (a : AddressSpace) (m : Memory). after_store a s m) (space-reached k ec reach r) r.memory) r.consoles is
 
 -- one instruction over what the execution context reaches is one of the kernel's
-pub reaching-executes : (k : KernelState) (ec : ℕ) (x x' : EcState) (reach reach' : ReachState) (outcome : Outcome) (o : Once) →
-    slice_get k.contexts ec ≡ Some (Some x) → IsReached k ec reach → ExecutesIn o x reach outcome x' reach' →
-    Executes o k ec x outcome (reaching k reach' ec x')
-reaching-executes k ec x x' reach reach' outcome (Raised reason q0 q1) there reached h =
-    (h.0, ap₂ (λ (r : ReachState) (y : EcState). reaching k r ec y) h.2 h.1 ∙ reaching-same k ec x reach there reached)
-reaching-executes k ec x x' reach reach' outcome (Went regs None) there reached h =
-    (h.0, ap₂ (λ (r : ReachState) (y : EcState). reaching k r ec y) h.2 h.1 ∙ reaching-space k ec (record x { regs = regs }) reach reached)
-reaching-executes k ec x x' reach reach' outcome (Went regs (Some store)) there reached h =
-    (h.0, ap₂ (λ (r : ReachState) (y : EcState). reaching k r ec y) h.2 h.1 ∙ reaching-stored k ec (record x { regs = regs }) reach store reached)
+reaching-steps : (k : KernelState) (t t' : EcTable) (ec : ℕ) (reach reach' : ReachState) (outcome : Outcome) (o : Once) → t.items ≡ k.contexts →
+    IsReached k ec reach → Steps_of stored o t ec reach outcome t' reach' → (outcome ≡ outcome_of o) × (reaching k reach' t'.items ≡ stepped k ec o)
+reaching-steps k t t' ec reach reach' outcome (Raised reason q0 q1) is r h =
+    (h.0, ap₂ (λ (s : ReachState) (u : EcTable). reaching k s u.items) h.2 h.1 ∙ reaching-contexts k ec reach t.items k.contexts r is)
+reaching-steps k t t' ec reach reach' outcome (Went regs None) is r h = (
+  h.0,
+  ap₂ (λ (s : ReachState) (u : EcTable). reaching k s u.items) h.2 h.1
+      ∙ reaching-contexts k ec reach _ _ r (ap (λ (cs : Contexts). with_ec cs ec (record (ec_of cs ec) { regs = regs })) is),
+)
+reaching-steps k t t' ec reach reach' outcome (Went regs (Some store)) is r h = (
+  h.0,
+  ap₂ (λ (s : ReachState) (u : EcTable). reaching k s u.items) h.2 h.1
+      ∙ reaching-stored k ec reach store _ _ r (ap (λ (cs : Contexts). with_ec cs ec (record (ec_of cs ec) { regs = regs })) is),
+)
 
--- the same of the context that is there
-pub executes-there : (k : KernelState) (ec : ℕ) (x x' : EcState) (reach reach' : ReachState) (outcome : Outcome) →
-    slice_get k.contexts ec ≡ Some (Some x) → IsReached k ec reach → ExecutesIn (one x.regs (space reach.space)) x reach outcome x' reach' →
-    IfSome (context_at k ec) (λ y. Executes (one y.regs (space (address_space k ec))) k ec y outcome (reaching k reach' ec x'))
-executes-there k ec x x' reach reach' outcome there reached h =
-    let at : context_at k ec ≡ Some x = ap entry there in
-    subst (λ (c : Option EcState). IfSome c (λ y. Executes (one y.regs (space (address_space k ec))) k ec y outcome (reaching k reach' ec x'))) (sym at)
-    (reaching-executes k ec x x' reach reach' outcome (one x.regs (space (address_space k ec))) there reached
-    (subst (λ (a : AddressSpace). ExecutesIn (one x.regs (space a)) x reach outcome x' reach') reached.space h))
+pub steps-there : (k : KernelState) (t t' : EcTable) (ec : ℕ) (reach reach' : ReachState) (outcome : Outcome) → t.items ≡ k.contexts → IsReached k ec reach →
+    Steps_of stored (one (ec_of t.items ec).regs (space_of fetched loaded takes reach)) t ec reach outcome t' reach' →
+    (outcome ≡ outcome_of (instruction k ec)) × (reaching k reach' t'.items ≡ done k ec Steps)
+steps-there k t t' ec reach reach' outcome is r h =
+    reaching-steps k t t' ec reach reach' outcome (instruction k ec) is r
+    (subst (λ (a : AddressSpace). Steps_of stored (one (context k ec).regs (space a)) t ec reach outcome t' reach') (space-reached k ec reach r)
+    (subst (λ (cs : Contexts). Steps_of stored (one (ec_of cs ec).regs (space (reached reach))) t ec reach outcome t' reach') is h))
 
--- an entry that is read where one is
-pub entry-read : {T : Type 0} → (xs : List (Option T)) (i : ℕ) (y : Option T) (x : T) → IsSome (entry (slice_get xs i)) → y ≡ slice_index_or xs i y → y ≡ Some x →
-    slice_get xs i ≡ Some (Some x)
-entry-read [] i y x there read is = cc
-entry-read (z ∷ xs) zero y x there read is = ap Some (sym read ∙ is)
-entry-read (z ∷ xs) (suc i) y x there read is = entry-read xs i y x there read is
+-- one that raises leaves all as it was, so that its deed is the one that is signalled then, and nothing of it is done
+raises : (k : KernelState) (ec : ℕ) (o : Once) (reason q0 q1 : ℕ) → outcome_of o ≡ Raise reason q0 q1 → (o ≡ Raised reason q0 q1) × (stepped k ec o ≡ k)
+raises k ec (Raised reason' q0' q1') reason q0 q1 is = (cc, refl)
+raises k ec (Went regs store) reason q0 q1 is = absurd (cc)
+
+pub raise-deed : (k new : KernelState) (ec : ℕ) (reason q0 q1 : ℕ) (d : Deed) → outcome_of (instruction k ec) ≡ Raise reason q0 q1 → new ≡ done k ec Steps →
+    d ≡ signalled new ec reason q0 q1 ((reason == environment_call) && is_thread new ec) → d ≡ stepping k ec (instruction k ec)
+raise-deed k new ec reason q0 q1 d is steps signals =
+    let stays = raises k ec (instruction k ec) reason q0 q1 is in
+    subst (λ (s : KernelState). d ≡ signalled s ec reason q0 q1 ((reason == environment_call) && is_thread s ec)) (steps ∙ stays.1) signals
+    ∙ sym (ap (stepping k ec) stays.0)
+
+pub raise-begun : (k new : KernelState) (ec : ℕ) (reason q0 q1 : ℕ) (d : Deed) → outcome_of (instruction k ec) ≡ Raise reason q0 q1 → new ≡ done k ec Steps →
+    new ≡ begun k ec d
+raise-begun k new ec reason q0 q1 Steps is steps = steps
+raise-begun k new ec reason q0 q1 other is steps = steps ∙ (raises k ec (instruction k ec) reason q0 q1 is).1
+
+-- a deed that is no instruction is performed
+pub act-performs : (k mid new : KernelState) (ec : ℕ) (d : Deed) → mid ≡ begun k ec d → ¬ (d ≡ Rests) → ¬ (d ≡ Steps) → new ≡ performed mid ec d → new ≡ done k ec d
+act-performs k mid new ec Rests begins rests steps h = absurd (rests refl)
+act-performs k mid new ec Steps begins rests steps h = absurd (steps refl)
+act-performs k mid new ec d begins rests steps h = subst (λ (s : KernelState). new ≡ performed s ec d) begins h

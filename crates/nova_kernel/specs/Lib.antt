@@ -6,12 +6,14 @@ pub use Rattle.nova_model.specs.Choice
 pub use Rattle.nova_model.specs.Capabilities
 pub use Rattle.nova_model.specs.Creation
 pub use Rattle.nova_model.specs.Hypercalls
+pub use Rattle.nova_model.specs.Deeds
 pub use Rattle.nova_model.specs.Turn
 pub use Rattle.nova_model.specs.Runs
 pub use Rattle.nova_model.specs.Boot
 pub mod Views
+pub mod Birth
 pub mod Parts
-pub mod Wanted
+pub mod ObjectTypes
 pub mod Acts
 pub mod Best
 pub mod Reach

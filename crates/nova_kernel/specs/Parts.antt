@@ -1,53 +1,46 @@
 -- What the kernel's lists show of its state, and what always holds of them.
-use Rattle.std.specs.Prelude.{IsSome, slice_index, ℕ, ◌+◌, ◌^◌, ◌<◌, ◌≤◌, ◌≡◌, List, length, map, replicate, option_map, vec_len, vec_capacity, Option, Some, None}
-use Rattle.nova_objects.specs.declared.object.Object.{Object}
-use Rattle.nova_objects.specs.declared.object.Object.TheVariants.{Ec}
-use Rattle.nova_model.specs.State.{KernelState, Transfer, context_at, budget_at}
-use Rattle.nova_model.specs.Creation.{idle_semaphore}
+use Rattle.std.specs.Prelude.{IsSome, slice_index, ℕ, ◌+◌, ◌*◌, ◌^◌, ◌<◌, ◌≤◌, ◌≡◌, length, vec_len, vec_capacity, Option, Some, None}
+use Rattle.nova_model.specs.Forest.{IsForest}
+use Rattle.nova_model.specs.State.{KernelState, context_at, budget_at}
+use Rattle.nova_model.specs.declared.deed.Deed.{Deed}
+use Rattle.nova_model.specs.declared.deed.Deed.TheVariants.{Makes}
 use Rattle.nova_model.specs.declared.budget.Budget.{Budget}
 use Rattle.nova_model.specs.declared.budget.Candidate.{Candidate}
+use Rattle.nova_kernel.specs.Birth.{messages_at_birth, transfers_at_birth, semaphores_at_birth, guests_at_birth}
 use Rattle.nova_kernel.specs.declared.parts.Parts.{Parts}
-
--- the message words of an object where it is an execution context, and what it gives: nothing changes them yet
-abbrev pub words_of : Object → Option (List ℕ)
-words_of (Ec pd cpu kind event) = Some (replicate 128 0)
-words_of _ = None
-
-abbrev pub transfer_of : Object → Option Transfer
-transfer_of (Ec pd cpu kind event) = Some (record { item = 0; cursor = 0; children = 0 })
-transfer_of _ = None
-
--- no object is a guest yet
-abbrev pub guest_of : Object → Option ℕ
-guest_of _ = None
 
 -- the state that the lists show
 abbrev pub shown : Parts → KernelState
 shown p = record {
-  delegations = record { list = p.reach.space.delegations; next = p.next_derivation };
+  delegations = p.reach.delegations;
   objects = p.objects.items;
   contexts = p.contexts.items;
-  messages = map words_of p.objects.items;
-  transfers = map transfer_of p.objects.items;
+  messages = messages_at_birth p.objects.items;
+  transfers = transfers_at_birth p.objects.items;
   budgets = p.budgets.items;
   identifiers = p.identifiers.items;
-  semaphores = map (option_map idle_semaphore) p.counts.items;
-  memory = p.reach.space.memory;
+  semaphores = semaphores_at_birth p.counts.items;
+  memory = p.reach.memory;
   next_stamp = p.next_stamp;
   turns = p.turns;
   cpus = p.cpus;
   consoles = p.reach.consoles;
-  stirs = record { guests = map guest_of p.objects.items; processors = p.stirs.items };
+  stirs = record { guests = guests_at_birth p.objects.items; processors = p.stirs.items };
 }
 
 -- each list has room for one more
 pub record HasRoom (p : Parts) : Type 0 where
   pub objects : 0 < p.objects.spare
   pub derivations : 0 < p.reach.spare
-  pub contexts : vec_len p.contexts < vec_capacity p.contexts
+  pub contexts : 0 < p.contexts.spare
   pub budgets : vec_len p.budgets < vec_capacity p.budgets
   pub identifiers : vec_len p.identifiers < vec_capacity p.identifiers
   pub counts : vec_len p.counts < vec_capacity p.counts
+
+-- a deed that makes an object wants it
+abbrev pub HasRoomFor : Deed → Parts → Type 0
+HasRoomFor (Makes call target new) p = HasRoom p
+HasRoomFor other p = Unit {0}
 
 -- tables by number: an entry for each object
 pub record AreTables (k : KernelState) : Type 0 where
@@ -66,19 +59,21 @@ abbrev pub IsPaidWithin : ℕ → Option Budget → Type 0
 IsPaidWithin turns (Some b) = b.ticks ≤ turns
 IsPaidWithin turns None = 0 ≤ turns
 
--- what turns are charged to is bounded by the turns that were taken
+-- what turns are charged to is bounded by the turns that were taken. A turn takes at most two stamps: one for a scheduling context that is
+-- made, and one for a quantum that begins anew.
 pub record IsCharged (k : KernelState) : Type 0 where
   pub turns : k.turns ≤ 2 ^ 31
   pub processors : length k.stirs.processors ≡ k.cpus
-  pub stamps : k.next_stamp ≤ k.turns + 1
+  pub stamps : k.next_stamp ≤ 2 * k.turns + 1
   pub ticks : (sc : ℕ) → IsPaidWithin k.turns (budget_at k sc)
   pub stirs : (cpu : ℕ) → slice_index k.stirs.processors cpu ≤ k.turns
 
--- what always holds
+-- what always holds: bounds of what is counted, an entry of each table for each object, and delegations that are a sound forest
 pub record IsCounted (k : KernelState) : Type 0 where
   pub charged : IsCharged k
   pub numbered : IsNumbered k.turns k
   pub tables : AreTables k
+  pub forest : IsForest k.delegations
 
 -- an act leaves each execution context there, and what turns are charged to; it gives at most one number to an object and to a
 -- derivation
@@ -95,5 +90,5 @@ pub record KeepsCounts (old new : KernelState) : Type 0 where
 
 -- what a candidate names is there
 pub record IsThere (k : KernelState) (c : Candidate) : Type 0 where
-  pub context : IsSome (context_at k c.ec)
+  pub context : IsSome (context_at k c.actor)
   pub budget : IsSome (budget_at k c.sc)

@@ -1,26 +1,34 @@
 -- What the kernel's memory shows to the instruction that runs, and what always holds of its delegations.
 use Rattle.std.specs.Prelude.{◌≡◌, true, ◌-◌, ℕ, ◌+◌, ◌^◌, ◌≤◌, Bool, List, length, slice_get, Option, Some, None}
 use Rattle.rv_model.specs.Step.{Store}
-use Rattle.nova_model.specs.Delegations.{is_memory}
-use Rattle.nova_model.specs.AddressSpaces.{AddressSpace, space, after_store}
+use Rattle.nova_model.specs.Memory.{Memory}
+use Rattle.nova_model.specs.Delegations.{Delegations, is_memory}
+use Rattle.nova_model.specs.AddressSpaces.{AddressSpace, space, space_through, after_store}
 use Rattle.nova_model.specs.declared.delegation.Derivation.{Derivation}
 
--- the address space of the execution context that acts, how many consoles there are, how many more bytes the log takes, and for how
--- many more derivations there is room
+-- the delegations, the memory, the protection domain of the execution context that acts, whether it is a thread, how many consoles there
+-- are, how many more bytes the log takes, and for how many more derivations there is room
 pub record ReachState : Type 0 where
-  pub space : AddressSpace
+  pub delegations : Delegations
+  pub memory : Memory
+  pub pd : ℕ
+  pub is_thread : Bool
   pub consoles : ℕ
   pub room : ℕ
   pub spare : ℕ
 
+-- what the execution context that acts finds
+abbrev pub reached : ReachState → AddressSpace
+reached s = space_through s.delegations.list s.memory s.pd s.is_thread
+
 abbrev pub fetched : ReachState → ℕ → Option ℕ
-fetched s = (space s.space).fetch
+fetched s = (space (reached s)).fetch
 
 abbrev pub loaded : ReachState → ℕ → ℕ → Option ℕ
-loaded s = (space s.space).load
+loaded s = (space (reached s)).load
 
 abbrev pub takes : ReachState → ℕ → ℕ → Bool
-takes s = (space s.space).takes
+takes s = (space (reached s)).takes
 
 -- a place in its space, and for pages targets among so many frames
 pub record IsPlaced (frames : ℕ) (d : Derivation) : Type 0 where
@@ -40,6 +48,6 @@ pub record LeadToFrames (frames : ℕ) (list : List Derivation) : Type 0 where
 -- the state that a store leaves: what the log grows by is taken from the room
 abbrev pub stored : Store → ReachState → ReachState
 stored store s = record s {
-  space = after_store store s.space;
-  room = s.room + length s.space.memory.log - length (after_store store s.space).memory.log;
+  memory = after_store (reached s) store s.memory;
+  room = s.room + length s.memory.log - length (after_store (reached s) store s.memory).log;
 }

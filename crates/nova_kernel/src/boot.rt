@@ -2,9 +2,10 @@ ghost use Rattle.std.specs.Prelude.{true, ◌<◌, ◌≡◌, ◌+◌, ◌^◌, 
 ghost use Rattle.nova_model.specs.Boot.{bare, root_objects, root_context, root_registers, ram_derivation, console_derivation, object_derivation, root_derivations};
 ghost use Rattle.nova_kernel.specs.Parts.{shown};
 
-use super::parts::Parts;
-use super::reach::Reach;
+use crate::parts::Parts;
+use crate::reach::Reach;
 use bitflags::Flags;
+use nova_ec::Ecs;
 use nova_frames::Frames;
 use nova_model::{Budget, Derivation, EcKind, EcState, Kind, Object, Rights, Root, State};
 use nova_objects::Objects;
@@ -52,13 +53,14 @@ fn root_context(root: Root) -> EcState
 }
 
 /// The table of execution contexts.
-fn root_contexts(alloc: Global, root: Root) -> Result<Vec<Option<EcState>>, AllocError>
-    ensures { IfOk result (λ v. v.items ≡ None ∷ Some (root_context root) ∷ None ∷ []) }
+fn root_contexts(alloc: Global, root: Root) -> Result<Ecs, AllocError>
+    ensures { IfOk result (λ t. t.items ≡ None ∷ Some (root_context root) ∷ None ∷ []) }
 {
-    let mut contexts = Vec::with_capacity(alloc, 3)?;
-    contexts.push(None)?;
-    contexts.push(Some(root_context(root)))?;
-    contexts.push(None)?;
+    let mut contexts = Ecs::new(alloc);
+    contexts.reserve(3)?;
+    contexts.add(None);
+    contexts.add(Some(root_context(root)));
+    contexts.add(None);
     Ok(contexts)
 }
 
@@ -185,7 +187,6 @@ impl Parts {
         let stirs = first_stirs(alloc, cpus)?;
         Ok(Parts {
             reach,
-            next_derivation: consoles + 4,
             objects,
             contexts,
             budgets,
@@ -206,12 +207,10 @@ impl Reach {
         requires ram { ram ≤ 14 }
         requires consoles { consoles ≤ 16 }
         ensures { IfOk result (λ r. r ≡ record {
-          space = record {
-            delegations = root_derivations ram consoles;
-            memory = record { ram = replicate (2 ^ ram) (replicate 4096 0); log = [] };
-            pd = 0;
-            is_thread = true;
-          };
+          delegations = record { list = root_derivations ram consoles; next = consoles + 4 };
+          memory = record { ram = replicate (2 ^ ram) (replicate 4096 0); log = [] };
+          pd = 0;
+          is_thread = true;
           consoles = consoles;
           room = log_room;
           spare = 0;
@@ -222,6 +221,7 @@ impl Reach {
         Ok(Reach {
             frames,
             derivations,
+            next: consoles + 4,
             spare: 0,
             pd: 0,
             is_thread: true,

@@ -1,17 +1,16 @@
-ghost use Rattle.std.specs.Prelude.{◌≡◌, ◌<◌, ◌≤◌, length, IfSome};
-ghost use Rattle.std.specs.List.{find};
-ghost use Rattle.nova_model.specs.Capabilities.{covers_selector, is_held, named};
+ghost use Rattle.std.specs.Prelude.{◌≡◌, ◌<◌, length, IfOk};
+ghost use Rattle.nova_model.specs.Capabilities.{is_held, named};
 ghost use Rattle.nova_kernel.specs.Parts.{shown};
-ghost use Rattle.nova_kernel.specs.Wanted.{is_wanted};
+ghost use Rattle.nova_kernel.specs.ObjectTypes.{is_of};
 
-use super::parts::Parts;
-use super::reach::Reach;
+use crate::parts::Parts;
 use bitflags::Flags;
-use nova_model::{Derivation, EcKind, Kind, Object, Rights};
+use nova_model::{EcKind, Kind, Object, Rights};
+use nova_range::Status;
 
-/// What a hypercall wants a capability to lead to.
+/// The type of object that a hypercall asks a capability to lead to.
 #[derive(Clone, Copy)]
-pub enum Wanted {
+pub enum ObjectType {
     Pd,
     Ec,
     /// An execution context that is a local thread.
@@ -20,49 +19,24 @@ pub enum Wanted {
     Pt,
 }
 
-impl Wanted {
-    /// Whether the object is a wanted one.
-    fn is(self, object: Object) -> bool
-        ensures { result ≡ is_wanted self object }
+impl ObjectType {
+    /// Whether the object is of this type.
+    fn has(self, object: Object) -> bool
+        ensures { result ≡ is_of self object }
     {
         match self {
-            Wanted::Pd => matches!(object, Object::Pd),
-            Wanted::Ec => matches!(object, Object::Ec { .. }),
-            Wanted::Local => matches!(
+            ObjectType::Pd => matches!(object, Object::Pd),
+            ObjectType::Ec => matches!(object, Object::Ec { .. }),
+            ObjectType::Local => matches!(
                 object,
                 Object::Ec {
                     kind: EcKind::Local,
                     ..
                 }
             ),
-            Wanted::Sc => matches!(object, Object::Sc { .. }),
-            Wanted::Pt => matches!(object, Object::Pt { .. }),
+            ObjectType::Sc => matches!(object, Object::Sc { .. }),
+            ObjectType::Pt => matches!(object, Object::Pt { .. }),
         }
-    }
-}
-
-/// Whether the derivation lies in the object space of the protection domain and covers the selector.
-fn covers(derivation: &Derivation, pd: u32, selector: u32) -> bool
-    requires { derivation.now.order ≤ 20 }
-    ensures { result ≡ covers_selector pd selector derivation.now }
-{
-    matches!(derivation.kind, Kind::Obj)
-        && derivation.pd == pd
-        && derivation.base <= selector
-        && selector - derivation.base < 1 << derivation.order
-}
-
-impl Reach {
-    /// The capability at a selector of a protection domain; none where none is held there.
-    fn capability(&self, pd: u32, selector: u32) -> Option<Derivation>
-        ensures { result ≡ find (covers_selector pd selector) self.now.space.delegations }
-    {
-        for derivation in &self.derivations {
-            if covers(derivation, pd, selector) {
-                return Some(*derivation);
-            }
-        }
-        None
     }
 }
 
@@ -71,21 +45,29 @@ impl Parts {
     pub fn is_held(&self, pd: u32, selector: u32) -> bool
         ensures { result ≡ is_held (shown self.now) pd selector }
     {
-        self.reach.capability(pd, selector).is_some()
+        self.reach.find(Kind::Obj, pd, selector).is_some()
     }
 
-    /// The number of the object that the capability at a selector leads to; none where no capability
-    /// is held there, its object isn't a wanted one, or the right is missing.
-    pub fn named(&self, pd: u32, wanted: Wanted, right: Rights, selector: u32) -> Option<u32>
-        ensures named { result ≡ named (shown self.now) pd (is_wanted wanted) right.0 selector }
-        ensures there { IfSome result (λ number. number < length (shown self.now).objects) }
+    /// The number of the object that the capability at a selector leads to. `BadCap` where no
+    /// capability is held there, its object isn't of this type, or the right is missing.
+    pub fn named(
+        &self,
+        pd: u32,
+        object_type: ObjectType,
+        right: Rights,
+        selector: u32,
+    ) -> Result<u32, Status>
+        ensures named { result ≡ named (shown self.now) pd (is_of object_type) right.0 selector }
+        ensures there { IfOk result (λ number. number < length (shown self.now).objects) }
     {
-        let capability = self.reach.capability(pd, selector)?;
-        let object = *self.objects.get(capability.target)?;
-        if wanted.is(object) && capability.rights.contains(right) {
-            Some(capability.target)
-        } else {
-            None
+        let Some(capability) = self.reach.find(Kind::Obj, pd, selector) else {
+            return Err(Status::BadCap);
+        };
+        match self.objects.get(capability.target) {
+            Some(object) if object_type.has(*object) && capability.rights.contains(right) => {
+                Ok(capability.target)
+            }
+            _ => Err(Status::BadCap),
         }
     }
 }

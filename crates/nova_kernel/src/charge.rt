@@ -3,7 +3,7 @@ ghost use Rattle.nova_model.specs.State.{budget_at};
 ghost use Rattle.nova_model.specs.Turn.{quantum_in, is_spent, budget_after, paid_by, counted, charged};
 ghost use Rattle.nova_kernel.specs.Parts.{shown, IsCharged};
 
-use super::parts::Parts;
+use crate::parts::Parts;
 use nova_model::{Budget, Object};
 
 /// Whether this turn is the last of the quantum.

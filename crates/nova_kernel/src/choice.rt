@@ -1,54 +1,33 @@
 ghost use Rattle.std.specs.Prelude.{◌≡◌, ◌^◌, ◌≤◌, length, IfSome};
-ghost use Rattle.nova_model.specs.Choice.{acts_in, acts, candidate_of, goes_before, choice, is_quiet};
+ghost use Rattle.nova_model.specs.Choice.{candidate_of, goes_before, choice, is_quiet};
 ghost use Rattle.nova_kernel.specs.Parts.{shown, IsThere};
-ghost use Rattle.nova_kernel.specs.Best.{better};
+ghost use Rattle.nova_kernel.specs.Best.{yields};
 
-use super::parts::Parts;
-use nova_model::{Candidate, Object, State};
-
-/// Whether an execution context in this state acts.
-fn is_acting(state: State) -> bool
-    ensures { result ≡ acts_in state }
-{
-    match state {
-        State::Fresh | State::Ready | State::Exiting(..) => true,
-        State::Parked | State::Dead => false,
-    }
-}
+use crate::parts::Parts;
+use nova_model::{Candidate, Object};
 
 /// Whether the first goes before the second: a greater priority, or the same and a lesser stamp.
-fn precedes(a: Candidate, b: Candidate) -> bool
-    ensures { result ≡ goes_before a b }
+fn precedes(a: &Candidate, b: &Candidate) -> bool
+    ensures { result ≡ goes_before a.now b.now }
 {
     b.priority < a.priority || (a.priority == b.priority && a.stamp < b.stamp)
 }
 
-/// The better of the best so far and a further one.
-fn better_of(best: Option<Candidate>, further: Option<Candidate>) -> Option<Candidate>
-    ensures { result ≡ better best further }
+/// Whether the best so far yields to a further one.
+fn yields(best: &Option<Candidate>, further: &Candidate) -> bool
+    ensures { result ≡ yields best.now further.now }
 {
-    match (best, further) {
-        (Some(best), Some(further)) if !precedes(further, best) => Some(best),
-        (best, None) => best,
-        (_, further) => further,
+    match best {
+        Some(best) => precedes(further, best),
+        None => true,
     }
 }
 
 impl Parts {
-    /// Whether the execution context is there and acts.
-    fn acts(&self, ec: u32) -> bool
-        ensures { result ≡ acts (shown self.now) ec }
-    {
-        match self.contexts.get(ec as usize) {
-            Some(Some(context)) => is_acting(context.state),
-            _ => false,
-        }
-    }
-
-    /// The object of this number as a candidate, where it is a scheduling context of the processor
-    /// whose execution context acts.
-    fn candidate(&self, cpu: u32, sc: u32, object: Object) -> Option<Candidate>
-        ensures candidate { result ≡ candidate_of (shown self.now) cpu sc object }
+    /// The object of this number as a candidate, where it is a runnable scheduling context of the
+    /// processor: its turns lead to an execution context that acts.
+    fn candidate(&self, cpu: u32, sc: u32, object: &Object) -> Option<Candidate>
+        ensures candidate { result ≡ candidate_of (shown self.now) cpu sc object.now }
         ensures there { IfSome result (IsThere (shown self.now)) }
     {
         let Object::Sc {
@@ -60,14 +39,18 @@ impl Parts {
         else {
             return None;
         };
-        if home != cpu || !self.acts(ec) {
+        if *home != cpu {
+            return None;
+        }
+        let actor = self.contexts.chase(*ec);
+        if !self.contexts.acts(actor) {
             return None;
         }
         match self.budgets.get(sc as usize) {
             Some(Some(budget)) => Some(Candidate {
                 sc,
-                ec,
-                priority,
+                actor,
+                priority: *priority,
                 stamp: budget.stamp,
             }),
             _ => None,
@@ -80,9 +63,13 @@ impl Parts {
         ensures choice { result ≡ choice (shown self.now) cpu }
         ensures there { IfSome result (IsThere (shown self.now)) }
     {
-        let mut best = None;
+        let mut best: Option<Candidate> = None;
         for (sc, object) in self.objects.as_slice().iter().enumerate() {
-            best = better_of(best, self.candidate(cpu, sc as u32, *object));
+            if let Some(further) = self.candidate(cpu, sc as u32, object)
+                && yields(&best, &further)
+            {
+                best = Some(further);
+            }
         }
         best
     }

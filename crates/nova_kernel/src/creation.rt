@@ -1,26 +1,14 @@
-ghost use Rattle.std.specs.Prelude.{◌≡◌, ◌+◌, ◌^◌, ◌<◌, ◌≤◌, length, IfOk, OnOk};
+ghost use Rattle.std.specs.Prelude.{◌≡◌, ◌^◌, ◌<◌, length, true, OnOk, OnErr};
 ghost use Rattle.nova_model.specs.Capabilities.{target_of};
-ghost use Rattle.nova_model.specs.Creation.{first_state, new_context, root_capability, with_object};
-ghost use Rattle.nova_model.specs.Hypercalls.{maker, create_ec, create_pt, create_sm, created, is_virtual};
-ghost use Rattle.nova_kernel.specs.Parts.{shown, HasRoom, IsNumbered};
-ghost use Rattle.nova_kernel.specs.Acts.{IsWhole, MayEnd};
+ghost use Rattle.nova_model.specs.Creation.{first_state, new_context, object_of, context_of, identifier_of, count_of, root_capability, with_object};
+ghost use Rattle.nova_model.specs.Deeds.{is_making};
+ghost use Rattle.nova_kernel.specs.Parts.{shown, AreTables, HasRoom, HasRoomFor, IsNumbered};
 
-use super::capabilities::Wanted;
-use super::deed::Ended;
-use super::parts::{Parts, push};
-use nova_model::{Derivation, EcKind, EcState, Kind, NewObject, Object, Rights, State};
-use nova_range::{Flags, Mtd, Status, Target};
+use crate::parts::Parts;
+use nova_model::{Deed, Derivation, EcKind, EcState, Kind, NewObject, Object, Rights, State};
+use nova_range::{Flags, Target};
 use rv_core::Regs;
 use std::alloc::AllocError;
-
-/// Where an object is to be made: the protection domain of the maker, the selector in it that the
-/// new capability takes, and the selector in it of the domain that the object is to lie in.
-#[derive(Clone, Copy)]
-pub struct Site {
-    pub me: u32,
-    pub target: u32,
-    pub pd: u32,
-}
 
 /// What an object is, as rights go by it.
 fn target_of(object: Object) -> Target
@@ -35,13 +23,6 @@ fn target_of(object: Object) -> Target
     }
 }
 
-/// Whether the kind is that of a virtual CPU.
-fn is_virtual(kind: EcKind) -> bool
-    ensures { result ≡ is_virtual kind }
-{
-    matches!(kind, EcKind::Vcpu)
-}
-
 /// How an execution context begins: a local thread waits for a caller.
 fn first_state(kind: EcKind) -> State
     ensures { result ≡ first_state kind }
@@ -52,103 +33,68 @@ fn first_state(kind: EcKind) -> State
     }
 }
 
-/// An execution context at birth, with its stack pointer.
-fn new_context(number: u32, cpu: u32, kind: EcKind, sp: u32) -> EcState
-    ensures { result ≡ new_context number cpu kind sp }
+/// The object that is made.
+fn object_of(new: NewObject) -> Object
+    ensures { result ≡ object_of new }
 {
-    EcState {
-        id: number,
-        cpu,
-        state: first_state(kind),
-        regs: Regs::new(0, sp),
-        caller: None,
-        recall: false,
+    match new {
+        NewObject::Ec {
+            pd,
+            cpu,
+            kind,
+            event,
+            ..
+        } => Object::Ec {
+            pd,
+            cpu,
+            kind,
+            event,
+        },
+        NewObject::Pt { ec, mtd, ip } => Object::Pt { ec, mtd, ip },
+        NewObject::Sm { .. } => Object::Sm,
+    }
+}
+
+/// The execution context at birth, where one of this number is made.
+fn context_of(number: u32, new: NewObject) -> Option<EcState>
+    ensures { result ≡ context_of number new }
+{
+    match new {
+        NewObject::Ec { cpu, kind, sp, .. } => Some(EcState {
+            id: number,
+            cpu,
+            state: first_state(kind),
+            regs: Regs::new(0, sp),
+            caller: None,
+            recall: false,
+        }),
+        _ => None,
+    }
+}
+
+/// The identifier of a portal that is made.
+fn identifier_of(new: NewObject) -> Option<u32>
+    ensures { result ≡ identifier_of new }
+{
+    match new {
+        NewObject::Pt { .. } => Some(0),
+        _ => None,
+    }
+}
+
+/// The counter of a semaphore that is made.
+fn count_of(new: NewObject) -> Option<u32>
+    ensures { result ≡ count_of new }
+{
+    match new {
+        NewObject::Sm { count } => Some(count),
+        _ => None,
     }
 }
 
 impl Parts {
-    /// The protection domain in which the object is to be made. `BadCap` where the capability names
-    /// no protection domain with the right to create, or where the target is held.
-    fn maker(&self, site: Site) -> Result<u32, Status>
-        ensures { result ≡ maker (shown self.now) site.me site.target site.pd }
-    {
-        let owner = self.named(site.me, Wanted::Pd, Rights::CREATE, site.pd);
-        let owner = owner.ok_or(Status::BadCap)?;
-        if self.is_held(site.me, site.target) {
-            return Err(Status::BadCap);
-        }
-        Ok(owner)
-    }
-
-    /// The execution context that a hypercall is to make, or the status of its refusal.
-    pub fn create_ec(
-        &self,
-        site: Site,
-        cpu: u32,
-        kind: EcKind,
-        sp: u32,
-        event: u32,
-    ) -> Result<NewObject, Status>
-        requires { length (shown self.now).objects < 2 ^ 32 }
-        ensures row { result ≡ create_ec (shown self.now) site.me site.target site.pd cpu kind sp event }
-        ensures whole { IfOk result IsWhole }
-    {
-        if is_virtual(kind) {
-            return Err(Status::BadPar);
-        }
-        let pd = self.maker(site)?;
-        if cpu >= self.cpus {
-            return Err(Status::BadCpu);
-        }
-        Ok(NewObject {
-            object: Object::Ec {
-                pd,
-                cpu,
-                kind,
-                event,
-            },
-            context: Some(new_context(self.objects.len() as u32, cpu, kind, sp)),
-            identifier: None,
-            count: None,
-        })
-    }
-
-    /// The portal that a hypercall is to make, or the status of its refusal.
-    pub fn create_pt(&self, site: Site, ec: u32, mtd: Mtd, ip: u32) -> Result<NewObject, Status>
-        ensures row { result ≡ create_pt (shown self.now) site.me site.target site.pd ec mtd ip }
-        ensures whole { IfOk result IsWhole }
-    {
-        self.maker(site)?;
-        let handler = self.named(site.me, Wanted::Local, Rights::BIND_PT, ec);
-        let handler = handler.ok_or(Status::BadCap)?;
-        Ok(NewObject {
-            object: Object::Pt {
-                ec: handler,
-                mtd: mtd.bits(),
-                ip,
-            },
-            context: None,
-            identifier: Some(0),
-            count: None,
-        })
-    }
-
-    /// The semaphore that a hypercall is to make, or the status of its refusal.
-    pub fn create_sm(&self, site: Site, count: u32) -> Result<NewObject, Status>
-        ensures row { result ≡ create_sm (shown self.now) site.me site.target site.pd count }
-        ensures whole { IfOk result IsWhole }
-    {
-        self.maker(site)?;
-        Ok(NewObject {
-            object: Object::Sm,
-            context: None,
-            identifier: None,
-            count: Some(count),
-        })
-    }
-
     /// Makes room for one more object and its capability. It refuses for want of memory alone.
-    fn make_room(&mut self) -> Result<(), AllocError>
+    fn reserve(&mut self) -> Result<(), AllocError>
         ensures shown { shown self.new ≡ shown self.old }
         ensures log { self.new.reach.room ≡ self.old.reach.room }
         ensures room { OnOk result (HasRoom self.new) }
@@ -162,13 +108,26 @@ impl Parts {
         Ok(())
     }
 
+    /// Makes room for what a deed makes. It refuses for want of memory alone.
+    pub fn make_room(&mut self, deed: Deed) -> Result<(), AllocError>
+        ensures shown { shown self.new ≡ shown self.old }
+        ensures log { self.new.reach.room ≡ self.old.reach.room }
+        ensures room { OnOk result (HasRoomFor deed self.new) }
+        ensures making { OnErr result (is_making deed ≡ true) }
+    {
+        match deed {
+            Deed::Makes { .. } => self.reserve(),
+            _ => Ok(()),
+        }
+    }
+
     /// The capability of an object that a protection domain is about to make: all rights.
     fn root_capability(&self, pd: u32, selector: u32, object: Object) -> Derivation
         requires { length (shown self.now).objects < 2 ^ 32 }
         ensures { result ≡ root_capability (shown self.now) pd selector object }
     {
         Derivation {
-            id: self.next_derivation,
+            id: self.reach.next,
             pd,
             kind: Kind::Obj,
             base: selector,
@@ -182,44 +141,22 @@ impl Parts {
     /// Adds an object of the next number, and its capability at a selector, in the room that was
     /// made.
     #[tactic(auto, using(crate::proofs::Added::added))]
-    fn add_object(&mut self, pd: u32, selector: u32, new: NewObject)
+    pub fn add_object(&mut self, pd: u32, selector: u32, new: NewObject)
         requires room { HasRoom self.old }
-        requires whole { IsWhole new }
         requires numbered { IsNumbered (2 ^ 31) (shown self.old) }
+        requires tables { AreTables (shown self.old) }
         requires selector { selector < 2 ^ 20 }
         ensures added { shown self.new ≡ with_object (shown self.old) pd selector new }
         ensures log { self.new.reach.room ≡ self.old.reach.room }
     {
-        let capability = self.root_capability(pd, selector, new.object);
+        let object = object_of(new);
+        let context = context_of(self.objects.len() as u32, new);
+        let capability = self.root_capability(pd, selector, object);
         self.reach.add(capability);
-        self.next_derivation += 1;
-        self.objects.add(new.object);
-        push(&mut self.contexts, new.context);
-        push(&mut self.budgets, None);
-        push(&mut self.identifiers, new.identifier);
-        push(&mut self.counts, new.count);
-    }
-
-    /// Makes the object that a hypercall asks for, where it isn't refused. It takes the room for all
-    /// of it first: want of memory leaves all as it was.
-    pub fn create(
-        &mut self,
-        me: u32,
-        target: u32,
-        new: Result<NewObject, Status>,
-    ) -> Result<Ended, AllocError>
-        requires whole { IfOk new IsWhole }
-        requires numbered { IsNumbered (2 ^ 31) (shown self.old) }
-        requires target { target < 2 ^ 20 }
-        ensures ended { MayEnd (created (shown self.old) me target new) (shown self.old) result (shown self.new) }
-        ensures log { self.new.reach.room ≡ self.old.reach.room }
-    {
-        let new = match new {
-            Err(status) => return Ok(Ended::refused(status)),
-            Ok(new) => new,
-        };
-        self.make_room()?;
-        self.add_object(me, target, new);
-        Ok(Ended::success(None))
+        self.objects.add(object);
+        self.contexts.add(context);
+        self.budgets.push_reserved(None);
+        self.identifiers.push_reserved(identifier_of(new));
+        self.counts.push_reserved(count_of(new));
     }
 }

@@ -1,13 +1,14 @@
-ghost use Rattle.std.specs.Prelude.{◌≡◌, ◌+◌, ◌*◌, ◌^◌, ◌<◌, ◌≤◌, length, slice_get, IfOk, OnOk, OnErr, option_map};
+ghost use Rattle.std.specs.Prelude.{◌≡◌, ◌+◌, ◌*◌, ◌^◌, ◌<◌, ◌≤◌, ◌-◌, length, slice_get, IfSome, IfOk, OnOk, OnErr, option_map};
 ghost use Rattle.std.specs.Option.{option_copied};
 ghost use Rattle.nova_model.specs.State.{context_at};
 ghost use Rattle.nova_model.specs.Choice.{choose, is_quiet};
 ghost use Rattle.nova_model.specs.Turn.{turn, state_after, answer_of};
 ghost use Rattle.nova_model.specs.Boot.{bare, laid};
+ghost use Rattle.nova_model.specs.Forest.{IsForest};
 ghost use Rattle.nova_kernel.specs.Views.{ticks_of, left_of, semaphore_at, derivation_from, turns_taken, IsMaking};
 
-use super::parts::Parts;
-use super::reach::Reach;
+use crate::parts::Parts;
+use crate::reach::Reach;
 use nova_frames::{Frames, LogByte};
 use nova_model::{Budget, Derivation, EcKind, EcState, Kind, Object, Rights, Root, State, Turn};
 use rv_core::Regs;
@@ -63,8 +64,8 @@ impl Kernel {
         self.parts.reach.put(address, bytes);
     }
 
-    /// One turn of an existing processor: the execution context at the chosen scheduling context
-    /// acts, and the scheduling context is charged. Idle, with nothing changed, exactly where no
+    /// One turn of an existing processor: the execution context to which the turns of the chosen
+    /// scheduling context lead acts, and the scheduling context is charged. Idle, with nothing changed, exactly where no
     /// scheduling context of the processor is runnable. It refuses for want of memory alone, only in
     /// a turn that makes an object, and then nothing has changed. Needs spare log, of which a turn
     /// uses at most one place, and fewer than 2^31 turns taken before.
@@ -133,18 +134,20 @@ impl Kernel {
         self.parts.objects.get(id)
     }
 
-    /// The objects, by number.
+    /// The objects, by number, of which there are fewer than 2^32.
     pub fn objects(&self) -> &[Object]
-        ensures { result.now ≡ self.now.state.objects }
+        ensures objects { result.now ≡ self.now.state.objects }
+        ensures few { length result.now < 2 ^ 32 }
     {
         self.parts.objects.as_slice()
     }
 
     /// The execution context of a number; none where no execution context has it.
     pub fn ec(&self, ec: u32) -> Option<&EcState>
-        ensures { option_map (λ x. x.now) result ≡ context_at self.now.state ec }
+        ensures context { option_map (λ x. x.now) result ≡ context_at self.now.state ec }
+        ensures id { IfSome result (λ x. x.now.id ≡ ec) }
     {
-        self.parts.contexts.get(ec as usize)?.as_ref()
+        self.parts.contexts.get(ec)
     }
 
     /// The turns that a scheduling context paid for; none where no scheduling context has the number.
@@ -183,22 +186,13 @@ impl Kernel {
         self.parts.reach.frames.log()
     }
 
-    /// The derivations that are there, by rising id.
-    pub fn derivations(&self) -> &[Derivation]
-        ensures { result.now ≡ self.now.state.delegations.list }
-    {
-        self.parts.reach.derivations.as_slice()
-    }
-
-    /// The derivation of least id at or after a given one; none where there is none.
+    /// The derivation of least id at or after a given one; none where there is none. Delegations are a
+    /// sound forest, and ids are below 2^32 - 1.
     pub fn derivation_from(&self, id: u32) -> Option<Derivation>
-        ensures { result ≡ derivation_from self.now.state id }
+        ensures derivation { result ≡ derivation_from self.now.state id }
+        ensures forest { IsForest self.now.state.delegations }
+        ensures below { IfSome result (λ d. d.id < 2 ^ 32 - 1) }
     {
-        for derivation in &self.parts.reach.derivations {
-            if id <= derivation.id {
-                return Some(*derivation);
-            }
-        }
-        None
+        self.parts.reach.derivation_from(id)
     }
 }

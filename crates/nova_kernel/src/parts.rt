@@ -2,18 +2,19 @@ ghost use Rattle.std.specs.Prelude.{◌≡◌, ◌+◌, ◌<◌, ◌≤◌, [], 
 ghost use Rattle.nova_kernel.specs.Parts.{shown};
 ghost use Rattle.nova_kernel.specs.Views.{semaphore_at};
 
-use super::reach::Reach;
-use nova_model::{Budget, EcState};
+use crate::reach::Reach;
+use nova_ec::Ecs;
+use nova_model::Budget;
 use nova_objects::Objects;
 
-/// What a kernel keeps. Tables are by the number of the object: execution contexts, the budgets of
-/// scheduling contexts, the identifiers of portals, and the counters of semaphores.
+/// The parts of a kernel, which a turn changes one by one; `Kernel` shows them as one state. Tables
+/// are by the number of the object: execution contexts, the budgets of scheduling contexts, the
+/// identifiers of portals, and the counters of semaphores.
 #[derive(Drop)]
 pub struct Parts {
     pub reach: Reach,
-    pub next_derivation: u32,
     pub objects: Objects,
-    pub contexts: Vec<Option<EcState>>,
+    pub contexts: Ecs,
     pub budgets: Vec<Option<Budget>>,
     pub identifiers: Vec<Option<u32>>,
     pub counts: Vec<Option<u32>>,
@@ -21,18 +22,6 @@ pub struct Parts {
     pub turns: u64,
     pub cpus: u32,
     pub stirs: Vec<u64>,
-}
-
-/// Adds an item to a list that has room for it.
-pub fn push<T: Drop>(list: &mut Vec<T>, item: T)
-    requires { vec_len list.old < vec_capacity list.old }
-    ensures items { list.new.items ≡ list.old.items ++ item ∷ [] }
-    ensures len { vec_len list.new ≡ vec_len list.old + 1 }
-    ensures capacity { vec_capacity list.old ≤ vec_capacity list.new }
-{
-    let Ok(()) = list.push(item) else {
-        unreachable!()
-    };
 }
 
 impl Parts {

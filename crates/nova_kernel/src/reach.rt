@@ -1,10 +1,12 @@
-ghost use Rattle.std.specs.Prelude.{◌≡◌, ◌≤◌, ◌+◌, ◌-◌, ◌*◌, ◌/◌, ◌%◌, ◌^◌, ◌<◌, ℕ, [], ◌∷◌, ◌++◌, length, max, IfSome, OnOk, OnErr, option_map};
-ghost use Rattle.nova_model.specs.Delegations.{covers_page};
-ghost use Rattle.nova_model.specs.AddressSpaces.{page_at, frame_for};
+ghost use Rattle.std.specs.Prelude.{true, ◌≡◌, ◌≤◌, ◌+◌, ◌-◌, ◌*◌, ◌/◌, ◌%◌, ◌^◌, ◌<◌, ℕ, [], ◌∷◌, ◌++◌, length, max, IfSome, OnOk, OnErr, option_map};
+ghost use Rattle.std.specs.Option.{option_copied};
+ghost use Rattle.std.specs.List.{find};
+ghost use Rattle.nova_model.specs.Delegations.{covers};
+ghost use Rattle.nova_model.specs.AddressSpaces.{frame_for};
 ghost use Rattle.nova_model.specs.Boot.{laid};
-ghost use Rattle.nova_kernel.specs.Reach.{IsPlaced};
+ghost use Rattle.nova_kernel.specs.Reach.{IsPlaced, reached};
+ghost use Rattle.nova_kernel.specs.Views.{is_from};
 
-use super::parts::push;
 use bitflags::Flags;
 use nova_frames::Frames;
 use nova_model::{Derivation, Kind, Page, Rights};
@@ -12,15 +14,17 @@ use rv_core::bus::Bus;
 use std::alloc::AllocError;
 use std::marker::Model;
 
-/// The page of a thread that is its own, where no delegation leads.
+/// The page of a thread that is its own, for its message words: no delegation leads there.
 const OWN_PAGE: u32 = 0xfffff;
 
-/// What an instruction reaches: the frames, through the delegations of the protection domain that
-/// acts. There is room for `spare` more derivations.
+/// What an instruction reaches: the frames, through the delegations of the protection domain of the
+/// execution context that acts. The next derivation takes the id `next`, and there is room for `spare`
+/// more.
 #[derive(Drop)]
 pub struct Reach {
     pub frames: Frames,
     pub derivations: Vec<Derivation>,
+    pub next: u32,
     pub spare: usize,
     pub pd: u32,
     pub is_thread: bool,
@@ -33,7 +37,10 @@ impl Model for Reach {
     ghost Value = { ReachState };
 
     ghost view = { λ r. record {
-      space = record { delegations = r.derivations.items; memory = r.frames.memory; pd = r.pd; is_thread = r.is_thread };
+      delegations = record { list = r.derivations.items; next = r.next };
+      memory = r.frames.memory;
+      pd = r.pd;
+      is_thread = r.is_thread;
       consoles = r.frames.consoles;
       room = r.frames.room;
       spare = r.spare;
@@ -43,21 +50,25 @@ impl Model for Reach {
         × (vec_len r.derivations + r.spare ≤ vec_capacity r.derivations) };
 }
 
-/// Whether the derivation lies in the memory space of the protection domain and covers the page.
-fn covers(derivation: &Derivation, pd: u32, page: u32) -> bool
+/// Whether the derivation lies in this space of the protection domain and covers the place: a page
+/// or a selector.
+fn covers(derivation: &Derivation, kind: Kind, pd: u32, place: u32) -> bool
     requires { derivation.now.order ≤ 20 }
-    ensures { result ≡ covers_page pd page derivation.now }
+    ensures { result ≡ covers kind pd place derivation.now }
 {
-    matches!(derivation.kind, Kind::Mem)
-        && derivation.pd == pd
-        && derivation.base <= page
-        && page - derivation.base < 1 << derivation.order
+    let range = derivation.range();
+    matches!(
+        (kind, range.kind),
+        (Kind::Mem, Kind::Mem) | (Kind::Obj, Kind::Obj)
+    ) && derivation.pd == pd
+        && range.base <= place
+        && place - range.base < 1 << range.order
 }
 
 impl Reach {
     /// The execution context that acts changes: its protection domain, and whether it is a thread.
     pub fn enter(&mut self, pd: u32, is_thread: bool)
-        ensures { self.new ≡ record self.old { space = record self.old.space { pd = pd; is_thread = is_thread } } }
+        ensures { self.new ≡ record self.old { pd = pd; is_thread = is_thread } }
     {
         self.pd = pd;
         self.is_thread = is_thread;
@@ -65,8 +76,8 @@ impl Reach {
 
     /// Lays bytes into RAM one after another from an address on. They lie in RAM.
     pub fn put(&mut self, address: u32, bytes: &[u8])
-        requires { address + length bytes.now ≤ 4096 * length self.old.space.memory.ram }
-        ensures { self.new ≡ record self.old { space = record self.old.space { memory = laid self.old.space.memory address bytes.now } } }
+        requires { address + length bytes.now ≤ 4096 * length self.old.memory.ram }
+        ensures { self.new ≡ record self.old { memory = laid self.old.memory address bytes.now } }
     {
         self.frames.put(address, bytes);
     }
@@ -82,42 +93,67 @@ impl Reach {
         Ok(())
     }
 
-    /// Adds a derivation in the room that was made. It leads to frames, or to an object.
+    /// Adds a derivation of the next id in the room that was made. It leads to frames, or to an object.
     pub fn add(&mut self, derivation: Derivation)
         requires room { 0 < self.old.spare }
-        requires placed { IsPlaced (length self.old.space.memory.ram + self.old.consoles) derivation }
+        requires placed { IsPlaced (length self.old.memory.ram + self.old.consoles) derivation }
+        requires next { self.old.delegations.next + 1 < 2 ^ 32 }
         ensures { self.new ≡ record self.old {
-          space = record self.old.space { delegations = self.old.space.delegations ++ derivation ∷ [] };
+          delegations = record { list = self.old.delegations.list ++ derivation ∷ []; next = self.old.delegations.next + 1 };
           spare = self.old.spare - 1;
         } }
     {
-        push(&mut self.derivations, derivation);
+        self.derivations.push_reserved(derivation);
+        self.next += 1;
         self.spare -= 1;
     }
 
-    /// What a page leads to: the one derivation that covers it, or nothing.
-    fn page_at(&self, page: u32) -> Option<Page>
-        ensures page { result ≡ page_at self.now.space page }
-        ensures there { IfSome result (λ p. p.frame < length self.now.space.memory.ram + self.now.consoles) }
+    /// The derivation of a protection domain that covers a place, or nothing.
+    pub fn find(&self, kind: Kind, pd: u32, place: u32) -> Option<&Derivation>
+        ensures placed { IfSome result (λ d. IsPlaced (length self.now.memory.ram + self.now.consoles) d.now) }
+        ensures covers { IfSome result (λ d. covers kind pd place d.now ≡ true) }
+        ensures found { option_copied result ≡ find (covers kind pd place) self.now.delegations.list }
     {
-        if self.is_thread && page == OWN_PAGE {
-            return None;
-        }
         for derivation in &self.derivations {
-            if covers(derivation, self.pd, page) {
-                return Some(Page {
-                    frame: derivation.target + (page - derivation.base),
-                    rights: derivation.rights,
-                });
+            if covers(derivation, kind, pd, place) {
+                return Some(derivation);
             }
         }
         None
     }
 
-    /// The frame behind an address, where the right is there.
+    /// The first derivation of an id at or after a given one, or nothing.
+    pub fn derivation_from(&self, id: u32) -> Option<Derivation>
+        ensures { result ≡ find (is_from id) self.now.delegations.list }
+    {
+        for derivation in &self.derivations {
+            if id <= derivation.id {
+                return Some(*derivation);
+            }
+        }
+        None
+    }
+
+    /// What a page leads to: the one derivation that covers it, or nothing.
+    #[tactic(auto, using(crate::proofs::Placed::page_placed))]
+    fn page_at(&self, page: u32) -> Option<Page>
+        ensures page { result ≡ (reached self.now).page page }
+        ensures there { IfSome result (λ p. p.frame < length self.now.memory.ram + self.now.consoles) }
+    {
+        if self.is_thread && page == OWN_PAGE {
+            return None;
+        }
+        let derivation = self.find(Kind::Mem, self.pd, page)?;
+        Some(Page {
+            frame: derivation.target + (page - derivation.base),
+            rights: derivation.rights,
+        })
+    }
+
+    /// The frame that an address leads to, where the right is there.
     fn frame_for(&self, right: Rights, address: u32) -> Option<u32>
-        ensures frame { result ≡ frame_for self.now.space right.0 address }
-        ensures there { IfSome result (λ frame. frame < length self.now.space.memory.ram + self.now.consoles) }
+        ensures frame { result ≡ frame_for (reached self.now) right.0 address }
+        ensures there { IfSome result (λ frame. frame < length self.now.memory.ram + self.now.consoles) }
     {
         let page = self.page_at(address / 4096)?;
         if page.rights.contains(right) {

@@ -1,6 +1,6 @@
 ghost use Rattle.std.specs.Prelude.{◌≡◌, ◌+◌, ◌^◌, ◌<◌, ◌≤◌, length, IfOk};
 
-use crate::{EcState, EventKind, Kernel, Object, Root, State, Turn};
+use crate::{Derivation, EcState, EventKind, Kernel, Object, Root, State, Turn};
 use std::alloc::{AllocError, Global};
 
 /// A root thread at pc 0.
@@ -78,7 +78,12 @@ fn makes_a_thread_a_portal_and_a_semaphore(rt: HostRuntime) {
     );
     assert!(rt; matches!(kernel.object(4), Some(Object::Pt { .. })));
     assert_eq!(rt; kernel.semaphore(5), Some((32, 0)));
-    assert_eq!(rt; kernel.derivations().len(), 7);
+    assert!(rt;
+        matches!(
+            kernel.derivation_from(4),
+            Some(Derivation { target: 3, .. })
+        )
+    );
 }
 
 #[test]

@@ -1,18 +1,19 @@
-ghost use Rattle.std.specs.Prelude.{false, ◌≡◌, ◌==◌, ◌&&◌, ◌+◌, ◌^◌, ◌<◌, ◌≤◌, ℕ, slice_get, IsSome, IfSome, IfOk, OnOk, OnErr};
-ghost use Rattle.rv_model.specs.Registers.{reg, with_reg};
-ghost use Rattle.rv_model.specs.Step.{one, next, environment_call};
-ghost use Rattle.nova_model.specs.AddressSpaces.{space};
-ghost use Rattle.nova_model.specs.State.{context_at, pd_in, is_thread_in};
-ghost use Rattle.nova_model.specs.Turn.{act, called, raised, died, recall, ready, stepped, acted_in, acted, address_space, state_after, answer_of, turn};
+ghost use Rattle.std.specs.Prelude.{not, ◌≡◌, ◌==◌, ◌&&◌, ◌+◌, ◌^◌, ◌<◌, ◌≤◌, ℕ, length, true, IsSome, IfOk, OnOk, OnErr};
+ghost use Rattle.rv_model.specs.Step.{environment_call};
+ghost use Rattle.nova_model.specs.Deeds.{instruction, signalled, stepping, deed, changed, recall, recalled, performed, answered, answered_registers, done, is_making};
+ghost use Rattle.nova_ec.specs.Tables.{with_items};
+ghost use Rattle.nova_model.specs.State.{ec_in, ec_of, with_ec, context_at, pd_of, is_thread};
+ghost use Rattle.nova_model.specs.Turn.{state_after, answer_of, turn, event_of};
 ghost use Rattle.nova_kernel.specs.Views.{IsMaking, turns_taken};
-ghost use Rattle.nova_kernel.specs.Parts.{shown, IsCounted, KeepsCounts};
-ghost use Rattle.nova_kernel.specs.Acts.{Executes, ExecutesIn, MayAct};
+ghost use Rattle.nova_kernel.specs.Parts.{shown, HasRoomFor, IsCounted, KeepsCounts};
+ghost use Rattle.nova_kernel.specs.Acts.{outcome_of, Fits, begun};
 
-use super::deed::Deed;
-use super::parts::Parts;
-use super::reach::Reach;
-use nova_model::{EcKind, EcState, Event, EventKind, Object, State, Turn};
-use rv_core::hart::step;
+use crate::parts::Parts;
+use nova_calls::numbers;
+use nova_ec::Ecs;
+use nova_model::{Candidate, Deed, EcKind, EcState, Event, EventKind, Object, State, Turn};
+use nova_range::Status;
+use rv_core::Regs;
 use rv_core::outcome::{ENVIRONMENT_CALL, Outcome};
 use std::alloc::AllocError;
 
@@ -22,18 +23,92 @@ const STARTUP: u32 = 0;
 /// The reason of a recall exit.
 const RECALL: u32 = 8;
 
-/// One instruction of an execution context over what it reaches.
-fn execute_in(context: &mut EcState, reach: &mut Reach) -> Outcome
-    requires { 0 < reach.old.room }
-    ensures executed { ExecutesIn (one context.old.regs (space reach.old.space)) context.old reach.old result context.new reach.new }
+/// The registers after a hypercall: the status in x10, a value in x11, and pc after the instruction.
+fn answered_registers(mut regs: Regs, status: Status, value: Option<u32>) -> Regs
+    ensures { result ≡ answered_registers regs status value }
 {
-    step(&mut context.regs, reach)
+    regs.set(10, status.code());
+    if let Some(value) = value {
+        regs.set(11, value);
+    }
+    let next = regs.pc().wrapping_add(4);
+    regs.set_pc(next);
+    regs
+}
+
+/// The event of a deed.
+fn event_of(cpu: u32, chosen: Candidate, deed: Deed) -> Event
+    ensures { result ≡ event_of cpu chosen deed }
+{
+    let (kind, a, b) = match deed {
+        Deed::Rests | Deed::Steps => (EventKind::Step, 0, 0),
+        Deed::Raises { reason, q0, .. } => (EventKind::Raise, reason, q0),
+        Deed::Dies { reason, q0 } => (EventKind::Died, reason, q0),
+        Deed::Refuses { call, status } => (EventKind::Answer, call, status.code()),
+        Deed::Makes { call, .. } => (EventKind::Answer, call, 0),
+        Deed::Recalls { .. } => (EventKind::Answer, numbers::EC_CTRL, 0),
+        Deed::Tells { .. } => (EventKind::Answer, numbers::SC_CTRL, 0),
+        Deed::Names { .. } => (EventKind::Answer, numbers::PT_CTRL, 0),
+    };
+    Event {
+        cpu,
+        sc: chosen.sc,
+        ec: chosen.actor,
+        kind,
+        a,
+        b,
+    }
+}
+
+/// Whether the recall of an execution context stays asked for after an exit: a recall is answered by
+/// its own.
+fn stays_recalled(context: &EcState, reason: u32) -> bool
+    ensures { result ≡ (context.now.recall && not (reason == recall)) }
+{
+    context.recall && reason != RECALL
+}
+
+/// An exit is raised; the registers stay.
+fn raise(contexts: &mut Ecs, ec: u32, reason: u32, q0: u32, q1: u32)
+    requires { IsSome (ec_in contexts.old.items ec) }
+    ensures { contexts.new ≡ with_items contexts.old (with_ec contexts.old.items ec (changed (ec_of contexts.old.items ec) (Deed.Raises reason q0 q1))) }
+{
+    let is_recalled = stays_recalled(contexts.context(ec), reason);
+    contexts.set_recall(ec, is_recalled);
+    contexts.set_state(ec, State::Exiting(reason, q0, q1));
+}
+
+/// A hypercall ends with a status, and perhaps a value.
+fn answer(contexts: &mut Ecs, ec: u32, status: Status, value: Option<u32>)
+    requires { IsSome (ec_in contexts.old.items ec) }
+    ensures { contexts.new ≡ with_items contexts.old (with_ec contexts.old.items ec (answered (ec_of contexts.old.items ec) status value)) }
+{
+    let regs = answered_registers(contexts.context(ec).regs, status, value);
+    contexts.set_regs(ec, &regs);
+}
+
+/// What a deed makes of the execution context itself.
+#[tactic(auto, using(nova_ec::proofs::Steps::rests))]
+fn change(contexts: &mut Ecs, ec: u32, deed: Deed)
+    requires { IsSome (ec_in contexts.old.items ec) }
+    ensures { contexts.new ≡ with_items contexts.old (with_ec contexts.old.items ec (changed (ec_of contexts.old.items ec) deed)) }
+{
+    match deed {
+        Deed::Rests | Deed::Steps => {}
+        Deed::Raises { reason, q0, q1 } => raise(contexts, ec, reason, q0, q1),
+        Deed::Dies { .. } => contexts.set_state(ec, State::Dead),
+        Deed::Refuses { status, .. } => answer(contexts, ec, status, None),
+        Deed::Tells { ticks } => answer(contexts, ec, Status::Success, Some(ticks)),
+        Deed::Makes { .. } | Deed::Recalls { .. } | Deed::Names { .. } => {
+            answer(contexts, ec, Status::Success, None);
+        }
+    }
 }
 
 impl Parts {
     /// The protection domain of an execution context.
-    pub fn pd(&self, ec: u32) -> u32
-        ensures { result ≡ pd_in (slice_get (shown self.now).objects ec) }
+    fn pd(&self, ec: u32) -> u32
+        ensures { result ≡ pd_of (shown self.now) ec }
     {
         match self.objects.get(ec) {
             Some(Object::Ec { pd, .. }) => *pd,
@@ -43,7 +118,7 @@ impl Parts {
 
     /// Whether an execution context is a thread.
     fn is_thread(&self, ec: u32) -> bool
-        ensures { result ≡ is_thread_in (slice_get (shown self.now).objects ec) }
+        ensures { result ≡ is_thread (shown self.now) ec }
     {
         match self.objects.get(ec) {
             Some(Object::Ec { kind, .. }) => matches!(kind, EcKind::Local | EcKind::Global),
@@ -51,185 +126,147 @@ impl Parts {
         }
     }
 
-    /// An exit is raised; the registers stay.
-    fn raise(&mut self, ec: u32, reason: u32, q0: u32, q1: u32) -> Deed
-        requires { IsSome (context_at (shown self.old) ec) }
-        ensures raised { IfSome (context_at (shown self.old) ec) (λ x. raised (shown self.old) ec x reason q0 q1 ≡ act (shown self.new) result.kind result.a result.b) }
-        ensures log { self.new.reach.room ≡ self.old.reach.room }
-    {
-        let Some(context) = &mut self.contexts[ec as usize] else {
-            unreachable!();
-        };
-        context.state = State::Exiting(reason, q0, q1);
-        Deed {
-            kind: EventKind::Raise,
-            a: reason,
-            b: q0,
-        }
-    }
-
-    /// An exit that is not sent ends the execution context.
-    fn die(&mut self, ec: u32, reason: u32, q0: u32) -> Deed
-        requires { IsSome (context_at (shown self.old) ec) }
-        ensures died { IfSome (context_at (shown self.old) ec) (λ x. died (shown self.old) ec x reason q0 ≡ act (shown self.new) result.kind result.a result.b) }
-        ensures log { self.new.reach.room ≡ self.old.reach.room }
-    {
-        let Some(context) = &mut self.contexts[ec as usize] else {
-            unreachable!();
-        };
-        context.state = State::Dead;
-        Deed {
-            kind: EventKind::Died,
-            a: reason,
-            b: q0,
-        }
-    }
-
-    /// One instruction over the address space of the execution context.
+    /// One instruction over the address space of the execution context: its deed is done, or it raises
+    /// and nothing has changed.
     fn execute(&mut self, ec: u32) -> Outcome
         requires there { IsSome (context_at (shown self.old) ec) }
         requires log { 0 < self.old.reach.room }
-        ensures executed { IfSome (context_at (shown self.old) ec) (λ x. Executes (one x.regs (space (address_space (shown self.old) ec))) (shown self.old) ec x result (shown self.new)) }
+        ensures outcome { result ≡ outcome_of (instruction (shown self.old) ec) }
+        ensures done { shown self.new ≡ done (shown self.old) ec Deed.Steps }
         ensures log { self.old.reach.room ≤ self.new.reach.room + 1 }
         ensures raised { (reason q0 q1 : ℕ) → result ≡ Outcome.Raise reason q0 q1 → self.new.reach.room ≡ self.old.reach.room }
     {
         let pd = self.pd(ec);
         let is_thread = self.is_thread(ec);
         self.reach.enter(pd, is_thread);
-        let Some(context) = &mut self.contexts[ec as usize] else {
-            unreachable!();
-        };
-        let outcome = execute_in(context, &mut self.reach);
-        outcome
+        self.contexts.step(ec, &mut self.reach)
     }
 
-    /// What an instruction raised: an ECALL of a thread is a hypercall, and any other is an exit.
-    fn signal(&mut self, ec: u32, reason: u32, q0: u32, q1: u32) -> Result<Deed, AllocError>
-        requires there { IsSome (context_at (shown self.old) ec) }
-        requires counted { IsCounted (shown self.old) }
-        ensures called { IfSome (context_at (shown self.old) ec) (λ x. MayAct (called (shown self.old) ec x reason q0 q1 ((reason == environment_call) && is_thread_in (slice_get (shown self.old).objects ec))) (shown self.old) result (shown self.new)) }
-        ensures log { self.new.reach.room ≡ self.old.reach.room }
+    /// The deed of an instruction that raises: an ECALL of a thread is a hypercall, and any other is
+    /// an exit.
+    fn signal(&self, ec: u32, reason: u32, q0: u32, q1: u32) -> Deed
+        requires there { IsSome (context_at (shown self.now) ec) }
+        requires counted { IsCounted (shown self.now) }
+        ensures deed { result ≡ signalled (shown self.now) ec reason q0 q1 ((reason == environment_call) && is_thread (shown self.now) ec) }
+        ensures fits { Fits (shown self.now) result }
     {
         if reason == ENVIRONMENT_CALL && self.is_thread(ec) {
-            self.hypercall(ec)
+            self.hypercall(self.pd(ec), &self.contexts.context(ec).regs)
         } else {
-            Ok(self.raise(ec, reason, q0, q1))
+            Deed::Raises { reason, q0, q1 }
         }
     }
 
-    /// An instruction, and what comes of its raise.
-    fn step(&mut self, ec: u32) -> Result<Deed, AllocError>
+    /// The deed of an execution context whose next is an instruction. One that goes on is done at
+    /// once, and nothing else is.
+    fn step(&mut self, ec: u32) -> Deed
         requires there { IsSome (context_at (shown self.old) ec) }
         requires counted { IsCounted (shown self.old) }
         requires log { 0 < self.old.reach.room }
-        ensures stepped { IfSome (context_at (shown self.old) ec) (λ x. MayAct (stepped (shown self.old) ec x (one x.regs (space (address_space (shown self.old) ec)))) (shown self.old) result (shown self.new)) }
+        ensures deed { result ≡ stepping (shown self.old) ec (instruction (shown self.old) ec) }
+        ensures begun { shown self.new ≡ begun (shown self.old) ec result }
+        ensures fits { Fits (shown self.old) result }
         ensures log { self.old.reach.room ≤ self.new.reach.room + 1 }
-        ensures memory { OnErr result (self.new.reach.room ≡ self.old.reach.room) }
+        ensures making { is_making result ≡ true → self.new.reach.room ≡ self.old.reach.room }
     {
         match self.execute(ec) {
-            Outcome::Next => Ok(Deed {
-                kind: EventKind::Step,
-                a: 0,
-                b: 0,
-            }),
+            Outcome::Next => Deed::Steps,
             Outcome::Raise { reason, q0, q1 } => self.signal(ec, reason, q0, q1),
         }
     }
 
-    /// Whether the recall of an execution context was asked for.
-    fn is_recalled(&self, ec: u32) -> bool
-        requires { IsSome (context_at (shown self.now) ec) }
-        ensures { IfSome (context_at (shown self.now) ec) (λ x. x.recall ≡ result) }
+    /// The deed of an execution context. An instruction that goes on is done at once, and nothing
+    /// else is.
+    #[tactic(auto, unfolding(nova_model::specs::Deeds::deed))]
+    fn decide(&mut self, ec: u32) -> Deed
+        requires there { IsSome (context_at (shown self.old) ec) }
+        requires counted { IsCounted (shown self.old) }
+        requires log { 0 < self.old.reach.room }
+        ensures deed { result ≡ deed (shown self.old) ec }
+        ensures begun { shown self.new ≡ begun (shown self.old) ec result }
+        ensures fits { Fits (shown self.old) result }
+        ensures log { self.old.reach.room ≤ self.new.reach.room + 1 }
+        ensures making { is_making result ≡ true → self.new.reach.room ≡ self.old.reach.room }
     {
-        let Some(context) = &self.contexts[ec as usize] else {
-            unreachable!();
-        };
-        context.recall
+        let context = self.contexts.context(ec);
+        match context.state {
+            State::Fresh => Deed::Raises {
+                reason: STARTUP,
+                q0: 0,
+                q1: 0,
+            },
+            State::Ready if context.recall => Deed::Raises {
+                reason: RECALL,
+                q0: 0,
+                q1: 0,
+            },
+            State::Ready => self.step(ec),
+            State::Exiting(reason, q0, _) => Deed::Dies { reason, q0 },
+            State::Parked
+            | State::Calling(_)
+            | State::Helping(_)
+            | State::Sending(..)
+            | State::Dead => Deed::Rests,
+        }
     }
 
-    /// A recall is answered by an exit.
-    fn recall(&mut self, ec: u32) -> Deed
-        requires { IsSome (context_at (shown self.old) ec) }
-        ensures raised { IfSome (context_at (shown self.old) ec) (λ x. raised (shown self.old) ec (record x { recall = false }) recall 0 0 ≡ act (shown self.new) result.kind result.a result.b) }
+    /// The recall of an execution context is asked for.
+    fn ask_recall(&mut self, ec: u32)
+        requires { ec < length (shown self.old).contexts }
+        ensures recalled { shown self.new ≡ recalled (shown self.old) ec (context_at (shown self.old) ec) }
         ensures log { self.new.reach.room ≡ self.old.reach.room }
     {
-        let Some(context) = &mut self.contexts[ec as usize] else {
-            unreachable!();
-        };
-        context.recall = false;
-        context.state = State::Exiting(RECALL, 0, 0);
-        Deed {
-            kind: EventKind::Raise,
-            a: RECALL,
-            b: 0,
+        if self.contexts.get(ec).is_some() {
+            self.contexts.set_recall(ec, true);
         }
     }
 
-    /// A recall comes before the next instruction.
-    fn ready(&mut self, ec: u32) -> Result<Deed, AllocError>
+    /// The execution context does a deed other than an instruction, in the room that was made.
+    fn perform(&mut self, ec: u32, deed: Deed)
         requires there { IsSome (context_at (shown self.old) ec) }
         requires counted { IsCounted (shown self.old) }
-        requires log { 0 < self.old.reach.room }
-        ensures ready { IfSome (context_at (shown self.old) ec) (λ x. MayAct (ready (shown self.old) ec x x.recall) (shown self.old) result (shown self.new)) }
-        ensures log { self.old.reach.room ≤ self.new.reach.room + 1 }
-        ensures memory { OnErr result (self.new.reach.room ≡ self.old.reach.room) }
+        requires fits { Fits (shown self.old) deed }
+        requires room { HasRoomFor deed self.old }
+        ensures performed { shown self.new ≡ performed (shown self.old) ec deed }
+        ensures log { self.new.reach.room ≡ self.old.reach.room }
     {
-        if self.is_recalled(ec) {
-            Ok(self.recall(ec))
-        } else {
-            self.step(ec)
+        let domain = self.pd(ec);
+        change(&mut self.contexts, ec, deed);
+        match deed {
+            Deed::Makes { target, new, .. } => self.add_object(domain, target, new),
+            Deed::Recalls { ec } => self.ask_recall(ec),
+            Deed::Names { pt, identifier } => self.identifiers[pt as usize] = Some(identifier),
+            _ => {}
         }
     }
 
-    /// What an execution context is about to do.
-    fn state(&self, ec: u32) -> State
-        requires { IsSome (context_at (shown self.now) ec) }
-        ensures { IfSome (context_at (shown self.now) ec) (λ x. x.state ≡ result) }
-    {
-        let Some(context) = &self.contexts[ec as usize] else {
-            unreachable!();
-        };
-        context.state
-    }
-
-    /// An execution context acts as one in this state.
-    fn act_in(&mut self, ec: u32, state: State) -> Result<Deed, AllocError>
-        requires there { IsSome (context_at (shown self.old) ec) }
-        requires counted { IsCounted (shown self.old) }
-        requires log { 0 < self.old.reach.room }
-        ensures acted { IfSome (context_at (shown self.old) ec) (λ x. MayAct (acted_in (shown self.old) ec x state) (shown self.old) result (shown self.new)) }
-        ensures log { self.old.reach.room ≤ self.new.reach.room + 1 }
-        ensures memory { OnErr result (self.new.reach.room ≡ self.old.reach.room) }
-    {
-        match state {
-            State::Fresh => Ok(self.raise(ec, STARTUP, 0, 0)),
-            State::Ready => self.ready(ec),
-            State::Exiting(reason, q0, _) => Ok(self.die(ec, reason, q0)),
-            State::Parked | State::Dead => Ok(Deed {
-                kind: EventKind::Step,
-                a: 0,
-                b: 0,
-            }),
-        }
-    }
-
-    /// An execution context acts in its state.
-    #[tactic(auto, unfolding(nova_model::specs::Turn::acted))]
+    /// The execution context does its deed. It refuses for want of memory alone, where the deed makes
+    /// an object, and then nothing has changed.
     fn act(&mut self, ec: u32) -> Result<Deed, AllocError>
         requires there { IsSome (context_at (shown self.old) ec) }
         requires counted { IsCounted (shown self.old) }
         requires log { 0 < self.old.reach.room }
-        ensures acted { MayAct (acted (shown self.old) ec) (shown self.old) result (shown self.new) }
+        ensures deed { IfOk result (λ d. d ≡ deed (shown self.old) ec) }
+        ensures done { IfOk result (λ d. shown self.new ≡ done (shown self.old) ec d) }
+        ensures memory { OnErr result ((shown self.new ≡ shown self.old) × (self.new.reach.room ≡ self.old.reach.room)) }
+        ensures making { OnErr result (is_making (deed (shown self.old) ec) ≡ true) }
         ensures kept { OnOk result (KeepsCounts (shown self.old) (shown self.new)) }
         ensures log { self.old.reach.room ≤ self.new.reach.room + 1 }
-        ensures memory { OnErr result (self.new.reach.room ≡ self.old.reach.room) }
     {
-        self.act_in(ec, self.state(ec))
+        let deed = self.decide(ec);
+        match deed {
+            Deed::Rests | Deed::Steps => {}
+            _ => {
+                self.make_room(deed)?;
+                self.perform(ec, deed);
+            }
+        }
+        Ok(deed)
     }
 
-    /// One turn of a processor: the execution context of the chosen scheduling context acts, and the
-    /// scheduling context pays. It refuses for want of memory alone, where the turn would make an
-    /// object, and then nothing has changed.
+    /// One turn of a processor: the execution context of the chosen scheduling context does its deed,
+    /// and the scheduling context pays. It refuses for want of memory alone, where the turn would make
+    /// an object, and then nothing has changed.
     #[tactic(auto, unfolding(nova_model::specs::Turn::turn))]
     pub fn turn(&mut self, cpu: u32) -> Result<Turn, AllocError>
         requires counted { IsCounted (shown self.old) }
@@ -249,15 +286,8 @@ impl Parts {
         let Some(chosen) = self.choice(cpu) else {
             return Ok(Turn::Idle);
         };
-        let deed = self.act(chosen.ec)?;
+        let deed = self.act(chosen.actor)?;
         self.charge(cpu, chosen.sc);
-        Ok(Turn::Stepped(Event {
-            cpu,
-            sc: chosen.sc,
-            ec: chosen.ec,
-            kind: deed.kind,
-            a: deed.a,
-            b: deed.b,
-        }))
+        Ok(Turn::Stepped(event_of(cpu, chosen, deed)))
     }
 }

@@ -1,3 +1,9 @@
-pub mod Forests
-pub mod Growth
-pub mod Boots
+pub mod Refused
+pub mod Processors
+pub mod Passes
+pub mod Best
+pub mod Chosen
+pub mod Edgeless
+pub mod Referring
+pub mod Fitting
+pub mod Suited

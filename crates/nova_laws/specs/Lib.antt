@@ -1,1 +1,4 @@
-pub mod Made
+pub mod Refusals
+pub mod Orders
+pub mod Choices
+pub mod Tables

@@ -1,9 +1,9 @@
 -- The state in which a kernel begins.
-use Rattle.std.specs.Prelude.{Option, false, ℕ, ◌+◌, ◌/◌, ◌%◌, ◌^◌, List, [], ◌∷◌, ◌++◌, replicate, map, Some, None}
+use Rattle.std.specs.Prelude.{false, ℕ, ◌+◌, ◌/◌, ◌%◌, ◌^◌, List, [], ◌∷◌, ◌++◌, replicate, map, Some, None}
 use Rattle.std.specs.List.{range_with_len}
 use Rattle.rv_model.specs.Registers.{Registers, with_reg}
 use Rattle.nova_model.specs.Memory.{Memory, written}
-use Rattle.nova_model.specs.State.{KernelState, Transfer, Semaphore}
+use Rattle.nova_model.specs.State.{KernelState}
 use Rattle.nova_model.specs.declared.delegation.Derivation.{Derivation}
 use Rattle.nova_range.specs.declared.range.Kind.TheVariants.{Mem, Obj}
 use Rattle.nova_range.specs.declared.rights.Rights.{Rights}
@@ -46,7 +46,7 @@ abbrev pub ram_derivation : ℕ → Derivation
 ram_derivation order =
     record { id = 0; pd = 0; kind = Mem; base = 0; order = order; rights = rights_of 7; target = 0; parent = None }
 
--- console c: the page and the frame behind RAM and the consoles before it, read and write
+-- console c: the page and the frame after RAM and the consoles before it, read and write
 abbrev pub console_derivation : ℕ → ℕ → Derivation
 console_derivation order c =
     record { id = 1 + c; pd = 0; kind = Mem; base = 2 ^ order + c; order = 0; rights = rights_of 3; target = 2 ^ order + c; parent = None }
@@ -60,22 +60,6 @@ abbrev pub root_derivations : ℕ → ℕ → List Derivation
 root_derivations order consoles =
     (ram_derivation order ∷ map (console_derivation order) (range_with_len 0 consoles))
     ++ (object_derivation consoles 0 1 ∷ object_derivation consoles 1 7 ∷ object_derivation consoles 2 1 ∷ [])
-
--- the tables of what only later objects have: the message words of the root's thread, and no transfer, portal, semaphore or guest
-abbrev pub first_messages : List (Option (List ℕ))
-first_messages = None ∷ Some (replicate 128 0) ∷ None ∷ []
-
-abbrev pub first_transfers : List (Option Transfer)
-first_transfers = None ∷ Some (record { item = 0; cursor = 0; children = 0 }) ∷ None ∷ []
-
-abbrev pub first_identifiers : List (Option ℕ)
-first_identifiers = None ∷ None ∷ None ∷ []
-
-abbrev pub first_semaphores : List (Option Semaphore)
-first_semaphores = None ∷ None ∷ None ∷ []
-
-abbrev pub first_guests : List (Option ℕ)
-first_guests = None ∷ None ∷ None ∷ []
 
 -- the state without images
 abbrev pub bare : ℕ → ℕ → ℕ → Root → KernelState
@@ -93,7 +77,7 @@ bare cpus ram consoles root = record {
   turns = 0;
   cpus = cpus;
   consoles = consoles;
-  stirs = record { guests = first_guests; processors = replicate cpus 0 };
+  stirs = record { guests = None ∷ None ∷ None ∷ []; processors = replicate cpus 0 };
 }
 
 -- bytes laid into RAM one after another from an address on

@@ -1,39 +1,25 @@
 -- Who runs: of the runnable scheduling contexts of a processor the one of greatest priority, then of least stamp.
-use Rattle.std.specs.Prelude.{ℕ, ◌+◌, ◌==◌, ◌&&◌, ◌||◌, Bool, true, false, not, nat_lt, List, [], ◌∷◌, Option, Some, None, is_none, option_map, if◌then◌else◌}
+use Rattle.std.specs.Prelude.{ℕ, ◌+◌, ◌==◌, ◌&&◌, ◌||◌, Bool, not, nat_lt, List, [], ◌∷◌, Option, Some, None, is_none, option_map, if◌then◌else◌}
 use Rattle.std.specs.List.{find, list_all, range_with_len}
-use Rattle.nova_model.specs.State.{KernelState, context_at, budget_at}
+use Rattle.nova_model.specs.Edges.{acts, chase}
+use Rattle.nova_model.specs.State.{KernelState, budget_at}
 use Rattle.nova_model.specs.declared.budget.Budget.{Budget}
 use Rattle.nova_model.specs.declared.budget.Candidate.{Candidate}
 use Rattle.nova_objects.specs.declared.object.Object.{Object}
 use Rattle.nova_objects.specs.declared.object.Object.TheVariants.{Sc}
-use Rattle.nova_model.specs.declared.context.EcState.{EcState}
-use Rattle.nova_model.specs.declared.context.State.{State}
-use Rattle.nova_model.specs.declared.context.State.TheVariants.{Fresh, Ready, Parked, Exiting, Dead}
-
--- an execution context in this state acts
-abbrev pub acts_in : State → Bool
-acts_in Fresh = true
-acts_in Ready = true
-acts_in Parked = false
-acts_in (Exiting reason q0 q1) = true
-acts_in Dead = false
-
-abbrev pub acts_as : Option EcState → Bool
-acts_as (Some x) = acts_in x.state
-acts_as None = false
-
--- the execution context acts. None waits for another yet, so a turn given to it stays with it.
-abbrev pub acts : KernelState → ℕ → Bool
-acts k ec = acts_as (context_at k ec)
 
 abbrev pub candidate_with : ℕ → ℕ → ℕ → Option Budget → Option Candidate
-candidate_with sc ec priority (Some b) = Some (record { sc = sc; ec = ec; priority = priority; stamp = b.stamp })
-candidate_with sc ec priority None = None
+candidate_with sc actor priority (Some b) = Some (record { sc = sc; actor = actor; priority = priority; stamp = b.stamp })
+candidate_with sc actor priority None = None
 
--- the object of this number, where it is a scheduling context of the processor whose execution context acts
+-- who acts in the turns that an execution context is given: the one at the end of its chase
+abbrev pub actor : KernelState → ℕ → ℕ
+actor k ec = chase k.contexts ec
+
+-- the object of this number, where it is a runnable scheduling context of the processor
 abbrev pub candidate_of : KernelState → ℕ → ℕ → Object → Option Candidate
 candidate_of k cpu sc (Sc ec its_cpu priority quantum) =
-    if (its_cpu == cpu) && acts k ec then candidate_with sc ec priority (budget_at k sc) else None
+    if (its_cpu == cpu) && acts k.contexts (actor k ec) then candidate_with sc (actor k ec) priority (budget_at k sc) else None
 candidate_of k cpu sc other = None
 
 abbrev pub in_front : {T : Type 0} → Option T → List T → List T

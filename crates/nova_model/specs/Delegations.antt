@@ -1,8 +1,10 @@
 -- Delegations: a flat list of derivations, by rising id. (NOVA's mapping database.)
-use Rattle.std.specs.Prelude.{ℕ, ◌+◌, ◌-◌, ◌^◌, ◌==◌, ◌&&◌, Bool, true, false, nat_lt, nat_le, bit_and, List, Option, option_map}
+use Rattle.std.specs.Prelude.{ℕ, ◌+◌, ◌-◌, ◌==◌, ◌&&◌, Bool, true, false, not, nat_lt, nat_le, bit_and, List, Option, option_map}
 use Rattle.std.specs.List.{find}
 use Rattle.nova_model.specs.declared.delegation.Derivation.{Derivation}
 use Rattle.nova_model.specs.declared.delegation.Page.{Page}
+use Rattle.nova_range.specs.Ranges.{end_of}
+use Rattle.nova_range.specs.declared.range.Range.{Range}
 use Rattle.nova_range.specs.declared.range.Kind.{Kind}
 use Rattle.nova_range.specs.declared.range.Kind.TheVariants.{Mem, Obj}
 use Rattle.nova_range.specs.declared.rights.Rights.{Rights}
@@ -30,13 +32,24 @@ abbrev pub is_memory : Kind → Bool
 is_memory Mem = true
 is_memory Obj = false
 
--- the derivation lies in the memory space of the protection domain, and covers the page
-abbrev pub covers_page : ℕ → ℕ → Derivation → Bool
-covers_page pd page d = is_memory d.kind && (d.pd == pd && (nat_le d.base page && nat_lt page (d.base + 2 ^ d.order)))
+abbrev pub is_same_kind : Kind → Kind → Bool
+is_same_kind Mem kind = is_memory kind
+is_same_kind Obj kind = not (is_memory kind)
+
+-- the places of a derivation
+abbrev pub range_of : Derivation → Range
+range_of d = record { kind = d.kind; base = d.base; order = d.order }
+
+abbrev pub has_place : Range → ℕ → Bool
+has_place r place = nat_le r.base place && nat_lt place (end_of r)
+
+-- the derivation lies in this space of the protection domain, and covers the place: a page or a selector
+abbrev pub covers : Kind → ℕ → ℕ → Derivation → Bool
+covers kind pd place d = is_same_kind kind d.kind && (d.pd == pd && has_place (range_of d) place)
 
 abbrev pub page_in : ℕ → Derivation → Page
 page_in page d = record { frame = d.target + (page - d.base); rights = d.rights }
 
 -- what a page of a protection domain leads to: the one derivation that covers it, or nothing
 abbrev pub reach : List Derivation → ℕ → ℕ → Option Page
-reach list pd page = option_map (page_in page) (find (covers_page pd page) list)
+reach list pd page = option_map (page_in page) (find (covers Mem pd page) list)

@@ -1,12 +1,13 @@
 -- The sound forest: what always holds of delegations. (NOVA's mapping database.)
-use Rattle.std.specs.Prelude.{◌≡◌, ℕ, ◌+◌, ◌%◌, ◌^◌, ◌<◌, ◌≤◌, ◌⊎◌, List, [], ◌∷◌, Contains, true, Option, Some, None}
+use Rattle.std.specs.Prelude.{◌≡◌, ℕ, ◌+◌, ◌%◌, ◌^◌, ◌<◌, ◌≤◌, List, [], ◌∷◌, Contains, true, false, Option, Some, None}
 use Rattle.std.specs.List.{AllByRecursion}
 use Rattle.nova_range.specs.declared.range.Kind.{Kind}
 use Rattle.nova_range.specs.declared.range.Kind.TheVariants.{Mem, Obj}
-use Rattle.nova_model.specs.Delegations.{Delegations, allows}
+use Rattle.nova_range.specs.Ranges.{overlaps}
+use Rattle.nova_model.specs.Delegations.{Delegations, allows, range_of}
 use Rattle.nova_model.specs.declared.delegation.Derivation.{Derivation}
 
--- each of a list stands in a relation to all behind it
+-- each of a list stands in a relation to all after it
 abbrev pub ArePairs : {T : Type 0} → (T → T → Type 0) → List T → Type 0
 ArePairs Rel [] = Unit {0}
 ArePairs Rel (x ∷ xs) = AllByRecursion (Rel x) xs × ArePairs Rel xs
@@ -22,7 +23,7 @@ pub record IsAligned (d : Derivation) : Type 0 where
 
 -- no place of one is a place of the other
 abbrev pub AreApart : Derivation → Derivation → Type 0
-AreApart a b = (a.base + 2 ^ a.order ≤ b.base) ⊎ (b.base + 2 ^ b.order ≤ a.base)
+AreApart a b = overlaps (range_of a) (range_of b) ≡ false
 
 -- a child does not exceed its parent
 pub record IsWithin (child parent : Derivation) : Type 0 where

@@ -2,10 +2,12 @@ pub mod Memory
 pub mod Delegations
 pub mod AddressSpaces
 pub mod State
+pub mod Edges
 pub mod Choice
 pub mod Capabilities
 pub mod Creation
 pub mod Hypercalls
+pub mod Deeds
 pub mod Turn
 pub mod Runs
 pub mod Boot

@@ -1,5 +1,5 @@
 -- The state of the kernel: one record, with a part for each thing that a kernel keeps.
-use Rattle.std.specs.Prelude.{ℕ, Bool, true, false, List, Option, Some, None, slice_get}
+use Rattle.std.specs.Prelude.{ℕ, Bool, true, false, List, [], Option, Some, None, slice_get, slice_set}
 use Rattle.nova_model.specs.Memory.{Memory}
 use Rattle.nova_model.specs.Delegations.{Delegations}
 use Rattle.nova_objects.specs.declared.object.Object.{Object}
@@ -7,6 +7,7 @@ use Rattle.nova_objects.specs.declared.object.Object.TheVariants.{Ec}
 use Rattle.nova_objects.specs.declared.object.EcKind.{EcKind}
 use Rattle.nova_objects.specs.declared.object.EcKind.TheVariants.{Local, Global, Vcpu}
 use Rattle.nova_model.specs.declared.context.EcState.{EcState}
+use Rattle.nova_model.specs.declared.context.State.TheVariants.{Dead}
 use Rattle.nova_model.specs.declared.budget.Budget.{Budget}
 
 -- of a semaphore: its counter, and the execution contexts that wait at it
@@ -20,16 +21,44 @@ pub record Transfer : Type 0 where
   pub cursor : ℕ
   pub children : ℕ
 
--- how often something came between: to each virtual CPU from outside, and to each processor
+-- Stir counts: how often something came between, so that what was planned from a state seen before no longer holds. Of each virtual CPU
+-- the inputs from outside, and of each processor its turns.
 pub record Stirs : Type 0 where
   pub guests : List (Option ℕ)
   pub processors : List ℕ
+
+-- the entry of a table, or nothing
+abbrev pub entry : {T : Type 0} → Option (Option T) → Option T
+entry (Some x) = x
+entry None = None
+
+-- execution contexts by number
+abbrev pub Contexts : Type 0
+Contexts = List (Option EcState)
+
+abbrev pub ec_in : Contexts → ℕ → Option EcState
+ec_in cs e = entry (slice_get cs e)
+
+-- the execution context of a number; one that names none is dead
+abbrev pub nobody : EcState
+nobody = record { id = 0; cpu = 0; state = Dead; regs = record { pc = 0; x = [] }; caller = None; recall = false }
+
+abbrev pub context_in : Option EcState → EcState
+context_in (Some x) = x
+context_in None = nobody
+
+abbrev pub ec_of : Contexts → ℕ → EcState
+ec_of cs e = context_in (ec_in cs e)
+
+-- the table with an execution context at its number
+abbrev pub with_ec : Contexts → ℕ → EcState → Contexts
+with_ec cs e x = slice_set cs e (Some x)
 
 -- Tables are by the number of the object: an entry is there where the object is of that kind.
 pub record KernelState : Type 0 where
   pub delegations : Delegations
   pub objects : List Object
-  pub contexts : List (Option EcState)
+  pub contexts : Contexts
   pub messages : List (Option (List ℕ))
   pub transfers : List (Option Transfer)
   pub budgets : List (Option Budget)
@@ -42,13 +71,11 @@ pub record KernelState : Type 0 where
   pub consoles : ℕ
   pub stirs : Stirs
 
--- the entry of a table, or nothing
-abbrev pub entry : {T : Type 0} → Option (Option T) → Option T
-entry (Some x) = x
-entry None = None
-
 abbrev pub context_at : KernelState → ℕ → Option EcState
-context_at k ec = entry (slice_get k.contexts ec)
+context_at k ec = ec_in k.contexts ec
+
+abbrev pub context : KernelState → ℕ → EcState
+context k ec = ec_of k.contexts ec
 
 abbrev pub budget_at : KernelState → ℕ → Option Budget
 budget_at k sc = entry (slice_get k.budgets sc)
@@ -66,3 +93,9 @@ is_thread_kind Vcpu = false
 abbrev pub is_thread_in : Option Object → Bool
 is_thread_in (Some (Ec pd cpu kind event)) = is_thread_kind kind
 is_thread_in other = false
+
+abbrev pub pd_of : KernelState → ℕ → ℕ
+pd_of k ec = pd_in (slice_get k.objects ec)
+
+abbrev pub is_thread : KernelState → ℕ → Bool
+is_thread k ec = is_thread_in (slice_get k.objects ec)

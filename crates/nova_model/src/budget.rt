@@ -7,11 +7,12 @@ pub struct Budget {
     pub ticks: u64,
 }
 
-/// A runnable scheduling context: its number, its execution context, its priority and its stamp.
+/// A runnable scheduling context: its number, the execution context that acts in its turns, its
+/// priority and its stamp.
 #[derive(Clone, Copy)]
 pub struct Candidate {
     pub sc: u32,
-    pub ec: u32,
+    pub actor: u32,
     pub priority: u8,
     pub stamp: u64,
 }

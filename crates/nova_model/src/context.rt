@@ -9,8 +9,14 @@ pub enum State {
     Ready,
     /// A local thread without a caller.
     Parked,
+    /// It waits for the reply of this handler, to a call or to an exit.
+    Calling(u32),
+    /// Its call found this handler busy.
+    Helping(u32),
     /// It raised an exit, by reason and two qualifications, which is not sent.
     Exiting(u32, u32, u32),
+    /// Its exit, by reason and two qualifications, found this handler busy.
+    Sending(u32, u32, u32, u32),
     /// It ended.
     Dead,
 }
@@ -24,7 +30,7 @@ pub enum Mark {
 
 /// An execution context at work: its number, its processor, what it is about to do, its registers,
 /// the caller that it serves, and whether its recall was asked for.
-#[derive(Drop)]
+#[derive(Clone, Copy)]
 pub struct EcState {
     pub id: u32,
     pub cpu: u32,

@@ -1,4 +1,4 @@
-ghost use Rattle.std.specs.Prelude.{◌≡◌, ◌+◌, ◌-◌, ◌<◌, ◌≤◌, ◌↔◌, ◌==◌, ◌^◌, [], ◌∷◌, ◌++◌, length, max, slice_get, IsOk, IsSome, OnOk, OnErr};
+ghost use Rattle.std.specs.Prelude.{◌≡◌, ◌+◌, ◌-◌, ◌<◌, ◌≤◌, ◌↔◌, ◌^◌, [], ◌∷◌, ◌++◌, length, max, slice_get, IsOk, IsSome, OnOk, OnErr};
 ghost use Rattle.std.specs.Option.{option_copied};
 
 use crate::object::Object;
@@ -56,9 +56,7 @@ impl Objects {
         ensures added { self.new ≡ record { items = self.old.items ++ object ∷ []; spare = self.old.spare - 1 } }
     {
         let id = self.items.len() as u32;
-        let Ok(()) = self.items.push(object) else {
-            unreachable!()
-        };
+        self.items.push_reserved(object);
         self.spare -= 1;
         id
     }
@@ -83,12 +81,5 @@ impl Objects {
         ensures { result ≡ length self.now.items }
     {
         self.items.len()
-    }
-
-    /// Whether there is no object.
-    pub fn is_empty(&self) -> bool
-        ensures { result ≡ (length self.now.items == 0) }
-    {
-        self.items.is_empty()
     }
 }

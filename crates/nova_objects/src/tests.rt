@@ -3,7 +3,7 @@ use crate::{EcKind, Object, Objects};
 #[test]
 fn objects_are_numbered_as_they_are_made(rt: HostRuntime) {
     let mut objects = Objects::new(rt.alloc());
-    assert!(rt; objects.is_empty() && objects.get(0).is_none());
+    assert!(rt; objects.get(0).is_none());
     objects.reserve(2).expect(&rt, "ample memory");
     assert_eq!(rt; objects.add(Object::Pd), 0);
     let root = Object::Ec {
@@ -18,4 +18,15 @@ fn objects_are_numbered_as_they_are_made(rt: HostRuntime) {
     assert!(rt; objects.get(2).is_none());
     assert_eq!(rt; objects.len(), 2);
     assert!(rt; matches!(objects.as_slice(), [Object::Pd, Object::Ec { .. }]));
+}
+
+#[test]
+fn thousands_of_objects_are_made(rt: HostRuntime) {
+    let mut objects = Objects::new(rt.alloc());
+    objects.reserve(4096).expect(&rt, "ample memory");
+    for number in 0..4096 {
+        objects.reserve(1).expect(&rt, "room that is there");
+        assert!(rt; objects.len() == number);
+        assert!(rt; objects.add(Object::Pd) as usize == number);
+    }
 }

@@ -9,7 +9,7 @@ pub record IsRange (r : Range) : Type 0 where
   pub aligned : r.base % 2 ^ r.order ≡ 0
   pub base : r.base < 2 ^ 20
 
--- the first place behind a range
+-- the first place after a range
 abbrev pub end_of : Range → ℕ
 end_of r = r.base + 2 ^ r.order
 

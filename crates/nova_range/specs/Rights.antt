@@ -1,5 +1,5 @@
 -- Rights: sets of bits, whose meaning goes by what a capability leads to.
-use Rattle.std.specs.Prelude.{◌<◌, ℕ, ◌^◌}
+use Rattle.std.specs.Prelude.{◌≡◌, ◌<◌, ℕ, ◌^◌, List, map, sum}
 use Rattle.nova_range.specs.declared.rights.Rights.{Rights}
 use Rattle.nova_range.specs.declared.rights.Target.{Target}
 use Rattle.nova_range.specs.declared.rights.Target.TheVariants.{Memory, Pd, Ec, Sc, Pt, Sm}
@@ -19,3 +19,8 @@ all_rights Ec = rights_of 7  -- control 1, bind a scheduling context 2, bind a p
 all_rights Sc = rights_of 1  -- control 1
 all_rights Pt = rights_of 7  -- control 1, call 2, event 4
 all_rights Sm = rights_of 3  -- up 1, down 2
+
+-- the rights to a target have these bits, and all rights to it are these bits together
+pub record AreRightsTo (target : Target) (rights : List Rights) (bits : List ℕ) : Type 0 where
+  pub each : rights ≡ map rights_of bits
+  pub all : all_rights target ≡ rights_of (sum bits)

@@ -1,10 +1,13 @@
-ghost use Rattle.std.specs.Prelude.{◌≡◌, ◌<◌, ◌≤◌, ◌↔◌, ℕ, ◌^◌, Option, IsTrue, IfOk};
+ghost use Rattle.std.specs.Prelude.{◌≡◌, ◌<◌, ◌≤◌, ◌↔◌, ℕ, ◌^◌, [], ◌∷◌, Option, IsTrue, IfOk};
 ghost use Rattle.nova_range.specs.Ranges.{IsRange, SharesPlace, IsWithin, end_of, overlaps, is_inside};
 ghost use Rattle.nova_range.specs.RangeWords.{HasWord, meaning_of, word_of};
 ghost use Rattle.nova_range.specs.Clamps.{IsClamped, TakesBits, clamp_of, common_order};
+ghost use Rattle.nova_range.specs.Rights.{AreRightsTo};
+ghost use Rattle.nova_range.specs.Mtds.{AreGroups};
 
+use crate::mtd::Mtd;
 use crate::range::Range;
-use crate::rights::Rights;
+use crate::rights::{Rights, Target};
 
 /// Two ranges overlap exactly where some place is one of both, and the first lies inside the second
 /// exactly where each of its places is one of the second's.
@@ -43,4 +46,19 @@ pub fn clamps_are_parts()
         TakesBits sent.base sent.order (common_order sent window) hotspot (clamp_of sent window hotspot).source }
     ensures dest { (sent window : Range) (hotspot : ℕ) → IsRange sent → IsRange window →
         TakesBits window.base window.order (common_order sent window) hotspot (clamp_of sent window hotspot).dest }
+{}
+
+/// The rights to each kind of target, with their bits.
+pub fn rights_have_their_bits()
+    ensures memory { AreRightsTo Target.Memory (Rights.READ ∷ Rights.WRITE ∷ Rights.EXECUTE ∷ []) (1 ∷ 2 ∷ 4 ∷ []) }
+    ensures pd { AreRightsTo Target.Pd (Rights.CREATE ∷ []) (1 ∷ []) }
+    ensures ec { AreRightsTo Target.Ec (Rights.CONTROL ∷ Rights.BIND_SC ∷ Rights.BIND_PT ∷ []) (1 ∷ 2 ∷ 4 ∷ []) }
+    ensures sc { AreRightsTo Target.Sc (Rights.CONTROL ∷ []) (1 ∷ []) }
+    ensures pt { AreRightsTo Target.Pt (Rights.CONTROL ∷ Rights.CALL ∷ Rights.EVENT ∷ []) (1 ∷ 2 ∷ 4 ∷ []) }
+    ensures sm { AreRightsTo Target.Sm (Rights.UP ∷ Rights.DOWN ∷ []) (1 ∷ 2 ∷ []) }
+{}
+
+/// The groups of a message transfer descriptor, with their bits.
+pub fn groups_have_their_bits()
+    ensures { AreGroups (Mtd.QUAL ∷ Mtd.PC ∷ Mtd.LOW ∷ Mtd.HIGH ∷ []) (1 ∷ 2 ∷ 4 ∷ 8 ∷ []) }
 {}

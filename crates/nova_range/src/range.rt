@@ -17,7 +17,7 @@ pub struct Range {
     pub order: u8,
 }
 
-/// The first place behind a range, at most 2^20.
+/// The first place after a range, at most 2^20.
 fn end(range: Range) -> u32
     requires { IsRange range }
     ensures { result ≡ end_of range }

@@ -1,5 +1,5 @@
 -- The report of a kernel and the events of its turns, section by section. Each line ends with a line feed.
-use Rattle.std.specs.Prelude.{ℕ, ◌==◌, Bool, true, false, not, List, [], ◌∷◌, ◌++◌, filter, flat_map, codes, decimal, Option, Some, None, length, if◌then◌else◌}
+use Rattle.std.specs.Prelude.{ℕ, ◌==◌, Bool, true, false, not, List, [], ◌++◌, filter, flat_map, codes, decimal, Option, Some, None, length, if◌then◌else◌}
 use Rattle.std.specs.List.{enumerate_from, range_with_len, list_any}
 use Rattle.rv_model.specs.Registers.{Registers, reg}
 use Rattle.nova_model.specs.State.{KernelState, Semaphore, context_at}
@@ -7,7 +7,7 @@ use Rattle.nova_model.specs.Choice.{is_quiet}
 use Rattle.nova_kernel.specs.Views.{ticks_of, semaphore_at}
 use Rattle.nova_model.specs.declared.event.Event.{Event}
 use Rattle.nova_model.specs.declared.event.EventKind.{EventKind}
-use Rattle.nova_model.specs.declared.event.EventKind.TheVariants.{Step, Raise, Answer, Begin, Help, Sent, Died, Abort, Made, Skip, Xlat, Ended, Gone}
+use Rattle.nova_model.specs.declared.event.EventKind.TheVariants.{Step}
 use Rattle.nova_objects.specs.declared.object.Object.{Object}
 use Rattle.nova_objects.specs.declared.object.Object.TheVariants.{Ec, Sc, Sm}
 use Rattle.nova_objects.specs.declared.object.EcKind.{EcKind}

@@ -1,21 +1,25 @@
 -- The words of a report, each as its text.
-use Rattle.std.specs.Prelude.{ℕ, ◌-◌, ◌^◌, Bool, true, false, List, [], ◌∷◌, codes, decimal, Option, Some, None}
-use Rattle.std.specs.Fmt.{format_spec, padded_integral, digits}
+use Rattle.std.specs.Prelude.{ℕ, zero, suc, ◌/◌, ◌%◌, Bool, true, false, List, [], ◌∷◌, ◌++◌, slice_index, codes, decimal, Option, Some, None}
 use Rattle.nova_model.specs.declared.event.EventKind.{EventKind}
 use Rattle.nova_model.specs.declared.event.EventKind.TheVariants.{Step, Raise, Answer, Begin, Help, Sent, Died, Abort, Made, Skip, Xlat, Ended, Gone}
 use Rattle.nova_objects.specs.declared.object.EcKind.{EcKind}
 use Rattle.nova_objects.specs.declared.object.EcKind.TheVariants.{Local, Global, Vcpu}
 use Rattle.nova_model.specs.declared.context.State.{State}
-use Rattle.nova_model.specs.declared.context.State.TheVariants.{Fresh, Ready, Parked, Exiting, Dead}
+use Rattle.nova_model.specs.declared.context.State.TheVariants.{Fresh, Ready, Parked, Calling, Helping, Exiting, Sending, Dead}
 use Rattle.nova_range.specs.declared.range.Kind.{Kind}
 use Rattle.nova_range.specs.declared.range.Kind.TheVariants.{Mem, Obj}
 
 abbrev pub line_feed : List ℕ
 line_feed = 10 ∷ []
 
--- so many lower hexadecimal digits, with zeros in front
-abbrev pub hexadecimal : ℕ → ℕ → List ℕ
-hexadecimal width n = padded_integral (format_spec 32 0 4 width (2 ^ 64 - 1)) false [] (digits 16 false n)
+-- the lower-case hexadecimal digit of a number below 16
+abbrev pub digit : ℕ → ℕ
+digit = slice_index (codes "0123456789abcdef")
+
+-- the last `width` hexadecimal digits of a number, the most significant first
+unfoldable pub hexadecimal : ℕ → ℕ → List ℕ
+hexadecimal zero n = []
+hexadecimal (suc width) n = hexadecimal width (n / 16) ++ digit (n % 16) ∷ []
 
 abbrev pub quiet_word : Bool → List ℕ
 quiet_word true = codes "quiet"
@@ -45,7 +49,10 @@ abbrev pub state_word : State → List ℕ
 state_word Fresh = codes "fresh"
 state_word Ready = codes "ready"
 state_word Parked = codes "parked"
+state_word (Calling handler) = codes "calling"
+state_word (Helping handler) = codes "helping"
 state_word (Exiting reason q0 q1) = codes "exiting"
+state_word (Sending reason q0 q1 handler) = codes "sending"
 state_word Dead = codes "dead"
 
 abbrev pub space_word : Kind → List ℕ

@@ -2,6 +2,7 @@ ghost use Rattle.std.specs.Prelude.{◌≡◌, ◌++◌, OnOk, string_bytes, fil
 ghost use Rattle.std.specs.List.{list_any};
 ghost use Rattle.nova_report.specs.Report.{is_of, byte_text, bytes_text, console_line, console_lines};
 
+use crate::hex::write_byte;
 use nova_kernel::Kernel;
 use nova_model::LogByte;
 use std::alloc::AllocError;
@@ -11,8 +12,7 @@ fn write_bytes(out: &mut String, console: u32, log: &[LogByte]) -> Result<(), Al
 {
     for byte in log {
         if byte.console == console {
-            let value = byte.value;
-            write!(out, "{value:02x}")?;
+            write_byte(out, byte.value)?;
         }
     }
     Ok(())

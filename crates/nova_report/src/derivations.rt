@@ -1,8 +1,9 @@
-ghost use Rattle.std.specs.Prelude.{◌≡◌, ◌++◌, OnOk, string_bytes, flat_map};
+ghost use Rattle.std.specs.Prelude.{◌≡◌, ◌++◌, OnOk, string_bytes};
 ghost use Rattle.nova_report.specs.Words.{parent_word, space_word};
-ghost use Rattle.nova_report.specs.Report.{derivation_line};
+ghost use Rattle.nova_report.specs.Report.{derivation_line, derivation_lines};
 
 use bitflags::Flags;
+use nova_kernel::Kernel;
 use nova_model::{Derivation, Kind};
 use std::alloc::AllocError;
 
@@ -44,12 +45,14 @@ fn write_derivation(out: &mut String, derivation: Derivation) -> Result<(), Allo
     writeln!(out, " {pd} {space} {base} {order} {rights} {target}")
 }
 
-/// A line for each derivation.
-pub fn write_derivations(out: &mut String, derivations: &[Derivation]) -> Result<(), AllocError>
-    ensures { OnOk result (string_bytes out.new ≡ string_bytes out.old ++ flat_map derivation_line derivations.now) }
+/// A line for each derivation, by rising id.
+pub fn write_derivations(out: &mut String, kernel: &Kernel) -> Result<(), AllocError>
+    ensures { OnOk result (string_bytes out.new ≡ string_bytes out.old ++ derivation_lines kernel.now.state) }
 {
-    for derivation in derivations {
-        write_derivation(out, *derivation)?;
+    let mut id = 0;
+    while let Some(derivation) = kernel.derivation_from(id) {
+        write_derivation(out, derivation)?;
+        id = derivation.id + 1;
     }
     Ok(())
 }

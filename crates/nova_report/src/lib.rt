@@ -4,6 +4,7 @@
 mod consoles;
 mod derivations;
 mod events;
+mod hex;
 mod objects;
 mod run;
 #[cfg(test)]

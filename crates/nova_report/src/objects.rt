@@ -1,8 +1,9 @@
-ghost use Rattle.std.specs.Prelude.{◌≡◌, ◌++◌, OnOk, IfOk, string_bytes};
+ghost use Rattle.std.specs.Prelude.{◌≡◌, ◌++◌, OnOk, string_bytes};
 ghost use Rattle.nova_report.specs.Words.{context_word, state_word};
 ghost use Rattle.nova_report.specs.Report.{register_word, register_words, context_line, context_of, context_lines, budget_of, budget_lines, semaphore_of, semaphore_lines};
 ghost use Rattle.nova_model.specs.State.{context_at};
 
+use crate::hex::write_word;
 use nova_kernel::Kernel;
 use nova_model::{EcKind, EcState, Object, State};
 use rv_model::Regs;
@@ -25,7 +26,10 @@ fn state_word<'a>(state: State) -> &'a str
         State::Fresh => "fresh",
         State::Ready => "ready",
         State::Parked => "parked",
+        State::Calling(_) => "calling",
+        State::Helping(_) => "helping",
         State::Exiting(..) => "exiting",
+        State::Sending(..) => "sending",
         State::Dead => "dead",
     }
 }
@@ -36,7 +40,8 @@ fn write_register(out: &mut String, i: u32, value: u32) -> Result<(), AllocError
     if value == 0 {
         return Ok(());
     }
-    write!(out, " x{i}={value:08x}")
+    write!(out, " x{i}=")?;
+    write_word(out, value)
 }
 
 #[tactic(auto, unfolding(crate::specs::Report::register_words))]
@@ -59,8 +64,8 @@ fn write_context(
 {
     let kind = context_word(kind);
     let state = state_word(context.state);
-    let pc = context.regs.pc();
-    write!(out, "ec {id} {kind} {state} {pc:08x}")?;
+    write!(out, "ec {id} {kind} {state} ")?;
+    write_word(out, context.regs.pc())?;
     write_registers(out, &context.regs)?;
     out.push_str("\n")
 }
@@ -87,7 +92,7 @@ pub fn write_contexts(out: &mut String, kernel: &Kernel) -> Result<(), AllocErro
     ensures { OnOk result (string_bytes out.new ≡ string_bytes out.old ++ context_lines kernel.now.state) }
 {
     for (i, object) in kernel.objects().iter().enumerate() {
-        write_context_of(out, kernel, number(i)?, *object)?;
+        write_context_of(out, kernel, i as u32, *object)?;
     }
     Ok(())
 }
@@ -114,7 +119,7 @@ pub fn write_budgets(out: &mut String, kernel: &Kernel) -> Result<(), AllocError
     ensures { OnOk result (string_bytes out.new ≡ string_bytes out.old ++ budget_lines kernel.now.state) }
 {
     for (i, object) in kernel.objects().iter().enumerate() {
-        write_budget_of(out, kernel, number(i)?, *object)?;
+        write_budget_of(out, kernel, i as u32, *object)?;
     }
     Ok(())
 }
@@ -141,14 +146,7 @@ pub fn write_semaphores(out: &mut String, kernel: &Kernel) -> Result<(), AllocEr
     ensures { OnOk result (string_bytes out.new ≡ string_bytes out.old ++ semaphore_lines kernel.now.state) }
 {
     for (i, object) in kernel.objects().iter().enumerate() {
-        write_semaphore_of(out, kernel, number(i)?, *object)?;
+        write_semaphore_of(out, kernel, i as u32, *object)?;
     }
     Ok(())
-}
-
-/// The number of the object at a place. Memory never holds more objects than there are numbers.
-fn number(place: usize) -> Result<u32, AllocError>
-    ensures { IfOk result (λ id. id ≡ place) }
-{
-    u32::try_from(place).map_err(|_| AllocError)
 }

@@ -2,10 +2,10 @@ ghost use Rattle.std.specs.Prelude.{◌≡◌, ◌++◌, IfOk, OnOk, string_byte
 ghost use Rattle.nova_report.specs.Words.{quiet_word};
 ghost use Rattle.nova_report.specs.Report.{report, run_line};
 
-use super::consoles::write_consoles;
-use super::derivations::write_derivations;
-use super::events::write_events;
-use super::objects::{write_budgets, write_contexts, write_semaphores};
+use crate::consoles::write_consoles;
+use crate::derivations::write_derivations;
+use crate::events::write_events;
+use crate::objects::{write_budgets, write_contexts, write_semaphores};
 use nova_kernel::Kernel;
 use nova_model::Event;
 use std::alloc::{AllocError, Global};
@@ -23,7 +23,7 @@ pub fn report(alloc: Global, kernel: &Kernel, trace: &[Event]) -> Result<Vec<u8>
     write_budgets(&mut out, kernel)?;
     write_semaphores(&mut out, kernel)?;
     write_consoles(&mut out, kernel)?;
-    write_derivations(&mut out, kernel.derivations())?;
+    write_derivations(&mut out, kernel)?;
     Ok(out.into_bytes())
 }
 

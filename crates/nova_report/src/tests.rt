@@ -1,13 +1,13 @@
 ghost use Rattle.std.specs.Prelude.{◌≡◌, ◌≤◌, ◌<◌, ◌+◌, IfOk};
 
-use super::report;
+use crate::report;
 use nova_kernel::Kernel;
 use nova_model::{Root, Turn};
 use std::alloc::{AllocError, Global};
 use std::process::Abort;
 use std::test::Fail;
 
-// A turn of processor 0.
+/// A turn of processor 0.
 fn take_turn(rt: &impl Abort, kernel: &mut Kernel) -> Result<Turn, AllocError>
     requires { 0 < kernel.old.room }
     ensures { kernel.old.room ≤ kernel.new.room + 1 }
@@ -17,7 +17,7 @@ fn take_turn(rt: &impl Abort, kernel: &mut Kernel) -> Result<Turn, AllocError>
     kernel.turn(0)
 }
 
-// A kernel of one processor and one frame of RAM, with a program at address 0.
+/// A kernel of one processor and one frame of RAM, with a program at address 0.
 fn kernel_of(
     rt: &impl Abort,
     alloc: Global,
@@ -43,16 +43,19 @@ fn kernel_of(
     Ok(kernel)
 }
 
-// The report after at most 20 turns of a program.
+/// The report of a program after at most `turns` turns.
 fn report_of(
     rt: &impl Abort,
     alloc: Global,
     consoles: u32,
+    turns: u32,
     program: &[u32],
-) -> Result<Vec<u8>, AllocError> {
+) -> Result<Vec<u8>, AllocError>
+    requires { turns ≤ 20 }
+{
     let mut kernel = kernel_of(rt, alloc, consoles, program)?;
     let mut trace = Vec::new(alloc);
-    for _turn in 0..20u32 {
+    for _turn in 0..turns {
         let Turn::Stepped(event) = take_turn(rt, &mut kernel)? else {
             break;
         };
@@ -61,34 +64,16 @@ fn report_of(
     report(alloc, &kernel, trace.as_slice())
 }
 
-#[test]
-fn a_run_is_open_before_its_first_turn(rt: HostRuntime) -> Result<(), Fail> {
-    let kernel = kernel_of(&rt, rt.alloc(), 0, &[0x0010_0073])?;
-    let text = String::from_utf8(report(rt.alloc(), &kernel, &[])?);
-    let lines = "\
-run open 0
-ec 1 global ready 00000000
-sc 2 0 0
-cap 0 - 0 mem 0 0 7 0
-cap 1 - 0 obj 0 0 1 0
-cap 2 - 0 obj 1 0 7 1
-cap 3 - 0 obj 2 0 1 2
-";
-    assert!(rt; text.is_ok_and(|text| text.as_str() == lines));
-    Ok(())
-}
-
-/// How many consoles there are, a program, and its report.
-const RUNS: [(u32, &[u32], &str); 2] = [
+/// How many consoles there are, how many turns are taken at most, a program, and its report.
+const RUNS: [(u32, u32, &[u32], &str); 4] = [
     (
+        0,
         0,
         &[0x0010_0073],
         "\
-run quiet 2
-at 1 0 1 raise 7 0
-at 2 0 1 died 7 0
-ec 1 global dead 00000000
-sc 2 0 2
+run open 0
+ec 1 global ready 00000000
+sc 2 0 0
 cap 0 - 0 mem 0 0 7 0
 cap 1 - 0 obj 0 0 1 0
 cap 2 - 0 obj 1 0 7 1
@@ -97,6 +82,7 @@ cap 3 - 0 obj 2 0 1 2
     ),
     (
         0,
+        20,
         &[
             0x00d0_0293,
             0x0002_80e7,
@@ -116,30 +102,19 @@ cap 2 - 0 obj 1 0 7 1
 cap 3 - 0 obj 2 0 1 2
 ",
     ),
-];
-
-#[test]
-fn programs_are_reported(rt: HostRuntime) -> Result<(), Fail> {
-    for (consoles, program, lines) in RUNS {
-        let text = String::from_utf8(report_of(&rt, rt.alloc(), consoles, program)?);
-        assert!(rt; text.is_ok_and(|text| text.as_str() == lines));
-    }
-    Ok(())
-}
-
-#[test]
-fn each_console_has_its_bytes(rt: HostRuntime) -> Result<(), Fail> {
-    let program = [
-        0x0000_12b7,
-        0x0480_0313,
-        0x0062_8023,
-        0x0000_23b7,
-        0x0690_0313,
-        0x0063_8023,
-        0x0010_0073,
-    ];
-    let text = String::from_utf8(report_of(&rt, rt.alloc(), 3, &program)?);
-    let lines = "\
+    (
+        3,
+        20,
+        &[
+            0x0000_12b7,
+            0x0480_0313,
+            0x0062_8023,
+            0x0000_23b7,
+            0x0690_0313,
+            0x0063_8023,
+            0x0010_0073,
+        ],
+        "\
 run quiet 8
 at 7 0 1 raise 7 0
 at 8 0 1 died 7 0
@@ -155,7 +130,51 @@ cap 3 - 0 mem 3 0 3 3
 cap 4 - 0 obj 0 0 1 0
 cap 5 - 0 obj 1 0 7 1
 cap 6 - 0 obj 2 0 1 2
-";
-    assert!(rt; text.is_ok_and(|text| text.as_str() == lines));
+",
+    ),
+    (
+        0,
+        20,
+        &[
+            0x0630_0893,
+            0x0000_0073,
+            0x0030_0893,
+            0x0200_0513,
+            0x0400_0713,
+            0x0000_0073,
+            0x0060_0893,
+            0x0210_0513,
+            0x0050_0613,
+            0x0000_0073,
+            0x0010_0073,
+        ],
+        "\
+run quiet 12
+at 2 0 1 answer 99 4
+at 6 0 1 answer 3 0
+at 10 0 1 answer 6 0
+at 11 0 1 raise 7 0
+at 12 0 1 died 7 0
+ec 1 global dead 00000028 x12=00000005 x14=00000040 x17=00000006
+ec 3 local parked 00000000
+sc 2 0 12
+sm 4 5 0
+cap 0 - 0 mem 0 0 7 0
+cap 1 - 0 obj 0 0 1 0
+cap 2 - 0 obj 1 0 7 1
+cap 3 - 0 obj 2 0 1 2
+cap 4 - 0 obj 32 0 7 3
+cap 5 - 0 obj 33 0 3 4
+",
+    ),
+];
+
+#[test]
+fn programs_are_reported(rt: HostRuntime) -> Result<(), Fail> {
+    for (consoles, turns, program, lines) in RUNS {
+        assert!(rt; turns <= 20);
+        let text = String::from_utf8(report_of(&rt, rt.alloc(), consoles, turns, program)?);
+        assert!(rt; text.is_ok_and(|text| text.as_str() == lines));
+    }
     Ok(())
 }

@@ -1,4 +1,4 @@
--- What stands before the first element that passes a test, and behind it.
+-- What stands before the first element that passes a test, and after it.
 use Rattle.std.proofs.Common.{◌≡◌, suc, ◌+◌, Bool, false, List, ◌∷◌, take, drop, refl, ap, ◌∙◌, arith}
 use Rattle.std.specs.Prelude.{find}
 use Rattle.std.specs.List.{before_first, after_first, position_or_len}

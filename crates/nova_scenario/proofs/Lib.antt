@@ -6,3 +6,4 @@ pub mod AsmLemmas
 pub mod LineNumbers
 pub mod BlockLemmas
 pub mod SoundLemmas
+pub mod MemoryApart

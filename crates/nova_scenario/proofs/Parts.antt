@@ -12,7 +12,7 @@ use Rattle.nova_scenario.specs.Occupied.{meets, AreSpread}
 abbrev Parts : Type 0
 Parts = List (ℕ × ℕ)
 
--- those that begin before an end, and the last of parts behind one
+-- those that begin before an end, and the last of parts after one
 abbrev begins : ℕ → ℕ × ℕ → Bool
 begins end part = not (is_le (nat_cmp end part.0))
 
@@ -37,25 +37,25 @@ empty_meets start end (part ∷ parts) le =
     let none : meets start end part ≡ false = grind (arith, nat_tests) in
     rw none (empty_meets start end parts le)
 
--- a part that begins before the end meets the range where it reaches behind the start; another one does not
+-- a part that begins before the end meets the range where it reaches after the start; another one does not
 meets_before : (start end : ℕ) (part : ℕ × ℕ) → start < end → part.0 < part.1 → begins end part ≡ true → meets start end part ≡ nat_lt start part.1
 meets_before start end part some spread e = let b = begins_below end part in grind (arith, nat_tests)
 
-meets_behind : (start end : ℕ) (part : ℕ × ℕ) → begins end part ≡ false → meets start end part ≡ false
-meets_behind start end part e = let b = begins_below end part in grind (arith, nat_tests)
+meets_after : (start end : ℕ) (part : ℕ × ℕ) → begins end part ≡ false → meets start end part ≡ false
+meets_after start end part e = let b = begins_below end part in grind (arith, nat_tests)
 
 -- where no part begins before the end, none meets
 none_more : (start end : ℕ) (part : ℕ × ℕ) (parts : Parts) (b : Bool) → begins end part ≡ b → before end (part ∷ parts) ≡ [] → (before end parts ≡ [] → list_any (meets start end) parts ≡ false) → list_any (meets start end) (part ∷ parts) ≡ false
 none_more start end part parts true e is rest = let is_cons : part ∷ before end parts ≡ [] = rw e at is in cc
 none_more start end part parts false e is rest =
     let none : before end parts ≡ [] = rw e at is in
-    rw (meets_behind start end part e) (rest none)
+    rw (meets_after start end part e) (rest none)
 
 pub none_before : (start end : ℕ) (parts : Parts) → before end parts ≡ [] → list_any (meets start end) parts ≡ false
 none_before start end [] is = refl
 none_before start end (part ∷ parts) is = none_more start end part parts (begins end part) refl is (none_before start end parts)
 
--- behind a part: the last that begins before the end tells
+-- after a part: the last that begins before the end tells
 module _ (start end : ℕ) (some : start < end) where
   abbrev Tells : ℕ × ℕ → Parts → Type 0
   Tells part parts = (nat_lt start part.1 || list_any (meets start end) parts) ≡ nat_lt start (last_of part (before end parts)).1
@@ -66,7 +66,7 @@ module _ (start end : ℕ) (some : start < end) where
   tells_more : (part next : ℕ × ℕ) (parts : Parts) (b : Bool) → begins end next ≡ b → part.1 ≤ next.0 → next.0 < next.1 → Tells next parts → Tells part parts → Tells part (next ∷ parts)
   tells_more part next parts true e le lt here there =
       rw (e, meets_before start end next some lt e, further part next (list_any (meets start end) parts) le lt) here
-  tells_more part next parts false e le lt here there = rw (e, meets_behind start end next e) there
+  tells_more part next parts false e le lt here there = rw (e, meets_after start end next e) there
 
   tells : (part : ℕ × ℕ) (parts : Parts) → AreSpread (part ∷ parts) → Tells part parts
   tells part [] spread = grind (arith, nat_tests)
@@ -86,7 +86,7 @@ module _ (start end : ℕ) (some : start < end) where
       rw (meets_before start end part some spread.0 e, tells part parts spread, last_more part parts last front all) refl
   last_tells part parts false e last front spread is rest =
       let all : before end parts ≡ front ++ last ∷ [] = rw e at is in
-      rw (meets_behind start end part e) (rest all)
+      rw (meets_after start end part e) (rest all)
 
   pub last_before : (parts : Parts) (last : ℕ × ℕ) (front : Parts) → AreSpread parts → before end parts ≡ front ++ last ∷ [] → list_any (meets start end) parts ≡ nat_lt start last.1
   last_before [] last [] spread is = cc
@@ -94,7 +94,7 @@ module _ (start end : ℕ) (some : start < end) where
   last_before (part ∷ parts) last front spread is =
       last_tells part parts (begins end part) refl last front spread is (last_before parts last front spread.2)
 
--- a free part goes between those before it and those behind
+-- a free part goes between those before it and those after
 or_false : (a b : Bool) → (a || b) ≡ false → (a ≡ false) × (b ≡ false)
 or_false true b e = (e, absurd (cc))
 or_false false b e = (refl, e)
@@ -118,27 +118,27 @@ module _ (start end : ℕ) (some : start < end) where
   all_with P [] it all = (it, tt)
   all_with P (part ∷ parts) it all = all_more P part parts (nat_cmp start part.0) refl it all (all_with P parts it all.1)
 
-  -- it ends where the parts behind it begin
+  -- it ends where the parts after it begin
   ends_before : (part : ℕ × ℕ) → part.0 < part.1 → meets start end part ≡ false → nat_cmp start part.0 ≡ Less → end ≤ part.0
   ends_before part lt free e = grind (arith, nat_tests)
 
-  begins_behind : (part : ℕ × ℕ) → part.0 < part.1 → meets start end part ≡ false → nat_cmp start part.0 ≡ Greater → part.1 ≤ start
-  begins_behind part lt free e = grind (arith, nat_tests)
+  begins_after : (part : ℕ × ℕ) → part.0 < part.1 → meets start end part ≡ false → nat_cmp start part.0 ≡ Greater → part.1 ≤ start
+  begins_after part lt free e = grind (arith, nat_tests)
 
   not_at : (part : ℕ × ℕ) → part.0 < part.1 → meets start end part ≡ false → nat_cmp start part.0 ≡ Equal → ⊥
   not_at part lt free e = grind (arith, nat_tests)
 
-  all_behind : (part : ℕ × ℕ) (parts : Parts) → end ≤ part.0 → part.0 < part.1 → AllByRecursion (λ next. part.1 ≤ next.0) parts → AllByRecursion (λ next. end ≤ next.0) parts
-  all_behind part [] le lt all = tt
-  all_behind part (next ∷ parts) le lt all = (let first = all.0 in omega arith, all_behind part parts le lt all.1)
+  all_after : (part : ℕ × ℕ) (parts : Parts) → end ≤ part.0 → part.0 < part.1 → AllByRecursion (λ next. part.1 ≤ next.0) parts → AllByRecursion (λ next. end ≤ next.0) parts
+  all_after part [] le lt all = tt
+  all_after part (next ∷ parts) le lt all = (let first = all.0 in omega arith, all_after part parts le lt all.1)
 
   spread_more : (part : ℕ × ℕ) (parts : Parts) (o : Ordering) → nat_cmp start part.0 ≡ o → AreSpread (part ∷ parts) → meets start end part ≡ false → AreSpread (with_it parts) → AreSpread (with_it (part ∷ parts))
   spread_more part parts Less e spread free rest =
       let le = ends_before part spread.0 free e in
-      rw e (some, (le, all_behind part parts le spread.0 spread.1), spread)
+      rw e (some, (le, all_after part parts le spread.0 spread.1), spread)
   spread_more part parts Equal e spread free rest = absurd (not_at part spread.0 free e)
   spread_more part parts Greater e spread free rest =
-      rw e (spread.0, all_with (λ next. part.1 ≤ next.0) parts (begins_behind part spread.0 free e) spread.1, rest)
+      rw e (spread.0, all_with (λ next. part.1 ≤ next.0) parts (begins_after part spread.0 free e) spread.1, rest)
 
   pub spread_with : (parts : Parts) → AreSpread parts → list_any (meets start end) parts ≡ false → AreSpread (with_it parts)
   spread_with [] spread free = (some, tt, tt)

@@ -15,7 +15,7 @@ pub record Draft : Type 0 where
 abbrev pub empty : Draft
 empty = record { settings = unset; images = [] }
 
--- the address behind an image
+-- the address after an image
 abbrev pub end_of : Image → ℕ
 end_of image = image.address + length image.bytes
 

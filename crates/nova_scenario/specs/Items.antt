@@ -20,7 +20,7 @@ is_end_in _ = false
 abbrev pub is_end : Row → Bool
 is_end row = is_end_in (tokens row.start row.text)
 
--- an image's first line, the lines behind it up to its line `end`, and that line, if it is there
+-- an image's first line, the lines after it up to its line `end`, and that line, if it is there
 pub record Block : Type 0 where
   pub first : Row
   pub lines : List Row
@@ -35,7 +35,7 @@ pub data Item : Type 0 where
   SettingLine : ℕ → Setting → Item
   ImageBlock : Head → Block → Item
 
--- the item that a line begins, before those of the lines behind it; a blank line is none
+-- the item that a line begins, before those of the lines after it; a blank line is none
 abbrev pub item_before : Row → Result (Option Statement) Why → List Row → (Bool → List Item) → List Item
 item_before row (Err why) rows items = FaultyLine row.number why ∷ items false
 item_before row (Ok None) rows items = items false

@@ -1,4 +1,4 @@
--- Parts of memory, each its first address with the address behind it.
+-- Parts of memory, each its first address with the address after it.
 use Rattle.std.specs.Prelude.{ℕ, ◌<◌, ◌≤◌, Bool, min, max, nat_lt, List, [], ◌∷◌}
 use Rattle.std.specs.List.{AllByRecursion}
 

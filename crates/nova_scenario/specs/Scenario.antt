@@ -1,5 +1,5 @@
 -- The scenario that a text is, or its first line at fault.
-use Rattle.std.specs.Prelude.{ℕ, ◌+◌, false, List, [], ◌∷◌, length, Option, Some, None, Result, Ok, Err}
+use Rattle.std.specs.Prelude.{ℕ, ◌+◌, Bool, false, is_ok, List, [], ◌∷◌, length, Option, Some, None, Result, Ok, Err}
 use Rattle.nova_text.specs.Line.{Row, lines}
 use Rattle.nova_scenario.specs.Fault.{At, at, and_then, on_line}
 use Rattle.nova_scenario.specs.Images.{Draft, empty, begun, with_image}
@@ -14,7 +14,7 @@ use Rattle.nova_scenario.specs.declared.settings.Root.{Root}
 use Rattle.nova_scenario.specs.declared.settings.Settings.{Settings}
 use Rattle.nova_scenario.specs.declared.statement.Head.{Head}
 
--- what is missing at the end of a text is missing on the line behind its last
+-- what is missing at the end of a text is missing on the line after its last
 abbrev pub missing : {A : Type 0} → List ℕ → Result A At
 missing bytes = at (length (lines bytes) + 1) Missing
 
@@ -66,5 +66,21 @@ abbrev pub read_items : List ℕ → Draft → List Item → Result Scenario At
 read_items bytes draft [] = or_missing bytes (finished draft)
 read_items bytes draft (item ∷ more) = and_then (with_item bytes draft item) (λ d. read_items bytes d more)
 
+-- whether an image begins before any line at fault
+abbrev pub if_ok : {A : Type 0} → Result A Why → (A → Bool) → Bool
+if_ok (Ok x) next = next x
+if_ok (Err why) next = false
+
+abbrev pub begins_image : Draft → List Item → Bool
+begins_image draft [] = false
+begins_image draft (FaultyLine line why ∷ more) = false
+begins_image draft (SettingLine line setting ∷ more) = if_ok (with_settings draft (with_setting draft.settings setting)) (λ d. begins_image d more)
+begins_image draft (ImageBlock head block ∷ more) = is_ok (begun draft.settings head.address)
+
+-- only the images of a text take memory
+unfoldable pub takes_memory : List ℕ → Bool
+takes_memory bytes = begins_image empty (items false (lines bytes))
+
+-- the scenario of a text
 unfoldable pub scenario : List ℕ → Result Scenario At
 scenario bytes = read_items bytes empty (items false (lines bytes))

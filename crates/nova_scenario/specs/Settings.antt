@@ -38,7 +38,7 @@ with_setting s (Consoles c) = put (λ consoles. record s { consoles = Some conso
 with_setting s (RootLine pc sp priority quantum) =
     put (λ root. record s { root = Some root }) (set_once s.root (root_of (aligned pc) sp (within 0 255 priority) (within 1 16777215 quantum)))
 
--- nothing is set
+-- no settings
 abbrev pub unset : Settings
 unset = record { cpus = None; ram = None; consoles = None; root = None }
 

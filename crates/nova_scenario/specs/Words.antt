@@ -38,16 +38,16 @@ hex_by rows (Some row) = at row.number Syntax
 abbrev pub hex_words : List Row → Result (List ℕ) At
 hex_words rows = hex_by rows (find (λ row. not (has_words row)) rows)
 
--- the text of an asm block: from the line behind its first up to its line `end`, or up to the end of the bytes
-abbrev pub place_behind : Row → ℕ
-place_behind row = row.start + length row.text + 1
+-- the text of an asm block: from the line after its first up to its line `end`, or up to the end of the bytes
+abbrev pub place_after : Row → ℕ
+place_after row = row.start + length row.text + 1
 
 abbrev pub place_of_end : ℕ → Option Row → ℕ
 place_of_end len None = len
 place_of_end len (Some row) = row.start
 
 abbrev pub text_of : List ℕ → Block → List ℕ
-text_of bytes block = slice_range bytes (place_behind block.first) (place_of_end (length bytes) block.end)
+text_of bytes block = slice_range bytes (place_after block.first) (place_of_end (length bytes) block.end)
 
 -- the number of the first line with a forbidden byte
 abbrev pub forbidden_in : List Row → Option ℕ

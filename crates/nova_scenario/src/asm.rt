@@ -15,20 +15,20 @@ use nova_text::{Line, Lines, has_forbidden};
 use rv_asm::{AsmFault, assemble};
 use std::alloc::{AllocError, Global};
 
-// How far an asm block reaches.
+/// How far an asm block reaches.
 #[derive(Clone, Copy)]
 struct Extent {
-    // The number of its first line with a forbidden byte.
+    /// The number of its first line with a forbidden byte.
     forbidden: Option<u64>,
 
-    // The number of its line `end`, if it is there.
+    /// The number of its line `end`, if it is there.
     end: Option<u64>,
 
-    // The place behind its text.
+    /// The place after its text.
     stop: u64,
 }
 
-// The number of a line that has a forbidden byte.
+/// The number of a line that has a forbidden byte.
 fn forbidden_in(line: Line) -> Option<u64>
     ensures { result ≡ forbidden_in (row_of line.entry ∷ []) }
 {
@@ -39,7 +39,7 @@ fn forbidden_in(line: Line) -> Option<u64>
     }
 }
 
-// Passes over an asm block in a text of so many bytes, up to its line `end` or the end of the lines.
+/// Passes over an asm block in a text of so many bytes, up to its line `end` or the end of the lines.
 fn extent_of(lines: &mut Lines, len: u64) -> Extent
     ensures forbidden { result.forbidden ≡ forbidden_in (before_first is_end lines.old) }
     ensures end { result.end ≡ option_map (λ row. row.number) (find is_end lines.old) }
@@ -64,17 +64,17 @@ fn extent_of(lines: &mut Lines, len: u64) -> Extent
     }
 }
 
-// The bytes from one place up to another, as far as they are there.
+/// The bytes from one place up to another, as far as they are there.
 fn between(bytes: &[u8], start: u64, stop: u64) -> &[u8]
     ensures { result.now ≡ slice_range bytes.now start stop }
 {
-    let (_, behind) = bytes.split_at(bytes.len().min(start as usize));
+    let (_, after) = bytes.split_at(bytes.len().min(start as usize));
     let len = stop.saturating_sub(start);
-    let (text, _) = behind.split_at(behind.len().min(len as usize));
+    let (text, _) = after.split_at(after.len().min(len as usize));
     text
 }
 
-// The number of the line with a place of a block's text, where the block's first line has the number `first`.
+/// The number of the line with a place of a block's text, where the block's first line has the number `first`.
 fn line_of(first: u64, text: &[u8], place: u64) -> u64
     requires { first + 1 + length text.now < 2 ^ 64 }
     ensures { result ≡ line_of first text.now place }
@@ -84,7 +84,7 @@ fn line_of(first: u64, text: &[u8], place: u64) -> u64
     first + 1 + feeds as u64
 }
 
-// Of the first line with a forbidden byte and a fault of the assembler at a line, the fault of least line.
+/// Of the first line with a forbidden byte and a fault of the assembler at a line, the fault of least line.
 fn lesser(forbidden: Option<u64>, line: u64, fault: AsmFault) -> ScenarioFault
     ensures { IsFault (lesser forbidden line fault) result }
 {
@@ -94,7 +94,7 @@ fn lesser(forbidden: Option<u64>, line: u64, fault: AsmFault) -> ScenarioFault
     }
 }
 
-// The fault of a block that the assembler refuses.
+/// The fault of a block that the assembler refuses.
 fn refused(first: u64, text: &[u8], forbidden: Option<u64>, fault: AsmFault) -> ScenarioFault
     requires { first + 1 + length text.now < 2 ^ 64 }
     ensures { IsFaultOfAsm first text.now forbidden fault result }
@@ -109,7 +109,7 @@ fn refused(first: u64, text: &[u8], forbidden: Option<u64>, fault: AsmFault) -> 
     }
 }
 
-// Words as bytes, of each the lowest first.
+/// Words as bytes, of each the lowest first.
 fn bytes_of(alloc: Global, words: &[u32]) -> Result<Vec<u8>, AllocError>
     ensures { IfOk result (λ bytes. bytes.items ≡ bytes_of words.now) }
 {
@@ -120,7 +120,7 @@ fn bytes_of(alloc: Global, words: &[u32]) -> Result<Vec<u8>, AllocError>
     Ok(bytes)
 }
 
-// The bytes of the words of a block's text, which stands behind the line `first`. Its first forbidden byte is on the line `forbidden`.
+/// The bytes of the words of a block's text, which stands after the line `first`. Its first forbidden byte is on the line `forbidden`.
 fn asm_bytes(
     alloc: Global,
     first: u64,
@@ -140,7 +140,7 @@ fn asm_bytes(
     }
 }
 
-/// Reads an asm block behind its first line, up to its line `end` or the end of the bytes.
+/// Reads an asm block after its first line, up to its line `end` or the end of the bytes.
 pub fn asm_block(
     alloc: Global,
     bytes: &[u8],

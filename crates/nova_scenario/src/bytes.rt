@@ -23,13 +23,6 @@ impl Bytes {
     {
         self.bytes.as_slice()
     }
-
-    /// The vector that the bytes were made of.
-    pub fn into_vec(self) -> Vec<u8>
-        ensures { result.items ≡ self }
-    {
-        self.bytes
-    }
 }
 
 impl From<Vec<u8>> for Bytes {

@@ -36,7 +36,7 @@ impl Model for Draft {
 }
 
 impl Draft {
-    /// Nothing is said.
+    /// No settings and no images.
     pub fn new(alloc: Global) -> Draft
         ensures { result ≡ empty }
     {
@@ -84,7 +84,7 @@ impl Draft {
         Ok(())
     }
 
-    // Adds an image that lies from one address up to another, where no other one does.
+    /// Adds an image that lies from one address up to another, where no other one does.
     fn keep(&mut self, image: Image, start: u64, end: u64) -> Result<(), AllocError>
         requires start { start ≡ image.address }
         requires end { end ≡ end_of image }
@@ -94,7 +94,7 @@ impl Draft {
     {
         self.images.reserve(1)?;
         self.occupied.add(start, end)?;
-        self.images.push(image).unwrap();
+        self.images.push_reserved(image);
         Ok(())
     }
 
@@ -116,7 +116,7 @@ impl Draft {
     }
 }
 
-// Whether an address is a multiple of 4 in RAM of so many bytes.
+/// Whether an address is a multiple of 4 in RAM of so many bytes.
 fn is_word_address(ram: u64, address: u32) -> bool
     ensures { result ≡ is_word_address ram address }
 {

@@ -16,7 +16,7 @@ pub enum Why {
     /// An earlier line sets the same.
     Repeated,
 
-    /// Not all settings stand before an image; or, on the line behind the last, a setting or a line `end` is not there.
+    /// Not all settings stand before an image; or, on the line after the last, a setting or a line `end` is not there.
     Missing,
 
     /// A number is outside its range or is 2^32 or more, or an image reaches past RAM.
@@ -25,7 +25,7 @@ pub enum Why {
     /// The image that ends here shares a byte with an earlier one.
     Overlap,
 
-    /// The assembler's fault. Its span counts bytes from the start of the line behind the image's first.
+    /// The assembler's fault. Its span counts bytes from the start of the line after the image's first.
     Asm(AsmFault),
 }
 

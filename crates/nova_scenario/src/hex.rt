@@ -12,10 +12,10 @@ use crate::statement::is_end;
 use nova_text::{Line, Lines, has_forbidden, parse_digits};
 use std::alloc::Global;
 
-// How many digits a word has.
+/// How many digits a word has.
 const WORD_DIGITS: usize = 8;
 
-// The word of a token, which is exactly eight hexadecimal digits.
+/// The word of a token, which is exactly eight hexadecimal digits.
 fn word_of(text: &[u8]) -> Option<u32>
     ensures { result ≡ word_of text.now }
 {
@@ -25,7 +25,7 @@ fn word_of(text: &[u8]) -> Option<u32>
     parse_digits(text, 16).ok()
 }
 
-// Appends the bytes of the words of a line.
+/// Appends the bytes of the words of a line.
 fn push_words(bytes: &mut Vec<u8>, mut line: Line) -> Result<(), ScenarioFault>
     ensures { BecomesAt (with_line bytes.old.items (row_of line.entry)) bytes.new.items result }
 {

@@ -35,13 +35,6 @@ impl Images {
     {
         self.images.as_slice()
     }
-
-    /// The vector that the images were made of.
-    pub fn into_vec(self) -> Vec<Image>
-        ensures { result.items ≡ self }
-    {
-        self.images
-    }
 }
 
 impl From<Vec<Image>> for Images {

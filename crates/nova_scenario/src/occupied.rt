@@ -6,10 +6,10 @@ use std::alloc::{AllocError, Global};
 use std::collections::BTreeMap;
 use std::marker::Model;
 
-/// Parts of memory of which no two meet. Contracts see them as a list of their first addresses with the addresses behind them.
+/// Parts of memory of which no two meet. Contracts see them as a list of their first addresses with the addresses after them.
 #[derive(Drop)]
 pub struct Occupied {
-    // The address behind each part, by its first.
+    /// The address after each part, by its first.
     ends: BTreeMap<u64, u64>,
 }
 

@@ -1,9 +1,10 @@
-ghost use Rattle.std.specs.Prelude.{◌≡◌, ◌∷◌, ◌+◌, ◌≤◌, length, IfOk, OnOk};
+ghost use Rattle.std.specs.Prelude.{◌≡◌, ◌∷◌, ◌+◌, ◌≤◌, length, is_ok, IfOk, IfErr, OnOk};
 ghost use Rattle.std.specs.List.{after_first};
 ghost use Rattle.nova_text.specs.Line.{row_of, lines};
+ghost use Rattle.nova_scenario.specs.Images.{begun};
 ghost use Rattle.nova_scenario.specs.Items.{is_end, block};
-ghost use Rattle.nova_scenario.specs.Read.{IsRead, BecomesAt, IsReadOn};
-ghost use Rattle.nova_scenario.specs.Scenario.{with_block, scenario};
+ghost use Rattle.nova_scenario.specs.Read.{IsRead, BecomesAt, IsReadOn, KeepsMemoryApart, IsMemoryOnlyIf, TakesIf, TakesOn};
+ghost use Rattle.nova_scenario.specs.Scenario.{with_block, scenario, takes_memory};
 ghost use Rattle.nova_scenario.specs.Sound.{IsSound};
 ghost use Rattle.nova_scenario.specs.declared.fault.Why.TheVariants.{Missing};
 
@@ -17,7 +18,7 @@ use crate::statement::{Form, Head, Statement, said};
 use nova_text::{Line, Lines};
 use std::alloc::Global;
 
-// The fault of what is not there at the end of a text: it is on the line behind the last.
+/// The fault of what is not there at the end of a text: it is on the line after the last.
 fn missing(bytes: &[u8]) -> ScenarioFault
     ensures { result ≡ ScenarioFault.At (length (lines bytes.now) + 1) Missing }
 {
@@ -28,7 +29,7 @@ fn missing(bytes: &[u8]) -> ScenarioFault
     Why::Missing.at(next)
 }
 
-// Adds the image that a line begins, with the lines of its block.
+/// Adds the image that a line begins, with the lines of its block.
 fn read_image(
     alloc: Global,
     bytes: &[u8],
@@ -37,6 +38,7 @@ fn read_image(
     head: Head,
     lines: &mut Lines,
 ) -> Result<(), ScenarioFault>
+    ensures memory { TakesIf (is_ok (begun draft.old.settings head.address)) result }
     ensures draft { BecomesAt (with_block bytes.now draft.old head (block (row_of first.entry) lines.old)) draft.new result }
     ensures lines { OnOk result (lines.new ≡ after_first is_end lines.old) }
 {
@@ -57,7 +59,7 @@ fn read_image(
     }
 }
 
-// Adds what a line says. Where it begins an image, the lines of its block are taken too.
+/// Adds what a line says. Where it begins an image, the lines of its block are taken too.
 fn read_item(
     alloc: Global,
     bytes: &[u8],
@@ -66,6 +68,7 @@ fn read_item(
     lines: &mut Lines,
 ) -> Result<(), ScenarioFault>
     ensures read { IsReadOn bytes.now draft.old (row_of line.entry ∷ lines.old) draft.new lines.new result }
+    ensures memory { TakesOn draft.old (row_of line.entry ∷ lines.old) draft.new lines.new result }
     ensures fewer { OnOk result (length lines.new ≤ length lines.old) }
 {
     match said(line) {
@@ -79,11 +82,14 @@ fn read_item(
 /// Reads a scenario.
 ///
 /// `At` comes exactly where the text is none, and names the first line at fault with its first fault. What is missing at the end is
-/// missing on the line behind the last. `Memory` comes where memory is refused.
-#[tactic(auto, unfolding(crate::specs::Scenario::scenario))]
+/// missing on the line after the last. `Memory` comes where memory is refused, and only where an image begins before any line at
+/// fault; it never stands within `At`.
+#[tactic(auto, unfolding(crate::specs::Scenario::scenario, crate::specs::Scenario::takes_memory))]
 pub fn read(alloc: Global, bytes: &[u8]) -> Result<Scenario, ScenarioFault>
     ensures exact { IsRead (scenario bytes.now) result }
     ensures sound { IfOk result IsSound }
+    ensures apart { IfErr result KeepsMemoryApart }
+    ensures memory { IfErr result (IsMemoryOnlyIf (takes_memory bytes.now)) }
 {
     let mut lines = Lines::new(bytes);
     let mut draft = Draft::new(alloc);

@@ -22,7 +22,7 @@ pub struct Settings {
     pub root: Option<Root>,
 }
 
-// A number of a range.
+/// A number of a range.
 fn within(low: u32, high: u32, number: Option<u32>) -> Option<u32>
     ensures number { result ≡ within low high number }
     ensures bound { IfSome result (λ n. n ≤ high) }
@@ -30,7 +30,7 @@ fn within(low: u32, high: u32, number: Option<u32>) -> Option<u32>
     number.filter(|n| low <= *n && *n <= high)
 }
 
-// A number of a range of bytes.
+/// A number of a range of bytes.
 fn byte_within(high: u8, number: Option<u32>) -> Option<u8>
     ensures number { result ≡ within 0 high number }
     ensures bound { IfSome result (λ n. n ≤ high) }
@@ -41,14 +41,14 @@ fn byte_within(high: u8, number: Option<u32>) -> Option<u8>
     }
 }
 
-// A number that is a multiple of 4.
+/// A number that is a multiple of 4.
 fn aligned(number: Option<u32>) -> Option<u32>
     ensures { result ≡ aligned number }
 {
     number.filter(|n| *n % 4 == 0)
 }
 
-// What is set where it was `old`.
+/// What is set where it was `old`.
 fn set_once<T: Copy>(old: Option<T>, new: Option<T>) -> Result<T, Why>
     ensures { result ≡ set_once old new }
 {
@@ -60,7 +60,7 @@ fn set_once<T: Copy>(old: Option<T>, new: Option<T>) -> Result<T, Why>
 }
 
 impl Root {
-    // The first thread of these numbers, where each is in its range.
+    /// The first thread of these numbers, where each is in its range.
     fn of(
         pc: Option<u32>,
         sp: Option<u32>,
@@ -79,7 +79,7 @@ impl Root {
 }
 
 impl Settings {
-    /// Nothing is set.
+    /// No settings.
     pub fn new() -> Settings
         ensures { result ≡ unset }
     {

@@ -76,7 +76,7 @@ impl Keyword {
         }
     }
 
-    // The keyword that a token is.
+    /// The keyword that a token is.
     fn named(text: &[u8]) -> Option<Keyword>
         ensures { result ≡ keyword_named text.now }
     {
@@ -87,7 +87,7 @@ impl Keyword {
     }
 }
 
-// The number of a token, where it has one. One of 2^32 or more is `None`.
+/// The number of a token, where it has one. One of 2^32 or more is `None`.
 fn number_of(text: &[u8]) -> Option<Option<u32>>
     ensures { result ≡ number_of text.now }
 {
@@ -98,7 +98,7 @@ fn number_of(text: &[u8]) -> Option<Option<u32>>
     }
 }
 
-// The form that a token names.
+/// The form that a token names.
 fn form_of(text: &[u8]) -> Option<Form>
     ensures { result ≡ form_of text.now }
 {
@@ -111,7 +111,7 @@ fn form_of(text: &[u8]) -> Option<Form>
     }
 }
 
-// The number that is all that is left of a line.
+/// The number that is all that is left of a line.
 fn one_number(mut line: Line) -> Option<Option<u32>>
     ensures { result ≡ one_number (tokens_left line.entry) }
 {
@@ -122,7 +122,7 @@ fn one_number(mut line: Line) -> Option<Option<u32>>
     }
 }
 
-// The four numbers that are all that is left of a line, as those of the first thread.
+/// The four numbers that are all that is left of a line, as those of the first thread.
 fn four_numbers(mut line: Line) -> Option<Setting>
     ensures { result ≡ four_numbers (tokens_left line.entry) }
 {
@@ -141,7 +141,7 @@ fn four_numbers(mut line: Line) -> Option<Setting>
     }
 }
 
-// The number and the form that are all that is left of a line.
+/// The number and the form that are all that is left of a line.
 fn address_and_form(mut line: Line) -> Option<Head>
     ensures { result ≡ address_and_form (tokens_left line.entry) }
 {
@@ -156,7 +156,7 @@ fn address_and_form(mut line: Line) -> Option<Head>
     }
 }
 
-// What a line says with what is left of it behind its keyword.
+/// What a line says with what is left of it after its keyword.
 fn statement_of(keyword: Keyword, line: Line) -> Option<Statement>
     ensures { result ≡ statement_of (tokens_left line.entry) keyword }
 {
@@ -169,7 +169,7 @@ fn statement_of(keyword: Keyword, line: Line) -> Option<Statement>
     }
 }
 
-// What a line says by its tokens.
+/// What a line says by its tokens.
 fn said_in(mut line: Line) -> Result<Option<Statement>, Why>
     ensures { result ≡ said_in (tokens_left line.entry) }
 {

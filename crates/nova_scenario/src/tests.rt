@@ -1,7 +1,7 @@
 mod lines;
 
-use self::lines::{BYTES, FORMS, LIMITS, NUMBERS, ORDER};
 use crate::Why::{Asm, Missing, Overlap, Range, Repeated, Syntax};
+use crate::tests::lines::{BYTES, FORMS, LIMITS, NUMBERS, ORDER};
 use crate::{Image, Scenario, ScenarioFault, Why, read};
 use nova_text::Span;
 use rv_asm::AsmFault::{BadOperand, NoLabel, OutOfRange, TwiceLabel, UnknownName};
@@ -9,10 +9,10 @@ use std::alloc::{AllocError, Global};
 use std::process::Abort;
 use std::test::Fail;
 
-// The settings of the texts below, on four lines.
+/// The settings of the texts below, on four lines.
 const SETTINGS: &[u8] = b"cpus 1\nram 0\nconsoles 0\nroot 0 0 0 1\n";
 
-// Hex blocks behind the settings.
+/// Hex blocks after the settings.
 const HEX: [(&[u8], u64, Why); 35] = [
     (b"cpus 1", 5, Repeated),
     (b"ram 99", 5, Repeated),
@@ -51,7 +51,7 @@ const HEX: [(&[u8], u64, Why); 35] = [
     (b"image 0 hex\nend\nimage 0 hex", 8, Missing),
 ];
 
-// Images that share bytes.
+/// Images that share bytes.
 const APART: [(&[u8], u64, Why); 8] = [
     (
         b"image 0 hex\n00000000\nend\nimage 0 hex\n00000000\nend",
@@ -95,7 +95,7 @@ const APART: [(&[u8], u64, Why); 8] = [
     ),
 ];
 
-// Asm blocks behind the settings.
+/// Asm blocks after the settings.
 const ASSEMBLED: [(&[u8], u64, Why); 29] = [
     (
         b"image 0 asm\nfoo\nend",
@@ -192,7 +192,7 @@ const ASSEMBLED: [(&[u8], u64, Why); 29] = [
     (b"image 0 asm\nnop\nend\nx", 8, Syntax),
 ];
 
-// The images of scenarios, each with its address and bytes.
+/// The images of scenarios, each with its address and bytes.
 const IMAGES: [(&[u8], &[(u32, &[u8])]); 14] = [
     (b"", &[]),
     (b"\n # \xff", &[]),
@@ -231,17 +231,17 @@ const IMAGES: [(&[u8], &[(u32, &[u8])]); 14] = [
     ),
 ];
 
-// Compares the fault of each text, which stands behind a front.
+/// Compares the fault of each text, which stands after a front.
 fn check_faults(
     rt: &impl Abort,
     alloc: Global,
     front: &[u8],
     rows: &[(&[u8], u64, Why)],
 ) -> Result<(), AllocError> {
-    for (index, (behind, line, why)) in rows.iter().enumerate() {
+    for (index, (after, line, why)) in rows.iter().enumerate() {
         let mut text = Vec::new(alloc);
         text.extend_from_slice(front)?;
-        text.extend_from_slice(behind)?;
+        text.extend_from_slice(after)?;
         let want = ScenarioFault::At {
             line: *line,
             why: *why,
@@ -279,7 +279,7 @@ fn blocks_have_faults(rt: HostRuntime) -> Result<(), Fail> {
     Ok(())
 }
 
-// Compares images with addresses and bytes.
+/// Compares images with addresses and bytes.
 fn check_images(rt: &impl Abort, images: &[Image], wants: &[(u32, &[u8])]) {
     assert_eq!(rt; images.len(), wants.len());
     for (image, (address, bytes)) in images.iter().zip(wants) {
@@ -291,10 +291,10 @@ fn check_images(rt: &impl Abort, images: &[Image], wants: &[(u32, &[u8])]) {
 #[test]
 fn images_hold_words(rt: HostRuntime) -> Result<(), Fail> {
     let alloc = rt.alloc();
-    for (behind, wants) in IMAGES {
+    for (after, wants) in IMAGES {
         let mut text = Vec::new(alloc);
         text.extend_from_slice(SETTINGS)?;
-        text.extend_from_slice(behind)?;
+        text.extend_from_slice(after)?;
         match read(alloc, &text) {
             Ok(scenario) => check_images(&rt, scenario.images.as_slice(), wants),
             Err(fault) => panic!(&rt; "{fault}"),
@@ -303,7 +303,7 @@ fn images_hold_words(rt: HostRuntime) -> Result<(), Fail> {
     Ok(())
 }
 
-// Compares all that a scenario has.
+/// Compares all that a scenario has.
 fn check_scenario(rt: &impl Abort, scenario: &Scenario) {
     assert_eq!(rt; scenario.cpus, 8);
     assert_eq!(rt; scenario.ram, 14);
@@ -331,16 +331,36 @@ fn largest_values_are_read(rt: HostRuntime) -> Result<(), Fail> {
     Ok(())
 }
 
+/// How an image of a MiB begins, and each of its lines.
+const LARGE: [(&[u8], &[u8]); 2] = [
+    (b"image 0 hex\n", b"00000013\n"),
+    (b"image 0 asm\n", b"nop\n"),
+];
+
+/// A scenario whose image has 262,144 times the same line.
+fn large_text(alloc: Global, head: &[u8], line: &[u8]) -> Result<Vec<u8>, AllocError> {
+    let mut text = Vec::new(alloc);
+    text.extend_from_slice(b"cpus 1\nram 8\nconsoles 0\nroot 0 0 0 1\n")?;
+    text.extend_from_slice(head)?;
+    for _ in 0..262_144 {
+        text.extend_from_slice(line)?;
+    }
+    text.extend_from_slice(b"end")?;
+    Ok(text)
+}
+
 #[test]
-fn faults_are_named(rt: HostRuntime) -> Result<(), Fail> {
-    let span = Span { start: 1, end: 2 };
-    let fault = ScenarioFault::At {
-        line: 7,
-        why: Asm(NoLabel(span)),
-    };
-    let text = format!(in rt.alloc(); "{fault}")?;
-    assert_eq!(rt; text.as_str(), "line 7: NoLabel");
-    let text = format!(in rt.alloc(); "{}", ScenarioFault::Memory)?;
-    assert_eq!(rt; text.as_str(), "out of memory");
+fn large_images_are_read(rt: HostRuntime) -> Result<(), Fail> {
+    let alloc = rt.alloc();
+    for (head, line) in LARGE {
+        let text = large_text(alloc, head, line)?;
+        match read(alloc, &text) {
+            Ok(scenario) => match scenario.images.as_slice() {
+                [image] => assert_eq!(rt; image.bytes.as_slice().len(), 0x10_0000),
+                _ => panic!(&rt; "another count of images"),
+            },
+            Err(fault) => panic!(&rt; "{fault}"),
+        }
+    }
     Ok(())
 }

@@ -49,39 +49,39 @@ pub rows-none : (number start : ℕ) (bs : List ℕ) → bs ≡ [] → rows_from
 unfolding line_texts
 rows-none number start bs none = rw none refl
 
--- the lines of a text are a first one and those behind it
+-- the lines of a text are a first one and those after it
 abbrev pub BeginsWithLine : ℕ → ℕ → List ℕ → List ℕ → List ℕ → Type 0
-BeginsWithLine number start bs text behind =
-    rows_from number start (line_texts bs) ≡ record { number = number; start = start; text = text } ∷ rows_from (number + 1) (start + (length bs - length behind)) (line_texts behind)
+BeginsWithLine number start bs text after =
+    rows_from number start (line_texts bs) ≡ record { number = number; start = start; text = text } ∷ rows_from (number + 1) (start + (length bs - length after)) (line_texts after)
 
-module _ (number start b : ℕ) (bs text behind : List ℕ) (is_text : text ≡ before_first is_line_feed (b ∷ bs)) (is_behind : behind ≡ after_first is_line_feed (b ∷ bs)) where
-  rows-first_feed : position_or_len is_line_feed (b ∷ bs) < length (b ∷ bs) → BeginsWithLine number start (b ∷ bs) text behind
+module _ (number start b : ℕ) (bs text after : List ℕ) (is_text : text ≡ before_first is_line_feed (b ∷ bs)) (is_after : after ≡ after_first is_line_feed (b ∷ bs)) where
+  rows-first_feed : position_or_len is_line_feed (b ∷ bs) < length (b ∷ bs) → BeginsWithLine number start (b ∷ bs) text after
   rows-first_feed feed =
       let n = position_or_len is_line_feed (b ∷ bs) in
       let from_text = sym is_text in
-      let from_behind = sym is_behind in
+      let from_after = sym is_after in
       let text_len : length (before_first is_line_feed (b ∷ bs)) ≡ n = length-take-le n (b ∷ bs) (omega arith) in
-      let behind_len : length behind ≡ length (b ∷ bs) - (n + 1) = ap length is_behind ∙ length-drop (n + 1) (b ∷ bs) in
-      let place : start + length (before_first is_line_feed (b ∷ bs)) + 1 ≡ start + (length (b ∷ bs) - length behind) = omega arith in
+      let after_len : length after ≡ length (b ∷ bs) - (n + 1) = ap length is_after ∙ length-drop (n + 1) (b ∷ bs) in
+      let place : start + length (before_first is_line_feed (b ∷ bs)) + 1 ≡ start + (length (b ∷ bs) - length after) = omega arith in
       ap (rows_from number start) (line_texts-feed (b ∷ bs) feed)
-      ∙ (λ i. record { number = number; start = start; text = from_text i } ∷ rows_from (number + 1) (place i) (line_texts (from_behind i)))
+      ∙ (λ i. record { number = number; start = start; text = from_text i } ∷ rows_from (number + 1) (place i) (line_texts (from_after i)))
 
-  rows-first_end : length (b ∷ bs) ≤ position_or_len is_line_feed (b ∷ bs) → BeginsWithLine number start (b ∷ bs) text behind
+  rows-first_end : length (b ∷ bs) ≤ position_or_len is_line_feed (b ∷ bs) → BeginsWithLine number start (b ∷ bs) text after
   rows-first_end beyond =
       let n = position_or_len is_line_feed (b ∷ bs) in
       let n_is : n ≡ length (b ∷ bs) = omega (arith, prefix_len-le-length (λ x. not (is_line_feed x)) (b ∷ bs)) in
       let all : text ≡ b ∷ bs = is_text ∙ ap (λ k. take k (b ∷ bs)) n_is ∙ take-length (b ∷ bs) in
-      let none : behind ≡ [] = is_behind ∙ drop_all (n + 1) (b ∷ bs) (omega arith) in
+      let none : after ≡ [] = is_after ∙ drop_all (n + 1) (b ∷ bs) (omega arith) in
       let from_all = sym all in
-      let from_none = sym (rows-none (number + 1) (start + (length (b ∷ bs) - length behind)) behind none) in
+      let from_none = sym (rows-none (number + 1) (start + (length (b ∷ bs) - length after)) after none) in
       ap (rows_from number start) (line_texts-end b bs beyond)
       ∙ (λ i. record { number = number; start = start; text = from_all i } ∷ from_none i)
 
 -- the first line ends at the first line feed, or is the whole text
-pub rows-first : (number start : ℕ) (bs text behind : List ℕ) → 0 < length bs → text ≡ before_first is_line_feed bs → behind ≡ after_first is_line_feed bs → BeginsWithLine number start bs text behind
-rows-first number start [] text behind some is_text is_behind = absurd (omega arith)
-rows-first number start (b ∷ bs) text behind some is_text is_behind =
+pub rows-first : (number start : ℕ) (bs text after : List ℕ) → 0 < length bs → text ≡ before_first is_line_feed bs → after ≡ after_first is_line_feed bs → BeginsWithLine number start bs text after
+rows-first number start [] text after some is_text is_after = absurd (omega arith)
+rows-first number start (b ∷ bs) text after some is_text is_after =
     ⊎_elim
-    (rows-first_feed number start b bs text behind is_text is_behind)
-    (rows-first_end number start b bs text behind is_text is_behind)
+    (rows-first_feed number start b bs text after is_text is_after)
+    (rows-first_end number start b bs text after is_text is_after)
     (order (position_or_len is_line_feed (b ∷ bs)) (length (b ∷ bs)))

@@ -9,7 +9,7 @@ use Rattle.nova_text.specs.Line.{piece_of_row, last_line, lines_of_parts, line_t
 use Rattle.nova_text.specs.Token.{tokens}
 use Rattle.nova_text.specs.Piece.{Piece, piece_at, pieces_from, IsSliceOf, AreSlicesBetween}
 
--- a part stands in a text at a place, between what is in front of it and what is behind it
+-- a part stands in a text at a place, between what is in front of it and what is after it
 pub record StandsAt (bytes : List ℕ) (at : ℕ) (part : List ℕ) : Type 0 where
   pub front : List ℕ
   pub back : List ℕ
@@ -22,9 +22,9 @@ slice_of front part back = record {
   ordered = omega arith;
   within = omega (arith, length-append front (part ++ back), length-append part back);
   same =
-      let behind : drop (length front) (front ++ (part ++ back)) ≡ part ++ back = drop-append_seam front (part ++ back) in
+      let after : drop (length front) (front ++ (part ++ back)) ≡ part ++ back = drop-append_seam front (part ++ back) in
       let len : length front + length part - length front ≡ length part = omega arith in
-      sym ((λ i. take (len i) (behind i)) ∙ take-append_seam part back);
+      sym ((λ i. take (len i) (after i)) ∙ take-append_seam part back);
 }
 
 pub slice-stands : (bytes : List ℕ) (at : ℕ) (part : List ℕ) → StandsAt bytes at part → IsSliceOf bytes (piece_at at part)
@@ -61,8 +61,8 @@ stands-first bytes at part more stands = record {
   place = stands.place;
 }
 
-pub stands-behind : (bytes : List ℕ) (at : ℕ) (part : List ℕ) (c : ℕ) (more : List ℕ) → StandsAt bytes at (part ++ c ∷ more) → StandsAt bytes (at + length part + 1) more
-stands-behind bytes at part c more stands = record {
+pub stands-after : (bytes : List ℕ) (at : ℕ) (part : List ℕ) (c : ℕ) (more : List ℕ) → StandsAt bytes at (part ++ c ∷ more) → StandsAt bytes (at + length part + 1) more
+stands-after bytes at part c more stands = record {
   front = stands.front ++ (part ++ c ∷ []);
   back = stands.back;
   is = stands.is ∙ ap (λ bs. stands.front ++ bs) (append_assoc part (c ∷ more) stands.back ∙ sym (append_assoc part (c ∷ []) (more ++ stands.back))) ∙ sym (append_assoc stands.front (part ++ c ∷ []) (more ++ stands.back));
@@ -107,8 +107,8 @@ slices-parts bytes at text (part ∷ next ∷ parts) stands are =
     let P : List ℕ → Type 0 = λ t. StandsAt bytes at t in
     let here = subst P are.2 stands in
     let len = ap length are.2 ∙ length-append part (are.0 ∷ are.1) in
-    let behind = slices-parts bytes (at + length part + 1) are.1 (next ∷ parts) (stands-behind bytes at part are.0 are.1 here) are.3 in
-    (omega arith, slice-stands bytes at part (stands-first bytes at part (are.0 ∷ are.1) here), slices-wider bytes (at + length part + 1) (at + length part) _ (at + length text) (pieces_from (at + length part + 1) (next ∷ parts)) (omega arith) (omega arith) behind)
+    let after = slices-parts bytes (at + length part + 1) are.1 (next ∷ parts) (stands-after bytes at part are.0 are.1 here) are.3 in
+    (omega arith, slice-stands bytes at part (stands-first bytes at part (are.0 ∷ are.1) here), slices-wider bytes (at + length part + 1) (at + length part) _ (at + length text) (pieces_from (at + length part + 1) (next ∷ parts)) (omega arith) (omega arith) after)
 
 pub slices-slice_split : (p : ℕ → Bool) (bytes : List ℕ) (at : ℕ) (text : List ℕ) → StandsAt bytes at text → AreSlicesBetween bytes at (at + length text) (pieces_from at (slice_split p text))
 slices-slice_split p bytes at text stands = slices-parts bytes at text (slice_split p text) stands (parts-slice_split p text)

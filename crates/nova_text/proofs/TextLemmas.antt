@@ -92,9 +92,9 @@ unfolding line_texts
 written-line_texts bytes = written-slice_split bytes
 
 -- what was written so is read back
-line_texts-behind : (line bytes : List ℕ) → is_one_line line ≡ true → line_texts (line ++ 10 ∷ bytes) ≡ line ∷ line_texts bytes
+line_texts-after : (line bytes : List ℕ) → is_one_line line ≡ true → line_texts (line ++ 10 ∷ bytes) ≡ line ∷ line_texts bytes
 unfolding line_texts
-line_texts-behind line bytes is =
+line_texts-after line bytes is =
     ap lines_of_parts (slice_split_at is_line_feed line 10 bytes (no_feed line is) refl) ∙ lines_of_parts-cons line (slice_split is_line_feed bytes) (parts bytes)
   where
     no_feed : (bs : List ℕ) → is_one_line bs ≡ true → All (λ b. is_line_feed b ≡ false) bs
@@ -106,5 +106,5 @@ unfolding line_texts
 line_texts-written [] all = refl
 line_texts-written (text ∷ texts) all =
     ap line_texts (append_assoc text (10 ∷ []) (flat_map with_line_feed texts))
-    ∙ line_texts-behind text (flat_map with_line_feed texts) (grind arith)
+    ∙ line_texts-after text (flat_map with_line_feed texts) (grind arith)
     ∙ ap (λ others. text ∷ others) (line_texts-written texts (grind arith))

@@ -26,11 +26,11 @@ module _ (b : ℕ) (bs : List ℕ) where
   parts-other : is_comment_sign b ≡ false → is_separator b ≡ false → parts (b ∷ bs) ≡ onto_first b (parts bs)
   parts-other not_comment not_separator = ap (slice_split is_separator) (before_first-later is_comment_sign b bs not_comment) ∙ slice_split-cons_no is_separator b (before_comment bs) not_separator
 
--- the first part ends where a token ends, and the others are those behind it
+-- the first part ends where a token ends, and the others are those after it
 record FirstPart (bs : List ℕ) : Type 0 where
   others : List (List ℕ)
   parts_are : parts bs ≡ take (position_or_len ends_token bs) bs ∷ others
-  behind : (at : ℕ) → tokens_of_parts at (parts (drop (position_or_len ends_token bs) bs)) ≡ tokens_of_parts (at + 1) others
+  after : (at : ℕ) → tokens_of_parts at (parts (drop (position_or_len ends_token bs) bs)) ≡ tokens_of_parts (at + 1) others
 
 first_part-cons : (b : ℕ) (bs : List ℕ) (s c : Bool) → is_separator b ≡ s → is_comment_sign b ≡ c → FirstPart bs → FirstPart (b ∷ bs)
 first_part-cons b bs s true is_s is_c tail =
@@ -39,7 +39,7 @@ first_part-cons b bs s true is_s is_c tail =
     record {
       others = [];
       parts_are = here ∙ ap (λ n. take n (b ∷ bs) ∷ []) (sym zero_len);
-      behind = λ at. ap (λ n. tokens_of_parts at (parts (drop n (b ∷ bs)))) zero_len ∙ ap (tokens_of_parts at) here;
+      after = λ at. ap (λ n. tokens_of_parts at (parts (drop n (b ∷ bs)))) zero_len ∙ ap (tokens_of_parts at) here;
     }
 first_part-cons b bs true false is_s is_c tail =
     let zero_len = position_or_len-here ends_token b bs (grind arith) in
@@ -47,18 +47,18 @@ first_part-cons b bs true false is_s is_c tail =
     record {
       others = parts bs;
       parts_are = here ∙ ap (λ n. take n (b ∷ bs) ∷ parts bs) (sym zero_len);
-      behind = λ at. ap (λ n. tokens_of_parts at (parts (drop n (b ∷ bs)))) zero_len ∙ ap (tokens_of_parts at) here ∙ ap (λ k. tokens_of_parts k (parts bs)) (let e : at + 0 + 1 ≡ at + 1 = omega arith in e);
+      after = λ at. ap (λ n. tokens_of_parts at (parts (drop n (b ∷ bs)))) zero_len ∙ ap (tokens_of_parts at) here ∙ ap (λ k. tokens_of_parts k (parts bs)) (let e : at + 0 + 1 ≡ at + 1 = omega arith in e);
     }
 first_part-cons b bs false false is_s is_c tail =
     let more = position_or_len-later ends_token b bs (grind arith) in
     record {
       others = tail.others;
       parts_are = parts-other b bs is_c is_s ∙ ap (onto_first b) tail.parts_are ∙ ap (λ n. take n (b ∷ bs) ∷ tail.others) (sym more);
-      behind = λ at. ap (λ n. tokens_of_parts at (parts (drop n (b ∷ bs)))) more ∙ tail.behind at;
+      after = λ at. ap (λ n. tokens_of_parts at (parts (drop n (b ∷ bs)))) more ∙ tail.after at;
     }
 
 first_part : (bs : List ℕ) → FirstPart bs
-first_part [] = record { others = []; parts_are = refl; behind = λ at. refl }
+first_part [] = record { others = []; parts_are = refl; after = λ at. refl }
 first_part (b ∷ bs) = first_part-cons b bs (is_separator b) (is_comment_sign b) refl refl (first_part bs)
 
 -- ts are what follows in a line from the place at on, where no separator stands in front
@@ -77,7 +77,7 @@ begins-other at b bs is_s is_c =
     let n = position_or_len ends_token bs in
     let len : length (take n bs) ≡ n = length-prefix_len (λ x. not (ends_token x)) bs in
     let parts_are = parts-other b bs is_c is_s ∙ ap (onto_first b) tail.parts_are in
-    let next : tokens_of_parts (at + suc (length (take n bs)) + 1) tail.others ≡ tokens_of_parts (at + suc n) (parts (drop n bs)) = ap (λ k. tokens_of_parts (at + suc k + 1) tail.others) len ∙ sym (tail.behind (at + suc n)) in
+    let next : tokens_of_parts (at + suc (length (take n bs)) + 1) tail.others ≡ tokens_of_parts (at + suc n) (parts (drop n bs)) = ap (λ k. tokens_of_parts (at + suc k + 1) tail.others) len ∙ sym (tail.after (at + suc n)) in
     record {
       none = λ zero_len. absurd (omega arith);
       some = λ _. ap (tokens_of_parts at) parts_are ∙ (λ i. record { text = b ∷ take n bs; span = record { start = at; end = at + suc (len i) } } ∷ next i) ∙ ap (λ k. record { text = take k (b ∷ bs); span = record { start = at; end = at + k } } ∷ tokens_of_parts (at + k) (parts (drop k (b ∷ bs)))) (sym more);
@@ -92,16 +92,16 @@ begins-here : (at b : ℕ) (bs : List ℕ) → is_separator b ≡ false → (c :
 begins-here at b bs is_s true is_c = begins-comment at b bs is_c
 begins-here at b bs is_s false is_c = begins-other at b bs is_s is_c
 
--- behind the separators in front
+-- after the separators in front
 begins-cons : (b : ℕ) (bs : List ℕ) (s c : Bool) → is_separator b ≡ s → is_comment_sign b ≡ c → ((at : ℕ) → BeginsWithToken (at + gap bs) (drop (gap bs) bs) (tokens_of_parts at (parts bs))) → (at : ℕ) → BeginsWithToken (at + gap (b ∷ bs)) (drop (gap (b ∷ bs)) (b ∷ bs)) (tokens_of_parts at (parts (b ∷ bs)))
 begins-cons b bs true true is_s is_c tail at = absurd (grind arith)
 begins-cons b bs true false is_s is_c tail at =
     let more : gap (b ∷ bs) ≡ suc (gap bs) = position_or_len-later (λ x. not (is_separator x)) b bs (grind arith) in
-    let behind = parts-separator b bs is_c is_s in
+    let after = parts-separator b bs is_c is_s in
     let place : at + 1 + gap bs ≡ at + suc (gap bs) = omega arith in
     let next : at + 1 ≡ at + 0 + 1 = omega arith in
     let from_next = subst (λ k. BeginsWithToken (at + 1 + gap bs) (drop (gap bs) bs) (tokens_of_parts k (parts bs))) next (tail (at + 1)) in
-    rw (more, behind) (subst (λ k. BeginsWithToken k (drop (gap bs) bs) (tokens_of_parts (at + 0 + 1) (parts bs))) place from_next)
+    rw (more, after) (subst (λ k. BeginsWithToken k (drop (gap bs) bs) (tokens_of_parts (at + 0 + 1) (parts bs))) place from_next)
 begins-cons b bs false c is_s is_c tail at =
     let here : gap (b ∷ bs) ≡ 0 = position_or_len-here (λ x. not (is_separator x)) b bs (grind arith) in
     let place : at ≡ at + 0 = omega arith in
@@ -124,11 +124,11 @@ module _ (at g n : ℕ) (line rest : List ℕ) (is_g : g ≡ gap line) (is_rest 
   unfolding tokens
   tokens-none zero_len = at_cut.none (sym is_n ∙ zero_len)
 
-  pub tokens-first : (text behind : List ℕ) → 0 < n → text ≡ take n rest → behind ≡ drop n rest → tokens at line ≡ record { text = text; span = record { start = at + g; end = at + g + n } } ∷ tokens (at + g + n) behind
+  pub tokens-first : (text after : List ℕ) → 0 < n → text ≡ take n rest → after ≡ drop n rest → tokens at line ≡ record { text = text; span = record { start = at + g; end = at + g + n } } ∷ tokens (at + g + n) after
   unfolding tokens
-  tokens-first text behind more is_text is_behind =
+  tokens-first text after more is_text is_after =
       let from_text = sym is_text in
-      let from_behind = sym is_behind in
+      let from_after = sym is_after in
       at_cut.some (omega arith)
       ∙ ap (λ k. record { text = take k rest; span = record { start = at + g; end = at + g + k } } ∷ tokens_of_parts (at + g + k) (parts (drop k rest))) (sym is_n)
-      ∙ (λ i. record { text = from_text i; span = record { start = at + g; end = at + g + n } } ∷ tokens_of_parts (at + g + n) (parts (from_behind i)))
+      ∙ (λ i. record { text = from_text i; span = record { start = at + g; end = at + g + n } } ∷ tokens_of_parts (at + g + n) (parts (from_after i)))

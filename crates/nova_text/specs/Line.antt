@@ -17,7 +17,7 @@ row_of line = record { number = line.number; start = line.start; text = line.tex
 abbrev pub piece_of_row : Row → Piece
 piece_of_row row = piece_at row.start row.text
 
--- each part before a line feed is a line, and what stands behind the last line feed is one if it has a byte
+-- each part before a line feed is a line, and what stands after the last line feed is one if it has a byte
 abbrev pub last_line : List ℕ → List (List ℕ)
 last_line [] = []
 last_line (b ∷ bs) = (b ∷ bs) ∷ []
@@ -31,7 +31,7 @@ lines_of_parts (part ∷ next ∷ parts) = part ∷ lines_of_parts (next ∷ par
 unfoldable pub line_texts : List ℕ → List (List ℕ)
 line_texts bytes = lines_of_parts (slice_split is_line_feed bytes)
 
--- lines one below another from a number and a place on, each with a line feed behind it
+-- lines one below another from a number and a place on, each with a line feed after it
 abbrev pub rows_from : ℕ → ℕ → List (List ℕ) → List Row
 rows_from number start [] = []
 rows_from number start (text ∷ texts) =

@@ -17,7 +17,7 @@ is_numeral radix digits = nat_lt 0 (length digits) && list_all (λ c. is_digit c
 abbrev pub numeral : ℕ → List ℕ → Option ℕ
 numeral radix digits = if is_numeral radix digits then Some (digits_value radix digits) else None
 
--- the number that a token writes: in hexadecimal digits behind `0x`, or in decimal digits
+-- the number that a token writes: in hexadecimal digits after `0x`, or in decimal digits
 unfoldable pub number : List ℕ → Option ℕ
 number token = if starts_with nat_eq token (codes "0x") then numeral 16 (drop 2 token) else numeral 10 token
 

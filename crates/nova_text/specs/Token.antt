@@ -22,7 +22,7 @@ texts_of pieces = map (λ piece. piece.text) pieces
 abbrev pub tokens_left : Line → List Piece
 tokens_left line = tokens line.start line.text.now
 
--- what is left of a line behind the token that was taken off it, or the line as it was where none was
-abbrev pub row_behind : Option Piece → Row → Row
-row_behind None row = row
-row_behind (Some piece) row = record row { start = piece.span.end; text = drop (piece.span.end - row.start) row.text }
+-- what is left of a line after the token that was taken off it, or the line as it was where none was
+abbrev pub row_after : Option Piece → Row → Row
+row_after None row = row
+row_after (Some piece) row = record row { start = piece.span.end; text = drop (piece.span.end - row.start) row.text }

@@ -21,7 +21,7 @@ pub fn before_comment(line: &[u8]) -> &[u8]
     before
 }
 
-// Whether a byte may stand before a comment.
+/// Whether a byte may stand before a comment.
 fn is_allowed(byte: u8) -> bool
     ensures { result ≡ is_allowed byte }
 {
@@ -36,19 +36,19 @@ pub fn has_forbidden(line: &[u8]) -> bool
     before_comment(line).iter().any(|&byte| !is_allowed(byte))
 }
 
-// The bytes before the first line feed and those behind it; all and none where there is no line feed.
+/// The bytes before the first line feed and those after it; all and none where there is no line feed.
 pub(crate) fn split_line(bytes: &[u8]) -> (&[u8], &[u8])
     ensures line { result.0.now ≡ before_first is_line_feed bytes.now }
-    ensures behind { result.1.now ≡ after_first is_line_feed bytes.now }
+    ensures after { result.1.now ≡ after_first is_line_feed bytes.now }
 {
-    let (line, behind) = bytes.split_at(line_len(bytes));
-    match behind {
+    let (line, after) = bytes.split_at(line_len(bytes));
+    match after {
         [_, rest @ ..] => (line, rest),
-        [] => (line, behind),
+        [] => (line, after),
     }
 }
 
-// How many bytes stand before the first line feed, or all where there is none.
+/// How many bytes stand before the first line feed, or all where there is none.
 fn line_len(bytes: &[u8]) -> usize
     ensures len { result ≡ position_or_len is_line_feed bytes.now }
     ensures within { result ≤ length bytes.now }
@@ -59,7 +59,7 @@ fn line_len(bytes: &[u8]) -> usize
         .unwrap_or(bytes.len())
 }
 
-// How many separators stand in front.
+/// How many separators stand in front.
 pub(crate) fn gap_len(bytes: &[u8]) -> usize
     ensures len { result ≡ position_or_len (λ b. not (is_separator b)) bytes.now }
     ensures within { result ≤ length bytes.now }
@@ -70,7 +70,7 @@ pub(crate) fn gap_len(bytes: &[u8]) -> usize
         .unwrap_or(bytes.len())
 }
 
-// How many bytes stand in front before the token that they are of ends.
+/// How many bytes stand in front before the token that they are of ends.
 pub(crate) fn token_len(bytes: &[u8]) -> usize
     ensures len { result ≡ position_or_len ends_token bytes.now }
     ensures within { result ≤ length bytes.now }

@@ -21,7 +21,7 @@ pub fn tokens_are_slices()
         → AreSlicesBetween bytes row.start (row.start + length row.text) (tokens row.start row.text) }
 {}
 
-/// The lines with a line feed behind each are the text, with a line feed at its end unless it is empty.
+/// The lines with a line feed after each are the text, with a line feed at its end unless it is empty.
 /// Lines that are written so are read back as they were.
 pub fn lines_make_the_text()
     ensures written { (bytes : List ℕ) → flat_map with_line_feed (line_texts bytes) ≡ ended_text bytes }

@@ -1,6 +1,6 @@
 //! The lines of a text, the tokens of a line and the number of a token, read in place.
 //!
-//! A line ends at a line feed, and bytes behind the last line feed are a line too. In a line a comment runs from `#` to the end and
+//! A line ends at a line feed, and bytes after the last line feed are a line too. In a line a comment runs from `#` to the end and
 //! may hold any bytes. Before it, space, tab and carriage return stand between tokens. A number is decimal digits, or `0x` and
 //! hexadecimal digits of either case.
 #![tactic(auto)]

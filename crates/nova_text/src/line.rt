@@ -3,7 +3,7 @@ ghost use Rattle.std.specs.Prelude.{◌≡◌, ◌+◌, ◌≤◌, ◌<◌, ◌^
 use crate::bytes::{gap_len, token_len};
 use crate::span::Span;
 
-/// A line of a text without its line feed, or what is left of it behind the tokens that were taken.
+/// A line of a text without its line feed, or what is left of it after the tokens that were taken.
 #[derive(Clone, Copy, Debug, PartialEq, Eq)]
 pub struct Line<'a> {
     /// Its number in the text, from 1.
@@ -39,14 +39,14 @@ impl<'a> Line<'a> {
     ghost use Rattle.std.specs.Iterator.{YieldsFirstBy};
     ghost use Rattle.std.specs.Prelude.{option_map};
     ghost use Rattle.nova_text.specs.Line.{row_of};
-    ghost use Rattle.nova_text.specs.Token.{piece_of, tokens_left, row_behind};
+    ghost use Rattle.nova_text.specs.Token.{piece_of, tokens_left, row_after};
 
     /// Takes the next token off the front of the line, with the separators before it.
     ///
     /// `None` comes exactly where no token is left before the comment, and the line then stays as it was.
     pub fn next_token(&mut self) -> Option<Token<'a>>
         ensures tokens { YieldsFirstBy piece_of tokens_left self.old result self.new }
-        ensures behind { row_of self.new ≡ row_behind (option_map piece_of result) (row_of self.old) }
+        ensures after { row_of self.new ≡ row_after (option_map piece_of result) (row_of self.old) }
     {
         let gap = gap_len(self.text);
         let (_, rest) = self.text.split_at(gap);
@@ -54,11 +54,11 @@ impl<'a> Line<'a> {
         if len == 0 {
             return None;
         }
-        let (text, behind) = rest.split_at(len);
+        let (text, after) = rest.split_at(len);
         let start = self.start + gap as u64;
         let end = start + len as u64;
         self.start = end;
-        self.text = behind;
+        self.text = after;
         Some(Token {
             text,
             span: Span { start, end },

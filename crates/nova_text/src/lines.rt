@@ -55,15 +55,15 @@ impl<'a> Iterator for Lines<'a> {
         if self.rest.is_empty() {
             return None;
         }
-        let (text, behind) = split_line(self.rest);
+        let (text, after) = split_line(self.rest);
         let line = Line {
             number: self.number,
             start: self.start,
             text,
         };
         self.number += 1;
-        self.start += (self.rest.len() - behind.len()) as u64;
-        self.rest = behind;
+        self.start += (self.rest.len() - after.len()) as u64;
+        self.rest = after;
         Some(line)
     }
 }

@@ -1,4 +1,4 @@
-ghost use Rattle.std.specs.Prelude.{◌≡◌, ◌≤◌};
+ghost use Rattle.std.specs.Prelude.{◌≡◌, ◌≤◌, Some};
 ghost use Rattle.nova_text.specs.Number.{number, numeral, is_numeral, u32_of, at_span};
 
 use crate::span::Span;
@@ -30,6 +30,10 @@ impl NumberError {
 }
 
 impl fmt::Display for NumberError {
+    ghost use Rattle.nova_text.specs.Printed.{error_text};
+
+    ghost output = { λ error. Some (error_text error) };
+
     fn fmt<W: fmt::Write>(&self, f: &mut fmt::Formatter<W>) -> fmt::Result {
         f.write_str(match self {
             NumberError::Malformed => "not a number",
@@ -51,6 +55,10 @@ pub enum NumberFault {
 }
 
 impl fmt::Display for NumberFault {
+    ghost use Rattle.nova_text.specs.Printed.{fault_text};
+
+    ghost output = { λ fault. Some (fault_text fault) };
+
     fn fmt<W: fmt::Write>(&self, f: &mut fmt::Formatter<W>) -> fmt::Result {
         match self {
             NumberFault::BadToken(span) => write!(f, "not a number at {span}"),
@@ -61,7 +69,7 @@ impl fmt::Display for NumberFault {
 
 impl Error for NumberFault {}
 
-// One or more digits, and nothing else.
+/// One or more digits, and nothing else.
 fn is_numeral(digits: &[u8], radix: u32) -> bool
     requires lower_bound { 2 ≤ radix }
     requires upper_bound { radix ≤ 36 }

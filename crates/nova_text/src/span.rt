@@ -1,3 +1,5 @@
+ghost use Rattle.std.specs.Prelude.{Some};
+
 use std::fmt;
 
 /// A part of a text by the places of its bytes, counted from 0: from `start` up to but not including `end`.
@@ -8,6 +10,10 @@ pub struct Span {
 }
 
 impl fmt::Display for Span {
+    ghost use Rattle.nova_text.specs.Printed.{span_text};
+
+    ghost output = { λ span. Some (span_text span) };
+
     fn fmt<W: fmt::Write>(&self, f: &mut fmt::Formatter<W>) -> fmt::Result {
         let start = self.start;
         let end = self.end;

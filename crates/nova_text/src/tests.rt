@@ -4,9 +4,8 @@ use crate::{
     Line, Lines, NumberError, NumberFault, Span, has_forbidden, parse_number, read_number,
 };
 use std::process::Abort;
-use std::test::Fail;
 
-// Takes the lines of `text`, and compares each with a number, a place and bytes.
+/// Takes the lines of `text`, and compares each with a number, a place and bytes.
 fn check_lines(rt: &impl Abort, text: &[u8], wants: &[(u64, u64, &[u8])]) {
     let mut lines = Lines::new(text);
     for want in wants {
@@ -37,7 +36,7 @@ fn lines_end_at_line_feeds(rt: HostRuntime) {
     );
 }
 
-// Takes the tokens of a line that begins at place 100, and compares each with bytes and places.
+/// Takes the tokens of a line that begins at place 100, and compares each with bytes and places.
 fn check_tokens(rt: &impl Abort, text: &[u8], wants: &[(&[u8], u64, u64)])
     requires { length text.now < 1000 }
 {
@@ -106,7 +105,7 @@ fn numbers_are_decimal_or_hexadecimal(rt: HostRuntime) {
 }
 
 #[test]
-fn faults_name_the_place(rt: HostRuntime) -> Result<(), Fail> {
+fn faults_name_the_place(rt: HostRuntime) {
     let span = Span { start: 7, end: 9 };
     assert_eq!(rt; read_number(b"10", span), Ok(10));
     assert_eq!(rt; read_number(b"0x", span), Err(NumberFault::BadToken(span)));
@@ -114,11 +113,6 @@ fn faults_name_the_place(rt: HostRuntime) -> Result<(), Fail> {
         read_number(b"5000000000", span),
         Err(NumberFault::TooLarge(span))
     );
-    let text = format!(in rt.alloc(); "{}", NumberFault::BadToken(span))?;
-    assert_eq!(rt; text.as_str(), "not a number at 7..9");
-    let text = format!(in rt.alloc(); "{}", NumberError::TooLarge)?;
-    assert_eq!(rt; text.as_str(), "a number of 2^32 or more");
-    Ok(())
 }
 
 #[test]

@@ -38,10 +38,10 @@ completes gave files command name old new read write before after Done h s = inl
 completes gave files command name old new read write before after Limit h s = inr (inl refl)
 completes gave files command name old new read write before after Memory h s = inr (inr refl)
 completes gave files command name old new read write before after Usage h s = absurd h
-completes gave files command name old new read write before after ReadFault h s = absurd (s.read h.0)
+completes gave files command name old new read write before after ReadFault h s = absurd (s.read h)
 completes gave files command name old new read write before after (Scenario line TooLong) h s =
     absurd (not_too_many files s.held name s.bytes s.told s.there s.fits h.1.1)
 completes gave files command name old new read write before after (Scenario line (Text why)) h s =
-    let same = same_bytes files s.held name s.bytes h.0 s.told s.there h.1.1 in
-    absurd (no_fault (scenario s.bytes) _ s.valid (ap scenario same ∙ h.2.0))
+    let same = same_bytes files s.held name s.bytes h.0 s.told s.there h.1.held in
+    absurd (no_fault (scenario s.bytes) _ s.valid (ap scenario same ∙ h.2))
 completes gave files command name old new read write before after WriteFault h s = absurd (s.written h.2.1)

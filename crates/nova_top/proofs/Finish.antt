@@ -1,29 +1,47 @@
 -- What a round robin left is the run.
-use Rattle.std.proofs.Common.{◌≡◌, ℕ, ◌≤◌, List, [], ◌∷◌, length, refl, ap, ap₂, sym, ◌∙◌, arith}
-use Rattle.std.specs.Prelude.{Bool, false}
+use Rattle.std.proofs.Common.{◌≡◌, ℕ, List, [], ◌∷◌, length, inl, inr, refl, subst}
+use Rattle.std.specs.Prelude.{Bool, true, false, ◌⊎◌, Result, Ok, Err, IfOk}
 use Rattle.nova_model.specs.State.{KernelState}
 use Rattle.nova_model.specs.Boot.{Scenario, Image, boot, with_image, with_images}
 use Rattle.nova_model.specs.Choice.{is_quiet}
-use Rattle.nova_model.specs.Runs.{rounds}
-use Rattle.nova_model.specs.declared.event.Event.{Event}
-use Rattle.nova_kernel.specs.Views.{KernelView}
-use Rattle.nova_report.specs.Report.{report}
-use Rattle.nova_top.specs.Rounds.{Passed}
-use Rattle.nova_top.specs.Outcome.{ran}
-use Rattle.nova_top.specs.Prepared.{shown}
+use Rattle.nova_model.specs.Forest.{IsForest}
+use Rattle.nova_model.specs.Runs.{run, rounds}
+use Rattle.nova_laws.specs.Orders.{IsRunOut}
+use Rattle.nova_top.specs.Outcome.{IsRun}
+use Rattle.nova_top.specs.Prepared.{IsReportOf}
 use Rattle.nova_top.specs.declared.outcome.Outcome.{Outcome}
-use Rattle.nova_top.proofs.Ends.{rounds-used}
 
-pub ran_from : (old new : KernelView) (events : List Event) (most : ℕ) (o : Outcome) → Passed old [] most (rounds old.state most) new events →
-    o.text.items ≡ report new.state events → o.is_complete ≡ is_quiet new.state → shown o ≡ ran old.state most
-unfolding ran
-ran_from old new events most o p text quiet = cc (text ∙ ap₂ report p.kernel p.events, quiet ∙ ap is_quiet p.kernel)
+spent_by : (k : KernelState) (order : List ℕ) (most : ℕ) (complete : Bool) → complete ≡ is_quiet (run k order) →
+    (is_quiet (run k order) ≡ true) ⊎ (length order ≡ most) → complete ≡ false → length order ≡ most
+spent_by k order most complete quiet (inl ended) open_ = absurd (cc)
+spent_by k order most complete quiet (inr ended) open_ = ended
 
-pub spent_by : (old new : KernelView) (events : List Event) (most : ℕ) (quiet : Bool) → Passed old [] most (rounds old.state most) new events →
-    quiet ≡ is_quiet new.state → quiet ≡ false → length (rounds old.state most) ≡ most
-spent_by old new events most quiet p is h =
-    let within : length (rounds old.state most) ≤ most = let e = p.count in let w = p.within in omega arith in
-    rounds-used old.state most within (ap is_quiet (sym p.kernel) ∙ sym is ∙ h)
+-- a report of the turns of a round robin from a boot state
+ran_from : (s : Scenario) (most : ℕ) (made : Outcome) → IsReportOf (boot s) (rounds (boot s) most) made →
+    ((k : KernelState) (n : ℕ) → IsRunOut k n (rounds k n)) → ((t : Scenario) (turns : List ℕ) → IsForest (run (boot t) turns).delegations) →
+    IsRun (λ order. order ≡ rounds (boot s) most) most (boot s) made.is_complete made.text.items
+ran_from s most made reports run_out forest =
+    let out = run_out (boot s) most in
+    record {
+      order = rounds (boot s) most;
+      said = refl;
+      no_idle = out.no_idle;
+      processors = out.processors;
+      within = out.within;
+      reported = reports.text;
+      quiet = reports.quiet;
+      spent = λ open_. spent_by (boot s) (rounds (boot s) most) most made.is_complete reports.quiet out.ended open_;
+      forests = λ before after whole. forest s before;
+    }
+
+pub solo_by : {A : Type 0} (s : Scenario) (limit : ℕ) (k : KernelState) (most : ℕ) (r : Result Outcome A) → k ≡ boot s → most ≡ limit →
+    IfOk r (λ made. IsReportOf k (rounds k most) made) →
+    ((k : KernelState) (n : ℕ) → IsRunOut k n (rounds k n)) → ((t : Scenario) (turns : List ℕ) → IsForest (run (boot t) turns).delegations) →
+    IfOk r (λ made. IsRun (λ order. order ≡ rounds (boot s) limit) limit (boot s) made.is_complete made.text.items)
+solo_by s limit k most (Err e) begun same reports run_out forest = tt
+solo_by s limit k most (Ok made) begun same reports run_out forest =
+    ran_from s limit made (subst (λ (n : ℕ). IsReportOf (boot s) (rounds (boot s) n) made) same
+    (subst (λ (x : KernelState). IsReportOf x (rounds x most) made) begun reports)) run_out forest
 
 -- images leave the number of turns
 with_images_turns : (k : KernelState) (images : List Image) → (with_images k images).turns ≡ k.turns

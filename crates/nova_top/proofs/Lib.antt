@@ -1,4 +1,4 @@
 pub mod Turns
-pub mod Ends
 pub mod Finish
 pub mod Complete
+pub mod Unread

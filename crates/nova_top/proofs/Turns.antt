@@ -8,11 +8,8 @@ use Rattle.nova_model.specs.Turn.{turn, Step}
 use Rattle.nova_model.specs.Runs.{after, run, trace, pass, passes, rounds}
 use Rattle.nova_model.specs.declared.event.Event.{Event}
 use Rattle.nova_kernel.specs.Views.{KernelView}
+use Rattle.nova_laws.proofs.Passes.{run_append, passes_none, nothing}
 use Rattle.nova_top.specs.Rounds.{Passed, IsUnderWay}
-
-pub run-append : (k : KernelState) (xs ys : List ℕ) → run k (xs ++ ys) ≡ run (run k xs) ys
-run-append k [] ys = refl
-run-append k (x ∷ xs) ys = run-append (after k x) xs ys
 
 in_front-append : {T : Type 0} → (o : Option T) (xs ys : List T) → in_front o (xs ++ ys) ≡ in_front o xs ++ ys
 in_front-append None xs ys = refl
@@ -24,11 +21,11 @@ trace-append k (x ∷ xs) ys =
     ap (in_front (option_map (λ (s : Step). s.event) (turn k x))) (trace-append (after k x) xs ys)
     ∙ in_front-append (option_map (λ (s : Step). s.event) (turn k x)) (trace (after k x) xs) (trace (run (after k x) xs) ys)
 
--- one part of a run behind another
+-- one part of a run after another
 pub Passed-through : (a b c : KernelView) (t u v : List Event) (limit : ℕ) (xs ys : List ℕ) →
     Passed a t limit xs b u → Passed b u limit ys c v → Passed a t limit (xs ++ ys) c v
 Passed-through a b c t u v limit xs ys p q = record {
-  kernel = q.kernel ∙ ap (λ (k : KernelState). run k ys) p.kernel ∙ sym (run-append a.state xs ys);
+  kernel = q.kernel ∙ ap (λ (k : KernelState). run k ys) p.kernel ∙ sym (run_append a.state xs ys);
   events = q.events ∙ ap₂ (λ (l m : List Event). l ++ m) p.events (ap (λ (k : KernelState). trace k ys) p.kernel)
       ∙ append_assoc t (trace a.state xs) (trace (run a.state xs) ys) ∙ ap (λ (l : List Event). t ++ l) (sym (trace-append a.state xs ys));
   count = let e = p.count in let f = q.count in omega (arith, length-append xs ys);
@@ -95,13 +92,6 @@ IsUnderWay-turn a b c t u v limit cpu cpus all h way turned = record {
       ∙ way.whole;
 }
 
--- a pass that took no turn is followed by none
-pub passes-none : (n : ℕ) (k : KernelState) (most : ℕ) → pass k 0 k.cpus most ≡ [] → passes n k most ≡ []
-passes-none zero k most h = refl
-passes-none (suc n) k most h =
-    let same : most - 0 ≡ most = omega arith in
-    ap (λ (p : List ℕ). p ++ passes n (run k p) (most - length p)) h ∙ ap (λ (m : ℕ). passes n k m) same ∙ passes-none n k most h
-
 -- a pass on the way of a round robin
 pub IsUnderWay-pass : (a b c : KernelView) (t u v : List Event) (limit n : ℕ) (all : List ℕ) → n < limit →
     IsUnderWay a t limit b u (passes (limit - n) b.state (limit - length u)) all →
@@ -139,17 +129,13 @@ IsUnderWay-first a events limit none room turns =
       whole = ap₂ (λ (n m : ℕ). passes n a.state m) same same;
     })
 
-pub nothing : (xs : List ℕ) → length xs ≡ 0 → xs ≡ []
-nothing [] h = refl
-nothing (x ∷ xs) h = absurd (omega arith)
-
 -- a round robin that ends by a pass without a turn
 pub Passed-ended : (a b c : KernelView) (u v : List Event) (limit n : ℕ) (all : List ℕ) →
     IsUnderWay a [] limit b u (passes n b.state (limit - length u)) all →
     Passed b u limit (pass b.state 0 b.state.cpus (limit - length u)) c v → length v ≡ length u → Passed a [] limit all c v
 Passed-ended a b c u v limit n all way turned same =
     let none : pass b.state 0 b.state.cpus (limit - length u) ≡ [] = nothing (pass b.state 0 b.state.cpus (limit - length u)) (let e = turned.count in omega arith) in
-    let left : passes n b.state (limit - length u) ≡ [] = passes-none n b.state (limit - length u) none in
+    let left : passes n b.state (limit - length u) ≡ [] = passes_none n b.state (limit - length u) none in
     subst (λ (l : List ℕ). Passed a [] limit l c v)
     (ap (λ (l : List ℕ). way.done ++ l) (none ∙ sym left) ∙ way.whole)
     (Passed-through a b c [] u v limit way.done (pass b.state 0 b.state.cpus (limit - length u)) way.passed turned)

@@ -1,5 +1,7 @@
 -- The statuses of the program, and the end that each fault makes.
 use Rattle.std.specs.Prelude.{ℕ}
+use Rattle.std.specs.declared.io.ErrorKind.{ErrorKind}
+use Rattle.std.specs.declared.io.ErrorKind.TheVariants.{InvalidData}
 use Rattle.nova_command.specs.declared.fault.CommandFault.{CommandFault}
 use Rattle.nova_command.specs.declared.fault.CommandFault.TheVariants as command
 use Rattle.nova_io.specs.declared.faults.FetchFault.{FetchFault}
@@ -18,6 +20,11 @@ status_of (Scenario line why) = 4
 status_of WriteFault = 6
 status_of Limit = 7
 status_of Memory = 8
+
+-- the words could not be read: one is no text, or memory was refused
+abbrev pub of_words : ErrorKind → Exit
+of_words InvalidData = Usage
+of_words _ = Memory
 
 abbrev pub of_command : CommandFault → Exit
 of_command command.Usage = Usage

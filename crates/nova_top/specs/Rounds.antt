@@ -4,7 +4,7 @@ use Rattle.nova_model.specs.Runs.{run, trace}
 use Rattle.nova_model.specs.declared.event.Event.{Event}
 use Rattle.nova_kernel.specs.Views.{KernelView}
 
--- after the turns of these processors: the state, their events behind those before, and room for what the limit leaves
+-- after the turns of these processors: the state, their events after those before, and room for what the limit leaves
 pub record Passed (old : KernelView) (before : List Event) (limit : ℕ) (order : List ℕ) (new : KernelView) (now : List Event) : Type 0 where
   pub kernel : new.state ≡ run old.state order
   pub events : now ≡ before ++ trace old.state order

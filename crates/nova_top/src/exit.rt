@@ -1,10 +1,11 @@
 ghost use Rattle.std.specs.Prelude.{◌≡◌};
-ghost use Rattle.nova_top.specs.Exit.{status_of};
+ghost use Rattle.nova_top.specs.Exit.{status_of, of_words};
 
 use nova_command::CommandFault;
 use nova_io::FetchFault;
 use nova_scenario::{ScenarioFault, Why};
 use std::alloc::AllocError;
+use std::io::ErrorKind;
 use thiserror::Error;
 
 /// Why a scenario is refused.
@@ -52,6 +53,16 @@ pub enum Exit {
 }
 
 impl Exit {
+    /// How a call ends whose words could not be read: with a word that is no text they are no command.
+    pub fn of_words(kind: ErrorKind) -> Exit
+        ensures { result ≡ of_words kind }
+    {
+        match kind {
+            ErrorKind::InvalidData => Exit::Usage,
+            _ => Exit::Memory,
+        }
+    }
+
     /// The status that the program ends with.
     pub fn status(self) -> u8
         ensures { result ≡ status_of self }

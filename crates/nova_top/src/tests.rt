@@ -1,5 +1,123 @@
 // The top call over a depot and a sink in memory: whole texts, byte for byte.
-mod answers;
-mod hypercalls;
-mod programs;
-mod support;
+use crate::{Exit, ScenarioWhy, nova_main};
+use nova_io::{MemDepot, MemFile, MemSink};
+use nova_scenario::Why;
+use std::alloc::{AllocError, Global};
+use std::test::Fail;
+
+/// A call with the file `scenario` and a sink of so much room: what it shows, its end, and what it writes.
+struct Row {
+    shows: &'static str,
+    words: &'static str,
+    scenario: &'static str,
+    room: u64,
+    exit: Exit,
+    text: &'static str,
+}
+
+const ROWS: [Row; 9] = [
+    Row {
+        shows: "the root writes to a console",
+        words: "solo scenario",
+        scenario: "cpus 1\nram 0\nconsoles 1\nroot 0 0 1 10\nimage 0 hex\n000012b7 04800313 00628023 06900313 00628023 00100073\nend\n",
+        room: 4096,
+        exit: Exit::Done,
+        text: "run quiet 7\nat 6 0 1 raise 7 0\nat 7 0 1 died 7 0\nec 1 global dead 00000014 x5=00001000 x6=00000069\nsc 2 0 7\nconsole 0 4869\ncap 0 - 0 mem 0 0 7 0\ncap 1 - 0 mem 1 0 3 1\ncap 2 - 0 obj 0 0 1 0\ncap 3 - 0 obj 1 0 7 1\ncap 4 - 0 obj 2 0 1 2\n",
+    },
+    Row {
+        shows: "an unknown number and a held selector among calls that succeed",
+        words: "solo scenario",
+        scenario: "cpus 1\nram 0\nconsoles 0\nroot 0 0 1 10\nimage 0 asm\naddi x17, x0, 99\necall\naddi x17, x0, 6\naddi x10, x0, 0\necall\naddi x17, x0, 3\naddi x10, x0, 32\naddi x14, x0, 64\necall\naddi x17, x0, 4\naddi x10, x0, 33\naddi x12, x0, 32\naddi x13, x0, 257\necall\nebreak\nend\n",
+        room: 4096,
+        exit: Exit::Done,
+        text: "run quiet 16\nat 2 0 1 answer 99 4\nat 5 0 1 answer 6 5\nat 9 0 1 answer 3 0\nat 14 0 1 answer 4 4\nat 15 0 1 raise 7 0\nat 16 0 1 died 7 0\nec 1 global dead 00000038 x10=00000004 x12=00000020 x13=00000101 x14=00000040 x17=00000004\nec 3 local parked 00000000\nsc 2 0 16\ncap 0 - 0 mem 0 0 7 0\ncap 1 - 0 obj 0 0 1 0\ncap 2 - 0 obj 1 0 7 1\ncap 3 - 0 obj 2 0 1 2\ncap 4 - 0 obj 32 0 7 3\n",
+    },
+    Row {
+        shows: "a selector out of range, and a processor that is not there",
+        words: "solo scenario",
+        scenario: "cpus 1\nram 0\nconsoles 0\nroot 0 0 1 10\nimage 0 asm\nli x17, 6\nlui x10, 256\necall\nli x17, 3\nli x10, 32\nli x12, 1\necall\nebreak\nend\n",
+        room: 4096,
+        exit: Exit::Done,
+        text: "run quiet 13\nat 4 0 1 answer 6 6\nat 11 0 1 answer 3 7\nat 12 0 1 raise 7 0\nat 13 0 1 died 7 0\nec 1 global dead 0000002c x10=00000007 x12=00000001 x17=00000003\nsc 2 0 13\ncap 0 - 0 mem 0 0 7 0\ncap 1 - 0 obj 0 0 1 0\ncap 2 - 0 obj 1 0 7 1\ncap 3 - 0 obj 2 0 1 2\n",
+    },
+    Row {
+        shows: "an endless loop ends at the limit",
+        words: "--limit 5 solo scenario",
+        scenario: "cpus 1\nram 0\nconsoles 0\nroot 0 0 1 10\nimage 0 hex\n0000006f\nend\n",
+        room: 4096,
+        exit: Exit::Limit,
+        text: "run open 5\nec 1 global ready 00000000\nsc 2 0 5\ncap 0 - 0 mem 0 0 7 0\ncap 1 - 0 obj 0 0 1 0\ncap 2 - 0 obj 1 0 7 1\ncap 3 - 0 obj 2 0 1 2\n",
+    },
+    Row {
+        shows: "a valid scenario is ok",
+        words: "check scenario",
+        scenario: "root 0 0 1 10\nconsoles 0\nram 0\ncpus 1\n",
+        room: 3,
+        exit: Exit::Done,
+        text: "ok\n",
+    },
+    Row {
+        shows: "a sink without room gets nothing",
+        words: "check scenario",
+        scenario: "root 0 0 1 10\nconsoles 0\nram 0\ncpus 1\n",
+        room: 2,
+        exit: Exit::WriteFault,
+        text: "",
+    },
+    Row {
+        shows: "an empty text has no settings",
+        words: "check scenario",
+        scenario: "",
+        room: 4096,
+        exit: Exit::Scenario {
+            line: 1,
+            why: ScenarioWhy::Text(Why::Missing),
+        },
+        text: "",
+    },
+    Row {
+        shows: "a name without a file",
+        words: "solo other",
+        scenario: "",
+        room: 4096,
+        exit: Exit::ReadFault,
+        text: "",
+    },
+    Row {
+        shows: "no command",
+        words: "solo scenario --limit 0",
+        scenario: "",
+        room: 4096,
+        exit: Exit::Usage,
+        text: "",
+    },
+];
+
+/// Makes the call of a row: its end, and what it writes.
+fn call(alloc: Global, row: &Row) -> Result<(Exit, Vec<u8>), AllocError> {
+    let mut words = Vec::new(alloc);
+    for word in row.words.split_whitespace() {
+        words.push(String::from_str(alloc, word)?)?;
+    }
+    let mut files = Vec::new(alloc);
+    files.push(MemFile {
+        name: String::from_str(alloc, "scenario")?,
+        bytes: Vec::from_slice(alloc, row.scenario.as_bytes())?,
+        room: 0,
+    })?;
+    let mut depot = MemDepot::new(alloc, files, Vec::new(alloc), Vec::new(alloc))?;
+    let mut out = MemSink::new(alloc, row.room, Vec::new(alloc))?;
+    let exit = nova_main(alloc, &words, &mut depot, &mut out);
+    let text = Vec::from_slice(alloc, out.bytes())?;
+    Ok((exit, text))
+}
+
+#[test]
+fn calls_end_with_their_texts(rt: HostRuntime) -> Result<(), Fail> {
+    for row in &ROWS {
+        let (exit, text) = call(rt.alloc(), row)?;
+        assert_eq!(rt; exit, row.exit, "{}", row.shows);
+        assert_eq!(rt; text.as_slice(), row.text.as_bytes(), "{}", row.shows);
+    }
+    Ok(())
+}

@@ -41,9 +41,9 @@ module _ (p : ℕ → Bool) (start n : ℕ) (bs : List ℕ) (is_n : n ≡ positi
       let all : text ≡ bs = is_text ∙ take_all n bs le in
       pieces-whole le ∙ ap (λ t. record { text = t; span = record { start = start; end = start + length t } } ∷ []) (sym all)
 
-  pub cut_first : (text behind : List ℕ) → text ≡ take n bs → behind ≡ drop n bs → n < length bs → pieces_from start (slice_split p bs) ≡ record { text = text; span = record { start = start; end = start + length text } } ∷ pieces_from (start + length text + 1) (slice_split p (take (length behind - 1) (drop 1 behind)))
-  cut_first text behind is_text is_behind less =
-      let rest : take (length behind - 1) (drop 1 behind) ≡ drop (n + 1) bs = take_rest behind ∙ ap (drop 1) is_behind ∙ drop_more n bs in
+  pub cut_first : (text after : List ℕ) → text ≡ take n bs → after ≡ drop n bs → n < length bs → pieces_from start (slice_split p bs) ≡ record { text = text; span = record { start = start; end = start + length text } } ∷ pieces_from (start + length text + 1) (slice_split p (take (length after - 1) (drop 1 after)))
+  cut_first text after is_text is_after less =
+      let rest : take (length after - 1) (drop 1 after) ≡ drop (n + 1) bs = take_rest after ∙ ap (drop 1) is_after ∙ drop_more n bs in
       pieces-cut less
       ∙ ap (λ t. record { text = t; span = record { start = start; end = start + length t } } ∷ pieces_from (start + length t + 1) (slice_split p (drop (n + 1) bs))) (sym is_text)
       ∙ ap (λ r. record { text = text; span = record { start = start; end = start + length text } } ∷ pieces_from (start + length text + 1) (slice_split p r)) (sym rest)

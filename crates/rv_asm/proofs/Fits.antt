@@ -1,6 +1,7 @@
 -- The operands of a line fit the instruction that they are written for.
-use Rattle.std.proofs.Common.{◌≡◌, inl, inr, ℕ, ◌-◌, ◌%◌, ◌^◌, ◌==◌, ◌<◌, ◌≤◌, lit<, lit≤, Bool, true, false, List, [], ◌∷◌, length, take, drop, Option, Some, None, option_map, Result, Ok, Err, refl, sym, subst, arith}
-use Rattle.std.specs.Prelude.{nat_eq, codes, if◌then◌else◌}
+use Rattle.std.proofs.Common.{◌≡◌, inl, inr, ℕ, ◌-◌, ◌%◌, ◌^◌, ◌==◌, ◌<◌, ◌≤◌, lit<, lit≤, Bool, true, false, List, [], ◌∷◌, length, take, drop, Option, Some, None, Result, Ok, Err, refl, sym, ◌∙◌, subst, arith}
+use Rattle.std.specs.Prelude.{cond, nat_eq, nat_lt, codes, if◌then◌else◌}
+use Rattle.std.proofs.lemmas.Bool.Decides.{nat_tests}
 use Rattle.std.specs.List.{starts_with, position_or_len}
 use Rattle.std.specs.Str.{bytes_eq}
 use Rattle.rv_model.specs.Table.{row_of, instr_from, mnemonic_of, operands_of, immediate_code}
@@ -12,15 +13,14 @@ use Rattle.rv_model.specs.declared.mnemonic.Mnemonic.TheVariants.{Lui}
 use Rattle.rv_core.specs.Rows.{HasRegisters}
 use Rattle.rv_core.specs.Encodable.{IsSigned, HoldsImmediate, IsEncodable}
 use Rattle.nova_text.specs.Piece.{Piece}
-use Rattle.rv_asm.specs.Register.{number_of, number_named, register_named}
-use Rattle.rv_asm.specs.Operand.{number_in, shifted, with_rd, with_rs1, with_rs2, with_imm, with_base, base_in, address_at, is_opening, is_closing, target_in, with_operand, with_operands, and_rest, Labels}
+use Rattle.rv_asm.specs.Register.{names, is_of, number_in_table, number_named}
+use Rattle.rv_asm.specs.Operand.{number_in, shifted, with_rd, with_rs1, with_rs2, with_imm, with_base, base_in, address_at, is_opening, is_closing, target_in, with_operand, with_operands, Labels}
 use Rattle.rv_asm.specs.Name.{slots_in, row_slots}
 use Rattle.rv_asm.specs.declared.fault.OperandFault.{OperandFault}
 use Rattle.rv_asm.specs.declared.fault.OperandFault.TheVariants.{Bad}
-use Rattle.rv_asm.specs.declared.register.Register.{Register}
-use Rattle.rv_asm.specs.declared.register.Register.TheVariants as register
 use Rattle.rv_asm.specs.declared.slot.Slot.{Slot}
 use Rattle.rv_asm.specs.declared.slot.Slot.TheVariants.{Rd, Rs1, Rs2, Number, Upper, Address, Target}
+use Rattle.rv_asm.proofs.Gravest.{and_rest, one_step}
 use Rattle.rv_asm.proofs.Ranges.{IsWithin, number_ok, shifted_ok, target_ok}
 
 -- the ranges of the slots that the table and the short forms have
@@ -57,16 +57,17 @@ pub record Fits (slot : Slot) (o more : Operands) : Type 0 where
   pub registers : HasRegisters more
   pub immediate : Leaves slot o.imm more.imm
 
-number_below : (r : Register) → number_of r < 32
-number_below register.Zero = lit< tt
-number_below _ = lit< tt
-
-named_below : (o : Option Register) (n : ℕ) → option_map number_of o ≡ Some n → n < 32
-named_below None n e = cc
-named_below (Some r) n e = let b = number_below r in let s : number_of r ≡ n = cc in omega arith
+place_below : (p k n : ℕ) → cond (nat_lt p k) (Some p) None ≡ Some n → n < k
+place_below p k n e = go (nat_lt p k) refl e where
+  go : (b : Bool) → nat_lt p k ≡ b → cond b (Some p) None ≡ Some n → n < k
+  go true is e = let less : p < k = grind (arith, nat_tests) in let same : p ≡ n = cc in omega arith
+  go false is e = cc
 
 register_fits : (text : List ℕ) (n : ℕ) → number_named text ≡ Some n → n < 32
-register_fits text n e = named_below (register_named text) n e
+register_fits text n e = go (bytes_eq text (codes "fp")) e where
+  go : (b : Bool) → (if b then Some 8 else number_in_table text) ≡ Some n → n < 32
+  go true e = let same : 8 ≡ n = cc in omega arith
+  go false e = place_below (position_or_len (is_of text) names) 32 n e
 
 module _ (o more : Operands) (h : HasRegisters o) where
   rd_fits : (r : Option ℕ) → ((n : ℕ) → r ≡ Some n → n < 32) → with_rd o r ≡ Ok more → Fits Rd o more
@@ -144,7 +145,7 @@ all_fit labels from [] pieces o more small len h e =
     subst P same (record { registers = h; immediate = refl })
 all_fit labels from (slot ∷ slots) [] o more small len h e = absurd (omega arith)
 all_fit labels from (slot ∷ slots) (piece ∷ pieces) o more small len h e =
-    go (with_operand labels from slot piece.text o) refl e (λ middle f r. all_fit labels from slots pieces middle more small.1 (omega arith) r f)
+    go (with_operand labels from slot piece.text o) refl (sym (one_step labels from slot slots piece pieces o) ∙ e) (λ middle f r. all_fit labels from slots pieces middle more small.1 (omega arith) r f)
   where
     go : (r : Result Operands OperandFault) → with_operand labels from slot piece.text o ≡ r → and_rest o piece.span r (λ x. with_operands labels from slots pieces x) ≡ Ok more → ((middle : Operands) → with_operands labels from slots pieces middle ≡ Ok more → HasRegisters middle → FitAll slots middle more) → FitAll (slot ∷ slots) o more
     go (Err why) is f rest = cc

@@ -1,6 +1,8 @@
 -- A label that is still to come changes the count of no line, so each label stands where all labels together say.
-use Rattle.std.proofs.Common.{◌≡◌, ℕ, ◌+◌, ◌≤◌, Bool, true, false, List, [], ◌∷◌, length, Option, Some, None, Result, Ok, Err, refl, ap, sym, ◌∙◌, arith}
-use Rattle.std.specs.Prelude.{nat_eq, if◌then◌else◌}
+use Rattle.std.proofs.Common.{◌≡◌, ℕ, suc, ◌+◌, ◌≤◌, ◌<◌, ◌||◌, Bool, true, false, List, [], ◌∷◌, length, Option, Some, None, Result, Ok, Err, take, refl, ap, sym, subst, ◌∙◌, arith}
+use mathlib.Core.Path.{fun_ext}
+use Rattle.std.specs.Prelude.{nat_eq, find, is_some, option_map, IfSome, if◌then◌else◌}
+use Rattle.std.specs.List.{list_any, position_or_len, before_first}
 use Rattle.std.specs.Str.{bytes_eq}
 use Rattle.std.proofs.lemmas.Bool.Decides.{nat_tests}
 use Rattle.std.proofs.lemmas.Slice.Eq.{bytes_eq-Decides}
@@ -10,7 +12,8 @@ use Rattle.nova_text.specs.Piece.{Piece}
 use Rattle.rv_asm.specs.Syntax.{labelled, Written, written}
 use Rattle.rv_asm.specs.Operand.{Labels, with_operands}
 use Rattle.rv_asm.specs.Name.{name_of, slots_of, given, items_of}
-use Rattle.rv_asm.specs.Program.{items_or_fault, statement, statement_of, is_earlier, with_colon, behind_label, line_items, word_count, added, with_label, no_labels, labels_from, labels_of, has_label, label_among}
+use Rattle.rv_asm.specs.Program.{items_or_fault, statement, statement_of, is_earlier, with_colon, after_label, line_items, word_count, added, with_label, no_labels, has_label, bears, repeats, count_after, count_from, labels_of, label_among}
+use Rattle.rv_asm.proofs.Passes.{labels_from}
 use Rattle.rv_asm.specs.declared.fault.AsmFault.TheVariants.{BadOperand, TwiceLabel}
 use Rattle.rv_asm.specs.declared.fault.FaultyOperand.{FaultyOperand}
 use Rattle.rv_asm.specs.declared.label.Label.{Label}
@@ -25,46 +28,47 @@ one_word name (Ok o) (Err faulty) one = one o
 one_word name (Err faulty) (Ok p) one = sym (one p)
 one_word name (Err faulty) (Err other) one = refl
 
-module _ (some all : Labels) (place : ℕ) where
-  li_same : (pieces : List Piece) (o : Operands) → with_operands some place (slots_of (Short Li)) pieces o ≡ with_operands all place (slots_of (Short Li)) pieces o
+module _ (some all : Labels) (place other : ℕ) where
+  li_same : (pieces : List Piece) (o : Operands) → with_operands some place (slots_of (Short Li)) pieces o ≡ with_operands all other (slots_of (Short Li)) pieces o
   li_same [] o = refl
   li_same (p ∷ []) o = refl
   li_same (p ∷ q ∷ pieces) o = refl
 
-  name_count : (name : Name) (pieces : List Piece) → word_count (items_or_fault name (with_operands some place (slots_of name) pieces (given name))) ≡ word_count (items_or_fault name (with_operands all place (slots_of name) pieces (given name)))
-  name_count (Instruction m) pieces = one_word (Instruction m) (with_operands some place (slots_of (Instruction m)) pieces (given (Instruction m))) (with_operands all place (slots_of (Instruction m)) pieces (given (Instruction m))) (λ o. refl)
+  name_count : (name : Name) (pieces : List Piece) → word_count (items_or_fault name (with_operands some place (slots_of name) pieces (given name))) ≡ word_count (items_or_fault name (with_operands all other (slots_of name) pieces (given name)))
+  name_count (Instruction m) pieces = one_word (Instruction m) (with_operands some place (slots_of (Instruction m)) pieces (given (Instruction m))) (with_operands all other (slots_of (Instruction m)) pieces (given (Instruction m))) (λ o. refl)
   name_count (Short Li) pieces = ap (λ r. word_count (items_or_fault (Short Li) r)) (li_same pieces (given (Short Li)))
   name_count (Short Nop) pieces = refl
-  name_count (Short Mv) pieces = one_word (Short Mv) (with_operands some place (slots_of (Short Mv)) pieces (given (Short Mv))) (with_operands all place (slots_of (Short Mv)) pieces (given (Short Mv))) (λ o. refl)
-  name_count (Short J) pieces = one_word (Short J) (with_operands some place (slots_of (Short J)) pieces (given (Short J))) (with_operands all place (slots_of (Short J)) pieces (given (Short J))) (λ o. refl)
+  name_count (Short Mv) pieces = one_word (Short Mv) (with_operands some place (slots_of (Short Mv)) pieces (given (Short Mv))) (with_operands all other (slots_of (Short Mv)) pieces (given (Short Mv))) (λ o. refl)
+  name_count (Short J) pieces = one_word (Short J) (with_operands some place (slots_of (Short J)) pieces (given (Short J))) (with_operands all other (slots_of (Short J)) pieces (given (Short J))) (λ o. refl)
   name_count (Short Ret) pieces = refl
-  name_count (Short Word) pieces = one_word (Short Word) (with_operands some place (slots_of (Short Word)) pieces (given (Short Word))) (with_operands all place (slots_of (Short Word)) pieces (given (Short Word))) (λ o. refl)
+  name_count (Short Word) pieces = one_word (Short Word) (with_operands some place (slots_of (Short Word)) pieces (given (Short Word))) (with_operands all other (slots_of (Short Word)) pieces (given (Short Word))) (λ o. refl)
 
-  statement_count : (w : Written) (name : Option Name) → word_count (statement some place w name) ≡ word_count (statement all place w name)
+  statement_count : (w : Written) (name : Option Name) → word_count (statement some place w name) ≡ word_count (statement all other w name)
   statement_count w None = refl
   statement_count w (Some name) = go (nat_eq (length w.operands) (length (slots_of name))) where
-    go : (b : Bool) → word_count (if b then items_or_fault name (with_operands some place (slots_of name) w.operands (given name)) else Err (BadOperand w.name.span)) ≡ word_count (if b then items_or_fault name (with_operands all place (slots_of name) w.operands (given name)) else Err (BadOperand w.name.span))
+    go : (b : Bool) → word_count (if b then items_or_fault name (with_operands some place (slots_of name) w.operands (given name)) else Err (BadOperand w.name.span)) ≡ word_count (if b then items_or_fault name (with_operands all other (slots_of name) w.operands (given name)) else Err (BadOperand w.name.span))
     go true = name_count name w.operands
     go false = refl
 
-  written_count : (w : Option Written) → word_count (statement_of some place w) ≡ word_count (statement_of all place w)
+  written_count : (w : Option Written) → word_count (statement_of some place w) ≡ word_count (statement_of all other w)
   written_count None = refl
   written_count (Some w) = statement_count w (name_of w.name.text)
 
-  -- and a line has, where both agree on what stands on earlier lines
+-- and a line has, where both agree on what stands on earlier lines
+module _ (some all : Labels) (place : ℕ) where
   module _ (row : Row) (agree : (name : List ℕ) → is_earlier row.number (some name) ≡ is_earlier row.number (all name)) where
-    behind_count : (label : Option Piece) → word_count (behind_label some row.number label (statement_of some place (written (labelled row).rest))) ≡ word_count (behind_label all row.number label (statement_of all place (written (labelled row).rest)))
-    behind_count None = written_count (written (labelled row).rest)
-    behind_count (Some piece) =
+    after_count : (label : Option Piece) → word_count (after_label some row.number label (statement_of some place (written (labelled row).rest))) ≡ word_count (after_label all row.number label (statement_of all place (written (labelled row).rest)))
+    after_count None = written_count some all place place (written (labelled row).rest)
+    after_count (Some piece) =
         ap (λ b. word_count (if b then Err (TwiceLabel (with_colon piece.span)) else statement_of some place (written (labelled row).rest))) (agree piece.text)
         ∙ go (is_earlier row.number (all piece.text))
       where
         go : (b : Bool) → word_count (if b then Err (TwiceLabel (with_colon piece.span)) else statement_of some place (written (labelled row).rest)) ≡ word_count (if b then Err (TwiceLabel (with_colon piece.span)) else statement_of all place (written (labelled row).rest))
         go true = refl
-        go false = written_count (written (labelled row).rest)
+        go false = written_count some all place place (written (labelled row).rest)
 
     line_count : word_count (line_items some place row) ≡ word_count (line_items all place row)
-    line_count = behind_count (labelled row).label
+    line_count = after_count (labelled row).label
 
 -- a line adds its label where it is new, and changes no other
 module _ (labels : Labels) (label : Label) (name : List ℕ) where
@@ -116,6 +120,23 @@ lines_ordered number start [] = tt
 lines_ordered number start (text ∷ texts) =
     (omega arith, lines_before (number + 1) number (rows_from (number + 1) (start + length text + 1) texts) (omega arith) (lines_ordered (number + 1) (start + length text + 1) texts))
 
+-- lines whose numbers follow each other
+abbrev LinesUp : ℕ → List Row → Type 0
+LinesUp n [] = Unit {0}
+LinesUp n (row ∷ rows) = (n ≡ row.number) × LinesUp (row.number + 1) rows
+
+lines_up : (number start : ℕ) (texts : List (List ℕ)) → LinesUp number (rows_from number start texts)
+lines_up number start [] = tt
+lines_up number start (text ∷ texts) = (refl, lines_up (number + 1) (start + length text + 1) texts)
+
+-- what stands before the first that passes a test, where the first of all does not
+module _ {X : Type 0} (p : X → Bool) (x : X) (xs : List X) (fails : p x ≡ false) where
+  before_later : before_first p (x ∷ xs) ≡ x ∷ before_first p xs
+  before_later = let later : position_or_len p (x ∷ xs) ≡ suc (position_or_len p xs) = rw fails (omega arith) in ap (λ n. take n (x ∷ xs)) later
+
+  find_later : find p (x ∷ xs) ≡ find p xs
+  find_later = rw fails refl
+
 -- so a label that a line has stays, and those that come later stand on later lines
 stays_from : (labels : Labels) (place : ℕ) (rows : List Row) (name : List ℕ) (old : Label) → labels name ≡ Some old → labels_from labels place rows name ≡ Some old
 stays_from labels place [] name old e = e
@@ -154,6 +175,91 @@ label_stands n labels all place (row ∷ rows) name late e none =
         rest (label_other labels (record { line = row.number; place = place }) name (labelled row).label is ∙ none)
         ∙ ap (λ k. label_among all name (place + k) rows) (line_count labels all place row agree)
 
-pub labels_stand : (text name : List ℕ) → labels_of text name ≡ label_among (labels_of text) name 0 (lines text)
+-- the labels so far are those of the lines before, and all stand on earlier lines
+record AreOf (n : ℕ) (labels : Labels) (before : List Row) : Type 0 where
+  there : (name : List ℕ) → is_some (labels name) ≡ list_any (bears name) before
+  earlier : (name : List ℕ) → IfSome (labels name) (λ label. label.line < n)
+
+is_there : (n : ℕ) (found : Option Label) → IfSome found (λ label. label.line < n) → is_earlier n found ≡ is_some found
+is_there n None h = refl
+is_there n (Some label) h = grind (arith, nat_tests)
+
+-- a line's count by the lines before it
+plain_count : (labels : Labels) (place : ℕ) (before : List Row) (row : Row) → AreOf row.number labels before → word_count (line_items labels place row) ≡ count_after before row
+plain_count labels place before row are = go (labelled row).label where
+  own : word_count (statement_of labels place (written (labelled row).rest)) ≡ word_count (statement_of no_labels 0 (written (labelled row).rest))
+  own = written_count labels no_labels place 0 (written (labelled row).rest)
+
+  go : (label : Option Piece) → word_count (after_label labels row.number label (statement_of labels place (written (labelled row).rest))) ≡ (if repeats before label then 1 else word_count (statement_of no_labels 0 (written (labelled row).rest)))
+  go None = own
+  go (Some piece) =
+      ap (λ b. word_count (if b then Err (TwiceLabel (with_colon piece.span)) else statement_of labels place (written (labelled row).rest)))
+      (is_there row.number (labels piece.text) (are.earlier piece.text) ∙ are.there piece.text)
+      ∙ inner (list_any (bears piece.text) before)
+    where
+      inner : (b : Bool) → word_count (if b then Err (TwiceLabel (with_colon piece.span)) else statement_of labels place (written (labelled row).rest)) ≡ (if b then 1 else word_count (statement_of no_labels 0 (written (labelled row).rest)))
+      inner true = refl
+      inner false = own
+
+-- a line's label stands among those of the lines after it
+are_more : (m n : ℕ) (labels : Labels) (before : List Row) (row : Row) (label : Label) → AreOf m labels before → label.line < n → m ≤ n → AreOf n (with_label labels (labelled row).label label) (row ∷ before)
+are_more m n labels before row label are line le = record {
+  there = λ name. there name (labels name) refl (bears name row) refl;
+  earlier = λ name. earlier name (labels name) refl (bears name row) refl;
+} where
+  there : (name : List ℕ) (old : Option Label) → labels name ≡ old → (b : Bool) → bears name row ≡ b → is_some (with_label labels (labelled row).label label name) ≡ (bears name row || list_any (bears name) before)
+  there name (Some old) is b has =
+      ap is_some (label_stays labels label name (labelled row).label old is)
+      ∙ (let e : list_any (bears name) before ≡ true = sym (are.there name) ∙ ap is_some is in grind (arith, e))
+  there name None is true has = ap is_some (label_new labels label name (labelled row).label is has) ∙ rw has refl
+  there name None is false has = ap is_some (label_other labels label name (labelled row).label has) ∙ are.there name ∙ rw has refl
+
+  earlier : (name : List ℕ) (old : Option Label) → labels name ≡ old → (b : Bool) → bears name row ≡ b → IfSome (with_label labels (labelled row).label label name) (λ l. l.line < n)
+  earlier name (Some old) is b has =
+      let less : old.line < m = subst (λ (o : Option Label). IfSome o (λ l. l.line < m)) is (are.earlier name) in
+      rw (label_stays labels label name (labelled row).label old is) (omega arith)
+  earlier name None is true has = rw (label_new labels label name (labelled row).label is has) line
+  earlier name None is false has = rw (label_other labels label name (labelled row).label has ∙ is) tt
+
+-- so the pass finds the first line of each name
+plain_from : (n : ℕ) (labels : Labels) (before : List Row) (place : ℕ) (rows : List Row) (name : List ℕ) → LinesUp n rows → AreOf n labels before → labels name ≡ None
+    → labels_from labels place rows name ≡ option_map (λ row. record { line = row.number; place = place + count_from before (before_first (bears name) rows) }) (find (bears name) rows)
+plain_from n labels before place [] name up are none = none
+plain_from n labels before place (row ∷ rows) name up are none =
+    go (bears name row) refl
+    (λ others. plain_from (row.number + 1) (with_label labels (labelled row).label (record { line = row.number; place = place })) (row ∷ before) (place + word_count (line_items labels place row)) rows name up.1
+    (are_more n (row.number + 1) labels before row (record { line = row.number; place = place }) are (omega arith) (let first = up.0 in omega arith)) others)
+  where
+    label : Label
+    label = record { line = row.number; place = place }
+
+    count : word_count (line_items labels place row) ≡ count_after before row
+    count = plain_count labels place before row (let first : n ≡ row.number = up.0 in subst (λ (k : ℕ). AreOf k labels before) first are)
+
+    go : (b : Bool) → bears name row ≡ b → (with_label labels (labelled row).label label name ≡ None → labels_from (with_label labels (labelled row).label label) (place + word_count (line_items labels place row)) rows name ≡ option_map (λ found. record { line = found.number; place = place + word_count (line_items labels place row) + count_from (row ∷ before) (before_first (bears name) rows) }) (find (bears name) rows))
+        → labels_from (with_label labels (labelled row).label label) (place + word_count (line_items labels place row)) rows name ≡ option_map (λ found. record { line = found.number; place = place + count_from before (before_first (bears name) (row ∷ rows)) }) (find (bears name) (row ∷ rows))
+    go true is rest =
+        stays_from (with_label labels (labelled row).label label) (place + word_count (line_items labels place row)) rows name label (label_new labels label name (labelled row).label none is)
+        ∙ rw (is) (ap (λ k. Some (record { line = row.number; place = k })) (let e : place ≡ place + 0 = omega arith in e))
+    go false is rest =
+        let sum : place + word_count (line_items labels place row) + count_from (row ∷ before) (before_first (bears name) rows) ≡ place + count_from before (row ∷ before_first (bears name) rows) = let c = count in omega arith in
+        rest (label_other labels label name (labelled row).label is ∙ none)
+        ∙ ap (λ k. option_map (λ found. record { line = found.number; place = k }) (find (bears name) rows)) sum
+        ∙ ap (λ front. option_map (λ found. record { line = found.number; place = place + count_from before front }) (find (bears name) rows)) (sym (before_later (bears name) row rows is))
+        ∙ ap (option_map (λ found. record { line = found.number; place = place + count_from before (before_first (bears name) (row ∷ rows)) })) (sym (find_later (bears name) row rows is))
+
+none_before : AreOf 1 no_labels []
+none_before = record { there = λ name. refl; earlier = λ name. tt }
+
+pub labels_are : (text : List ℕ) → labels_from no_labels 0 (lines text) ≡ labels_of text
 unfolding labels_of lines
-labels_stand text name = label_stands 1 no_labels (labels_of text) 0 (lines text) name (lines_ordered 1 0 (line_texts text)) refl refl
+labels_are text = fun_ext (λ name.
+    let place = count_from [] (before_first (bears name) (lines text)) in
+    let none : 0 + place ≡ place = omega arith in
+    plain_from 1 no_labels [] 0 (lines text) name (lines_up 1 0 (line_texts text)) none_before refl
+    ∙ ap (λ k. option_map (λ row. record { line = row.number; place = k }) (find (bears name) (lines text))) none)
+
+pub labels_stand : (text name : List ℕ) → labels_of text name ≡ label_among (labels_of text) name 0 (lines text)
+unfolding lines
+labels_stand text name =
+    label_stands 1 no_labels (labels_of text) 0 (lines text) name (lines_ordered 1 0 (line_texts text)) (labels_are text) refl

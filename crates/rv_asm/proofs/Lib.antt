@@ -11,3 +11,5 @@ pub mod OperandsBack
 pub mod PrintedBack
 pub mod Reassembled
 pub mod LabelPlaces
+pub mod TextFaults
+pub mod Gravest

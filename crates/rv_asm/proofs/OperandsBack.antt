@@ -16,12 +16,13 @@ use Rattle.rv_core.specs.Encodable.{IsSigned, HoldsImmediate}
 use Rattle.nova_text.specs.Piece.{Piece}
 use Rattle.rv_asm.specs.Register.{number_named}
 use Rattle.rv_asm.specs.Name.{slots_in}
-use Rattle.rv_asm.specs.Operand.{number_in, is_opening, is_closing, with_base, base_in, address_in, with_imm, with_rd, with_rs1, with_rs2, with_operand, and_rest, with_operands, Labels}
+use Rattle.rv_asm.specs.Operand.{number_in, is_opening, is_closing, with_base, base_in, address_in, with_imm, with_rd, with_rs1, with_rs2, with_operand, with_operands, Labels}
 use Rattle.rv_asm.specs.Printed.{register_text, signed_text, upper_text, operand_text}
 use Rattle.rv_asm.specs.declared.fault.FaultyOperand.{FaultyOperand}
 use Rattle.rv_asm.specs.declared.fault.OperandFault.{OperandFault}
 use Rattle.rv_asm.specs.declared.slot.Slot.{Slot}
 use Rattle.rv_asm.specs.declared.slot.Slot.TheVariants.{Rd, Rs1, Rs2, Number, Upper, Address, Target}
+use Rattle.rv_asm.proofs.Gravest.{and_rest, one_step}
 use Rattle.rv_asm.proofs.Ranges.{IsWithin}
 use Rattle.rv_asm.proofs.Parts.{Each, each-append, each-without, len_past}
 use Rattle.rv_asm.proofs.NumbersBack.{register_back, number_back, target_back, upper_back}
@@ -203,6 +204,7 @@ operands_back labels from o x (slot ∷ slots) (piece ∷ pieces) r h e =
     let text : piece.text ≡ operand_text o slot = cc in
     let texts : map (λ piece. piece.text) pieces ≡ map (operand_text o) slots = cc in
     let rest : Operands → Result Operands FaultyOperand = λ more. with_operands labels from slots pieces more in
-    ap (λ t. and_rest x piece.span (with_operand labels from slot t x) rest) text
+    one_step labels from slot slots piece pieces x
+    ∙ ap (λ t. and_rest x piece.span (with_operand labels from slot t x) rest) text
     ∙ ap (λ read. and_rest x piece.span read rest) (operand_back labels from o x slot r h.0)
     ∙ operands_back labels from o (put o slot x) slots pieces r h.1 texts

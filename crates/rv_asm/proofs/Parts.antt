@@ -25,7 +25,7 @@ pub each-without : (p q : ℕ → Bool) → ((b : ℕ) → q b ≡ true → p b 
 each-without p q fails [] all = tt
 each-without p q fails (b ∷ bs) all = (fails b all.0, each-without p q fails bs all.1)
 
--- the first byte that passes stands behind a text in which none does
+-- the first byte that passes stands after a text in which none does
 pub len_past : (p : ℕ → Bool) (text rest : List ℕ) → Without p text → position_or_len p rest ≡ 0 → position_or_len p (text ++ rest) ≡ length text
 len_past p [] rest none first = first
 len_past p (b ∷ bs) rest none first =
@@ -43,7 +43,7 @@ len_none p (b ∷ bs) none =
 pub before-none : (p : ℕ → Bool) (text : List ℕ) → Without p text → before_first p text ≡ text
 before-none p text none = ap (λ n. take n text) (len_none p text none) ∙ take-length text
 
--- so the parts of what follows stand behind it
+-- so the parts of what follows stand after it
 pub split_past : (p : ℕ → Bool) (text rest : List ℕ) (more : List (List ℕ)) → Without p text → slice_split p rest ≡ [] ∷ more → slice_split p (text ++ rest) ≡ text ∷ more
 split_past p [] rest more none others = others
 split_past p (b ∷ bs) rest more none others =

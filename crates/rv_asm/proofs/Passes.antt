@@ -1,17 +1,18 @@
 -- The steps of the two passes over the lines.
-use Rattle.std.proofs.Common.{◌≡◌, ℕ, suc, ◌+◌, ◌≤◌, List, [], ◌∷◌, ◌++◌, length, map, Result, Ok, Err, refl, ap, sym, ◌∙◌, append_assoc, length-append, arith}
+use Rattle.std.proofs.Common.{◌≡◌, ℕ, suc, ◌+◌, ◌≤◌, Bool, true, false, ◌||◌, List, [], ◌∷◌, ◌++◌, length, map, Result, Ok, Err, refl, ap, sym, ◌∙◌, append_assoc, length-append, arith}
+use Rattle.std.specs.List.{list_any}
 use Rattle.nova_text.specs.Line.{Row, rows_from, line_texts, lines}
 use Rattle.nova_text.specs.Token.{tokens}
 use Rattle.rv_asm.specs.Syntax.{labelled}
 use Rattle.rv_asm.specs.Operand.{Labels}
 use Rattle.rv_asm.specs.Name.{Item, item_word}
-use Rattle.rv_asm.specs.Program.{line_items, word_count, with_label, labels_from, labels_of, in_front, before_rest, items_from, program, words_of, assembled}
+use Rattle.rv_asm.specs.Program.{line_items, word_count, with_label, says, labels_of, in_front, before_rest, items_from, program, words_of, assembled}
 use Rattle.rv_asm.specs.Words.{shown_count}
 use Rattle.rv_asm.specs.Assembled.{OrMemory}
 use Rattle.rv_asm.specs.declared.fault.AsmFault.{AsmFault}
 use Rattle.rv_asm.specs.declared.fault.AsmFault.TheVariants.{UnknownName, BadOperand, OutOfRange, TwiceLabel, NoLabel, Memory}
 
--- rows that begin behind a place, one behind another
+-- rows that begin after a place, one after another
 abbrev pub BeginsFrom : ℕ → List Row → Type 0
 BeginsFrom at [] = Unit {0}
 BeginsFrom at (row ∷ rows) = (at ≤ row.start) × BeginsFrom (row.start + length row.text + 1) rows
@@ -49,6 +50,12 @@ few_words labels place row le = go row.text refl where
   go [] is = let none = ap (λ t. word_count (line_items labels place (record row { text = t }))) is ∙ ap word_count (no_items labels place row.number row.start) in omega arith
   go (b ∷ bs) is = omega arith
 
+-- the labels of lines from a place on, beside those of the lines before them
+abbrev pub labels_from : Labels → ℕ → List Row → Labels
+labels_from labels place [] = labels
+labels_from labels place (row ∷ rows) =
+    labels_from (with_label labels (labelled row).label (record { line = row.number; place = place })) (place + word_count (line_items labels place row)) rows
+
 -- pass one takes a line
 module _ (labels : Labels) (place : ℕ) (row : Row) (rows here : List Row) (is_here : here ≡ row ∷ rows) where
   pub labels_step : (after total : Labels) (count : ℕ) → after ≡ with_label labels (labelled row).label (record { line = row.number; place = place }) → count ≡ word_count (line_items labels place row) → labels_from labels place here ≡ total → labels_from after (place + count) rows ≡ total
@@ -57,6 +64,13 @@ module _ (labels : Labels) (place : ℕ) (row : Row) (rows here : List Row) (is_
 
 pub labels_end : (labels total : Labels) (place : ℕ) (here : List Row) → here ≡ [] → labels_from labels place here ≡ total → labels ≡ total
 labels_end labels total place here is_here inv = sym (ap (labels_from labels place) is_here) ∙ inv
+
+-- where the rest takes memory, so do all lines
+pub says_rest : (row : Row) (rows here : List Row) {takes : Bool} → here ≡ row ∷ rows → (list_any says here ≡ true → takes ≡ true) → list_any says rows ≡ true → takes ≡ true
+says_rest row rows here is passes rest = passes (ap (list_any says) is ∙ go (says row)) where
+  go : (b : Bool) → (b || list_any says rows) ≡ true
+  go true = refl
+  go false = rest
 
 -- pass two: the words so far in front of those of the rest
 abbrev pub led : List ℕ → Result (List ℕ) AsmFault → Result (List ℕ) AsmFault

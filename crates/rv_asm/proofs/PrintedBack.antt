@@ -9,8 +9,8 @@ use Rattle.rv_model.specs.declared.mnemonic.Mnemonic.TheVariants.{Lui}
 use Rattle.nova_text.specs.Bytes.{is_line_feed, is_separator, is_comment_sign, has_bytes}
 use Rattle.nova_text.specs.Line.{Row, lines_of_parts, line_texts, rows_from, lines}
 use Rattle.nova_text.specs.Piece.{Piece, piece_at, pieces_from}
-use Rattle.nova_text.specs.Token.{tokens, row_behind}
-use Rattle.rv_asm.specs.Syntax.{continues_name, is_name, is_comma, gap, skipped, name_len, front, behind_colon, label_at, label_in, labelled_by, labelled, operand_in, operand_of, separated, operands_by, operands_in, Written, written_from, written}
+use Rattle.nova_text.specs.Token.{tokens, row_after}
+use Rattle.rv_asm.specs.Syntax.{continues_name, is_name, is_comma, gap, skipped, name_len, front, after_colon, label_at, label_in, labelled_by, labelled, operand_in, operand_of, separated, operands_by, operands_in, Written, written_from, written}
 use Rattle.rv_asm.specs.Name.{name_of}
 use Rattle.rv_asm.specs.Printed.{separator, separated_from}
 use Rattle.rv_asm.specs.declared.name.Name.TheVariants.{Instruction}
@@ -30,7 +30,7 @@ plain_feed b is = grind arith
 plain_comma : (b : ℕ) → is_plain b ≡ true → is_comma b ≡ false
 plain_comma b is = grind arith
 
--- operands behind a name
+-- operands after a name
 abbrev pub ArePlain : List (List ℕ) → Type 0
 ArePlain [] = Unit {0}
 ArePlain (text ∷ texts) = IsPlain text × ArePlain texts
@@ -63,10 +63,10 @@ cut_at_commas k text (next ∷ texts) plain others =
     (ap (λ parts. [] ∷ parts) (cut_at_commas (k + 1) next texts others.0 others.1))
 
 -- without the space in front
-token_behind : (at : ℕ) (text : List ℕ) → IsPlain text → tokens at (32 ∷ text) ≡ piece_at (at + 0 + 1) text ∷ []
+token_after : (at : ℕ) (text : List ℕ) → IsPlain text → tokens at (32 ∷ text) ≡ piece_at (at + 0 + 1) text ∷ []
 unfolding tokens
-token_behind at [] plain = absurd (let some = plain.some in omega arith)
-token_behind at (b ∷ bs) plain =
+token_after at [] plain = absurd (let some = plain.some in omega arith)
+token_after at (b ∷ bs) plain =
     let words = before-none is_comment_sign (32 ∷ b ∷ bs) (refl, each-without is_comment_sign is_plain plain_comment (b ∷ bs) plain.plain) in
     let parts = split_none is_separator (b ∷ bs) (each-without is_separator is_plain plain_separator (b ∷ bs) plain.plain) in
     ap (λ t. filter (λ piece. has_bytes piece.text) (pieces_from at (slice_split is_separator t))) words
@@ -75,7 +75,7 @@ token_behind at (b ∷ bs) plain =
 trimmed : (at : ℕ) (texts : List (List ℕ)) → ArePlain texts → map (λ piece. piece.text) (map operand_of (pieces_from at (map with_space texts))) ≡ texts
 trimmed at [] plain = refl
 trimmed at (text ∷ texts) plain =
-    (λ i. (operand_in at (token_behind at text plain.0 i)).text ∷ trimmed (at + length (32 ∷ text) + 1) texts plain.1 i)
+    (λ i. (operand_in at (token_after at text plain.0 i)).text ∷ trimmed (at + length (32 ∷ text) + 1) texts plain.1 i)
 
 -- a name of the table is found by itself, and is a text of small letters
 abbrev pub is_letter : ℕ → Bool
@@ -124,7 +124,7 @@ kept : (at : ℕ) (text : List ℕ) (more : List (List ℕ)) → 0 < length text
 kept at [] more some = absurd (omega arith)
 kept at (b ∷ bs) more some = refl
 
--- what stands behind it
+-- what stands after it
 rest_parts : List (List ℕ) → List (List ℕ)
 rest_parts [] = []
 rest_parts (text ∷ texts) = slice_split is_separator (text ++ separated_from 1 texts)
@@ -157,10 +157,10 @@ has_operands row at (b ∷ bs) rest plain none =
 rest_comments : (texts : List (List ℕ)) → ArePlain texts → Without is_comment_sign (separated_from 0 texts)
 rest_comments texts plain = rest_without is_comment_sign plain_comment refl refl 0 texts plain
 
-operands_behind : (number at : ℕ) (texts : List (List ℕ)) → ArePlain texts → map (λ piece. piece.text) (operands_in (record { number = number; start = at; text = separated_from 0 texts })) ≡ texts
+operands_after : (number at : ℕ) (texts : List (List ℕ)) → ArePlain texts → map (λ piece. piece.text) (operands_in (record { number = number; start = at; text = separated_from 0 texts })) ≡ texts
 unfolding tokens
-operands_behind number at [] plain = refl
-operands_behind number at (text ∷ texts) plain =
+operands_after number at [] plain = refl
+operands_after number at (text ∷ texts) plain =
     let row : Row = record { number = number; start = at; text = separated_from 0 (text ∷ texts) } in
     let none = rest_comments (text ∷ texts) plain in
     ap (map (λ piece. piece.text)) (has_operands row at text (separated_from 1 texts) plain.0 none)
@@ -185,7 +185,7 @@ module _ (name : List ℕ) (word : IsWord name) (texts : List (List ℕ)) (plain
   no_label : label_at whole (length name) ≡ None
   no_label = go (is_name (take (length name) (name ++ separated_from 0 texts))) where
     found : Option (Piece × Row)
-    found = let p : Piece × Row = (front (length name) whole, behind_colon (length name) whole) in Some p
+    found = let p : Piece × Row = (front (length name) whole, after_colon (length name) whole) in Some p
 
     go : (b : Bool) → (if b then (if starts_with nat_eq (drop (length name) (name ++ separated_from 0 texts)) (codes ":") then found else None) else None) ≡ None
     go true = rw (drop-append_seam name (separated_from 0 texts), rest_no_colon texts) refl
@@ -202,7 +202,7 @@ module _ (name : List ℕ) (word : IsWord name) (texts : List (List ℕ)) (plain
 
   -- its name and operands
   abbrev pub named : Written
-  named = record { name = piece_at 0 name; operands = operands_in (row_behind (Some (piece_at 0 name)) whole) }
+  named = record { name = piece_at 0 name; operands = operands_in (row_after (Some (piece_at 0 name)) whole) }
 
   first_token : tokens 0 (name ++ separated_from 0 texts) ≡ piece_at 0 name ∷ filter (λ piece. has_bytes piece.text) (pieces_from (0 + length name + 1) (rest_parts texts))
   unfolding tokens
@@ -221,4 +221,4 @@ module _ (name : List ℕ) (word : IsWord name) (texts : List (List ℕ)) (plain
       let skip : 0 + length name - 0 ≡ length name = omega arith in
       ap (λ n. map (λ piece. piece.text) (operands_in (record { number = 1; start = 0 + length name; text = drop n (name ++ separated_from 0 texts) }))) skip
       ∙ ap (λ t. map (λ piece. piece.text) (operands_in (record { number = 1; start = 0 + length name; text = t }))) (drop-append_seam name (separated_from 0 texts))
-      ∙ operands_behind 1 (0 + length name) texts plain
+      ∙ operands_after 1 (0 + length name) texts plain

@@ -15,7 +15,7 @@ use Rattle.nova_text.specs.Piece.{Piece}
 use Rattle.rv_asm.specs.Syntax.{labelled, Written, written}
 use Rattle.rv_asm.specs.Operand.{Labels, with_operands}
 use Rattle.rv_asm.specs.Name.{Item, name_of, slots_of, given, items_of, lower_part, upper_part}
-use Rattle.rv_asm.specs.Program.{items_or_fault, statement, statement_of, is_earlier, behind_label, line_items, in_front, before_rest, items_from, labels_of, program}
+use Rattle.rv_asm.specs.Program.{items_or_fault, statement, statement_of, is_earlier, after_label, line_items, in_front, before_rest, items_from, labels_of, program}
 use Rattle.rv_asm.specs.Read.{AreRead}
 use Rattle.rv_asm.specs.declared.fault.AsmFault.{AsmFault}
 use Rattle.rv_asm.specs.declared.fault.AsmFault.TheVariants.{BadOperand, TwiceLabel}
@@ -119,7 +119,7 @@ module _ (again : (i : Instr) → IsEncodable i → instr_of (word_of i) ≡ Som
 
   line_read : (labels : Labels) (place : ℕ) (row : Row) (items : List Item) → line_items labels place row ≡ Ok items → AreRead items
   line_read labels place row items e = go (labelled row).label e where
-    go : (label : Option Piece) → behind_label labels row.number label (statement_of labels place (written (labelled row).rest)) ≡ Ok items → AreRead items
+    go : (label : Option Piece) → after_label labels row.number label (statement_of labels place (written (labelled row).rest)) ≡ Ok items → AreRead items
     go None f = written_read labels place (written (labelled row).rest) items f
     go (Some piece) f = inner (is_earlier row.number (labels piece.text)) f where
       inner : (b : Bool) → (if b then Err (TwiceLabel (record { start = piece.span.start; end = piece.span.end + 1 })) else statement_of labels place (written (labelled row).rest)) ≡ Ok items → AreRead items

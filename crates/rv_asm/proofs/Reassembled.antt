@@ -15,7 +15,7 @@ use Rattle.rv_asm.specs.Syntax.{Written, written}
 use Rattle.rv_asm.specs.Name.{Item, Does, row_slots, no_operands}
 use Rattle.rv_asm.specs.Operand.{Labels}
 use Rattle.rv_asm.specs.Printed.{operand_text, printed}
-use Rattle.rv_asm.specs.Program.{items_or_fault, statement, statement_of, behind_label, line_items, before_rest, items_from, labels_of, program, words_of, assembled}
+use Rattle.rv_asm.specs.Program.{items_or_fault, statement, statement_of, after_label, line_items, before_rest, items_from, labels_of, program, words_of, assembled}
 use Rattle.rv_asm.specs.declared.name.Name.TheVariants.{Instruction}
 use Rattle.rv_asm.specs.declared.slot.Slot.{Slot}
 use Rattle.rv_asm.proofs.OperandsBack.{HoldAll, holds_in, operand_plain, put_all, operands_back}
@@ -62,7 +62,7 @@ module _ (i : Instr) (fits : IsEncodable i) where
 
   line_back : (labels : Labels) → line_items labels 0 (whole name word texts plain) ≡ Ok (Does i ∷ [])
   line_back labels =
-      ap (λ parts. behind_label labels 1 parts.label (statement_of labels 0 (written parts.rest))) (all_rest name word texts plain)
+      ap (λ parts. after_label labels 1 parts.label (statement_of labels 0 (written parts.rest))) (all_rest name word texts plain)
       ∙ ap (statement_of labels 0) (is_written name word texts plain)
       ∙ ap (statement labels 0 (named name word texts plain)) (name_back (mnemonic_of i))
       ∙ as_written labels (named name word texts plain) (operand_texts name word texts plain)

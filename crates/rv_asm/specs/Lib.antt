@@ -10,3 +10,4 @@ pub mod Words
 pub mod Assembled
 pub mod Printed
 pub mod Read
+pub mod FaultText

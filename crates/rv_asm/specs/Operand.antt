@@ -1,6 +1,7 @@
 -- An operand: the register, number, address or target that its text writes, or what is wrong with it.
-use Rattle.std.specs.Prelude.{ℕ, ◌-◌, ◌*◌, ◌%◌, ◌==◌, ◌^◌, Bool, true, false, ◌&&◌, List, [], ◌∷◌, take, drop, nat_eq, nat_lt, nat_le, codes, Option, Some, None, Result, Ok, Err, if◌then◌else◌}
+use Rattle.std.specs.Prelude.{ℕ, ◌-◌, ◌*◌, ◌%◌, ◌==◌, ◌^◌, Bool, true, false, ◌&&◌, List, [], ◌∷◌, ◌++◌, find, take, drop, nat_eq, nat_lt, nat_le, codes, Option, Some, None, Result, Ok, Err, if◌then◌else◌}
 use Rattle.std.specs.List.{starts_with, position_or_len}
+use Rattle.std.specs.Option.{option_or}
 use Rattle.std.specs.Str.{bytes_eq}
 use Rattle.rv_model.specs.Words.{minus}
 use Rattle.rv_model.specs.declared.instr.Operands.{Operands}
@@ -26,23 +27,11 @@ fault_at span Bad = fault.BadOperand span
 fault_at span NoLabel = fault.NoLabel span
 fault_at span OutOfRange = fault.OutOfRange span
 
--- a bad operand comes before a label that is not there, and that before a number out of range
-abbrev pub is_graver : OperandFault → OperandFault → Bool
-is_graver Bad Bad = false
-is_graver Bad NoLabel = true
-is_graver Bad OutOfRange = true
-is_graver NoLabel Bad = false
-is_graver NoLabel NoLabel = false
-is_graver NoLabel OutOfRange = true
-is_graver OutOfRange Bad = false
-is_graver OutOfRange NoLabel = false
-is_graver OutOfRange OutOfRange = false
-
 -- a number that is at most a limit
 abbrev pub limited : ℕ → ℕ → Result ℕ OperandFault
 limited limit n = if nat_le n limit then Ok n else Err OutOfRange
 
--- the same of what a text writes
+-- the number that a text writes, where it is at most a limit
 abbrev pub sized : ℕ → Result ℕ NumberError → Result ℕ OperandFault
 sized limit (Ok n) = limited limit n
 sized limit (Err Malformed) = Err Bad
@@ -143,18 +132,68 @@ with_operand labels from Upper text o = with_imm o (shifted (number_in 0 1048575
 with_operand labels from Address text o = address_in o text
 with_operand labels from (Target low high) text o = with_imm o (target_in low high labels from text)
 
--- of the faults of several operands the gravest counts, and the first of these
+-- an operand in its place, or its fault; one at fault leaves the others as they are
+abbrev pub placed : Operands → Result Operands OperandFault → Operands
+placed o (Ok more) = more
+placed o (Err why) = o
+
+abbrev pub fault_in : Span → Result Operands OperandFault → List FaultyOperand
+fault_in span (Ok more) = []
+fault_in span (Err why) = record { why = why; span = span } ∷ []
+
+-- all operands in their places, and their faults in order
+abbrev pub all_placed : Labels → ℕ → List Slot → List Piece → Operands → Operands
+all_placed labels from [] pieces o = o
+all_placed labels from (slot ∷ slots) [] o = o
+all_placed labels from (slot ∷ slots) (piece ∷ pieces) o = all_placed labels from slots pieces (placed o (with_operand labels from slot piece.text o))
+
+abbrev pub faults_in : Labels → ℕ → List Slot → List Piece → Operands → List FaultyOperand
+faults_in labels from [] pieces o = []
+faults_in labels from (slot ∷ slots) [] o = []
+faults_in labels from (slot ∷ slots) (piece ∷ pieces) o =
+    fault_in piece.span (with_operand labels from slot piece.text o) ++ faults_in labels from slots pieces (placed o (with_operand labels from slot piece.text o))
+
+-- of several faults the first bad operand counts, else the first whose label is not there, else the first out of range
+abbrev pub is_bad : OperandFault → Bool
+is_bad Bad = true
+is_bad NoLabel = false
+is_bad OutOfRange = false
+
+abbrev pub lacks_label : OperandFault → Bool
+lacks_label Bad = false
+lacks_label NoLabel = true
+lacks_label OutOfRange = false
+
+abbrev pub is_outside : OperandFault → Bool
+is_outside Bad = false
+is_outside NoLabel = false
+is_outside OutOfRange = true
+
+abbrev pub first_of : (OperandFault → Bool) → List FaultyOperand → Option FaultyOperand
+first_of p faults = find (λ faulty. p faulty.why) faults
+
+abbrev pub first_fault : List FaultyOperand → Option FaultyOperand
+first_fault faults = option_or (first_of is_bad faults) (option_or (first_of lacks_label faults) (first_of is_outside faults))
+
+abbrev pub unless_faulty : Operands → Option FaultyOperand → Result Operands FaultyOperand
+unless_faulty o None = Ok o
+unless_faulty o (Some faulty) = Err faulty
+
+abbrev pub with_operands : Labels → ℕ → List Slot → List Piece → Operands → Result Operands FaultyOperand
+with_operands labels from slots pieces o = unless_faulty (all_placed labels from slots pieces o) (first_fault (faults_in labels from slots pieces o))
+
+-- which of two faults counts: the first, unless that of the operands after it is graver
+abbrev pub is_graver : OperandFault → OperandFault → Bool
+is_graver Bad Bad = false
+is_graver Bad NoLabel = true
+is_graver Bad OutOfRange = true
+is_graver NoLabel Bad = false
+is_graver NoLabel NoLabel = false
+is_graver NoLabel OutOfRange = true
+is_graver OutOfRange Bad = false
+is_graver OutOfRange NoLabel = false
+is_graver OutOfRange OutOfRange = false
+
 abbrev pub gravest : FaultyOperand → Result Operands FaultyOperand → FaultyOperand
 gravest first (Ok o) = first
 gravest first (Err second) = if is_graver second.why first.why then second else first
-
-abbrev pub and_rest : Operands → Span → Result Operands OperandFault → (Operands → Result Operands FaultyOperand) → Result Operands FaultyOperand
-and_rest o span (Ok more) rest = rest more
-and_rest o span (Err why) rest = Err (gravest (record { why = why; span = span }) (rest o))
-
--- all operands in their places
-abbrev pub with_operands : Labels → ℕ → List Slot → List Piece → Operands → Result Operands FaultyOperand
-with_operands labels from [] pieces o = Ok o
-with_operands labels from (slot ∷ slots) [] o = Ok o
-with_operands labels from (slot ∷ slots) (piece ∷ pieces) o =
-    and_rest o piece.span (with_operand labels from slot piece.text o) (λ more. with_operands labels from slots pieces more)

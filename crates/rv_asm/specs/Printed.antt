@@ -34,7 +34,7 @@ operand_text o (Target low high) = signed_text o.imm
 abbrev pub separator : ℕ → List ℕ
 separator index = if index == 0 then codes " " else codes ", "
 
--- texts from that of an index on, each behind its separator
+-- texts from that of an index on, each after its separator
 abbrev pub separated_from : ℕ → List (List ℕ) → List ℕ
 separated_from index [] = []
 separated_from index (text ∷ texts) = separator index ++ (text ++ separated_from (index + 1) texts)

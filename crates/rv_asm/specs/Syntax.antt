@@ -5,7 +5,7 @@ use Rattle.std.specs.List.{list_all, starts_with, position_or_len, slice_split}
 use Rattle.nova_text.specs.Bytes.{is_separator, before_comment}
 use Rattle.nova_text.specs.Line.{Row}
 use Rattle.nova_text.specs.Piece.{Piece, pieces_from}
-use Rattle.nova_text.specs.Token.{tokens, row_behind}
+use Rattle.nova_text.specs.Token.{tokens, row_after}
 
 -- a name is a letter or `_`, and then letters, digits and `_`
 abbrev pub begins_name : ℕ → Bool
@@ -24,7 +24,7 @@ is_colon b = b == 58
 abbrev pub is_comma : ℕ → Bool
 is_comma b = b == 44
 
--- how many separators stand in front, and the row behind so many bytes
+-- how many separators stand in front, and the row after so many bytes
 abbrev pub gap : List ℕ → ℕ
 gap bs = position_or_len (λ b. not (is_separator b)) bs
 
@@ -39,14 +39,14 @@ name_len bs = position_or_len (λ b. not (continues_name b)) bs
 abbrev pub front : ℕ → Row → Piece
 front n row = record { text = take n row.text; span = record { start = row.start; end = row.start + n } }
 
--- a label in front of a row, without its colon, and what stands behind it: a name with a colon right behind
-abbrev pub behind_colon : ℕ → Row → Row
-behind_colon n row = record row { start = row.start + n + 1; text = drop 1 (drop n row.text) }
+-- a label in front of a row, without its colon, and what stands after it: a name with a colon right after
+abbrev pub after_colon : ℕ → Row → Row
+after_colon n row = record row { start = row.start + n + 1; text = drop 1 (drop n row.text) }
 
 abbrev pub label_at : Row → ℕ → Option (Piece × Row)
-label_at row n = if is_name (take n row.text) then (if starts_with nat_eq (drop n row.text) (codes ":") then Some (front n row, behind_colon n row) else None) else None
+label_at row n = if is_name (take n row.text) then (if starts_with nat_eq (drop n row.text) (codes ":") then Some (front n row, after_colon n row) else None) else None
 
--- a line's label, and what stands behind it
+-- a line's label, and what stands after it
 pub record Labelled : Type 0 where
   pub label : Option Piece
   pub rest : Row
@@ -88,14 +88,14 @@ operands_by row (t ∷ ts) = separated row
 abbrev pub operands_in : Row → List Piece
 operands_in row = operands_by row (tokens row.start row.text)
 
--- what a row holds behind its label: nothing, or a name and operands
+-- what a row holds after its label: nothing, or a name and operands
 pub record Written : Type 0 where
   pub name : Piece
   pub operands : List Piece
 
 abbrev pub written_from : Row → List Piece → Option Written
 written_from row [] = None
-written_from row (t ∷ ts) = Some (record { name = t; operands = operands_in (row_behind (Some t) row) })
+written_from row (t ∷ ts) = Some (record { name = t; operands = operands_in (row_after (Some t) row) })
 
 abbrev pub written : Row → Option Written
 written row = written_from row (tokens row.start row.text)

@@ -1,4 +1,4 @@
-ghost use Rattle.std.specs.Prelude.{◌≡◌};
+ghost use Rattle.std.specs.Prelude.{◌≡◌, Some};
 ghost use Rattle.rv_asm.specs.Operand.{fault_at, is_graver};
 
 use nova_text::Span;
@@ -40,6 +40,10 @@ impl From<AllocError> for AsmFault {
 }
 
 impl fmt::Display for AsmFault {
+    ghost use Rattle.rv_asm.specs.FaultText.{fault_text};
+
+    ghost output = { λ fault. Some (fault_text fault) };
+
     fn fmt<W: fmt::Write>(&self, f: &mut fmt::Formatter<W>) -> fmt::Result {
         match self {
             AsmFault::UnknownName(span) => write!(f, "unknown name at {span}"),

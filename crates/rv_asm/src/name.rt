@@ -69,7 +69,7 @@ impl ShortForm {
     }
 }
 
-// The operands of a row of the instruction table.
+/// The operands of a row of the instruction table.
 fn row_slots(row: Row) -> &'static [Slot]
     ensures { result.now ≡ slots_in row.format row.opcode }
 {
@@ -93,7 +93,7 @@ fn row_slots(row: Row) -> &'static [Slot]
     }
 }
 
-// The short form of a name.
+/// The short form of a name.
 fn short_named(text: &[u8]) -> Option<ShortForm>
     ensures { result ≡ short_named text.now }
 {
@@ -117,7 +117,7 @@ impl Name {
         }
     }
 
-    /// The operands that are written behind it.
+    /// The operands that are written after it.
     pub fn slots(self) -> &'static [Slot]
         ensures { result.now ≡ slots_of self }
     {

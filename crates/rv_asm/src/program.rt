@@ -1,8 +1,8 @@
-ghost use Rattle.std.specs.Prelude.{◌≡◌, ◌≤◌, IfOk, OnOk};
+ghost use Rattle.std.specs.Prelude.{◌≡◌, ◌≤◌, true, IfOk, IfErr, OnOk, OnErr};
 ghost use Rattle.nova_text.specs.Line.{row_of};
-ghost use Rattle.rv_asm.specs.Assembled.{IsAssembled};
+ghost use Rattle.rv_asm.specs.Assembled.{IsAssembled, IsMemoryOnlyIf};
 ghost use Rattle.rv_asm.specs.Places.{places_of};
-ghost use Rattle.rv_asm.specs.Program.{with_label, labels_of, assembled};
+ghost use Rattle.rv_asm.specs.Program.{with_label, labels_of, says, takes_memory, assembled};
 ghost use Rattle.rv_asm.specs.Syntax.{labelled};
 ghost use Rattle.rv_asm.specs.Words.{line_shown, shown_count};
 
@@ -14,7 +14,7 @@ use crate::words::Words;
 use nova_text::{Line, Lines};
 use std::alloc::{AllocError, Global};
 
-// How many words a line has. At fault it counts as one.
+/// How many words a line has. At fault it counts as one.
 fn word_count(words: &Result<Words, AsmFault>) -> u64
     ensures count { result ≡ shown_count (line_shown words.now) }
     ensures bound { result ≤ 2 }
@@ -25,9 +25,10 @@ fn word_count(words: &Result<Words, AsmFault>) -> u64
     }
 }
 
-// Adds the label of a line, if it has one that is not there yet.
+/// Adds the label of a line, if it has one that is not there yet.
 fn add_label<'a>(labels: &mut Labels<'a>, line: Line<'a>, place: u64) -> Result<(), AllocError>
-    ensures { OnOk result (places_of labels.new ≡ with_label (places_of labels.old) (labelled (row_of line.entry)).label (record { line = line.entry.number; place = place })) }
+    ensures memory { OnErr result (says (row_of line.entry) ≡ true) }
+    ensures label { OnOk result (places_of labels.new ≡ with_label (places_of labels.old) (labelled (row_of line.entry)).label (record { line = line.entry.number; place = place })) }
 {
     let (label, _) = labelled(line);
     match label {
@@ -42,10 +43,11 @@ fn add_label<'a>(labels: &mut Labels<'a>, line: Line<'a>, place: u64) -> Result<
     }
 }
 
-// The labels of a text.
-#[tactic(auto, unfolding(crate::specs::Program::labels_of))]
+/// The labels of a text.
+#[tactic(auto, unfolding(crate::specs::Program::takes_memory))]
 fn labels_of<'a>(alloc: Global, text: &'a [u8]) -> Result<Labels<'a>, AllocError>
-    ensures { IfOk result (λ labels. places_of labels ≡ labels_of text.now) }
+    ensures labels { IfOk result (λ labels. places_of labels ≡ labels_of text.now) }
+    ensures memory { IfErr result (λ _. takes_memory text.now ≡ true) }
 {
     let mut labels = Labels::new(alloc);
     let mut place = 0;
@@ -60,10 +62,11 @@ fn labels_of<'a>(alloc: Global, text: &'a [u8]) -> Result<Labels<'a>, AllocError
 /// The words of a text: line by line those of the instructions and numbers written there.
 ///
 /// A fault is that of the first line at fault, and in a line the first of `TwiceLabel`, `UnknownName`, `BadOperand`, `NoLabel` and
-/// `OutOfRange`. `Memory` comes where memory is refused.
-#[tactic(auto, unfolding(crate::specs::Program::assembled))]
+/// `OutOfRange`. `Memory` comes where memory is refused, and only where a line has a label or a statement.
+#[tactic(auto, unfolding(crate::specs::Program::assembled, crate::specs::Program::takes_memory))]
 pub fn assemble(alloc: Global, text: &[u8]) -> Result<Vec<u32>, AsmFault>
-    ensures { IsAssembled (assembled text.now) result }
+    ensures exact { IsAssembled (assembled text.now) result }
+    ensures memory { IfErr result (IsMemoryOnlyIf (takes_memory text.now)) }
 {
     let labels = labels_of(alloc, text)?;
     let mut words = Vec::new(alloc);

@@ -1,9 +1,9 @@
-ghost use Rattle.std.specs.Prelude.{◌≡◌, map, option_map, Some, IfOk};
+ghost use Rattle.std.specs.Prelude.{◌≡◌, map, option_map, Some, true, IfOk, IfErr};
 ghost use Rattle.nova_text.specs.Line.{row_of};
 ghost use Rattle.nova_text.specs.Token.{piece_of};
 ghost use Rattle.rv_asm.specs.Operand.{with_operands, gravest};
 ghost use Rattle.rv_asm.specs.Places.{places_of};
-ghost use Rattle.rv_asm.specs.Program.{statement, statement_of, is_earlier, words_of, line_items};
+ghost use Rattle.rv_asm.specs.Program.{statement, statement_of, is_earlier, words_of, line_items, says};
 ghost use Rattle.rv_asm.specs.Shown.{operand_seen, written_of};
 ghost use Rattle.rv_asm.specs.Words.{line_shown};
 
@@ -17,7 +17,7 @@ use nova_text::{Line, Span};
 use rv_model::Operands;
 use std::alloc::{AllocError, Global};
 
-// The graver of a fault and that of the operands behind it.
+/// The graver of a fault and that of the operands after it.
 fn gravest(first: FaultyOperand, rest: Result<Operands, FaultyOperand>) -> FaultyOperand
     ensures { result ≡ gravest first rest }
 {
@@ -27,7 +27,7 @@ fn gravest(first: FaultyOperand, rest: Result<Operands, FaultyOperand>) -> Fault
     }
 }
 
-// Puts operands in their places.
+/// Puts operands in their places.
 fn with_operands(
     labels: &Labels,
     from: u64,
@@ -56,7 +56,7 @@ fn with_operands(
     }
 }
 
-// The words of an instruction whose name is known.
+/// The words of an instruction whose name is known.
 fn named_words(
     labels: &Labels,
     place: u64,
@@ -76,7 +76,7 @@ fn named_words(
     }
 }
 
-// The words of what stands behind a label, or its fault.
+/// The words of what stands after a label, or its fault.
 fn statement_words(
     labels: &Labels,
     place: u64,
@@ -93,7 +93,7 @@ fn statement_words(
     }
 }
 
-// Whether a label stands on a line before the one of a number.
+/// Whether a label stands on a line before the one of a number.
 fn is_earlier(label: Option<Label>, number: u64) -> bool
     ensures { result ≡ is_earlier number label }
 {
@@ -103,14 +103,15 @@ fn is_earlier(label: Option<Label>, number: u64) -> bool
     }
 }
 
-/// The words of a line, so many words behind the first, or its fault. The outer result is about memory alone.
+/// The words of a line, before which `place` words stand, or its fault. The outer result is about memory alone.
 pub fn line_words(
     alloc: Global,
     labels: &Labels,
     place: u64,
     line: Line,
 ) -> Result<Result<Words, AsmFault>, AllocError>
-    ensures { IfOk result (λ words. line_shown words ≡ words_of (line_items (places_of labels.now) place (row_of line.entry))) }
+    ensures memory { IfErr result (λ _. says (row_of line.entry) ≡ true) }
+    ensures words { IfOk result (λ words. line_shown words ≡ words_of (line_items (places_of labels.now) place (row_of line.entry))) }
 {
     let (label, rest) = labelled(line);
     if let Some(label) = label {

@@ -1,4 +1,4 @@
-ghost use Rattle.std.specs.Prelude.{◌≡◌, ◌++◌, length, map, OnOk};
+ghost use Rattle.std.specs.Prelude.{◌≡◌, ◌≤◌, ◌++◌, length, map, OnOk, OnErr};
 ghost use Rattle.rv_asm.specs.Name.{items_of, item_word, lower_part, Does};
 ghost use Rattle.rv_model.specs.Table.{instr_from};
 ghost use Rattle.rv_asm.specs.declared.name.Name.TheVariants.{Short};
@@ -32,7 +32,8 @@ impl Words {
 
     /// Appends them to a list. Where memory is refused, a part of them may be there.
     pub fn push_to(self, list: &mut Vec<u32>) -> Result<(), AllocError>
-        ensures { OnOk result (list.new.items ≡ list.old.items ++ words_in self) }
+        ensures words { OnOk result (list.new.items ≡ list.old.items ++ words_in self) }
+        ensures memory { OnErr result (1 ≤ length (words_in self)) }
     {
         match self {
             Words::Nothing => {}
@@ -46,7 +47,7 @@ impl Words {
     }
 }
 
-// The low twelve bits of a number as a signed number.
+/// The low twelve bits of a number as a signed number.
 fn lower_part(number: u32) -> u32
     ensures { result ≡ lower_part number }
 {
@@ -54,14 +55,14 @@ fn lower_part(number: u32) -> u32
     if low < 0x800 { low } else { low + 0xffff_f000 }
 }
 
-// The word of an instruction.
+/// The word of an instruction.
 fn word(mnemonic: Mnemonic, operands: Operands) -> u32
     ensures { result ≡ item_word (Does (instr_from mnemonic operands)) }
 {
     encode(&table::instr_from(mnemonic, operands))
 }
 
-// The words of `li`.
+/// The words of `li`.
 fn load_immediate(operands: Operands) -> Words
     ensures { words_in result ≡ map item_word (items_of (Short Li) operands) }
 {

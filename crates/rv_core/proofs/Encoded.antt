@@ -1,5 +1,5 @@
 -- An instruction that can be encoded is decoded from its word, and each decoded instruction can be encoded.
-use Rattle.std.proofs.Common.{◌≡◌, ◌<◌, ℕ, ◌^◌, true, Option, Some, None, refl, ap, sym, subst, ◌∙◌, lit<, arith}
+use Rattle.std.proofs.Common.{◌≡◌, ◌<◌, ℕ, ◌^◌, true, Some, refl, ap, sym, subst, ◌∙◌, lit<, arith}
 use Rattle.std.proofs.lemmas.Bool.Decides.{nat_tests}
 use Rattle.rv_model.specs.Table.{Row, row_of, instr_from, mnemonic_of, operands_of}
 use Rattle.rv_model.specs.Codes.{code, has_row, immediate_of, operands_in, word_by, instr_of, word_of}

@@ -12,13 +12,13 @@ use Rattle.rv_core.specs.declared.outcome.Outcome.TheVariants.{Next, Raise}
 abbrev pub space_of : {S : Type 0} → (S → ℕ → Option ℕ) → (S → ℕ → ℕ → Option ℕ) → (S → ℕ → ℕ → Bool) → S → Space
 space_of fetched loaded takes s = record { fetch = fetched s; load = loaded s; takes = takes s }
 
--- registers and a state, the outcome, and the registers and the state behind it: a raise leaves both as they were
+-- registers and a state, the outcome, and the registers and the state after it: a raise leaves both as they were
 abbrev pub Follows : {S : Type 0} → (Store → S → S) → Once → Registers → S → Outcome → Registers → S → Type 0
 Follows stored (Raised reason q0 q1) r s outcome r' s' = (outcome ≡ Raise reason q0 q1) × (r' ≡ r) × (s' ≡ s)
 Follows stored (Went next None) r s outcome r' s' = (outcome ≡ Next) × (r' ≡ next) × (s' ≡ s)
 Follows stored (Went next (Some store)) r s outcome r' s' = (outcome ≡ Next) × (r' ≡ next) × (s' ≡ stored store s)
 
--- the same of what needs no bus: it makes no store
+-- registers, the outcome, and the registers after it, of an instruction that needs no bus: it makes no store
 abbrev pub FollowsAlone : Once → Registers → Outcome → Registers → Type 0
 FollowsAlone (Raised reason q0 q1) r outcome r' = (outcome ≡ Raise reason q0 q1) × (r' ≡ r)
 FollowsAlone (Went next None) r outcome r' = (outcome ≡ Next) × (r' ≡ next)

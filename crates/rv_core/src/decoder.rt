@@ -93,7 +93,7 @@ fn mnemonic_in(word: u32) -> Option<Mnemonic>
     }
 }
 
-/// The same of a word with the opcode of the branches.
+/// The branch that a word with the branches' opcode is.
 fn branch(word: u32) -> Option<Mnemonic>
     requires { field word 0 7 ≡ branch_code }
     ensures { result ≡ mnemonic_in word }
@@ -109,7 +109,7 @@ fn branch(word: u32) -> Option<Mnemonic>
     }
 }
 
-/// The same of a word with the opcode of the loads.
+/// The load that a word with the loads' opcode is.
 fn load(word: u32) -> Option<Mnemonic>
     requires { field word 0 7 ≡ load_code }
     ensures { result ≡ mnemonic_in word }
@@ -124,7 +124,7 @@ fn load(word: u32) -> Option<Mnemonic>
     }
 }
 
-/// The same of a word with the opcode of the stores.
+/// The store that a word with the stores' opcode is.
 fn store(word: u32) -> Option<Mnemonic>
     requires { field word 0 7 ≡ store_code }
     ensures { result ≡ mnemonic_in word }
@@ -137,7 +137,7 @@ fn store(word: u32) -> Option<Mnemonic>
     }
 }
 
-/// The same of a word with the opcode of the operations on a register and an immediate.
+/// The operation on a register and an immediate that a word with their opcode is.
 fn immediate_operation(word: u32) -> Option<Mnemonic>
     requires { field word 0 7 ≡ immediate_code }
     ensures { result ≡ mnemonic_in word }
@@ -156,7 +156,7 @@ fn immediate_operation(word: u32) -> Option<Mnemonic>
     }
 }
 
-/// The same of a word with the opcode of the operations on two registers.
+/// The operation on two registers that a word with their opcode is.
 fn register_operation(word: u32) -> Option<Mnemonic>
     requires { field word 0 7 ≡ register_code }
     ensures { result ≡ mnemonic_in word }
@@ -176,7 +176,7 @@ fn register_operation(word: u32) -> Option<Mnemonic>
     }
 }
 
-/// The same of a word with the opcode of the system instructions.
+/// The system instruction that a word with their opcode is.
 fn system(word: u32) -> Option<Mnemonic>
     requires { field word 0 7 ≡ system_code }
     ensures { result ≡ mnemonic_in word }

@@ -68,7 +68,6 @@ fn branch(regs: &mut Regs, test: bool, offset: u32) -> Outcome
     }
 }
 
-/// A raise.
 fn raise(reason: u32, q0: u32, q1: u32) -> Outcome
     ensures { result ≡ Outcome.Raise reason q0 q1 }
 {

@@ -88,7 +88,7 @@ impl Row {
 }
 
 /// The forty names, in the order of the table.
-pub const MNEMONICS: [Mnemonic; 40] = [
+const MNEMONICS: [Mnemonic; 40] = [
     Mnemonic::Lui,
     Mnemonic::Auipc,
     Mnemonic::Jal,

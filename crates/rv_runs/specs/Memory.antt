@@ -5,7 +5,7 @@ use Rattle.std.specs.List.{flat_map}
 use Rattle.rv_model.specs.Step.{Space, Store}
 use Rattle.rv_runs.specs.declared.memory.TheConstants.{START, SIZE}
 
--- the words of a program with zeros behind them
+-- the words of a program with zeros after them
 abbrev pub memory_with : List ℕ → List ℕ
 memory_with program = flat_map (to_le_bytes w32) program ++ replicate (SIZE - 4 * length program) 0
 

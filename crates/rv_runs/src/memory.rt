@@ -33,7 +33,7 @@ impl Model for Memory {
 }
 
 impl Memory {
-    /// Memory with the words of a program at its start and zeros behind them.
+    /// Memory with the words of a program at its start and zeros after them.
     pub fn new(alloc: Global, program: &[u32]) -> Result<Memory, AllocError>
         requires { length program.now ≤ WORDS }
         ensures { IfOk result (λ memory. memory ≡ memory_with program.now) }

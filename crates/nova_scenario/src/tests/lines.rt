@@ -2,7 +2,7 @@
 use crate::Why;
 use crate::Why::{Missing, Range, Repeated, Syntax};
 
-// Each limit from both sides. Where the line is right, a setting is missing on the next one.
+/// Each limit from both sides. Where the line is right, a setting is missing on the next one.
 pub const LIMITS: [(&[u8], u64, Why); 28] = [
     (b"", 1, Missing),
     (b"\n", 2, Missing),
@@ -34,7 +34,7 @@ pub const LIMITS: [(&[u8], u64, Why); 28] = [
     (b"root 0 0 0 4294967296", 1, Range),
 ];
 
-// How numbers are written.
+/// How numbers are written.
 pub const NUMBERS: [(&[u8], u64, Why); 16] = [
     (b"cpus 007", 2, Missing),
     (b"cpus 0x8", 2, Missing),
@@ -54,7 +54,7 @@ pub const NUMBERS: [(&[u8], u64, Why); 16] = [
     (b"cpus 99999999999999999999x", 1, Syntax),
 ];
 
-// The forms of lines.
+/// The forms of lines.
 pub const FORMS: [(&[u8], u64, Why); 24] = [
     (b"cpus", 1, Syntax),
     (b"cpus 1 1", 1, Syntax),
@@ -82,7 +82,7 @@ pub const FORMS: [(&[u8], u64, Why); 24] = [
     (b"image 1 hex", 1, Missing),
 ];
 
-// Comments, separators and bytes that stand nowhere else.
+/// Comments, separators and bytes that stand nowhere else.
 pub const BYTES: [(&[u8], u64, Why); 14] = [
     (b"# \xff\x00", 2, Missing),
     (b"cpus 1 # \xff\x00\x0b", 2, Missing),
@@ -100,7 +100,7 @@ pub const BYTES: [(&[u8], u64, Why); 14] = [
     (b"cpus 9\x00", 1, Syntax),
 ];
 
-// The first line at fault, and of its faults the first.
+/// The first line at fault, and of its faults the first.
 pub const ORDER: [(&[u8], u64, Why); 17] = [
     (b"cpus 1\ncpus 9", 2, Repeated),
     (b"cpus 1\ncpus 1", 2, Repeated),

@@ -20,5 +20,5 @@ loop-line-preserved c =
           ∙ line_passed c.loop-line.forbidden row rows c.loop-line.lines here inside
           ∙ c.loop-line.invariant.forbidden;
       end = sym (ap (find is_end) here ∙ find_later is_end row rows inside) ∙ c.loop-line.invariant.end;
-      behind = sym (ap (after_first is_end) here ∙ after_later is_end row rows inside) ∙ c.loop-line.invariant.behind;
+      after = sym (ap (after_first is_end) here ∙ after_later is_end row rows inside) ∙ c.loop-line.invariant.after;
     }

@@ -9,7 +9,7 @@ abbrev pub invariant-loop-line : goal.invariant-loop-line
 invariant-loop-line l = record {
   forbidden : option_or l.forbidden (forbidden_in (before_first is_end l.lines)) ≡ forbidden_in (before_first is_end l.fn.lines);
   end : find is_end l.lines ≡ find is_end l.fn.lines;
-  behind : after_first is_end l.lines ≡ after_first is_end l.fn.lines;
+  after : after_first is_end l.lines ≡ after_first is_end l.fn.lines;
 }
 
 abbrev pub decreases-loop-line : goal.decreases-loop-line

@@ -18,7 +18,7 @@ loop-line-preserved c =
     record {
       bytes = line_taken c.loop-line.bytes.items row rows c.loop-line.lines here inside c.push_words.new.bytes.items c.in_ok-push_words.ensures ∙ c.loop-line.invariant.bytes;
       end = sym (ap (find is_end) here ∙ find_later is_end row rows inside) ∙ c.loop-line.invariant.end;
-      behind = sym (ap (after_first is_end) here ∙ after_later is_end row rows inside) ∙ c.loop-line.invariant.behind;
+      after = sym (ap (after_first is_end) here ∙ after_later is_end row rows inside) ∙ c.loop-line.invariant.after;
     }
 
 pub returns-in_err-push_words-clause-block : goal.returns-in_err-push_words-clause-block

@@ -8,7 +8,7 @@ abbrev pub invariant-loop-line : goal.invariant-loop-line
 invariant-loop-line l = record {
   bytes : hex_left l.bytes.items l.lines ≡ hex_left [] l.fn.lines;
   end : find is_end l.lines ≡ find is_end l.fn.lines;
-  behind : after_first is_end l.lines ≡ after_first is_end l.fn.lines;
+  after : after_first is_end l.lines ≡ after_first is_end l.fn.lines;
 }
 
 abbrev pub decreases-loop-line : goal.decreases-loop-line

@@ -1,14 +1,14 @@
-use Rattle.std.proofs.Common.{◌≡◌, ℕ, suc, ◌+◌, ◌-◌, ◌<◌, List, Option, Some, None, sym, ◌∙◌, ap, ap₂, refl, arith}
+use Rattle.std.proofs.Common.{◌≡◌, ℕ, suc, ◌+◌, ◌-◌, List, Some, None, sym, ◌∙◌, ap₂, refl, arith}
 use Rattle.rv_model.specs.Registers.{Registers}
 use Rattle.rv_model.specs.Step.{Once, Raised, Went, one}
 use Rattle.rv_core.specs.Steps.{Follows}
 use Rattle.rv_core.specs.declared.outcome.Outcome.{Outcome}
-use Rattle.rv_core.specs.declared.outcome.Outcome.TheVariants.{Next, Raise}
+use Rattle.rv_core.specs.declared.outcome.Outcome.TheVariants.{Next}
 use Rattle.rv_runs.specs.Memory.{space, stored}
 use Rattle.rv_runs.specs.Run.{End, ended, run}
 use Rattle.rv_runs.proofs.run.run.Goals as goal
 
--- behind an instruction that doesn't raise the rest of the run follows
+-- after an instruction that doesn't raise the rest of the run follows
 goes_on : (o : Once) (r r' : Registers) (bytes bytes' : List ℕ) (rest : Registers → List ℕ → End) → Follows stored o r bytes Next r' bytes' → ended o r bytes rest ≡ rest r' bytes'
 goes_on (Raised reason q0 q1) r r' bytes bytes' rest follows = absurd (cc follows.0)
 goes_on (Went next None) r r' bytes bytes' rest follows = ap₂ rest (sym follows.1) (sym follows.2)

@@ -1,13 +1,14 @@
-use Rattle.std.proofs.Common.{rules, ◌≡◌, slice_get}
+use Rattle.std.proofs.Common.{refl, rules}
 use Rattle.nova_kernel.specs.Parts.{shown}
-use Rattle.std.specs.Prelude.{Some}
-use Rattle.nova_kernel.proofs.Steps.{executes-there, entry-read}
+use Rattle.nova_kernel.proofs.Steps.{steps-there}
 use Rattle.nova_kernel.proofs.parts.Parts.execute.Goals as goal
 
--- src/turn.rt:143:5
-pub returns-clause-executed : goal.returns-clause-executed
-returns-clause-executed c =
-    let there : slice_get c.args.self.now.contexts.items c.args.ec ≡ Some (Some c.in-Some.context) =
-    entry-read c.args.self.now.contexts.items c.args.ec c.index_mut.result.now c.in-Some.context c.requires.there c.index_mut.ensures.value c.in-Some.is in
-    executes-there (shown c.args.self.now) c.args.ec c.in-Some.context c.execute_in-outcome.new.context c.enter.new.self c.execute_in-outcome.new.reach
-    c.execute_in-outcome.result there (record { space = search rules; consoles = search rules }) c.execute_in-outcome.ensures.executed
+pub returns-clause-outcome : goal.returns-clause-outcome
+returns-clause-outcome c =
+    (steps-there (shown c.args.self.now) c.args.self.now.contexts c.step.new.self c.args.ec c.enter.new.self c.step.new.bus c.step.result refl
+    (record { delegations = search rules; memory = search rules; consoles = search rules; pd = search rules; is_thread = search rules }) c.step.ensures).0
+
+pub returns-clause-done : goal.returns-clause-done
+returns-clause-done c =
+    (steps-there (shown c.args.self.now) c.args.self.now.contexts c.step.new.self c.args.ec c.enter.new.self c.step.new.bus c.step.result refl
+    (record { delegations = search rules; memory = search rules; consoles = search rules; pd = search rules; is_thread = search rules }) c.step.ensures).1

@@ -1,4 +1,7 @@
 use Rattle.std.proofs.Common.{subst, sym, ◌∙◌}
+use Rattle.nova_forest.proofs.Boots.{done_forest}
+use Rattle.nova_model.specs.Forest.{IsForest}
+use Rattle.nova_model.specs.State.{KernelState}
 use Rattle.nova_kernel.specs.Parts.{shown, IsCounted}
 use Rattle.nova_kernel.proofs.Counts.{IsCounted-charged}
 use Rattle.nova_kernel.proofs.Making.{making-wants}
@@ -6,9 +9,11 @@ use Rattle.nova_kernel.proofs.parts.Parts.turn.Goals as goal
 
 pub returns-in_err-deed-clause-making : goal.returns-in_err-deed-clause-making
 returns-in_err-deed-clause-making c =
-    making-wants (shown c.args.self.now) c.args.cpu c.in-Some.chosen c.from_residual.result (sym c.choice.ensures.choice ∙ c.in-Some.is) c.in_err-deed.ensures.acted.1
+    making-wants (shown c.args.self.now) c.args.cpu c.in-Some.chosen c.from_residual.result (sym c.choice.ensures.choice ∙ c.in-Some.is)
+    c.in_err-deed.ensures.making
 
 pub returns-clause-counted : goal.returns-clause-counted
 returns-clause-counted c =
     subst IsCounted (sym c.charge.ensures.charged)
-    (IsCounted-charged (shown c.args.self.now) (shown c.act.new.self) c.args.cpu c.in-Some.chosen.sc c.in_ok-deed.ensures.kept c.requires.turns c.requires.counted)
+    (IsCounted-charged (shown c.args.self.now) (shown c.act.new.self) c.args.cpu c.in-Some.chosen.sc c.in_ok-deed.ensures.kept
+    (subst (λ (s : KernelState). IsForest s.delegations) (sym c.in_ok-deed.ensures.done) (done_forest (shown c.args.self.now) c.in-Some.chosen.actor _ c.in_ok-deed.ensures.deed c.requires.counted.forest)) c.requires.turns c.requires.counted)

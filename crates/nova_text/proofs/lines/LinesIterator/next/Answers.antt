@@ -10,7 +10,7 @@ returns-then-is_empty-clause-steps c =
 
 pub returns-clause-steps : goal.returns-clause-steps
 returns-clause-steps c =
-    sym c.self.view_is ∙ rows-first c.self.inside.number c.self.inside.start c.self.inside.rest.now _ _ (grind arith) c.split_line.ensures.line c.split_line.ensures.behind
+    sym c.self.view_is ∙ rows-first c.self.inside.number c.self.inside.start c.self.inside.rest.now _ _ (grind arith) c.split_line.ensures.line c.split_line.ensures.after
 
 pub returns-clause-goes : goal.returns-clause-goes
 returns-clause-goes c =

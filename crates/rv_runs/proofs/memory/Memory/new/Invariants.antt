@@ -1,7 +1,6 @@
-use Rattle.std.proofs.Common.{◌≡◌, ◌*◌, length, take}
+use Rattle.std.proofs.Common.{◌≡◌, take}
 use Rattle.std.specs.Int.{w32, to_le_bytes}
 use Rattle.std.specs.List.{flat_map}
-use Rattle.std.specs.Vec.{vec_len}
 use Rattle.rv_runs.proofs.memory.Memory.new.Given as goal
 
 -- the bytes of the words so far

@@ -1,0 +1,5 @@
+pub mod Walks
+pub mod Tables
+pub mod Ends
+pub mod Donors
+pub mod Steps

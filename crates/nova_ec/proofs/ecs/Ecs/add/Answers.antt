@@ -1,0 +1,15 @@
+use Rattle.std.proofs.Common.{subst, sym, arith, length}
+use Rattle.nova_model.specs.State.{Contexts}
+use Rattle.nova_model.specs.Edges.{AreEdges}
+use Rattle.nova_ec.specs.Tables.{EcTable, IsNumbered, AreNumbered}
+use Rattle.nova_ec.proofs.Tables.{edges_more, numbered_more}
+use Rattle.nova_ec.proofs.ecs.Ecs.add.Goals as goal
+
+pub invariant_of-self : goal.invariant_of-self
+invariant_of-self c = (
+  subst (λ (cs : Contexts). AreEdges cs) (sym c.push_reserved.ensures.items) (edges_more c.self.inside.items.items c.args.ec c.self.invariant.0 c.requires.edge),
+  omega arith,
+  subst (λ (cs : Contexts). AreNumbered cs) (sym c.push_reserved.ensures.items)
+      (numbered_more c.self.inside.items.items c.args.ec c.self.invariant.2
+      (subst (λ (t : EcTable). IsNumbered (length t.items) c.args.ec) (sym c.self.view_is) c.requires.number)),
+)

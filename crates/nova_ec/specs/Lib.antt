@@ -1,0 +1,3 @@
+pub use Rattle.nova_model.specs.Edges
+pub mod Tables
+pub mod Ways

@@ -1,0 +1,51 @@
+-- The same in other words: ways along edges.
+use Rattle.std.specs.Prelude.{ℕ, ◌≡◌, ◌↔◌, ◌<◌, true, false, Option, Some, IfSome, IsSome, slice_set}
+use Rattle.nova_model.specs.State.{Contexts, ec_in}
+use Rattle.nova_model.specs.Edges.{AreEdges, after_edges, edge, edge_of, circle, acts, acts_by, is_dead, is_free, stays, chase}
+use Rattle.nova_model.specs.declared.context.EcState.{EcState}
+use Rattle.nova_model.specs.declared.context.State.{State}
+
+-- a way leads from one to another
+abbrev pub Leads : Contexts → ℕ → ℕ → Type 0
+Leads cs e f = (k : ℕ) × (after_edges k (edge cs) e ≡ Some f)
+
+-- a circle is a way
+abbrev pub CirclesAreWays : Type 0
+CirclesAreWays = (cs : Contexts) (h e : ℕ) → AreEdges cs → IsSome (ec_in cs h) → (circle cs h e ≡ true) ↔ Leads cs h e
+
+-- turns of `e` stay with `f`, which is met after k edges, and with none before it
+pub record EndsAt (cs : Contexts) (e f : ℕ) : Type 0 where
+  pub edges : ℕ
+  pub way : after_edges edges (edge cs) e ≡ Some f
+  pub last : stays cs f ≡ true
+  pub first : (i : ℕ) → i < edges → IfSome (after_edges i (edge cs) e) (λ x. stays cs x ≡ false)
+
+-- each chase ends, and in one alone
+abbrev pub ChasesEnd : Type 0
+ChasesEnd = (cs : Contexts) (e : ℕ) → AreEdges cs → EndsAt cs e (chase cs e)
+
+-- Who does not lead to one that changes is not touched: turns of `x` stay with whom they stayed, and it acts or not as before. So
+-- where one changes, only scheduling contexts of those that lead to it can become runnable or cease to be.
+abbrev pub OnlyDonorsChange : Type 0
+OnlyDonorsChange = (cs : Contexts) (e x : ℕ) (y : EcState) → AreEdges cs → IsSome (ec_in cs x) → circle cs x e ≡ false →
+    (chase (slice_set cs e (Some y)) x ≡ chase cs x) × (acts (slice_set cs e (Some y)) (chase cs x) ≡ acts cs (chase cs x))
+
+-- a chase by its steps: it stays, or goes on from whom the edge leads to
+pub record IsChase (cs : Contexts) (e : ℕ) : Type 0 where
+  pub ends : stays cs e ≡ true → chase cs e ≡ e
+  pub goes_on : (h : ℕ) → stays cs e ≡ false → edge cs e ≡ Some h → chase cs e ≡ chase cs h
+
+abbrev pub ChasesGoOn : Type 0
+ChasesGoOn = (cs : Contexts) (e : ℕ) → AreEdges cs → IsChase cs e
+
+-- A change that keeps the edge, whether it acts, and whether others find it free or dead, changes no chase: an instruction that raises
+-- makes no scheduling context runnable, nor ceases one to be.
+pub record IsUnmoved (s t : State) : Type 0 where
+  pub edge : edge_of t ≡ edge_of s
+  pub acts : (handler : Option State) → acts_by t handler ≡ acts_by s handler
+  pub dead : is_dead (Some t) ≡ is_dead (Some s)
+  pub free : is_free (Some t) ≡ is_free (Some s)
+
+abbrev pub UnmovedKeepsChases : Type 0
+UnmovedKeepsChases = (cs : Contexts) (e z : ℕ) (x y : EcState) → ec_in cs e ≡ Some x → IsUnmoved x.state y.state →
+    (chase (slice_set cs e (Some y)) z ≡ chase cs z) × (acts (slice_set cs e (Some y)) z ≡ acts cs z)

@@ -1,0 +1,253 @@
+ghost use Rattle.std.specs.Prelude.{false, true, ◌≡◌, ◌+◌, ◌-◌, ◌<◌, ◌≤◌, [], ◌∷◌, ◌++◌, length, max, IsOk, IsSome, IfSome, OnOk, OnErr, option_and_then, option_map, Some, None};
+ghost use Rattle.rv_model.specs.Step.{one};
+ghost use Rattle.rv_core.specs.Steps.{space_of};
+ghost use Rattle.nova_model.specs.State.{ec_in, ec_of, with_ec};
+ghost use Rattle.nova_model.specs.Edges.{state_in, edge_of, edge, acts_by, acts, stays, met, chase, circle, MayWait, AreEdges};
+ghost use Rattle.nova_ec.specs.Tables.{Steps, StepsIn, MayBecome, with_items};
+ghost use Rattle.nova_model.specs.declared.context.EcState.{EcState};
+
+use nova_model::{EcState, State};
+use rv_core::bus::Bus;
+use rv_core::outcome::Outcome;
+use rv_core::{Regs, hart};
+use std::alloc::{AllocError, Global};
+use std::marker::Model;
+
+/// The table of execution contexts, by number: an entry holds the execution context of its number or
+/// nothing. Edges, from one that waits to the handler that it waits for, join execution contexts of one processor, and
+/// never form a circle.
+#[derive(Drop)]
+pub struct Ecs {
+    items: Vec<Option<EcState>>,
+    spare: usize,
+}
+
+impl Model for Ecs {
+    ghost use Rattle.std.specs.Prelude.{◌+◌, ◌≤◌, vec_len, vec_capacity};
+    ghost use Rattle.nova_model.specs.Edges.{AreEdges};
+    ghost use Rattle.nova_ec.specs.Tables.{EcTable, AreNumbered};
+
+    ghost Value = { EcTable };
+
+    ghost view = { λ t. record { items = t.items.items; spare = t.spare } };
+
+    ghost invariant = { λ t. AreEdges t.items.items × (vec_len t.items + t.spare ≤ vec_capacity t.items) × AreNumbered t.items.items };
+}
+
+/// The handler that an execution context in this state waits for.
+pub fn edge_of(state: State) -> Option<u32>
+    ensures { result ≡ edge_of state }
+{
+    match state {
+        State::Calling(handler) | State::Helping(handler) | State::Sending(_, _, _, handler) => {
+            Some(handler)
+        }
+        State::Fresh | State::Ready | State::Parked | State::Exiting(..) | State::Dead => None,
+    }
+}
+
+/// Whether an execution context in the first state acts, where its handler is in the second.
+fn acts_by(state: State, handler: Option<State>) -> bool
+    ensures { result ≡ acts_by state handler }
+{
+    match state {
+        State::Fresh | State::Ready | State::Exiting(..) => true,
+        State::Parked | State::Dead => false,
+        State::Calling(_) => matches!(handler, Some(State::Dead)),
+        State::Helping(_) | State::Sending(..) => {
+            matches!(handler, Some(State::Parked | State::Dead))
+        }
+    }
+}
+
+/// One instruction of an execution context over a bus.
+fn step_in<B: Bus>(context: &mut EcState, bus: &mut B) -> Outcome
+    requires { B.room (B.state bus.old) }
+    ensures { let space = space_of B.fetched B.loaded B.takes (B.state bus.old) in
+        StepsIn B.stored (one context.old.regs space) context.old (B.state bus.old) result context.new (B.state bus.new) }
+{
+    hart::step(&mut context.regs, bus)
+}
+
+impl Ecs {
+    /// No execution contexts, and room for none.
+    pub fn new(alloc: Global) -> Ecs
+        ensures { result ≡ record { items = []; spare = 0 } }
+    {
+        Ecs {
+            items: Vec::new(alloc),
+            spare: 0,
+        }
+    }
+
+    /// Makes room for `n` more entries, counted from those that are there. It refuses for want of
+    /// memory alone, and then nothing has changed.
+    pub fn reserve(&mut self, n: usize) -> Result<(), AllocError>
+        ensures ok { OnOk result (self.new ≡ record self.old { spare = max self.old.spare n }) }
+        ensures enough { n ≤ self.old.spare → IsOk result }
+        ensures err { OnErr result (self.new ≡ self.old) }
+    {
+        self.items.reserve(n)?;
+        self.spare = self.spare.max(n);
+        Ok(())
+    }
+
+    /// Adds the entry of the next number in reserved room: the execution context of that number, which
+    /// waits for no other, or nothing.
+    pub fn add(&mut self, ec: Option<EcState>)
+        requires room { 0 < self.old.spare }
+        requires number { IfSome ec (λ x. x.id ≡ length self.old.items) }
+        requires edge { option_and_then edge_of (option_map (λ (x : EcState). x.state) ec) ≡ None }
+        ensures { self.new ≡ record { items = self.old.items ++ ec ∷ []; spare = self.old.spare - 1 } }
+    {
+        self.items.push_reserved(ec);
+        self.spare -= 1;
+    }
+
+    /// The execution context of a number; none where no execution context has it.
+    pub fn get(&self, ec: u32) -> Option<&EcState>
+        ensures context { option_map (λ x. x.now) result ≡ ec_in self.now.items ec }
+        ensures id { IfSome result (λ x. x.now.id ≡ ec) }
+    {
+        self.items.get(ec as usize)?.as_ref()
+    }
+
+    /// The execution context of a number that has one.
+    pub fn context(&self, ec: u32) -> &EcState
+        requires { IsSome (ec_in self.now.items ec) }
+        ensures there { ec_in self.now.items ec ≡ Some result.now }
+        ensures context { result.now ≡ ec_of self.now.items ec }
+    {
+        let Some(context) = &self.items[ec as usize] else {
+            unreachable!();
+        };
+        context
+    }
+
+    /// What an execution context is about to do; none where no execution context has the number.
+    fn state(&self, ec: u32) -> Option<State>
+        ensures { result ≡ state_in self.now.items ec }
+    {
+        match self.items.get(ec as usize) {
+            Some(Some(context)) => Some(context.state),
+            _ => None,
+        }
+    }
+
+    /// The handler that an execution context waits for.
+    fn edge(&self, ec: u32) -> Option<u32>
+        ensures { result ≡ edge self.now.items ec }
+    {
+        edge_of(self.state(ec)?)
+    }
+
+    /// Whether an execution context is there and acts.
+    pub fn acts(&self, ec: u32) -> bool
+        ensures acts { result ≡ acts self.now.items ec }
+        ensures there { result ≡ true → IsSome (ec_in self.now.items ec) }
+    {
+        let Some(state) = self.state(ec) else {
+            return false;
+        };
+        let handler = match edge_of(state) {
+            Some(handler) => self.state(handler),
+            None => None,
+        };
+        acts_by(state, handler)
+    }
+
+    /// Whether following edges from the handler meets the execution context; the handler itself counts.
+    pub fn circle(&self, handler: u32, ec: u32) -> bool
+        ensures { result ≡ circle self.now.items handler ec }
+    {
+        let mut next = Some(handler);
+        for _ in 0..self.items.len() {
+            let Some(met) = next else {
+                return false;
+            };
+            if met == ec {
+                return true;
+            }
+            next = self.edge(met);
+        }
+        false
+    }
+
+    /// Edges join execution contexts of one processor, and never form a circle.
+    pub fn keeps_edges(&self)
+        ensures { AreEdges self.now.items }
+    {
+        let _spare = self.spare;
+    }
+
+    /// The execution context that acts in the turns of another: the first on its way along edges that
+    /// acts or has no edge.
+    pub fn chase(&self, ec: u32) -> u32
+        ensures { result ≡ chase self.now.items ec }
+    {
+        self.keeps_edges();
+        let mut at = ec;
+        while !self.acts(at) {
+            let Some(handler) = self.edge(at) else {
+                return at;
+            };
+            at = handler;
+        }
+        at
+    }
+
+    /// An execution context changes, but for its processor.
+    fn put(&mut self, ec: u32, context: EcState)
+        requires { MayBecome self.old.items ec context }
+        ensures { self.new ≡ with_items self.old (with_ec self.old.items ec context) }
+    {
+        self.items[ec as usize] = Some(context);
+    }
+
+    /// An execution context is about to do another thing. Where it is to wait for a handler, that one
+    /// is of the same processor, and no circle closes.
+    pub fn set_state(&mut self, ec: u32, state: State)
+        requires there { IsSome (ec_in self.old.items ec) }
+        requires edge { MayWait self.old.items ec (edge_of state) }
+        ensures { self.new ≡ with_items self.old (with_ec self.old.items ec (record (ec_of self.old.items ec) { state = state })) }
+    {
+        let mut context = *self.context(ec);
+        context.state = state;
+        self.put(ec, context);
+    }
+
+    /// Other registers.
+    pub fn set_regs(&mut self, ec: u32, regs: &Regs)
+        requires { IsSome (ec_in self.old.items ec) }
+        ensures { self.new ≡ with_items self.old (with_ec self.old.items ec (record (ec_of self.old.items ec) { regs = regs.now })) }
+    {
+        let mut context = *self.context(ec);
+        context.regs = *regs;
+        self.put(ec, context);
+    }
+
+    /// Whether a recall is asked for.
+    pub fn set_recall(&mut self, ec: u32, recall: bool)
+        requires { IsSome (ec_in self.old.items ec) }
+        ensures { self.new ≡ with_items self.old (with_ec self.old.items ec (record (ec_of self.old.items ec) { recall = recall })) }
+    {
+        let mut context = *self.context(ec);
+        context.recall = recall;
+        self.put(ec, context);
+    }
+
+    /// One instruction of an execution context over a bus. A raise leaves its registers, and the bus,
+    /// as they were.
+    pub fn step<B: Bus>(&mut self, ec: u32, bus: &mut B) -> Outcome
+        requires there { IsSome (ec_in self.old.items ec) }
+        requires room { B.room (B.state bus.old) }
+        ensures { let space = space_of B.fetched B.loaded B.takes (B.state bus.old) in
+            let once = one (ec_of self.old.items ec).regs space in
+            Steps B.stored once self.old ec (B.state bus.old) result self.new (B.state bus.new) }
+    {
+        let Some(context) = &mut self.items[ec as usize] else {
+            unreachable!();
+        };
+        step_in(context, bus)
+    }
+}

@@ -1,0 +1,10 @@
+//! Execution contexts at work, and whom they wait for.
+#![tactic(auto)]
+
+pub mod ecs;
+pub mod laws;
+#[cfg(test)]
+mod tests;
+
+pub use ecs::Ecs;
+pub use nova_model::{EcState, Mark, State};

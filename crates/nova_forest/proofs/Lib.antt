@@ -1,0 +1,4 @@
+pub mod Walk
+pub mod Forests
+pub mod Growth
+pub mod Boots

@@ -1,0 +1,5 @@
+use Rattle.nova_forest.proofs.Boots.{boot_run_forest}
+use Rattle.nova_forest.proofs.delegations_stay_a_forest.Goals as goal
+
+pub returns : goal.returns
+returns c = boot_run_forest

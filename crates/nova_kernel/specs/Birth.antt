@@ -1,0 +1,24 @@
+-- The parts of the state that nothing changes yet: as every object has them at birth. A part that calls begin to change gets a field of
+-- the kernel's and goes from here.
+use Rattle.std.specs.Prelude.{ℕ, List, map, option_map, Option, None}
+use Rattle.nova_objects.specs.declared.object.Object.{Object}
+use Rattle.nova_model.specs.Creation.{words_of, transfer_of, idle_semaphore}
+use Rattle.nova_model.specs.State.{Semaphore, Transfer}
+
+-- message words, and what execution contexts give
+abbrev pub messages_at_birth : List Object → List (Option (List ℕ))
+messages_at_birth objects = map words_of objects
+
+abbrev pub transfers_at_birth : List Object → List (Option Transfer)
+transfers_at_birth objects = map transfer_of objects
+
+-- semaphores with these counters: nobody waits
+abbrev pub semaphores_at_birth : List (Option ℕ) → List (Option Semaphore)
+semaphores_at_birth counts = map (option_map idle_semaphore) counts
+
+-- stir counts of guests: no object is a guest
+abbrev pub guest_of : Object → Option ℕ
+guest_of object = None
+
+abbrev pub guests_at_birth : List Object → List (Option ℕ)
+guests_at_birth objects = map guest_of objects

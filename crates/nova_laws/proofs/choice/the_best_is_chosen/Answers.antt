@@ -1,0 +1,8 @@
+use Rattle.nova_laws.proofs.Best.{choice_idle, choice_best}
+use Rattle.nova_laws.proofs.choice.the_best_is_chosen.Goals as goal
+
+pub returns-clause-idle : goal.returns-clause-idle
+returns-clause-idle c = choice_idle
+
+pub returns-clause-best : goal.returns-clause-best
+returns-clause-best c = choice_best

@@ -1,0 +1,98 @@
+-- Donation: an execution context that waits for a handler has an edge to it, and its turns go along edges to the one that acts.
+-- (Steinberg and Kauer, NOVA, EuroSys 2010, for donation; that one helps a handler that is busy is this project's own rule.) No call
+-- makes an edge yet.
+use Rattle.std.specs.Prelude.{ℕ, zero, suc, ⊤, ◌≡◌, ◌≢◌, ◌==◌, ◌||◌, Bool, true, false, List, [], ◌∷◌, length, Option, Some, None, is_none, option_map, option_and_then}
+use Rattle.std.specs.List.{find, list_any}
+use Rattle.nova_model.specs.State.{Contexts, ec_in}
+use Rattle.nova_model.specs.declared.context.State.{State}
+use Rattle.nova_model.specs.declared.context.State.TheVariants.{Fresh, Ready, Parked, Calling, Helping, Exiting, Sending, Dead}
+
+abbrev pub state_in : Contexts → ℕ → Option State
+state_in cs e = option_map (λ x. x.state) (ec_in cs e)
+
+abbrev pub cpu_in : Contexts → ℕ → Option ℕ
+cpu_in cs e = option_map (λ x. x.cpu) (ec_in cs e)
+
+-- the handler that an execution context in this state waits for
+abbrev pub edge_of : State → Option ℕ
+edge_of (Calling h) = Some h
+edge_of (Helping h) = Some h
+edge_of (Sending reason q0 q1 h) = Some h
+edge_of other = None
+
+abbrev pub edge : Contexts → ℕ → Option ℕ
+edge cs e = option_and_then edge_of (state_in cs e)
+
+-- a handler of which nothing more will come; one that takes a message, or of which nothing more will come
+abbrev pub is_dead : Option State → Bool
+is_dead (Some Dead) = true
+is_dead other = false
+
+abbrev pub is_free : Option State → Bool
+is_free (Some Parked) = true
+is_free (Some Dead) = true
+is_free other = false
+
+-- an execution context in this state acts, where that of its handler is the second
+abbrev pub acts_by : State → Option State → Bool
+acts_by Fresh handler = true
+acts_by Ready handler = true
+acts_by Parked handler = false
+acts_by (Calling h) handler = is_dead handler
+acts_by (Helping h) handler = is_free handler
+acts_by (Exiting reason q0 q1) handler = true
+acts_by (Sending reason q0 q1 h) handler = is_free handler
+acts_by Dead handler = false
+
+abbrev pub acts_as : Contexts → Option State → Bool
+acts_as cs None = false
+acts_as cs (Some s) = acts_by s (option_and_then (state_in cs) (edge_of s))
+
+abbrev pub acts : Contexts → ℕ → Bool
+acts cs e = acts_as cs (state_in cs e)
+
+-- those that are met by following edges from this one, itself first; at most so many
+abbrev pub met_within : ℕ → (ℕ → Option ℕ) → Option ℕ → List ℕ
+met_within zero edges e = []
+met_within (suc n) edges None = []
+met_within (suc n) edges (Some e) = e ∷ met_within n edges (edges e)
+
+-- all that are met: no circle, so never more than there are
+abbrev pub met : Contexts → ℕ → List ℕ
+met cs e = met_within (length cs) (edge cs) (Some e)
+
+-- following edges from `h` meets `e`; `h` itself counts as met
+abbrev pub circle : Contexts → ℕ → ℕ → Bool
+circle cs h e = list_any (λ x. e == x) (met cs h)
+
+-- turns stay with one that acts, and with one that has no edge
+abbrev pub stays : Contexts → ℕ → Bool
+stays cs e = acts cs e || is_none (edge cs e)
+
+abbrev pub or_itself : ℕ → Option ℕ → ℕ
+or_itself e None = e
+or_itself e (Some f) = f
+
+-- the first that is met with which turns stay
+abbrev pub chase : Contexts → ℕ → ℕ
+chase cs e = or_itself e (find (stays cs) (met cs e))
+
+-- who is met after so many edges
+abbrev pub after_edges : ℕ → (ℕ → Option ℕ) → ℕ → Option ℕ
+after_edges zero edges e = Some e
+after_edges (suc n) edges e = option_and_then (after_edges n edges) (edges e)
+
+-- edges join execution contexts of one processor, and never lead back to where they began
+pub record AreEdges (cs : Contexts) : Type 0 where
+  pub one_processor : (e h : ℕ) → edge cs e ≡ Some h → cpu_in cs h ≡ cpu_in cs e
+  pub no_circle : (e n : ℕ) → after_edges (suc n) (edge cs) e ≢ Some e
+
+-- a new edge stays on one processor and closes no circle
+pub record IsNewEdge (cs : Contexts) (e h : ℕ) : Type 0 where
+  pub one_processor : cpu_in cs h ≡ cpu_in cs e
+  pub no_circle : circle cs h e ≡ false
+
+-- an edge to be of one that is there
+abbrev pub MayWait : Contexts → ℕ → Option ℕ → Type 0
+MayWait cs e None = ⊤
+MayWait cs e (Some h) = IsNewEdge cs e h

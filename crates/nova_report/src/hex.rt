@@ -1,0 +1,20 @@
+ghost use Rattle.std.specs.Prelude.{◌≡◌, ◌++◌, OnOk, string_bytes};
+ghost use Rattle.nova_report.specs.Words.{hexadecimal};
+
+use std::alloc::AllocError;
+
+/// The eight hexadecimal digits of a word.
+#[tactic(auto, using(crate::proofs::Numerals::word_is))]
+pub fn write_word(out: &mut String, word: u32) -> Result<(), AllocError>
+    ensures { OnOk result (string_bytes out.new ≡ string_bytes out.old ++ hexadecimal 8 word) }
+{
+    write!(out, "{word:08x}")
+}
+
+/// The two hexadecimal digits of a byte.
+#[tactic(auto, using(crate::proofs::Numerals::byte_is))]
+pub fn write_byte(out: &mut String, byte: u8) -> Result<(), AllocError>
+    ensures { OnOk result (string_bytes out.new ≡ string_bytes out.old ++ hexadecimal 2 byte) }
+{
+    write!(out, "{byte:02x}")
+}

@@ -1,5 +1,0 @@
-use Rattle.rv_asm.proofs.LabelPlaces.{labels_stand}
-use Rattle.rv_asm.proofs.laws.labels_stand_behind_the_lines_before.Goals as goal
-
-pub returns : goal.returns
-returns c = labels_stand
