@@ -1,16 +1,20 @@
 -- The table of execution contexts, by number.
-use Rattle.std.specs.Prelude.{ℕ, ◌≡◌, ◌⊎◌, Option, Some, None, IfSome}
+use Rattle.std.specs.Prelude.{ℕ, ◌≡◌, ◌⊎◌, Option, Some, None, IfSome, if◌then◌else◌}
 use Rattle.rv_core.specs.declared.outcome.Outcome.{Outcome}
 use Rattle.rv_core.specs.declared.outcome.Outcome.TheVariants.{Next, Raise}
 use Rattle.rv_model.specs.Step.{Once, Raised, Went, Store}
 use Rattle.nova_model.specs.State.{Contexts, ec_in, ec_of, with_ec}
-use Rattle.nova_model.specs.Edges.{edge_of, MayWait}
+use Rattle.nova_model.specs.Edges.{acts, chase, edge_of, MayWait}
 use Rattle.nova_model.specs.declared.context.EcState.{EcState}
 
 -- an entry for each number, which holds an execution context or nothing, and for how many more there is room
 pub record EcTable : Type 0 where
   pub items : Contexts
   pub spare : ℕ
+
+-- who acts in the turns of an execution context, where the one at the end of its chase does
+abbrev pub actor_in : Contexts → ℕ → Option ℕ
+actor_in cs e = if acts cs (chase cs e) then Some (chase cs e) else None
 
 abbrev pub with_items : EcTable → Contexts → EcTable
 with_items t items = record t { items = items }

@@ -3,7 +3,7 @@ ghost use Rattle.rv_model.specs.Step.{one};
 ghost use Rattle.rv_core.specs.Steps.{space_of};
 ghost use Rattle.nova_model.specs.State.{ec_in, ec_of, with_ec};
 ghost use Rattle.nova_model.specs.Edges.{state_in, edge_of, edge, acts_by, acts, stays, met, chase, circle, MayWait, AreEdges};
-ghost use Rattle.nova_ec.specs.Tables.{Steps, StepsIn, MayBecome, with_items};
+ghost use Rattle.nova_ec.specs.Tables.{Steps, StepsIn, MayBecome, with_items, actor_in};
 ghost use Rattle.nova_model.specs.declared.context.EcState.{EcState};
 
 use nova_model::{EcState, State};
@@ -180,20 +180,38 @@ impl Ecs {
         let _spare = self.spare;
     }
 
-    /// The execution context that acts in the turns of another: the first on its way along edges that
-    /// acts or has no edge.
-    pub fn chase(&self, ec: u32) -> u32
-        ensures { result ≡ chase self.now.items ec }
+    /// The end of a chase, and whether the execution context there acts.
+    fn end_of_chase(&self, ec: u32) -> (u32, bool)
+        ensures end { result.0 ≡ chase self.now.items ec }
+        ensures acts { result.1 ≡ acts self.now.items result.0 }
     {
         self.keeps_edges();
         let mut at = ec;
         while !self.acts(at) {
             let Some(handler) = self.edge(at) else {
-                return at;
+                return (at, false);
             };
             at = handler;
         }
-        at
+        (at, true)
+    }
+
+    /// The execution context with which the turns of another stay: the first on its way along edges
+    /// that acts or has no edge.
+    pub fn chase(&self, ec: u32) -> u32
+        ensures { result ≡ chase self.now.items ec }
+    {
+        self.end_of_chase(ec).0
+    }
+
+    /// The execution context that acts in the turns of another: the end of its chase, where that one
+    /// acts.
+    pub fn actor(&self, ec: u32) -> Option<u32>
+        ensures actor { result ≡ actor_in self.now.items ec }
+        ensures there { IfSome result (λ actor. IsSome (ec_in self.now.items actor)) }
+    {
+        let (end, is_acting) = self.end_of_chase(ec);
+        if is_acting { Some(end) } else { None }
     }
 
     /// An execution context changes, but for its processor.

@@ -42,10 +42,7 @@ impl Parts {
         if *home != cpu {
             return None;
         }
-        let actor = self.contexts.chase(*ec);
-        if !self.contexts.acts(actor) {
-            return None;
-        }
+        let actor = self.contexts.actor(*ec)?;
         match self.budgets.get(sc as usize) {
             Some(Some(budget)) => Some(Candidate {
                 sc,

@@ -2,7 +2,7 @@ use Rattle.std.proofs.Common.{◌≡◌, ◌∙◌, sym, arith}
 use Rattle.std.specs.Prelude.{false}
 use Rattle.nova_model.specs.Edges.{stays}
 use Rattle.nova_ec.proofs.Ends.{chases_go_on, met_shorter}
-use Rattle.nova_ec.proofs.ecs.Ecs.chase.Goals as goal
+use Rattle.nova_ec.proofs.ecs.Ecs.end_of_chase.Goals as goal
 
 pub loop-at-preserved : goal.loop-at-preserved
 loop-at-preserved c =
