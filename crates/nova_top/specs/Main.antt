@@ -27,7 +27,7 @@ abbrev pub CameFor : {D : Type 0} → Gave D → FetchFailed D → List ℕ → 
 CameFor gave failed name old bytes new ReadFault = CameInPart gave failed name old bytes new
 CameFor gave failed name old bytes new _ = Came gave name old bytes new ⊎ CameWhole gave name old bytes new
 
--- no other fetch is made, and none after the first byte too many
+-- no other fetch is made, and no byte comes after the first one too many
 abbrev pub Fetches : {D : Type 0} → Gave D → FetchFailed D → List ℕ → D → D → Exit → Type 0
 Fetches gave failed name old new exit = (bytes : List ℕ) × (length bytes ≤ most_bytes + 1) × CameFor gave failed name old bytes new exit
 
