@@ -42,7 +42,12 @@ pub fn edge_of(state: State) -> Option<u32>
         State::Calling(handler) | State::Helping(handler) | State::Sending(_, _, _, handler) => {
             Some(handler)
         }
-        State::Fresh | State::Ready | State::Parked | State::Exiting(..) | State::Dead => None,
+        State::Fresh
+        | State::Ready
+        | State::Parked
+        | State::Exiting(..)
+        | State::Granting(_)
+        | State::Dead => None,
     }
 }
 
@@ -51,7 +56,7 @@ fn acts_by(state: State, handler: Option<State>) -> bool
     ensures { result ≡ acts_by state handler }
 {
     match state {
-        State::Fresh | State::Ready | State::Exiting(..) => true,
+        State::Fresh | State::Ready | State::Exiting(..) | State::Granting(_) => true,
         State::Parked | State::Dead => false,
         State::Calling(_) => matches!(handler, Some(State::Dead)),
         State::Helping(_) | State::Sending(..) => {

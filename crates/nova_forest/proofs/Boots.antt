@@ -1,45 +1,61 @@
--- The boot state is a forest, and turns keep it.
-use Rattle.std.proofs.Common.{◌≡◌, ℕ, zero, suc, ◌+◌, ◌^◌, ◌%◌, ◌<◌, ◌≤◌, List, [], ◌∷◌, ◌++◌, ap, ap₂, sym, subst, inl, inr, refl, arith}
-use Rattle.std.specs.Prelude.{false, map, Option, Some, None}
+-- The boot state is a forest.
+use Rattle.std.proofs.Common.{◌≡◌, ℕ, zero, suc, ◌+◌, ◌^◌, ◌%◌, ◌<◌, ◌≤◌, List, [], ◌∷◌, ◌++◌, ap, ap₂, sym, ◌∙◌, subst, refl, arith}
+use Rattle.std.specs.Prelude.{Bool, true, false, ◌==◌, ◌&&◌, nat_lt, nat_le, map, None}
 use Rattle.std.specs.List.{AllByRecursion, range_with_len}
+use Rattle.std.proofs.lemmas.Bool.{eq-eqb}
+use Rattle.std.proofs.lemmas.List.FromFn.{map-range_with_len_more}
+use Rattle.nova_objects.specs.declared.object.Object.{Object}
+use Rattle.nova_range.specs.declared.range.Kind.{Kind}
 use Rattle.nova_range.specs.declared.range.Kind.TheVariants.{Mem, Obj}
 use Rattle.nova_model.specs.Boot.{Scenario, Image, boot, with_image, with_images, bare, ram_derivation, console_derivation, object_derivation, root_derivations}
-use Rattle.nova_model.specs.Delegations.{Delegations, covers}
-use Rattle.nova_model.specs.Forest.{ArePairs, AreApart, IsAligned, HasParentIn, IsForest}
-use Rattle.nova_model.specs.Runs.{after, run}
+use Rattle.nova_model.specs.Capabilities.{is_held}
+use Rattle.nova_model.specs.Creation.{root_capability}
+use Rattle.nova_model.specs.Delegations.{Delegations, range_of, has_place, covers, added}
+use Rattle.nova_model.specs.Forest.{AreApart, IsForest, IsFitting}
 use Rattle.nova_model.specs.State.{KernelState}
-use Rattle.nova_model.specs.declared.budget.Candidate.{Candidate}
-use Rattle.nova_model.specs.Choice.{choice}
-use Rattle.nova_model.specs.Deeds.{deed, done}
-use Rattle.nova_model.specs.declared.deed.Deed.{Deed}
-use Rattle.nova_model.specs.declared.root.Root.{Root}
 use Rattle.nova_model.specs.declared.delegation.Derivation.{Derivation}
-use Rattle.nova_forest.specs.Made.{Grows, GrowsBy}
-use Rattle.nova_forest.proofs.Forests.{begins_last, all_more, none_by_all, forest_more}
-use Rattle.nova_forest.proofs.Growth.{deed_grows, turn_grows}
+use Rattle.nova_model.specs.declared.root.Root.{Root}
+use Rattle.nova_forest.proofs.Forests.{forest_add}
+use Rattle.nova_forest.proofs.Members.{all_more, all_weaker, none_found}
+use Rattle.nova_forest.proofs.Transfers.{kind_itself}
 
--- images leave delegations
-with_images_delegations : (k : KernelState) (images : List Image) → (with_images k images).delegations ≡ k.delegations
-with_images_delegations k [] = refl
-with_images_delegations k (image ∷ images) = with_images_delegations (with_image k image) images
+-- of two derivations one ends before the other begins
+begins_last : (a b : Derivation) → a.base + 2 ^ a.order ≤ b.base → AreApart a b
+begins_last a b before = grind (arith, before)
 
-grows_forest : (old new : KernelState) (maker : ℕ) → Grows old maker new → IsForest old.delegations → IsForest new.delegations
-grows_forest old new maker (inl s) forest = subst IsForest (sym s.delegations) forest
-grows_forest old new maker (inr g) forest =
-    subst IsForest (sym g.delegations) (forest_more old.delegations g.capability forest g.first.id g.first.parent g.first.kind g.first.order g.first.free)
+-- one that does not cover a selector is apart from one that is there alone
+uncovered_apart : (a x : Derivation) → x.order ≡ 0 → covers x.kind x.pd x.base a ≡ false → a.pd ≡ x.pd → a.kind ≡ x.kind → AreApart a x
+uncovered_apart a x order free pd kind =
+    let not_there : has_place (range_of a) x.base ≡ false =
+    ap (λ (b : Bool). b && has_place (range_of a) x.base) (sym (eq-eqb a.pd x.pd pd)) ∙
+    ap (λ (b : Bool). b && (a.pd == x.pd && has_place (range_of a) x.base)) (sym (kind_itself x.kind a.kind (sym kind))) ∙ free in
+    let one : 2 ^ x.order ≡ 1 = ap (λ (n : ℕ). 2 ^ n) order in
+    by_order (nat_le a.base x.base) refl (nat_lt x.base (a.base + 2 ^ a.order)) refl one not_there
+  where
+    by_order : (b : Bool) → nat_le a.base x.base ≡ b → (e : Bool) → nat_lt x.base (a.base + 2 ^ a.order) ≡ e →
+        2 ^ x.order ≡ 1 → has_place (range_of a) x.base ≡ false → AreApart a x
+    by_order false below e end one h = grind arith
+    by_order true below false end one h = grind arith
+    by_order true below true end one h = absurd (grind arith)
 
--- a deed keeps the forest
-pub done_forest : (k : KernelState) (ec : ℕ) (d : Deed) → d ≡ deed k ec → IsForest k.delegations → IsForest (done k ec d).delegations
-done_forest k ec d is forest =
-    subst (λ (e : Deed). IsForest (done k ec e).delegations) (sym is) (grows_forest k (done k ec (deed k ec)) ec (deed_grows k ec) forest)
+one_more : (n : ℕ) → n % 1 ≡ 0
+one_more n = omega arith
 
-turn_forest : (old new : KernelState) (c : Option Candidate) → GrowsBy old c new → IsForest old.delegations → IsForest new.delegations
-turn_forest old new None s forest = subst IsForest (sym s.delegations) forest
-turn_forest old new (Some c) g forest = grows_forest old new c.actor g forest
+-- a capability without a parent, at a selector that nothing covers
+pub capability_fits : (f : Delegations) (x : Derivation) → x.id ≡ f.next → x.parent ≡ None → x.kind ≡ Obj → x.order ≡ 0 →
+    AllByRecursion (λ a. covers Obj x.pd x.base a ≡ false) f.list → IsFitting f x
+capability_fits f x id parent kind order free = record {
+  id = id;
+  aligned = record { base = rw order (one_more x.base); target = rw kind order };
+  parent = rw parent tt;
+  apart = all_weaker (λ a. covers Obj x.pd x.base a ≡ false) (λ a. a.pd ≡ x.pd → a.kind ≡ x.kind → AreApart a x) f.list
+      (λ a h pd same. uncovered_apart a x order (ap (λ (s : Kind). covers s x.pd x.base a) kind ∙ h) pd same) free;
+}
 
-pub run_forest : (k : KernelState) (turns : List ℕ) → IsForest k.delegations → IsForest (run k turns).delegations
-run_forest k [] forest = forest
-run_forest k (cpu ∷ turns) forest = run_forest (after k cpu) turns (turn_forest k (after k cpu) (choice k cpu) (turn_grows k cpu) forest)
+-- that of a new object, at a selector that is not held
+pub root_fits : (k : KernelState) (pd selector : ℕ) (object : Object) → is_held k pd selector ≡ false → IsFitting k.delegations (root_capability k pd selector object)
+root_fits k pd selector object free =
+    capability_fits k.delegations (root_capability k pd selector object) refl refl refl refl (none_found (covers Obj pd selector) k.delegations.list free)
 
 -- what holds of each console from c on
 all_consoles : (Q : Derivation → Type 0) (order c n : ℕ) → ((j : ℕ) → c ≤ j → j < c + n → Q (console_derivation order j)) →
@@ -47,84 +63,103 @@ all_consoles : (Q : Derivation → Type 0) (order c n : ℕ) → ((j : ℕ) → 
 all_consoles Q order c zero h = tt
 all_consoles Q order c (suc n) h = (h c (omega arith) (omega arith), all_consoles Q order (c + 1) n (λ j from to. h j (omega arith) (omega arith)))
 
-rising_consoles : (order c n : ℕ) → ArePairs (λ a b. a.id < b.id) (map (console_derivation order) (range_with_len c n))
-rising_consoles order c zero = tt
-rising_consoles order c (suc n) = (all_consoles (λ b. 1 + c < b.id) order (c + 1) n (λ j from to. omega arith), rising_consoles order (c + 1) n)
-
-apart_consoles : (order c n : ℕ) → ArePairs (λ a b. a.pd ≡ b.pd → a.kind ≡ b.kind → AreApart a b) (map (console_derivation order) (range_with_len c n))
-apart_consoles order c zero = tt
-apart_consoles order c (suc n) = (
-  all_consoles (λ b. 0 ≡ b.pd → Mem ≡ b.kind → AreApart (console_derivation order c) b) order (c + 1) n
-      (λ j from to pd kind. begins_last (console_derivation order c) (console_derivation order j) (omega arith)),
-  apart_consoles order (c + 1) n,
-)
-
 none_left : (n : ℕ) → 0 % n ≡ 0
 none_left n = grind arith
 
-pages : ℕ → ℕ → Delegations
-pages order consoles = record { list = ram_derivation order ∷ map (console_derivation order) (range_with_len 0 consoles); next = consoles + 1 }
+-- RAM, and then each console, fits what is there before it
+abbrev pub nothing : Delegations
+nothing = record { list = []; next = 0 }
 
-pages_forest : (order consoles : ℕ) → IsForest (pages order consoles)
-unfolding pages
-pages_forest order consoles = record {
-  rising = (all_consoles (λ b. 0 < b.id) order 0 consoles (λ j from to. omega arith), rising_consoles order 0 consoles);
-  numbered = (omega arith, all_consoles (λ a. a.id < consoles + 1) order 0 consoles (λ j from to. omega arith));
-  aligned = (
-    record { base = none_left (2 ^ order); target = none_left (2 ^ order) },
-    all_consoles IsAligned order 0 consoles (λ j from to. record { base = omega arith; target = omega arith }),
-  );
-  parents = (tt, all_consoles (λ a. HasParentIn (pages order consoles).list a a.parent) order 0 consoles (λ j from to. tt));
+abbrev pub pages : ℕ → ℕ → Delegations
+pages order consoles = record { list = ram_derivation order ∷ map (console_derivation order) (range_with_len 0 consoles); next = 1 + consoles }
+
+pub ram_fits : (order : ℕ) → IsFitting nothing (ram_derivation order)
+ram_fits order = record {
+  id = refl;
+  aligned = record { base = none_left (2 ^ order); target = none_left (2 ^ order) };
+  parent = tt;
+  apart = tt;
+}
+
+pub console_fits : (order c : ℕ) → IsFitting (pages order c) (console_derivation order c)
+console_fits order c = record {
+  id = refl;
+  aligned = record { base = omega arith; target = omega arith };
+  parent = tt;
   apart = (
-    all_consoles (λ b. 0 ≡ b.pd → Mem ≡ b.kind → AreApart (ram_derivation order) b) order 0 consoles
-        (λ j from to pd kind. begins_last (ram_derivation order) (console_derivation order j) (omega arith)),
-    apart_consoles order 0 consoles,
+    λ pd kind. begins_last (ram_derivation order) (console_derivation order c) (omega arith),
+    all_consoles (λ a. a.pd ≡ 0 → a.kind ≡ Mem → AreApart a (console_derivation order c)) order 0 c
+        (λ j from to pd kind. begins_last (console_derivation order j) (console_derivation order c) (omega arith)),
   );
 }
 
+-- one console more is at the end
+pub pages_more : (order c : ℕ) → pages order (c + 1) ≡ added (pages order c) (console_derivation order c)
+pages_more order c =
+    let last : 0 + c ≡ c = omega arith in
+    let list = map-range_with_len_more (console_derivation order) 0 c c last in
+    let next : 1 + (c + 1) ≡ 1 + c + 1 = omega arith in
+    ap₂ (λ (l : List Derivation) (n : ℕ). record { list = ram_derivation order ∷ l; next = n }) list next
+
+pages_forest : (order consoles : ℕ) → IsForest (pages order consoles)
+pages_forest order zero = forest_add nothing (ram_derivation order) (record { rising = tt; numbered = tt; aligned = tt; parents = tt; apart = tt }) (ram_fits order)
+pages_forest order (suc c) =
+    let more : suc c ≡ c + 1 = omega arith in
+    subst IsForest (sym (ap (pages order) more ∙ pages_more order c)) (forest_add (pages order c) (console_derivation order c) (pages_forest order c) (console_fits order c))
+
 -- no page covers a selector
 pages_uncovered : (order consoles selector : ℕ) → AllByRecursion (λ a. covers Obj 0 selector a ≡ false) (pages order consoles).list
-unfolding pages
-pages_uncovered order consoles selector =
-    (refl, all_consoles (λ a. covers Obj 0 selector a ≡ false) order 0 consoles (λ j from to. refl))
+pages_uncovered order consoles selector = (refl, all_consoles (λ a. covers Obj 0 selector a ≡ false) order 0 consoles (λ j from to. refl))
 
--- the capability of an object of the root's joins a forest
-with_root : (order consoles object rights : ℕ) (f : Delegations) → f.next ≡ 1 + consoles + object → IsForest f →
-    AllByRecursion (λ a. covers Obj 0 object a ≡ false) f.list →
-    IsForest (record { list = f.list ++ object_derivation consoles object rights ∷ []; next = f.next + 1 })
-with_root order consoles object rights f next forest free =
-    forest_more f (object_derivation consoles object rights) forest (sym next) refl refl refl (none_by_all (covers Obj 0 object) f.list free)
+-- then the capabilities of the protection domain, the execution context and the scheduling context
+abbrev pub with_pd : ℕ → ℕ → Delegations
+with_pd order consoles = added (pages order consoles) (object_derivation consoles 0 1)
 
-first_objects : (order consoles : ℕ) → IsForest (record {
-  list = (((pages order consoles).list ++ object_derivation consoles 0 1 ∷ []) ++ object_derivation consoles 1 7 ∷ []) ++ object_derivation consoles 2 1 ∷ [];
-  next = ((consoles + 1) + 1) + 1 + 1;
-})
-unfolding pages
-first_objects order consoles =
-    let first = with_root order consoles 0 1 (pages order consoles) (omega arith) (pages_forest order consoles) (pages_uncovered order consoles 0) in
-    let list = (pages order consoles).list ++ object_derivation consoles 0 1 ∷ [] in
-    let uncovered : (n : ℕ) → covers Obj 0 n (object_derivation consoles 0 1) ≡ false → AllByRecursion (λ a. covers Obj 0 n a ≡ false) list =
-    λ n h. all_more (λ a. covers Obj 0 n a ≡ false) (pages order consoles).list (object_derivation consoles 0 1) (pages_uncovered order consoles n) h in
-    let second = with_root order consoles 1 7 (record { list = list; next = consoles + 1 + 1 }) (omega arith) first (uncovered 1 refl) in
-    with_root order consoles 2 1 (record { list = list ++ object_derivation consoles 1 7 ∷ []; next = consoles + 1 + 1 + 1 }) (omega arith) second
-    (all_more (λ a. covers Obj 0 2 a ≡ false) list (object_derivation consoles 1 7) (uncovered 2 refl) refl)
+abbrev pub with_ec : ℕ → ℕ → Delegations
+with_ec order consoles = added (with_pd order consoles) (object_derivation consoles 1 7)
 
+abbrev pub with_sc : ℕ → ℕ → Delegations
+with_sc order consoles = added (with_ec order consoles) (object_derivation consoles 2 1)
+
+with_pd_uncovered : (order consoles selector : ℕ) → covers Obj 0 selector (object_derivation consoles 0 1) ≡ false →
+    AllByRecursion (λ a. covers Obj 0 selector a ≡ false) (with_pd order consoles).list
+with_pd_uncovered order consoles selector h =
+    all_more (λ a. covers Obj 0 selector a ≡ false) (pages order consoles).list (object_derivation consoles 0 1) (pages_uncovered order consoles selector) h
+
+pub pd_fits : (order consoles : ℕ) → IsFitting (pages order consoles) (object_derivation consoles 0 1)
+pd_fits order consoles = capability_fits (pages order consoles) (object_derivation consoles 0 1) (omega arith) refl refl refl (pages_uncovered order consoles 0)
+
+pub ec_fits : (order consoles : ℕ) → IsFitting (with_pd order consoles) (object_derivation consoles 1 7)
+ec_fits order consoles = capability_fits (with_pd order consoles) (object_derivation consoles 1 7) (omega arith) refl refl refl (with_pd_uncovered order consoles 1 refl)
+
+pub sc_fits : (order consoles : ℕ) → IsFitting (with_ec order consoles) (object_derivation consoles 2 1)
+sc_fits order consoles =
+    capability_fits (with_ec order consoles) (object_derivation consoles 2 1) (omega arith) refl refl refl
+    (all_more (λ a. covers Obj 0 2 a ≡ false) (with_pd order consoles).list (object_derivation consoles 1 7) (with_pd_uncovered order consoles 2 refl) refl)
+
+-- these are all
 joined : (xs : List Derivation) (a b c : Derivation) → ((xs ++ a ∷ []) ++ b ∷ []) ++ c ∷ [] ≡ xs ++ a ∷ b ∷ c ∷ []
 joined [] a b c = refl
 joined (x ∷ xs) a b c = ap (λ (l : List Derivation). x ∷ l) (joined xs a b c)
 
+pub with_sc_is_all : (order consoles : ℕ) → with_sc order consoles ≡ record { list = root_derivations order consoles; next = consoles + 4 }
+with_sc_is_all order consoles =
+    let next : 1 + consoles + 1 + 1 + 1 ≡ consoles + 4 = omega arith in
+    ap₂ (λ (l : List Derivation) (n : ℕ). record { list = l; next = n })
+    (joined (pages order consoles).list (object_derivation consoles 0 1) (object_derivation consoles 1 7) (object_derivation consoles 2 1)) next
+
 -- the state without images, and the one with them
 pub bare_forest : (cpus ram consoles : ℕ) (root : Root) → IsForest (bare cpus ram consoles root).delegations
-unfolding pages
 bare_forest cpus ram consoles root =
-    let list : ((((pages ram consoles).list ++ object_derivation consoles 0 1 ∷ []) ++ object_derivation consoles 1 7 ∷ []) ++ object_derivation consoles 2 1 ∷ [])
-    ≡ root_derivations ram consoles = joined (pages ram consoles).list (object_derivation consoles 0 1) (object_derivation consoles 1 7) (object_derivation consoles 2 1) in
-    let next : ((consoles + 1) + 1) + 1 + 1 ≡ consoles + 4 = omega arith in
-    subst IsForest (ap₂ (λ (l : List Derivation) (n : ℕ). record { list = l; next = n }) list next) (first_objects ram consoles)
+    let first = forest_add (pages ram consoles) (object_derivation consoles 0 1) (pages_forest ram consoles) (pd_fits ram consoles) in
+    let second = forest_add (with_pd ram consoles) (object_derivation consoles 1 7) first (ec_fits ram consoles) in
+    subst IsForest (with_sc_is_all ram consoles) (forest_add (with_ec ram consoles) (object_derivation consoles 2 1) second (sc_fits ram consoles))
 
-boot_forest : (s : Scenario) → IsForest (boot s).delegations
+-- images leave delegations
+with_images_delegations : (k : KernelState) (images : List Image) → (with_images k images).delegations ≡ k.delegations
+with_images_delegations k [] = refl
+with_images_delegations k (image ∷ images) = with_images_delegations (with_image k image) images
+
+pub boot_forest : (s : Scenario) → IsForest (boot s).delegations
 boot_forest s =
     subst IsForest (sym (with_images_delegations (bare s.cpus s.ram s.consoles s.root) s.images)) (bare_forest s.cpus s.ram s.consoles s.root)
-
-pub boot_run_forest : (s : Scenario) (turns : List ℕ) → IsForest (run (boot s) turns).delegations
-boot_run_forest s turns = run_forest (boot s) turns (boot_forest s)

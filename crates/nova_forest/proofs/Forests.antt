@@ -1,80 +1,65 @@
--- A forest stays one where a first capability joins it.
-use Rattle.std.proofs.Common.{◌≡◌, ℕ, ◌+◌, ◌^◌, ◌%◌, ◌<◌, ◌≤◌, List, [], ◌∷◌, ◌++◌, ap, sym, ◌∙◌, subst, refl, arith}
-use Rattle.std.specs.Prelude.{Bool, true, false, not, ◌==◌, ◌&&◌, nat_lt, nat_le, Option, Some, None, is_some, if◌then◌else◌}
-use Rattle.std.specs.List.{AllByRecursion, find}
+-- A forest stays one where a derivation that fits joins it, and where one without children goes.
+use Rattle.std.proofs.Common.{◌≡◌, ℕ, ◌<◌, ◌+◌, List, [], ◌∷◌, ◌++◌, arith}
+use Rattle.std.specs.Prelude.{Bool, false, true, ◌==◌, not, filter, Option, Some, None}
+use Rattle.std.specs.List.{AllByRecursion}
+use Rattle.std.proofs.lemmas.Bool.{cond_both}
 use Rattle.std.proofs.lemmas.List.Elements.{Contains-append_left}
-use Rattle.nova_range.specs.declared.range.Kind.{Kind}
-use Rattle.nova_range.specs.declared.range.Kind.TheVariants.{Obj}
-use Rattle.nova_model.specs.Delegations.{Delegations, covers, is_memory}
-use Rattle.nova_model.specs.Forest.{ArePairs, AreApart, IsAligned, IsAlignedFor, HasParentIn, IsForest}
+use Rattle.nova_model.specs.Delegations.{Delegations, is_id, is_child_of, added, without}
+use Rattle.nova_model.specs.Forest.{ArePairs, AreApart, IsAligned, HasParentIn, IsForest, IsFitting, IsChildless}
 use Rattle.nova_model.specs.declared.delegation.Derivation.{Derivation}
+use Rattle.nova_forest.proofs.Members.{all_at, all_from, all_more, all_weaker, filtered_in, in_filtered, in_from_contains, contains_from_in}
 
-pub all_more : {T : Type 0} (P : T → Type 0) (xs : List T) (y : T) → AllByRecursion P xs → P y → AllByRecursion P (xs ++ y ∷ [])
-all_more P [] y all last = (last, tt)
-all_more P (x ∷ xs) y all last = (all.0, all_more P xs y all.1 last)
-
-pub all_weaker : {T : Type 0} (P Q : T → Type 0) (xs : List T) → ((x : T) → P x → Q x) → AllByRecursion P xs → AllByRecursion Q xs
-all_weaker P Q [] weaker all = tt
-all_weaker P Q (x ∷ xs) weaker all = (weaker x all.0, all_weaker P Q xs weaker all.1)
-
-pub pairs_more : {T : Type 0} (Rel : T → T → Type 0) (xs : List T) (y : T) → ArePairs Rel xs → AllByRecursion (λ x. Rel x y) xs → ArePairs Rel (xs ++ y ∷ [])
+pairs_more : {T : Type 0} (Rel : T → T → Type 0) (xs : List T) (y : T) → ArePairs Rel xs → AllByRecursion (λ x. Rel x y) xs → ArePairs Rel (xs ++ y ∷ [])
 pairs_more Rel [] y pairs last = (tt, tt)
 pairs_more Rel (x ∷ xs) y pairs last = (all_more (Rel x) xs y pairs.0 last.0, pairs_more Rel xs y pairs.1 last.1)
 
--- what is not found is none of them
-pub none_found : {T : Type 0} (p : T → Bool) (xs : List T) → is_some (find p xs) ≡ false → AllByRecursion (λ x. p x ≡ false) xs
-none_found p [] h = tt
-none_found p (x ∷ xs) h = by_test (p x) refl h (λ g. none_found p xs g)
-  where
-    by_test : (t : Bool) → p x ≡ t → is_some (if t then Some x else find p xs) ≡ false → (is_some (find p xs) ≡ false → AllByRecursion (λ y. p y ≡ false) xs) →
-        AllByRecursion (λ y. p y ≡ false) (x ∷ xs)
-    by_test true is g rest = absurd (cc)
-    by_test false is g rest = (is, rest g)
+pairs_filter : {T : Type 0} (Rel : T → T → Type 0) (p : T → Bool) (xs : List T) → ArePairs Rel xs → ArePairs Rel (filter p xs)
+pairs_filter Rel p [] pairs = tt
+pairs_filter Rel p (x ∷ xs) pairs =
+    let rest = pairs_filter Rel p xs pairs.1 in
+    cond_both (p x) (x ∷ filter p xs) (filter p xs) (ArePairs Rel)
+    (λ t. (all_from (Rel x) (filter p xs) (λ y i. all_at (Rel x) xs y pairs.0 (filtered_in p xs y i).0), rest))
+    (λ f. rest)
 
--- of two derivations one ends before the other begins
-pub begins_last : (a b : Derivation) → a.base + 2 ^ a.order ≤ b.base → AreApart a b
-begins_last a b before = grind (arith, before)
+parent_stays : (list : List Derivation) (x a : Derivation) (parent : Option ℕ) → HasParentIn list a parent → HasParentIn (list ++ x ∷ []) a parent
+parent_stays list x a None h = tt
+parent_stays list x a (Some id) h = (h.0, Contains-append_left list (x ∷ []) h.0 h.1, h.2, h.3)
 
-pub ends_first : (a b : Derivation) → a.base + 2 ^ a.order ≤ b.base → AreApart b a
-ends_first a b before = grind (arith, before)
+-- one more, that fits
+pub forest_add : (f : Delegations) (x : Derivation) → IsForest f → IsFitting f x → IsForest (added f x)
+forest_add f x forest fits =
+    let id = fits.id in
+    record {
+      rising = pairs_more (λ a b. a.id < b.id) f.list x forest.rising
+          (all_weaker (λ a. a.id < f.next) (λ a. a.id < x.id) f.list (λ a h. rw id h) forest.numbered);
+      numbered = all_more (λ a. a.id < f.next + 1) f.list x
+          (all_weaker (λ a. a.id < f.next) (λ a. a.id < f.next + 1) f.list (λ a h. omega arith) forest.numbered) (rw id (omega arith));
+      aligned = all_more IsAligned f.list x forest.aligned fits.aligned;
+      parents = all_more (λ a. HasParentIn (f.list ++ x ∷ []) a a.parent) f.list x
+          (all_weaker (λ a. HasParentIn f.list a a.parent) (λ a. HasParentIn (f.list ++ x ∷ []) a a.parent) f.list (λ a h. parent_stays f.list x a a.parent h) forest.parents)
+          (parent_stays f.list x x x.parent fits.parent);
+      apart = pairs_more (λ a b. a.pd ≡ b.pd → a.kind ≡ b.kind → AreApart a b) f.list x forest.apart fits.apart;
+    }
 
--- a derivation that does not cover a selector is apart from one that is there alone
-pub apart_from : (a d : Derivation) → d.kind ≡ Obj → d.order ≡ 0 → covers Obj d.pd d.base a ≡ false → a.pd ≡ d.pd → a.kind ≡ d.kind → AreApart a d
-apart_from a d kind order free pd same =
-    let object : not (is_memory a.kind) ≡ true = ap (λ (s : Kind). not (is_memory s)) (same ∙ kind) in
-    by_order (nat_le a.base d.base) refl (nat_lt d.base (a.base + 2 ^ a.order)) refl
-    (ap (λ (b : Bool). b && (a.pd == d.pd && (nat_le a.base d.base && nat_lt d.base (a.base + 2 ^ a.order)))) (sym object) ∙ free)
-  where
-    one : 2 ^ d.order ≡ 1
-    one = ap (λ (n : ℕ). 2 ^ n) order
+-- a parent of another id stays
+parent_left : (f : Delegations) (gone : ℕ) (a : Derivation) (parent : Option ℕ) → is_id gone parent ≡ false → HasParentIn f.list a parent →
+    HasParentIn (without f gone).list a parent
+parent_left f gone a None other h = tt
+parent_left f gone a (Some id) other h =
+    let stays : not (h.0.id == gone) ≡ true = grind (arith, h.2, other) in
+    (h.0, contains_from_in (without f gone).list h.0 (in_filtered (λ (b : Derivation). not (b.id == gone)) f.list h.0 (in_from_contains f.list h.0 h.1) stays), h.2, h.3)
 
-    by_order : (b : Bool) → nat_le a.base d.base ≡ b → (e : Bool) → nat_lt d.base (a.base + 2 ^ a.order) ≡ e →
-        (a.pd == d.pd && (nat_le a.base d.base && nat_lt d.base (a.base + 2 ^ a.order))) ≡ false → AreApart a d
-    by_order false below e end h = ends_first d a (let o = one in grind arith)
-    by_order true below false end h = begins_last a d (grind arith)
-    by_order true below true end h = absurd (grind arith)
+left : (f : Delegations) (gone : ℕ) (P : Derivation → Type 0) → AllByRecursion P f.list → AllByRecursion P (without f gone).list
+left f gone P all = all_from P (without f gone).list (λ a i. all_at P f.list a all (filtered_in (λ (b : Derivation). not (b.id == gone)) f.list a i).0)
 
-parent_stays : (list : List Derivation) (d a : Derivation) (parent : Option ℕ) → HasParentIn list a parent → HasParentIn (list ++ d ∷ []) a parent
-parent_stays list d a None h = tt
-parent_stays list d a (Some id) h = (h.0, Contains-append_left list (d ∷ []) h.0 h.1, h.2, h.3)
-
-one_more : (n : ℕ) → n % 1 ≡ 0
-one_more n = omega arith
-
-pub forest_more : (f : Delegations) (d : Derivation) → IsForest f → d.id ≡ f.next → d.parent ≡ None → d.kind ≡ Obj → d.order ≡ 0 →
-    is_some (find (covers Obj d.pd d.base) f.list) ≡ false → IsForest (record { list = f.list ++ d ∷ []; next = f.next + 1 })
-forest_more f d forest id parent kind order free = record {
-  rising = pairs_more (λ a b. a.id < b.id) f.list d forest.rising (all_weaker (λ a. a.id < f.next) (λ a. a.id < d.id) f.list (λ a h. rw id h) forest.numbered);
-  numbered = all_more (λ a. a.id < f.next + 1) f.list d (all_weaker (λ a. a.id < f.next) (λ a. a.id < f.next + 1) f.list (λ a h. omega arith) forest.numbered) (rw id (omega arith));
-  aligned = all_more IsAligned f.list d forest.aligned (record { base = rw order (one_more d.base); target = subst (λ (k : Kind). IsAlignedFor k d) (sym kind) order });
-  parents = all_more (λ a. HasParentIn (f.list ++ d ∷ []) a a.parent) f.list d
-      (all_weaker (λ a. HasParentIn f.list a a.parent) (λ a. HasParentIn (f.list ++ d ∷ []) a a.parent) f.list (λ a h. parent_stays f.list d a a.parent h) forest.parents)
-      (subst (λ (p : Option ℕ). HasParentIn (f.list ++ d ∷ []) d p) (sym parent) tt);
-  apart = pairs_more (λ a b. a.pd ≡ b.pd → a.kind ≡ b.kind → AreApart a b) f.list d forest.apart
-      (all_weaker (λ a. covers Obj d.pd d.base a ≡ false) (λ a. a.pd ≡ d.pd → a.kind ≡ d.kind → AreApart a d) f.list
-      (λ a h pd same. apart_from a d kind order h pd same) (none_found (covers Obj d.pd d.base) f.list free));
+-- one less, that no derivation has for its parent
+pub forest_without : (f : Delegations) (id : ℕ) → IsForest f → IsChildless f.list id → IsForest (without f id)
+forest_without f id forest childless = record {
+  rising = pairs_filter (λ a b. a.id < b.id) (λ (b : Derivation). not (b.id == id)) f.list forest.rising;
+  numbered = left f id (λ a. a.id < f.next) forest.numbered;
+  aligned = left f id IsAligned forest.aligned;
+  parents = all_from (λ a. HasParentIn (without f id).list a a.parent) (without f id).list (λ a i.
+      let was = (filtered_in (λ (b : Derivation). not (b.id == id)) f.list a i).0 in
+      parent_left f id a a.parent (all_at (λ b. is_child_of id b ≡ false) f.list a childless was) (all_at (λ b. HasParentIn f.list b b.parent) f.list a forest.parents was));
+  apart = pairs_filter (λ a b. a.pd ≡ b.pd → a.kind ≡ b.kind → AreApart a b) (λ (b : Derivation). not (b.id == id)) f.list forest.apart;
 }
-
-pub none_by_all : {T : Type 0} (p : T → Bool) (xs : List T) → AllByRecursion (λ x. p x ≡ false) xs → is_some (find p xs) ≡ false
-none_by_all p [] all = refl
-none_by_all p (x ∷ xs) all = rw all.0 (none_by_all p xs all.1)

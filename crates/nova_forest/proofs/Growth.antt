@@ -1,69 +1,243 @@
 -- What a turn adds to objects and delegations: what its deed does, one row a variant.
-use Rattle.std.proofs.Common.{◌≡◌, ℕ, inl, inr, refl}
-use Rattle.std.specs.Prelude.{Bool, true, false, slice_get, Option, Some, None, Result, Ok, Err}
+use Rattle.std.proofs.Common.{◌≡◌, ℕ, [], ◌∷◌, ◌++◌, refl, sym, ap, ◌∙◌, subst}
+use Rattle.std.specs.Prelude.{◌<◌, ◌^◌, ◌&&◌, Bool, true, false, if◌then◌else◌, Contains, length, slice_get, Option, Some, None, Result, Ok, Err, ◌==◌, not, nat_lt, option_and_then}
+use Rattle.std.specs.List.{find}
+use Rattle.std.proofs.lemmas.Bool.{and_parts, eqb-true}
+use Rattle.nova_objects.specs.declared.object.EcKind.{EcKind}
+use Rattle.nova_range.specs.declared.range.Kind.TheVariants.{Obj}
+use Rattle.rv_model.specs.Registers.{reg}
 use Rattle.rv_model.specs.Step.{Once, Raised, Went}
+use Rattle.nova_objects.specs.declared.object.Object.{Object}
+use Rattle.nova_objects.specs.declared.object.Object.TheVariants.{Pd, Ec, Sc, Pt, Sm}
 use Rattle.nova_calls.specs.declared.call.Call.{Call}
 use Rattle.nova_calls.specs.declared.call.Call.TheVariants as call
-use Rattle.nova_calls.specs.declared.numbers.TheConstants.{CREATE_EC, CREATE_PT, CREATE_SM}
+use Rattle.nova_calls.specs.declared.numbers.TheConstants.{CREATE_EC, CREATE_PT, CREATE_SM, SC_CTRL}
+use Rattle.nova_range.specs.declared.range.Range.{Range}
+use Rattle.nova_range.specs.declared.rights.Rights.{Rights}
 use Rattle.nova_range.specs.declared.status.Status.{Status}
-use Rattle.nova_range.specs.declared.status.Status.TheVariants.{BadCap, BadPar}
-use Rattle.nova_model.specs.Capabilities.{is_held, is_pd, is_ec, is_sc, is_pt, named, create_right, control_right}
+use Rattle.nova_range.specs.declared.status.Status.TheVariants.{BadCap, BadPar, BadCpu}
+use Rattle.nova_model.specs.Capabilities.{is_held, is_pd, is_ec, is_sc, is_pt, named, create_right, control_right, allowed, or_bad_cap, bind_portal_right, is_local}
 use Rattle.nova_model.specs.Choice.{choice}
 use Rattle.nova_model.specs.Creation.{object_of, root_capability}
-use Rattle.nova_model.specs.Deeds.{with_context, recalled, stepped, done, deed, instruction}
-use Rattle.nova_model.specs.Hypercalls.{and_then, unless, makes, row, is_virtual, ticks_in}
+use Rattle.nova_model.specs.Deeds.{with_context, recalled, stepped, is_busy, done, deed, instruction}
+use Rattle.nova_model.specs.Delegations.{Delegations, added, allows, covers, has_place, is_same_kind, range_of}
+use Rattle.nova_model.specs.Forest.{IsAligned, IsForest, IsFitting}
+use Rattle.nova_model.specs.Hypercalls.{and_then, unless, maker, makes, new_domain, row, is_virtual, ticks_in}
 use Rattle.nova_model.specs.Runs.{after}
-use Rattle.nova_model.specs.State.{KernelState, budget_at, pd_of}
+use Rattle.nova_model.specs.State.{KernelState, budget_at, context, pd_of}
+use Rattle.nova_model.specs.Transfers.{child_of}
 use Rattle.nova_model.specs.Turn.{counted, paid_by, charged, quantum_in, turn, turn_by, state_after}
 use Rattle.nova_model.specs.declared.budget.Budget.{Budget}
 use Rattle.nova_model.specs.declared.budget.Candidate.{Candidate}
 use Rattle.nova_model.specs.declared.context.EcState.{EcState}
+use Rattle.nova_model.specs.declared.context.State.TheVariants.{Granting}
 use Rattle.nova_model.specs.declared.deed.Deed.{Deed}
-use Rattle.nova_model.specs.declared.deed.Deed.TheVariants.{Rests, Steps, Makes, Recalls, Tells, Names}
+use Rattle.nova_model.specs.declared.deed.Deed.TheVariants.{Rests, Steps, Makes, Recalls, Tells, Names, Opens, Gives}
+use Rattle.nova_model.specs.declared.delegation.Derivation.{Derivation}
 use Rattle.nova_model.specs.declared.new_object.NewObject.{NewObject}
-use Rattle.nova_model.specs.declared.new_object.NewObject.TheVariants.{Sm}
-use Rattle.nova_forest.specs.Made.{IsSame, Grows, GrowsBy}
-use Rattle.nova_forest.proofs.Walk.{IfDone, deed_holds}
+use Rattle.nova_model.specs.declared.new_object.NewObject.TheVariants as new
+use Rattle.nova_forest.specs.Made.{MayCreate, IsMadeIn, IsGivenChild, IsSame, Grows, Leaves, MakesObject, GivesChild, GrowsBy}
+use Rattle.nova_forest.proofs.Jobs.{job_ranges, job_between_them}
+use Rattle.nova_forest.proofs.Members.{IsIn, all_at, contains_from_in, found_in, in_from_contains}
+use Rattle.nova_forest.proofs.Selectors.{TakesSelector, call_takes}
+use Rattle.nova_forest.proofs.Transfers.{kinds_equal, next_facts, left_facts, judged_facts, child_rights, child_is_range, free_child_fits}
+use Rattle.nova_forest.proofs.Walk.{IfDone, resumed, IsGiving, deed_holds}
 
--- deciding: a selector that a deed takes is free
+-- deciding: a selector that a deed takes is free and one, its domain may make objects, a domain that it opens has the next number, and a child
+-- that it gives is one
 
-abbrev TakesFree : KernelState → ℕ → Deed → Type 0
+-- what is asked of a maker
+pub record IsAsked (k : KernelState) (domain target : ℕ) (object : Object) : Type 0 where
+  pub free : is_held k domain target ≡ false
+  pub selector : target < 2 ^ 20
+  pub creator : MayCreate k domain
+  pub place : IsMadeIn creator.capability.target object
+
+abbrev pub IsAllowed : KernelState → ℕ → Deed → Type 0
+IsAllowed k ec (Makes call target new) = IsAsked k (pd_of k ec) target (object_of new)
+IsAllowed k ec (Opens target number) = IsAsked k (pd_of k ec) target Pd × (number ≡ length k.objects)
+IsAllowed k ec (Gives child cursor) = IsGivenChild k ec child
+IsAllowed k ec other = Unit {0}
+
+-- a selector that names a protection domain with create is that of such a capability
+record IsNamed (k : KernelState) (domain owner : ℕ) : Type 0 where
+  creator : MayCreate k domain
+  its : owner ≡ creator.capability.target
+
+named_creates : (k : KernelState) (domain selector owner : ℕ) → named k domain is_pd create_right selector ≡ Ok owner → IsNamed k domain owner
+named_creates k domain selector owner h = by_capability (find (covers Obj domain selector) k.delegations.list) refl h
+  where
+    by_right : (d : Derivation) → IsIn k.delegations.list d × (covers Obj domain selector d ≡ true) → slice_get k.objects d.target ≡ Some Pd → (t : Bool) →
+        allows d.rights create_right ≡ t → or_bad_cap (if t then Some d.target else None) ≡ Ok owner → IsNamed k domain owner
+    by_right d found leads true create g =
+        let parts = and_parts (is_same_kind Obj d.kind) (d.pd == domain && has_place (range_of d) selector) found.1 in
+        let same : d.target ≡ owner = cc in
+        record {
+          creator = record {
+            capability = d;
+            there = contains_from_in k.delegations.list d found.0;
+            held = eqb-true d.pd domain (and_parts (d.pd == domain) (has_place (range_of d) selector) parts.1).0;
+            kind = sym (kinds_equal Obj d.kind parts.0);
+            leads = leads;
+            create = create;
+          };
+          its = sym same;
+        }
+    by_right d found leads false create g = absurd (cc)
+
+    by_object : (d : Derivation) → IsIn k.delegations.list d × (covers Obj domain selector d ≡ true) → (o : Option Object) → slice_get k.objects d.target ≡ o →
+        or_bad_cap (option_and_then (λ x. if is_pd x && allows d.rights create_right then Some d.target else None) o) ≡ Ok owner → IsNamed k domain owner
+    by_object d found (Some Pd) leads g = by_right d found leads (allows d.rights create_right) refl g
+    by_object d found None leads g = absurd (cc)
+    by_object d found (Some (Ec pd cpu kind event)) leads g = absurd (cc)
+    by_object d found (Some (Sc ec cpu priority quantum)) leads g = absurd (cc)
+    by_object d found (Some (Pt ec mtd ip)) leads g = absurd (cc)
+    by_object d found (Some Sm) leads g = absurd (cc)
+
+    by_capability : (c : Option Derivation) → find (covers Obj domain selector) k.delegations.list ≡ c →
+        or_bad_cap (option_and_then (allowed k.objects is_pd create_right) c) ≡ Ok owner → IsNamed k domain owner
+    by_capability None is g = absurd (cc)
+    by_capability (Some d) is g = by_object d (found_in (covers Obj domain selector) k.delegations.list d is) (slice_get k.objects d.target) refl g
+
+maker_free : (k : KernelState) (domain target pd : ℕ) (P : Deed → Type 0) (next : ℕ → Result Deed Status) →
+    ((o : ℕ) → is_held k domain target ≡ false → IsNamed k domain o → IfDone P (next o)) →
+    IfDone P (and_then (maker k domain target pd) next)
+maker_free k domain target pd P next h = by_owner (named k domain is_pd create_right pd) refl (is_held k domain target) refl
+  where
+    by_owner : (owner : Result ℕ Status) → named k domain is_pd create_right pd ≡ owner → (held : Bool) → is_held k domain target ≡ held →
+        IfDone P (and_then (and_then owner (λ o. unless held BadCap (Ok o))) next)
+    by_owner (Err status) of held is = tt
+    by_owner (Ok o) of true is = tt
+    by_owner (Ok o) of false is = h o is (named_creates k domain pd o of)
+
+-- what is made there, where an execution context is one of the domain that was named
+makes_free : (k : KernelState) (ec number target pd : ℕ) (made : ℕ → Result NewObject Status) → target < 2 ^ 20 →
+    ((o : ℕ) → IfDone (λ m. IsMadeIn o (object_of m)) (made o)) → IfDone (IsAllowed k ec) (makes k (pd_of k ec) number target pd made)
+makes_free k ec number target pd made selector places =
+    maker_free k (pd_of k ec) target pd (IsAllowed k ec) (λ o. and_then (made o) (λ m. Ok (Makes number target m)))
+    (λ o free named. by_new o (made o) free named (places o))
+  where
+    by_new : (o : ℕ) (r : Result NewObject Status) → is_held k (pd_of k ec) target ≡ false → IsNamed k (pd_of k ec) o → IfDone (λ m. IsMadeIn o (object_of m)) r →
+        IfDone (IsAllowed k ec) (and_then r (λ m. Ok (Makes number target m)))
+    by_new o (Ok m) free named place = record {
+      free = free;
+      selector = selector;
+      creator = named.creator;
+      place = subst (λ (n : ℕ). IsMadeIn n (object_of m)) named.its place;
+    }
+    by_new o (Err status) free named place = tt
+
+new_domain_free : (k : KernelState) (ec target : ℕ) (first : Option (Range × Rights)) → IsAsked k (pd_of k ec) target Pd → IsAllowed k ec (new_domain k target first)
+new_domain_free k ec target None asked = asked
+new_domain_free k ec target (Some range) asked = (asked, refl)
+
+unless_free : (k : KernelState) (ec : ℕ) (test : Bool) (status : Status) (r : Result Deed Status) → IfDone (IsAllowed k ec) r → IfDone (IsAllowed k ec) (unless test status r)
+unless_free k ec true status r h = tt
+unless_free k ec false status r h = h
+
+named_free : (k : KernelState) (ec : ℕ) (r : Result ℕ Status) (d : ℕ → Deed) → ((n : ℕ) → IsAllowed k ec (d n)) → IfDone (IsAllowed k ec) (and_then r (λ n. Ok (d n)))
+named_free k ec (Ok n) d h = h n
+named_free k ec (Err status) d h = tt
+
+made_context : (owner cpu : ℕ) (kind : EcKind) (sp event : ℕ) (missing : Bool) →
+    IfDone (λ m. IsMadeIn owner (object_of m)) (unless missing BadCpu (Ok (new.Ec owner cpu kind sp event)))
+made_context owner cpu kind sp event true = tt
+made_context owner cpu kind sp event false = refl
+
+made_portal : (owner mtd ip : ℕ) (handler : Result ℕ Status) → IfDone (λ m. IsMadeIn owner (object_of m)) (and_then handler (λ h. Ok (new.Pt h mtd ip)))
+made_portal owner mtd ip (Ok h) = tt
+made_portal owner mtd ip (Err status) = tt
+
+row_free : (k : KernelState) (ec : ℕ) (c : Call) → TakesSelector c → IfDone (IsAllowed k ec) (row k (pd_of k ec) c)
+row_free k ec (call.CreatePd target pd first) selector =
+    maker_free k (pd_of k ec) target pd (IsAllowed k ec) (λ o. Ok (new_domain k target first))
+    (λ o free named. new_domain_free k ec target first (record { free = free; selector = selector; creator = named.creator; place = tt }))
+row_free k ec (call.CreateEc target pd cpu kind sp event) selector =
+    unless_free k ec (is_virtual kind) BadPar _ (makes_free k ec CREATE_EC target pd _ selector (λ o. made_context o cpu kind sp event (not (nat_lt cpu k.cpus))))
+row_free k ec (call.CreatePt target pd handler mtd ip) selector =
+    makes_free k ec CREATE_PT target pd _ selector (λ o. made_portal o mtd.0 ip (named k (pd_of k ec) is_local bind_portal_right handler))
+row_free k ec (call.CreateSm target pd count) selector = makes_free k ec CREATE_SM target pd (λ o. Ok (new.Sm count)) selector (λ o. tt)
+row_free k ec (call.EcCtrl other) selector = named_free k ec (named k (pd_of k ec) is_ec control_right other) (λ n. Recalls n) (λ n. tt)
+row_free k ec (call.ScCtrl sc) selector =
+    named_free k ec (named k (pd_of k ec) is_sc control_right sc) (λ n. Tells SC_CTRL (ticks_in (budget_at k n))) (λ n. tt)
+row_free k ec (call.PtCtrl pt identifier) selector = named_free k ec (named k (pd_of k ec) is_pt control_right pt) (λ n. Names n identifier) (λ n. tt)
+row_free k ec other selector = tt
+
+-- ids are below the next
+ids_below : (k : KernelState) → IsForest k.delegations → (a : Derivation) → Contains k.delegations.list a → a.id < k.delegations.next
+ids_below k forest a there =
+    all_at (λ (b : Derivation). b.id < k.delegations.next) k.delegations.list a forest.numbered (in_from_contains k.delegations.list a there)
+
+-- a part that is given gives such a child
+given_child : (k : KernelState) (ec pd : ℕ) (d x : Derivation) → (context k ec).state ≡ Granting (Some pd) → IsGiving k ec pd d x → IsGivenChild k ec x
+given_child k ec pd d x state g =
+    let j = resumed k ec g.job in
+    let next = next_facts k.delegations.list j d g.next in
+    let left = left_facts j d next.left in
+    let good = judged_facts (is_busy k) k.delegations.list (child_of j k.delegations.next d) x g.good in
+    let them = job_between_them (reg (context k ec).regs 12) 0 (reg (context k ec).regs 12) (pd_of k ec) pd g.job g.reads in
+    let ranges = job_ranges (reg (context k ec).regs 12) 0 (reg (context k ec).regs 12) (pd_of k ec) pd g.job g.reads in
+    subst (IsGivenChild k ec) (sym good.same) (record {
+      source = d;
+      there = contains_from_in k.delegations.list d next.there;
+      held = left.giver ∙ them.giver;
+      receiver = state ∙ ap (λ (n : ℕ). Granting (Some n)) (sym them.receiver);
+      id = refl;
+      parent = refl;
+      kind = sym left.kind;
+      some_right = good.some;
+      rights = child_rights d.rights j.rights;
+      free = good.free;
+      range = λ forest.
+          let aligned = all_at IsAligned k.delegations.list d forest.aligned next.there in
+          child_is_range j d ranges.source ranges.dest aligned.base next.left;
+      newest = ids_below k;
+      fits = λ forest. free_child_fits k.delegations j d forest ranges.source ranges.dest g.next good.free;
+    })
+
+pub deed_allowed : (k : KernelState) (ec : ℕ) → IsAllowed k ec (deed k ec)
+deed_allowed k ec =
+    deed_holds (IsAllowed k ec) k ec tt
+    (record { steps = tt; raises = λ reason q0 q1. tt; dies = λ reason q0. tt; refuses = λ number status. tt; rows = λ c is. row_free k ec c (call_takes (context k ec).regs c is) })
+    (λ pd state. record { gives = λ d x g. given_child k ec pd d x state g; skips = λ reason place cursor. tt; ends = tt })
+
+-- the selector that a deed takes is free
+abbrev pub TakesFree : KernelState → ℕ → Deed → Type 0
 TakesFree k domain (Makes call target new) = is_held k domain target ≡ false
+TakesFree k domain (Opens target number) = is_held k domain target ≡ false
 TakesFree k domain other = Unit {0}
 
-makes_free : (k : KernelState) (domain number target pd : ℕ) (new : ℕ → Result NewObject Status) → IfDone (TakesFree k domain) (makes k domain number target pd new)
-makes_free k domain number target pd new = by_owner (named k domain is_pd create_right pd) (is_held k domain target) refl
-  where
-    by_new : (r : Result NewObject Status) → is_held k domain target ≡ false → IfDone (TakesFree k domain) (and_then r (λ made. Ok (Makes number target made)))
-    by_new (Ok made) free = free
-    by_new (Err status) free = tt
+allowed_free : (k : KernelState) (ec : ℕ) (d : Deed) → IsAllowed k ec d → TakesFree k (pd_of k ec) d
+allowed_free k ec (Makes call target new) allowed = allowed.free
+allowed_free k ec (Opens target number) allowed = allowed.0.free
+allowed_free k ec other free = tt
 
-    by_owner : (owner : Result ℕ Status) (held : Bool) → is_held k domain target ≡ held →
-        IfDone (TakesFree k domain) (and_then (and_then owner (λ o. unless held BadCap (Ok o))) (λ o. and_then (new o) (λ made. Ok (Makes number target made))))
-    by_owner (Err status) held is = tt
-    by_owner (Ok o) true is = tt
-    by_owner (Ok o) false is = by_new (new o) is
+pub deed_free : (k : KernelState) (ec : ℕ) → TakesFree k (pd_of k ec) (deed k ec)
+deed_free k ec = allowed_free k ec (deed k ec) (deed_allowed k ec)
 
-unless_free : (k : KernelState) (domain : ℕ) (test : Bool) (status : Status) (r : Result Deed Status) → IfDone (TakesFree k domain) r → IfDone (TakesFree k domain) (unless test status r)
-unless_free k domain true status r h = tt
-unless_free k domain false status r h = h
+-- the domain that it opens is the next object
+abbrev pub OpensNext : KernelState → Deed → Type 0
+OpensNext k (Opens target number) = number ≡ length k.objects
+OpensNext k other = Unit {0}
 
-named_free : (k : KernelState) (domain : ℕ) (r : Result ℕ Status) (d : ℕ → Deed) → ((n : ℕ) → TakesFree k domain (d n)) → IfDone (TakesFree k domain) (and_then r (λ n. Ok (d n)))
-named_free k domain (Ok n) d h = h n
-named_free k domain (Err status) d h = tt
+allowed_next : (k : KernelState) (ec : ℕ) (d : Deed) → IsAllowed k ec d → OpensNext k d
+allowed_next k ec (Opens target number) allowed = allowed.1
+allowed_next k ec other allowed = tt
 
-row_free : (k : KernelState) (domain : ℕ) (c : Call) → IfDone (TakesFree k domain) (row k domain c)
-row_free k domain (call.CreateEc target pd cpu kind sp event) = unless_free k domain (is_virtual kind) BadPar _ (makes_free k domain CREATE_EC target pd _)
-row_free k domain (call.CreatePt target pd ec mtd ip) = makes_free k domain CREATE_PT target pd _
-row_free k domain (call.CreateSm target pd count) = makes_free k domain CREATE_SM target pd (λ o. Ok (Sm count))
-row_free k domain (call.EcCtrl ec) = named_free k domain (named k domain is_ec control_right ec) (λ n. Recalls n) (λ n. tt)
-row_free k domain (call.ScCtrl sc) = named_free k domain (named k domain is_sc control_right sc) (λ n. Tells (ticks_in (budget_at k n))) (λ n. tt)
-row_free k domain (call.PtCtrl pt identifier) = named_free k domain (named k domain is_pt control_right pt) (λ n. Names n identifier) (λ n. tt)
-row_free k domain other = tt
+pub deed_opens : (k : KernelState) (ec : ℕ) → OpensNext k (deed k ec)
+deed_opens k ec = allowed_next k ec (deed k ec) (deed_allowed k ec)
 
-deed_free : (k : KernelState) (ec : ℕ) → TakesFree k (pd_of k ec) (deed k ec)
-deed_free k ec =
-    deed_holds (TakesFree k (pd_of k ec)) k ec tt (record { steps = tt; raises = λ reason q0 q1. tt; dies = λ reason q0. tt; refuses = λ number status. tt; rows = λ c. row_free k (pd_of k ec) c })
+-- a child that a deed gives fits a sound forest
+abbrev pub GivesFitting : Delegations → Deed → Type 0
+GivesFitting f (Gives child cursor) = IsFitting f child
+GivesFitting f other = Unit {0}
+
+allowed_fits : (k : KernelState) (ec : ℕ) (d : Deed) → IsForest k.delegations → IsAllowed k ec d → GivesFitting k.delegations d
+allowed_fits k ec (Gives child cursor) forest given = given.fits forest
+allowed_fits k ec other forest given = tt
+
+pub deed_fits : (k : KernelState) (ec : ℕ) → IsForest k.delegations → GivesFitting k.delegations (deed k ec)
+deed_fits k ec forest = allowed_fits k ec (deed k ec) forest (deed_allowed k ec)
 
 -- doing
 
@@ -71,36 +245,61 @@ unchanged : (k : KernelState) → IsSame k k
 unchanged k = record { objects = refl; delegations = refl }
 
 stepped_grows : (k : KernelState) (ec : ℕ) (o : Once) → Grows k ec (stepped k ec o)
-stepped_grows k ec (Raised reason q0 q1) = inl (unchanged k)
-stepped_grows k ec (Went regs store) = inl (record { objects = refl; delegations = refl })
+stepped_grows k ec (Raised reason q0 q1) = Leaves (unchanged k)
+stepped_grows k ec (Went regs store) = Leaves (record { objects = refl; delegations = refl })
 
 recalled_grows : (k : KernelState) (ec other : ℕ) (x : EcState) (o : Option EcState) → Grows k ec (recalled (with_context k ec x) other o)
-recalled_grows k ec other x None = inl (record { objects = refl; delegations = refl })
-recalled_grows k ec other x (Some y) = inl (record { objects = refl; delegations = refl })
+recalled_grows k ec other x None = Leaves (record { objects = refl; delegations = refl })
+recalled_grows k ec other x (Some y) = Leaves (record { objects = refl; delegations = refl })
 
-done_grows : (k : KernelState) (ec : ℕ) (d : Deed) → TakesFree k (pd_of k ec) d → Grows k ec (done k ec d)
-done_grows k ec Rests free = inl (unchanged k)
-done_grows k ec Steps free = stepped_grows k ec (instruction k ec)
-done_grows k ec (Makes number target new) free = inr (record {
-  object = object_of new;
-  capability = root_capability k (pd_of k ec) target (object_of new);
-  first = record { pd = refl; id = refl; parent = refl; kind = refl; order = refl; free = free; rights = refl; target = refl };
-  objects = refl;
-  delegations = refl;
+-- a state with one object more
+made_grows : (k s : KernelState) (ec target : ℕ) (made : NewObject) → IsAsked k (pd_of k ec) target (object_of made) → s.objects ≡ k.objects ++ object_of made ∷ [] →
+    s.delegations ≡ added k.delegations (root_capability k (pd_of k ec) target (object_of made)) → Grows k ec s
+made_grows k s ec target made asked objects delegations = MakesObject (record {
+  object = object_of made;
+  capability = root_capability k (pd_of k ec) target (object_of made);
+  first = record {
+    pd = refl;
+    id = refl;
+    parent = refl;
+    kind = refl;
+    order = refl;
+    selector = asked.selector;
+    free = asked.free;
+    rights = refl;
+    target = refl;
+    creator = asked.creator;
+    place = asked.place;
+    newest = ids_below k;
+  };
+  objects = objects;
+  delegations = delegations;
 })
-done_grows k ec (Recalls other) free = recalled_grows k ec other _ _
-done_grows k ec other free = inl (record { objects = refl; delegations = refl })
+
+done_grows : (k : KernelState) (ec : ℕ) (d : Deed) → IsAllowed k ec d → Grows k ec (done k ec d)
+done_grows k ec Rests allowed = Leaves (unchanged k)
+done_grows k ec Steps allowed = stepped_grows k ec (instruction k ec)
+done_grows k ec (Makes call target made) asked = made_grows k (done k ec (Makes call target made)) ec target made asked refl refl
+done_grows k ec (Opens target number) allowed = made_grows k (done k ec (Opens target number)) ec target new.Pd allowed.0 refl refl
+done_grows k ec (Recalls other) allowed = recalled_grows k ec other _ _
+done_grows k ec (Gives child cursor) given = GivesChild (record { child = child; given = given; objects = refl; delegations = refl })
+done_grows k ec other allowed = Leaves (record { objects = refl; delegations = refl })
 
 pub deed_grows : (k : KernelState) (ec : ℕ) → Grows k ec (done k ec (deed k ec))
-deed_grows k ec = done_grows k ec (deed k ec) (deed_free k ec)
+deed_grows k ec = done_grows k ec (deed k ec) (deed_allowed k ec)
+
+-- a state with the same objects and delegations
+grows_same : (old new other : KernelState) (ec : ℕ) → other.objects ≡ new.objects → other.delegations ≡ new.delegations → Grows old ec new → Grows old ec other
+grows_same old new other ec o d (Leaves s) = Leaves (record { objects = o ∙ s.objects; delegations = d ∙ s.delegations })
+grows_same old new other ec o d (MakesObject g) =
+    MakesObject (record { object = g.object; capability = g.capability; first = g.first; objects = o ∙ g.objects; delegations = d ∙ g.delegations })
+grows_same old new other ec o d (GivesChild g) =
+    GivesChild (record { child = g.child; given = g.given; objects = o ∙ g.objects; delegations = d ∙ g.delegations })
 
 -- a charge leaves objects and delegations
 counted_grows : (old new : KernelState) (ec cpu sc quantum : ℕ) (b : Option Budget) → Grows old ec new → Grows old ec (counted (paid_by new sc quantum b) cpu)
-counted_grows old new ec cpu sc quantum None (inl s) = inl (record { objects = s.objects; delegations = s.delegations })
-counted_grows old new ec cpu sc quantum (Some b) (inl s) = inl (record { objects = s.objects; delegations = s.delegations })
-counted_grows old new ec cpu sc quantum None (inr g) = inr (record { object = g.object; capability = g.capability; first = g.first; objects = g.objects; delegations = g.delegations })
-counted_grows old new ec cpu sc quantum (Some b) (inr g) =
-    inr (record { object = g.object; capability = g.capability; first = g.first; objects = g.objects; delegations = g.delegations })
+counted_grows old new ec cpu sc quantum None g = grows_same old new (counted (paid_by new sc quantum None) cpu) ec refl refl g
+counted_grows old new ec cpu sc quantum (Some b) g = grows_same old new (counted (paid_by new sc quantum (Some b)) cpu) ec refl refl g
 
 charged_grows : (old new : KernelState) (ec cpu sc : ℕ) → Grows old ec new → Grows old ec (charged new cpu sc)
 unfolding charged

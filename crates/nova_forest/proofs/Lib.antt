@@ -1,4 +1,11 @@
-pub mod Walk
+pub mod Members
+pub mod Multiples
 pub mod Forests
+pub mod Transfers
+pub mod Jobs
+pub mod Walk
+pub mod Selectors
 pub mod Growth
 pub mod Boots
+pub mod Changes
+pub mod Lines

@@ -1,23 +1,66 @@
--- What a turn may add to objects and delegations.
-use Rattle.std.specs.Prelude.{◌≡◌, ℕ, ◌+◌, ◌⊎◌, false, [], ◌∷◌, ◌++◌, length, Option, Some, None}
+-- What a turn may do to objects and delegations, and by whom.
+use Rattle.std.specs.Prelude.{◌≡◌, ℕ, ◌<◌, ◌^◌, ◌==◌, Contains, true, false, [], ◌∷◌, ◌++◌, length, slice_get, Option, Some, None}
 use Rattle.nova_objects.specs.declared.object.Object.{Object}
+use Rattle.nova_objects.specs.declared.object.Object.TheVariants.{Pd, Ec}
+use Rattle.nova_range.specs.Ranges.{IsRange}
 use Rattle.nova_range.specs.declared.range.Kind.TheVariants.{Obj}
-use Rattle.nova_model.specs.Capabilities.{is_held, rights_to}
-use Rattle.nova_model.specs.State.{KernelState, pd_of}
+use Rattle.nova_model.specs.Capabilities.{create_right, is_held, rights_to}
+use Rattle.nova_model.specs.Delegations.{allows, range_of, is_held_in, added}
+use Rattle.nova_model.specs.Forest.{IsForest, IsFitting}
+use Rattle.nova_model.specs.State.{KernelState, context, pd_of}
 use Rattle.nova_model.specs.declared.budget.Candidate.{Candidate}
+use Rattle.nova_model.specs.declared.context.State.TheVariants.{Granting}
 use Rattle.nova_model.specs.declared.delegation.Derivation.{Derivation}
 
--- the capability of a new object: its maker's, of the next id and without a parent, at a selector that the maker's domain did not hold, with
--- all rights to the object, whose number is the next
+-- a protection domain holds a capability to a protection domain, with the right to make objects in that one
+pub record MayCreate (k : KernelState) (domain : ℕ) : Type 0 where
+  pub capability : Derivation
+  pub there : Contains k.delegations.list capability
+  pub held : capability.pd ≡ domain
+  pub kind : capability.kind ≡ Obj
+  pub leads : slice_get k.objects capability.target ≡ Some Pd
+  pub create : allows capability.rights create_right ≡ true
+
+-- an execution context is one of this protection domain
+abbrev pub IsMadeIn : ℕ → Object → Type 0
+IsMadeIn domain (Ec pd cpu kind event) = pd ≡ domain
+IsMadeIn domain other = Unit {0}
+
+-- the capability of a new object: its maker's, of the next id and without a parent, at a selector below 2^20 that the maker's domain did not
+-- hold, with all rights to the object, whose number is the next. The maker's domain may make objects in a protection domain, and an
+-- execution context is made in that one. Where delegations are a sound forest each id of theirs is less.
 pub record IsFirstCapability (k : KernelState) (maker : ℕ) (object : Object) (d : Derivation) : Type 0 where
   pub pd : d.pd ≡ pd_of k maker
   pub id : d.id ≡ k.delegations.next
   pub parent : d.parent ≡ None
   pub kind : d.kind ≡ Obj
   pub order : d.order ≡ 0
+  pub selector : d.base < 2 ^ 20
   pub free : is_held k d.pd d.base ≡ false
   pub rights : d.rights ≡ rights_to object
   pub target : d.target ≡ length k.objects
+  pub creator : MayCreate k d.pd
+  pub place : IsMadeIn creator.capability.target object
+  pub newest : IsForest k.delegations → (a : Derivation) → Contains k.delegations.list a → a.id < d.id
+
+-- a child that is given: of a derivation of the giver's domain, to the domain that the giver's state names, of the next id and of the same
+-- kind, with at least one right and none that the derivation does not have, at places that the receiver's domain did not hold. Where
+-- delegations are a sound forest these places are a range, and the child fits: its targets are among those of the derivation. And each id of
+-- theirs is less than the child's.
+pub record IsGivenChild (k : KernelState) (giver : ℕ) (child : Derivation) : Type 0 where
+  pub source : Derivation
+  pub there : Contains k.delegations.list source
+  pub held : source.pd ≡ pd_of k giver
+  pub receiver : (context k giver).state ≡ Granting (Some child.pd)
+  pub id : child.id ≡ k.delegations.next
+  pub parent : child.parent ≡ Some source.id
+  pub kind : child.kind ≡ source.kind
+  pub some_right : (child.rights.0 == 0) ≡ false
+  pub rights : (right : ℕ) → allows child.rights right ≡ true → allows source.rights right ≡ true
+  pub free : is_held_in k.delegations.list child.pd (range_of child) ≡ false
+  pub range : IsForest k.delegations → IsRange (range_of child)
+  pub fits : IsForest k.delegations → IsFitting k.delegations child
+  pub newest : IsForest k.delegations → (a : Derivation) → Contains k.delegations.list a → a.id < child.id
 
 -- objects and delegations are as before
 pub record IsSame (old new : KernelState) : Type 0 where
@@ -30,12 +73,22 @@ pub record IsGrown (old : KernelState) (maker : ℕ) (new : KernelState) : Type 
   pub capability : Derivation
   pub first : IsFirstCapability old maker object capability
   pub objects : new.objects ≡ old.objects ++ object ∷ []
-  pub delegations : new.delegations ≡ record { list = old.delegations.list ++ capability ∷ []; next = old.delegations.next + 1 }
+  pub delegations : new.delegations ≡ added old.delegations capability
 
-abbrev pub Grows : KernelState → ℕ → KernelState → Type 0
-Grows old maker new = IsSame old new ⊎ IsGrown old maker new
+-- or one child is given, and no object is made
+pub record HasGiven (old : KernelState) (giver : ℕ) (new : KernelState) : Type 0 where
+  pub child : Derivation
+  pub given : IsGivenChild old giver child
+  pub objects : new.objects ≡ old.objects
+  pub delegations : new.delegations ≡ added old.delegations child
 
--- in a turn the maker is the one who acts; an idle processor makes nothing
+-- one of these
+pub data Grows (old : KernelState) (ec : ℕ) (new : KernelState) : Type 0 where
+  Leaves : IsSame old new → Grows old ec new
+  MakesObject : IsGrown old ec new → Grows old ec new
+  GivesChild : HasGiven old ec new → Grows old ec new
+
+-- in a turn it is the one who acts; an idle processor leaves all
 abbrev pub GrowsBy : KernelState → Option Candidate → KernelState → Type 0
 GrowsBy old None new = IsSame old new
 GrowsBy old (Some chosen) new = Grows old chosen.actor new

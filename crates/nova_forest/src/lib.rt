@@ -1,22 +1,54 @@
-//! Laws of delegations: what a turn may add, and that they stay a sound forest. The functions do nothing: their contracts are the laws.
+//! Laws of delegations: what a turn may do to them and to objects, that they stay a sound forest, and
+//! that nothing that is given exceeds what it was given of. The functions do nothing: their contracts
+//! are the laws.
 #![tactic(auto)]
 
-ghost use Rattle.std.specs.Prelude.{ℕ, List};
+ghost use Rattle.std.specs.Prelude.{ℕ, List, Contains};
 ghost use Rattle.nova_model.specs.Boot.{Scenario, boot};
 ghost use Rattle.nova_model.specs.Choice.{choice};
+ghost use Rattle.nova_model.specs.Delegations.{Delegations};
 ghost use Rattle.nova_model.specs.Forest.{IsForest};
+ghost use Rattle.nova_model.specs.Lines.{line};
 ghost use Rattle.nova_model.specs.Runs.{after, run};
 ghost use Rattle.nova_model.specs.State.{KernelState};
+ghost use Rattle.nova_model.specs.declared.delegation.Derivation.{Derivation};
+ghost use Rattle.nova_forest.specs.Changes.{Change};
 ghost use Rattle.nova_forest.specs.Made.{GrowsBy};
+ghost use Rattle.nova_forest.specs.Within.{StaysWithin, HasWholeLine};
 
 /// Whatever list of turns is taken from whatever boot state, delegations are a sound forest.
 pub fn delegations_stay_a_forest()
     ensures { (scenario : Scenario) (turns : List ℕ) → IsForest (run (boot scenario) turns).delegations }
 {}
 
-/// A turn leaves objects and delegations, or makes one object, whose number and whose capability's id
-/// are those of none before. The capability is that of the domain of the execution context that acts,
-/// at a selector that was free, with all rights to the object and without a parent.
+/// A turn leaves objects and delegations; or it makes one object, whose number is that of none before;
+/// or it gives one child and makes no object. The capability of an object is that of the domain of the
+/// execution context that acts, at a selector below 2^20 that was free, with all rights to the object
+/// and without a parent; that domain holds the right to make objects in a protection domain, and an
+/// execution context is made in that one. The child's parent is a derivation of that domain, and the
+/// child goes to the domain that the execution context's state names, at places that were free there.
+/// What joins has the next id, which where delegations are a sound forest is above all before.
 pub fn a_turn_makes_at_most_one_object()
     ensures { (k : KernelState) (cpu : ℕ) → GrowsBy k (choice k cpu) (after k cpu) }
+{}
+
+/// A turn leaves delegations, adds one derivation that fits them, or removes one that is no parent;
+/// and each such change leaves a sound forest one.
+pub fn a_turn_changes_one_derivation()
+    ensures reached { (scenario : Scenario) (turns : List ℕ) (cpu : ℕ) →
+        Change (run (boot scenario) turns).delegations (after (run (boot scenario) turns) cpu).delegations }
+    ensures sound { (k : KernelState) (cpu : ℕ) → IsForest k.delegations → Change k.delegations (after k cpu).delegations }
+    ensures keeps { (old new : Delegations) → Change old new → IsForest old → IsForest new }
+{}
+
+/// Whatever list of turns is taken from whatever boot state: a derivation leads to nothing that those
+/// which it was derived from, its parent, the parent's parent and so on, don't lead to, and has no
+/// right that one of them doesn't have. And its line leaves none of these out: it is the derivation and
+/// then its parent's line, and a parent that it names is there.
+pub fn derivations_stay_within_their_lines()
+    ensures within { (scenario : Scenario) (turns : List ℕ) (d ancestor : Derivation) →
+        Contains (run (boot scenario) turns).delegations.list d →
+        Contains (line (run (boot scenario) turns).delegations.list d) ancestor → StaysWithin d ancestor }
+    ensures whole { (scenario : Scenario) (turns : List ℕ) (d : Derivation) →
+        Contains (run (boot scenario) turns).delegations.list d → HasWholeLine (run (boot scenario) turns).delegations.list d }
 {}

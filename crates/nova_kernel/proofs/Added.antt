@@ -5,7 +5,7 @@ use Rattle.std.proofs.lemmas.List.{map-append}
 use Rattle.nova_objects.specs.declared.object.Object.{Object}
 use Rattle.nova_objects.specs.declared.object.EcKind.{EcKind}
 use Rattle.nova_objects.specs.declared.object.EcKind.TheVariants.{Local, Global, Vcpu}
-use Rattle.nova_model.specs.Creation.{first_state, context_of, words_of, transfer_of, idle_semaphore}
+use Rattle.nova_model.specs.Creation.{first_state, context_of, words_of, idle_semaphore}
 use Rattle.nova_model.specs.Edges.{edge_of}
 use Rattle.nova_model.specs.declared.context.EcState.{EcState}
 use Rattle.nova_model.specs.declared.new_object.NewObject.{NewObject}
@@ -14,9 +14,6 @@ use Rattle.nova_kernel.specs.Birth.{guest_of}
 
 pub messages-added : (objects : List Object) (o : Object) → map words_of (objects ++ o ∷ []) ≡ map words_of objects ++ words_of o ∷ []
 messages-added objects o = map-append words_of objects (o ∷ [])
-
-pub transfers-added : (objects : List Object) (o : Object) → map transfer_of (objects ++ o ∷ []) ≡ map transfer_of objects ++ transfer_of o ∷ []
-transfers-added objects o = map-append transfer_of objects (o ∷ [])
 
 pub guests-added : (objects : List Object) (o : Object) → map guest_of (objects ++ o ∷ []) ≡ map guest_of objects ++ guest_of o ∷ []
 guests-added objects o = map-append guest_of objects (o ∷ [])
@@ -32,8 +29,9 @@ waits-for_none Global = refl
 waits-for_none Vcpu = refl
 
 pub made_alone : (number : ℕ) (new : NewObject) → option_and_then edge_of (option_map (λ (x : EcState). x.state) (context_of number new)) ≡ None
+made_alone number new.Pd = refl
 made_alone number (new.Ec pd cpu kind sp event) = waits-for_none kind
 made_alone number (new.Pt ec mtd ip) = refl
 made_alone number (new.Sm count) = refl
 
-pub ruleset added = (made_alone, messages-added, transfers-added, guests-added, semaphores-added)
+pub ruleset added = (made_alone, messages-added, guests-added, semaphores-added)

@@ -1,52 +1,40 @@
 -- What holds of the state in which a machine boots.
 use Rattle.std.proofs.Common.{◌∙◌, sym, subst, ◌/◌, ◌%◌, ◌≡◌, ℕ, zero, suc, ◌+◌, ◌^◌, ◌≤◌, List, [], ◌∷◌, ◌++◌, refl, arith}
 use Rattle.std.specs.Prelude.{Option, Some, None, slice_get, slice_index, length, replicate, map}
-use Rattle.std.specs.List.{range_with_len}
+use Rattle.std.specs.List.{AllByRecursion, range_with_len}
 use Rattle.std.proofs.lemmas.List.{length-replicate}
 use Rattle.std.proofs.Math.Pow.{pow_mono}
-use Rattle.nova_model.specs.State.{budget_at}
+use Rattle.nova_model.specs.State.{budget_at, transfer_at}
 use Rattle.nova_model.specs.Boot.{bare, root_derivations, console_derivation, object_derivation}
 use Rattle.nova_model.specs.declared.delegation.Derivation.{Derivation}
 use Rattle.nova_model.specs.declared.root.Root.{Root}
-use Rattle.nova_kernel.specs.Reach.{IsPlaced, IsPlacedAt, LeadToFrames}
+use Rattle.nova_kernel.specs.Reach.{LeadsToFrames, LeadToFrames}
 use Rattle.nova_model.specs.Memory.{Memory, written, written_in}
 use Rattle.nova_model.specs.Boot.{laid}
 use Rattle.nova_frames.specs.Store.{FrameStore}
 use Rattle.std.proofs.lemmas.List.{length-set}
-use Rattle.nova_kernel.specs.Parts.{IsCounted, IsPaidWithin}
+use Rattle.nova_kernel.specs.Parts.{IsCounted, IsGivenWithin, IsPaidWithin}
 use Rattle.nova_forest.proofs.Boots.{bare_forest}
 
--- an object's place is a selector of its space
-object-placed : (frames consoles object rights : ℕ) → object ≤ 2 → IsPlaced frames (object_derivation consoles object rights)
-object-placed frames consoles object rights h = record { order = omega arith; places = omega arith; targets = λ is. cc }
-
-objects-placed : (frames consoles : ℕ) (n : ℕ) →
-    IsPlacedAt frames (slice_get (object_derivation consoles 0 1 ∷ object_derivation consoles 1 7 ∷ object_derivation consoles 2 1 ∷ []) n)
-objects-placed frames consoles zero = object-placed frames consoles 0 1 (omega arith)
-objects-placed frames consoles (suc zero) = object-placed frames consoles 1 7 (omega arith)
-objects-placed frames consoles (suc (suc zero)) = object-placed frames consoles 2 1 (omega arith)
-objects-placed frames consoles (suc (suc (suc n))) = omega arith
+-- an object is no page
+object-leads : (frames consoles object rights : ℕ) → LeadsToFrames frames (object_derivation consoles object rights)
+object-leads frames consoles object rights is = cc
 
 -- the pages of the consoles lie after RAM
-consoles-placed : (order consoles from count : ℕ) (rest : List Derivation) → order ≤ 14 → consoles ≤ 16 → 2 ^ order ≤ 16384 → from + count ≤ consoles →
-    ((n : ℕ) → IsPlacedAt (2 ^ order + consoles) (slice_get rest n)) →
-    (n : ℕ) → IsPlacedAt (2 ^ order + consoles) (slice_get (map (console_derivation order) (range_with_len from count) ++ rest) n)
-consoles-placed order consoles from zero rest o c p f others n = others n
-consoles-placed order consoles from (suc count) rest o c p f others zero =
-    record { order = omega arith; places = omega arith; targets = λ is. omega arith }
-consoles-placed order consoles from (suc count) rest o c p f others (suc n) =
-    consoles-placed order consoles (from + 1) count rest o c p (omega arith) others n
+consoles-lead : (order consoles from count : ℕ) (rest : List Derivation) → from + count ≤ consoles → AllByRecursion (LeadsToFrames (2 ^ order + consoles)) rest →
+    AllByRecursion (LeadsToFrames (2 ^ order + consoles)) (map (console_derivation order) (range_with_len from count) ++ rest)
+consoles-lead order consoles from zero rest few others = others
+consoles-lead order consoles from (suc count) rest few others = (λ is. omega arith, consoles-lead order consoles (from + 1) count rest (omega arith) others)
 
-order-bound : (order : ℕ) → order ≤ 14 → 2 ^ order ≤ 16384
-order-bound order h = pow_mono h
-
-derivations-placed : (order consoles : ℕ) → order ≤ 14 → consoles ≤ 16 → (n : ℕ) → IsPlacedAt (2 ^ order + consoles) (slice_get (root_derivations order consoles) n)
-derivations-placed order consoles o c zero = let p = order-bound order o in record { order = omega arith; places = omega arith; targets = λ is. omega arith }
-derivations-placed order consoles o c (suc n) =
-    consoles-placed order consoles 0 consoles _ o c (order-bound order o) (omega arith) (objects-placed (2 ^ order + consoles) consoles) n
-
-pub root_placed : (order consoles : ℕ) → order ≤ 14 → consoles ≤ 16 → LeadToFrames (2 ^ order + consoles) (root_derivations order consoles)
-root_placed order consoles o c = let p = order-bound order o in record { few = omega arith; placed = derivations-placed order consoles o c }
+pub root_leads : (order consoles : ℕ) → order ≤ 14 → consoles ≤ 16 → LeadToFrames (2 ^ order + consoles) (root_derivations order consoles)
+root_leads order consoles o c = record {
+  few = let p : 2 ^ order ≤ 16384 = pow_mono o in omega arith;
+  each = (
+    λ is. omega arith,
+    consoles-lead order consoles 0 consoles _ (omega arith)
+        (object-leads (2 ^ order + consoles) consoles 0 1, (object-leads (2 ^ order + consoles) consoles 1 7, (object-leads (2 ^ order + consoles) consoles 2 1, tt))),
+  );
+}
 
 zeros : (n i : ℕ) → slice_index (replicate n 0) i ≤ 0
 zeros zero i = omega arith
@@ -59,6 +47,12 @@ ticks-bare cpus ram consoles root (suc zero) = omega arith
 ticks-bare cpus ram consoles root (suc (suc zero)) = omega arith
 ticks-bare cpus ram consoles root (suc (suc (suc n))) = omega arith
 
+children-bare : (cpus ram consoles : ℕ) (root : Root) (ec : ℕ) → IsGivenWithin 0 (transfer_at (bare cpus ram consoles root) ec)
+children-bare cpus ram consoles root zero = omega arith
+children-bare cpus ram consoles root (suc zero) = omega arith
+children-bare cpus ram consoles root (suc (suc zero)) = omega arith
+children-bare cpus ram consoles root (suc (suc (suc n))) = omega arith
+
 pub IsCounted_bare : (cpus ram consoles : ℕ) (root : Root) → consoles ≤ 16 → IsCounted (bare cpus ram consoles root)
 IsCounted_bare cpus ram consoles root few = record {
   charged = record {
@@ -69,7 +63,8 @@ IsCounted_bare cpus ram consoles root few = record {
     stirs = zeros cpus;
   };
   numbered = record { objects = omega arith; derivations = omega arith };
-  tables = record { contexts = refl; budgets = refl; identifiers = refl; semaphores = refl };
+  tables = record { contexts = refl; transfers = refl; budgets = refl; identifiers = refl; semaphores = refl };
+  children = children-bare cpus ram consoles root;
   forest = bare_forest cpus ram consoles root;
 }
 
@@ -84,16 +79,16 @@ laid_length m address (b ∷ bs) =
     laid_length (written m (address / 4096) (address % 4096) 1 b) (address + 1) bs
     ∙ length-written_in m (slice_get m.ram (address / 4096)) (address / 4096) (address % 4096) 1 b
 
-pub laid_placed : (frames : FrameStore) (old : FrameStore) (address : ℕ) (bytes : List ℕ) (list : List Derivation) →
+pub laid_leads : (frames : FrameStore) (old : FrameStore) (address : ℕ) (bytes : List ℕ) (list : List Derivation) →
     frames ≡ record old { memory = laid old.memory address bytes } → LeadToFrames (length old.memory.ram + old.consoles) list →
     LeadToFrames (length frames.memory.ram + frames.consoles) list
-laid_placed frames old address bytes list is placed =
+laid_leads frames old address bytes list is placed =
     subst (λ (f : FrameStore). LeadToFrames (length f.memory.ram + f.consoles) list) (sym is)
     (subst (λ (n : ℕ). LeadToFrames (n + old.consoles) list) (sym (laid_length old.memory address bytes)) placed)
 
-pub new_placed : (frames : FrameStore) (order consoles room : ℕ) → order ≤ 14 → consoles ≤ 16 →
+pub new_leads : (frames : FrameStore) (order consoles room : ℕ) → order ≤ 14 → consoles ≤ 16 →
     frames ≡ record { memory = record { ram = replicate (2 ^ order) (replicate 4096 0); log = [] }; consoles = consoles; room = room } →
     LeadToFrames (length frames.memory.ram + frames.consoles) (root_derivations order consoles)
-new_placed frames order consoles room o c is =
+new_leads frames order consoles room o c is =
     subst (λ (f : FrameStore). LeadToFrames (length f.memory.ram + f.consoles) (root_derivations order consoles)) (sym is)
-    (subst (λ (n : ℕ). LeadToFrames (n + consoles) (root_derivations order consoles)) (sym (length-replicate (2 ^ order) (replicate 4096 0))) (root_placed order consoles o c))
+    (subst (λ (n : ℕ). LeadToFrames (n + consoles) (root_derivations order consoles)) (sym (length-replicate (2 ^ order) (replicate 4096 0))) (root_leads order consoles o c))

@@ -3,10 +3,10 @@ use Rattle.std.proofs.Common.{◌≡◌, ℕ, zero, suc, ◌+◌, ◌*◌, ◌^�
 use Rattle.std.specs.Prelude.{Bool, true, false, Option, Some, None, IsSome, slice_get, slice_index, slice_set}
 use Rattle.std.proofs.lemmas.List.{length-set}
 use Rattle.nova_model.specs.Forest.{IsForest}
-use Rattle.nova_model.specs.State.{KernelState, budget_at, entry}
+use Rattle.nova_model.specs.State.{KernelState, budget_at, transfer_at, entry}
 use Rattle.nova_model.specs.Turn.{charged, is_spent, budget_after, stamp_after, quantum_in, counted, paid_by}
 use Rattle.nova_model.specs.declared.budget.Budget.{Budget}
-use Rattle.nova_kernel.specs.Parts.{AreTables, IsCharged, IsCounted, IsNumbered, IsPaidWithin, KeepsCounts}
+use Rattle.nova_kernel.specs.Parts.{AreTables, IsCharged, IsCounted, IsGivenWithin, IsNumbered, IsPaidWithin, KeepsCounts}
 
 pub IsCharged-kept : (old new : KernelState) → KeepsCounts old new → IsCharged old → IsCharged new
 IsCharged-kept old new kept charged = record {
@@ -22,6 +22,10 @@ IsNumbered-kept old new kept numbered = record {
   objects = let h = kept.objects in let t = kept.turns in let n = numbered.objects in omega arith;
   derivations = let h = kept.derivations in let t = kept.turns in let n = numbered.derivations in omega arith;
 }
+
+pub children-kept : (old new : KernelState) → KeepsCounts old new → ((ec : ℕ) → IsGivenWithin old.turns (transfer_at old ec)) → (ec : ℕ) →
+    IsGivenWithin (new.turns + 1) (transfer_at new ec)
+children-kept old new kept children ec = rw kept.turns (kept.transfers ec old.turns (children ec))
 
 -- a charge
 
@@ -75,26 +79,27 @@ IsNumbered-paid k cpu sc quantum None n = record { objects = n.objects; derivati
 IsNumbered-paid k cpu sc quantum (Some b) n = record { objects = n.objects; derivations = n.derivations }
 
 AreTables-paid : (k : KernelState) (cpu sc quantum : ℕ) (o : Option Budget) → AreTables k → AreTables (counted (paid_by k sc quantum o) cpu)
-AreTables-paid k cpu sc quantum None t = record { contexts = t.contexts; budgets = t.budgets; identifiers = t.identifiers; semaphores = t.semaphores }
+AreTables-paid k cpu sc quantum None t = record { contexts = t.contexts; transfers = t.transfers; budgets = t.budgets; identifiers = t.identifiers; semaphores = t.semaphores }
 AreTables-paid k cpu sc quantum (Some b) t =
-    record { contexts = t.contexts; budgets = length-set k.budgets sc _ ∙ t.budgets; identifiers = t.identifiers; semaphores = t.semaphores }
+    record { contexts = t.contexts; transfers = t.transfers; budgets = length-set k.budgets sc _ ∙ t.budgets; identifiers = t.identifiers; semaphores = t.semaphores }
 
 turns-paid : (k : KernelState) (cpu sc quantum : ℕ) (o : Option Budget) → (counted (paid_by k sc quantum o) cpu).turns ≡ k.turns + 1
 turns-paid k cpu sc quantum None = refl
 turns-paid k cpu sc quantum (Some b) = refl
 
-objects-paid : (k : KernelState) (cpu sc quantum : ℕ) (o : Option Budget) → (counted (paid_by k sc quantum o) cpu).objects ≡ k.objects
-objects-paid k cpu sc quantum None = refl
-objects-paid k cpu sc quantum (Some b) = refl
-
--- a charge makes no object
-pub objects-charged : (k : KernelState) (cpu sc : ℕ) → (charged k cpu sc).objects ≡ k.objects
-unfolding charged
-objects-charged k cpu sc = objects-paid k cpu sc (quantum_in (slice_get k.objects sc)) (budget_at k sc)
-
 delegations-paid : (k : KernelState) (cpu sc quantum : ℕ) (o : Option Budget) → (counted (paid_by k sc quantum o) cpu).delegations ≡ k.delegations
 delegations-paid k cpu sc quantum None = refl
 delegations-paid k cpu sc quantum (Some b) = refl
+
+-- a charge makes no derivation
+pub delegations-charged : (k : KernelState) (cpu sc : ℕ) → (charged k cpu sc).delegations ≡ k.delegations
+unfolding charged
+delegations-charged k cpu sc = delegations-paid k cpu sc (quantum_in (slice_get k.objects sc)) (budget_at k sc)
+
+children-paid : (k : KernelState) (cpu sc quantum turns : ℕ) (o : Option Budget) → ((ec : ℕ) → IsGivenWithin turns (transfer_at k ec)) → (ec : ℕ) →
+    IsGivenWithin turns (transfer_at (counted (paid_by k sc quantum o) cpu) ec)
+children-paid k cpu sc quantum turns None h = h
+children-paid k cpu sc quantum turns (Some b) h = h
 
 -- an act and its charge keep the bounds
 pub IsCounted-charged : (old k : KernelState) (cpu sc : ℕ) → KeepsCounts old k → IsForest k.delegations → old.turns < 2 ^ 31 → IsCounted old → IsCounted (charged k cpu sc)
@@ -107,6 +112,8 @@ IsCounted-charged old k cpu sc kept forest few c =
       numbered = subst (λ (n : ℕ). IsNumbered n (counted (paid_by k sc quantum o) cpu)) (sym (turns-paid k cpu sc quantum o))
           (IsNumbered-paid k cpu sc quantum o (IsNumbered-kept old k kept c.numbered));
       tables = AreTables-paid k cpu sc quantum o (kept.tables c.tables);
+      children = subst (λ (n : ℕ). (ec : ℕ) → IsGivenWithin n (transfer_at (counted (paid_by k sc quantum o) cpu) ec)) (sym (turns-paid k cpu sc quantum o))
+          (children-paid k cpu sc quantum (k.turns + 1) o (children-kept old k kept c.children));
       forest = subst IsForest (sym (delegations-paid k cpu sc quantum o)) forest;
     }
 

@@ -7,4 +7,6 @@ pub mod Booted
 pub mod Quiet
 pub mod Placed
 pub mod Added
-pub mod Least
+pub mod Below
+pub mod Rooted
+pub mod Granted

@@ -1,29 +1,30 @@
 -- What an instruction over the bus is for the state of the kernel.
 use Rattle.std.proofs.Common.{◌≡◌, ℕ, List, ◌==◌, refl, ap, ap₂, sym, ◌∙◌, subst}
-use Rattle.std.specs.Prelude.{◌&&◌, Bool, Some, None}
+use Rattle.std.specs.Prelude.{◌&&◌, Bool, true, false, Some, None}
 use Rattle.rv_model.specs.Step.{Once, Raised, Went, Store, one, environment_call}
 use Rattle.rv_core.specs.Steps.{space_of}
 use Rattle.rv_core.specs.declared.outcome.Outcome.{Outcome}
 use Rattle.rv_core.specs.declared.outcome.Outcome.TheVariants.{Raise}
 use Rattle.nova_ec.specs.Tables.{EcTable, Steps as Steps_of}
 use Rattle.nova_model.specs.AddressSpaces.{AddressSpace, space, space_through, after_store}
-use Rattle.nova_model.specs.Deeds.{address_space, instruction, signalled, stepping, stepped, performed, done}
+use Rattle.nova_model.specs.Deeds.{address_space, instruction, signalled, stepping, stepped, performed, done, deed}
 use Rattle.nova_model.specs.Delegations.{Delegations}
 use Rattle.nova_model.specs.Memory.{Memory}
 use Rattle.nova_model.specs.State.{KernelState, Contexts, ec_of, with_ec, context, pd_of, is_thread}
 use Rattle.nova_model.specs.declared.deed.Deed.{Deed}
-use Rattle.nova_model.specs.declared.deed.Deed.TheVariants.{Rests, Steps}
+use Rattle.nova_model.specs.declared.deed.Deed.TheVariants.{Rests, Steps, Makes, Opens, Gives, Skips, Ends}
 use Rattle.nova_model.specs.declared.delegation.Derivation.{Derivation}
-use Rattle.nova_kernel.specs.Acts.{outcome_of, begun}
+use Rattle.nova_forest.proofs.Growth as free
+use Rattle.nova_kernel.specs.Acts.{outcome_of, begun, is_over, TakesFree}
 use Rattle.nova_kernel.specs.Reach.{ReachState, reached, fetched, loaded, takes, stored}
 
 -- the state with what an instruction reaches, and with another table of execution contexts
 abbrev pub reaching : KernelState → ReachState → Contexts → KernelState
-reaching k reach contexts = record k { delegations = reach.delegations; memory = reach.memory; consoles = reach.consoles; contexts = contexts }
+reaching k reach contexts = record k { delegations = reach.nodes.delegations; memory = reach.memory; consoles = reach.consoles; contexts = contexts }
 
 -- what an execution context reaches
 pub record IsReached (k : KernelState) (ec : ℕ) (reach : ReachState) : Type 0 where
-  pub delegations : reach.delegations ≡ k.delegations
+  pub delegations : reach.nodes.delegations ≡ k.delegations
   pub memory : reach.memory ≡ k.memory
   pub consoles : reach.consoles ≡ k.consoles
   pub pd : reach.pd ≡ pd_of k ec
@@ -91,12 +92,33 @@ raise-deed k new ec reason q0 q1 d is steps signals =
     ∙ sym (ap (stepping k ec) stays.0)
 
 pub raise-begun : (k new : KernelState) (ec : ℕ) (reason q0 q1 : ℕ) (d : Deed) → outcome_of (instruction k ec) ≡ Raise reason q0 q1 → new ≡ done k ec Steps →
-    new ≡ begun k ec d
-raise-begun k new ec reason q0 q1 Steps is steps = steps
-raise-begun k new ec reason q0 q1 other is steps = steps ∙ (raises k ec (instruction k ec) reason q0 q1 is).1
+    is_over d ≡ false → new ≡ begun k ec d
+raise-begun k new ec reason q0 q1 d is steps later = steps ∙ (raises k ec (instruction k ec) reason q0 q1 is).1 ∙ rw later refl
 
--- a deed that is no instruction is performed
-pub act-performs : (k mid new : KernelState) (ec : ℕ) (d : Deed) → mid ≡ begun k ec d → ¬ (d ≡ Rests) → ¬ (d ≡ Steps) → new ≡ performed mid ec d → new ≡ done k ec d
-act-performs k mid new ec Rests begins rests steps h = absurd (rests refl)
-act-performs k mid new ec Steps begins rests steps h = absurd (steps refl)
-act-performs k mid new ec d begins rests steps h = subst (λ (s : KernelState). new ≡ performed s ec d) begins h
+-- a deed of which something is left is performed
+act-performed : (k new : KernelState) (ec : ℕ) (d : Deed) → is_over d ≡ false → new ≡ performed k ec d → new ≡ done k ec d
+act-performed k new ec Rests later h = absurd (cc)
+act-performed k new ec Steps later h = absurd (cc)
+act-performed k new ec (Gives child cursor) later h = absurd (cc)
+act-performed k new ec (Skips reason place cursor) later h = absurd (cc)
+act-performed k new ec (Ends item children) later h = absurd (cc)
+act-performed k new ec d later h = h
+
+pub act-performs : (k mid new : KernelState) (ec : ℕ) (d : Deed) → is_over d ≡ false → mid ≡ k → new ≡ performed mid ec d → new ≡ done k ec d
+act-performs k mid new ec d later same h = act-performed k new ec d later (subst (λ (s : KernelState). new ≡ performed s ec d) same h)
+
+-- the selector that a deed takes is free
+pub takes-free : (k : KernelState) (ec : ℕ) (d : Deed) → d ≡ deed k ec → TakesFree k (pd_of k ec) d
+takes-free k ec d is = by_deed d (subst (free.TakesFree k (pd_of k ec)) (sym is) (free.deed_free k ec))
+  where
+    by_deed : (d : Deed) → free.TakesFree k (pd_of k ec) d → TakesFree k (pd_of k ec) d
+    by_deed (Makes call target new) h = h
+    by_deed (Opens target number) h = h
+    by_deed other h = tt
+
+-- what is done when a deed is decided
+pub begun-over : (k mid : KernelState) (ec : ℕ) (d : Deed) → is_over d ≡ true → mid ≡ begun k ec d → mid ≡ done k ec d
+begun-over k mid ec d over begins = begins ∙ rw over refl
+
+pub begun-later : (k mid : KernelState) (ec : ℕ) (d : Deed) → is_over d ≡ false → mid ≡ begun k ec d → mid ≡ k
+begun-later k mid ec d later begins = begins ∙ rw later refl

@@ -1,22 +1,24 @@
 -- What the kernel's lists show of its state, and what always holds of them.
 use Rattle.std.specs.Prelude.{IsSome, slice_index, ℕ, ◌+◌, ◌*◌, ◌^◌, ◌<◌, ◌≤◌, ◌≡◌, length, vec_len, vec_capacity, Option, Some, None}
 use Rattle.nova_model.specs.Forest.{IsForest}
-use Rattle.nova_model.specs.State.{KernelState, context_at, budget_at}
+use Rattle.nova_model.specs.State.{KernelState, context_at, budget_at, transfer_at}
 use Rattle.nova_model.specs.declared.deed.Deed.{Deed}
-use Rattle.nova_model.specs.declared.deed.Deed.TheVariants.{Makes}
+use Rattle.nova_model.specs.declared.deed.Deed.TheVariants.{Makes, Opens}
 use Rattle.nova_model.specs.declared.budget.Budget.{Budget}
 use Rattle.nova_model.specs.declared.budget.Candidate.{Candidate}
-use Rattle.nova_kernel.specs.Birth.{messages_at_birth, transfers_at_birth, semaphores_at_birth, guests_at_birth}
+use Rattle.nova_model.specs.declared.transfer.Transfer.{Transfer}
+use Rattle.nova_nodes.specs.NodesStates.{room}
+use Rattle.nova_kernel.specs.Birth.{messages_at_birth, semaphores_at_birth, guests_at_birth}
 use Rattle.nova_kernel.specs.declared.parts.Parts.{Parts}
 
 -- the state that the lists show
 abbrev pub shown : Parts → KernelState
 shown p = record {
-  delegations = p.reach.delegations;
+  delegations = p.reach.nodes.delegations;
   objects = p.objects.items;
   contexts = p.contexts.items;
   messages = messages_at_birth p.objects.items;
-  transfers = transfers_at_birth p.objects.items;
+  transfers = p.transfers.items;
   budgets = p.budgets.items;
   identifiers = p.identifiers.items;
   semaphores = semaphores_at_birth p.counts.items;
@@ -28,23 +30,26 @@ shown p = record {
   stirs = record { guests = guests_at_birth p.objects.items; processors = p.stirs.items };
 }
 
--- each list has room for one more
-pub record HasRoom (p : Parts) : Type 0 where
+-- each list has room for one more, that of derivations for one of a protection domain
+pub record HasRoom (pd : ℕ) (p : Parts) : Type 0 where
   pub objects : 0 < p.objects.spare
-  pub derivations : 0 < p.reach.spare
+  pub derivations : 0 < room p.reach.nodes pd
   pub contexts : 0 < p.contexts.spare
+  pub transfers : vec_len p.transfers < vec_capacity p.transfers
   pub budgets : vec_len p.budgets < vec_capacity p.budgets
   pub identifiers : vec_len p.identifiers < vec_capacity p.identifiers
   pub counts : vec_len p.counts < vec_capacity p.counts
 
 -- a deed that makes an object wants it
-abbrev pub HasRoomFor : Deed → Parts → Type 0
-HasRoomFor (Makes call target new) p = HasRoom p
-HasRoomFor other p = Unit {0}
+abbrev pub HasRoomFor : ℕ → Deed → Parts → Type 0
+HasRoomFor pd (Makes call target new) p = HasRoom pd p
+HasRoomFor pd (Opens target domain) p = HasRoom pd p
+HasRoomFor pd other p = Unit {0}
 
 -- tables by number: an entry for each object
 pub record AreTables (k : KernelState) : Type 0 where
   pub contexts : length k.contexts ≡ length k.objects
+  pub transfers : length k.transfers ≡ length k.objects
   pub budgets : length k.budgets ≡ length k.objects
   pub identifiers : length k.identifiers ≡ length k.objects
   pub semaphores : length k.semaphores ≡ length k.objects
@@ -58,6 +63,11 @@ pub record IsNumbered (turns : ℕ) (k : KernelState) : Type 0 where
 abbrev pub IsPaidWithin : ℕ → Option Budget → Type 0
 IsPaidWithin turns (Some b) = b.ticks ≤ turns
 IsPaidWithin turns None = 0 ≤ turns
+
+-- an execution context made no more children of its item than turns were taken
+abbrev pub IsGivenWithin : ℕ → Option Transfer → Type 0
+IsGivenWithin turns (Some t) = t.children ≤ turns
+IsGivenWithin turns None = 0 ≤ turns
 
 -- what turns are charged to is bounded by the turns that were taken. A turn takes at most two stamps: one for a scheduling context that is
 -- made, and one for a quantum that begins anew.
@@ -73,13 +83,15 @@ pub record IsCounted (k : KernelState) : Type 0 where
   pub charged : IsCharged k
   pub numbered : IsNumbered k.turns k
   pub tables : AreTables k
+  pub children : (ec : ℕ) → IsGivenWithin k.turns (transfer_at k ec)
   pub forest : IsForest k.delegations
 
 -- an act leaves each execution context there, and what turns are charged to; it gives at most one number to an object and to a
--- derivation
+-- derivation, and counts at most one child
 pub record KeepsCounts (old new : KernelState) : Type 0 where
   pub contexts : (ec : ℕ) → IsSome (context_at old ec) → IsSome (context_at new ec)
   pub budgets : (sc : ℕ) → budget_at new sc ≡ budget_at old sc
+  pub transfers : (ec turns : ℕ) → IsGivenWithin turns (transfer_at old ec) → IsGivenWithin (turns + 1) (transfer_at new ec)
   pub next_stamp : new.next_stamp ≡ old.next_stamp
   pub turns : new.turns ≡ old.turns
   pub cpus : new.cpus ≡ old.cpus

@@ -1,6 +1,6 @@
 -- What a caller sees of a kernel.
-use Rattle.std.specs.Prelude.{ℕ, ◌<◌, Bool, List, length, filter, Option, option_map, nat_le, slice_get}
-use Rattle.std.specs.List.{find, list_all}
+use Rattle.std.specs.Prelude.{ℕ, ◌<◌, Option, option_map, slice_get}
+use Rattle.nova_model.specs.Delegations.{from_id}
 use Rattle.nova_model.specs.State.{KernelState, Semaphore, entry, budget_at}
 use Rattle.nova_model.specs.Runs.{after}
 use Rattle.nova_model.specs.declared.delegation.Derivation.{Derivation}
@@ -23,32 +23,19 @@ left_of k sc = option_map (λ b. b.left) (budget_at k sc)
 abbrev pub semaphore_at : KernelState → ℕ → Option Semaphore
 semaphore_at k sm = entry (slice_get k.semaphores sm)
 
--- of derivations the one of least id; and of those at or after an id
-abbrev pub is_least_of : List Derivation → Derivation → Bool
-is_least_of ds a = list_all (λ b. nat_le a.id b.id) ds
-
-abbrev pub least : List Derivation → Option Derivation
-least ds = find (is_least_of ds) ds
-
-abbrev pub is_from : ℕ → Derivation → Bool
-is_from id d = nat_le id d.id
-
-abbrev pub least_from : ℕ → List Derivation → Option Derivation
-least_from id ds = least (filter (is_from id) ds)
-
 -- the derivation of least id at or after a given one
 abbrev pub derivation_from : KernelState → ℕ → Option Derivation
-derivation_from k id = least_from id k.delegations.list
+derivation_from k id = from_id k.delegations.list id
 
 -- the turns that an answer stands for
 abbrev pub turns_taken : Turn → ℕ
 turns_taken Idle = 0
 turns_taken (Stepped event) = 1
 
--- from one state to another an object was made
+-- from one state to another a derivation was made: each object has one
 abbrev pub HasMade : KernelState → KernelState → Type 0
-HasMade old new = length old.objects < length new.objects
+HasMade old new = old.delegations.next < new.delegations.next
 
--- the turn of a processor makes an object
+-- the turn of a processor makes a derivation
 abbrev pub IsMaking : KernelState → ℕ → Type 0
 IsMaking k cpu = HasMade k (after k cpu)

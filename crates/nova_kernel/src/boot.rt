@@ -1,14 +1,21 @@
-ghost use Rattle.std.specs.Prelude.{true, ◌<◌, ◌≡◌, ◌+◌, ◌^◌, ◌≤◌, [], ◌∷◌, length, replicate, IfOk, OnOk, None, Some};
-ghost use Rattle.nova_model.specs.Boot.{bare, root_objects, root_context, root_registers, ram_derivation, console_derivation, object_derivation, root_derivations};
+ghost use Rattle.std.specs.Prelude.{true, ◌<◌, ◌≡◌, ◌+◌, ◌^◌, ◌≤◌, [], ◌∷◌, length, map, replicate, IfOk, OnOk, None, Some};
+ghost use Rattle.std.specs.List.{range_with_len};
+ghost use Rattle.nova_model.specs.Boot.{bare, root_objects, root_context, root_registers, ram_derivation, console_derivation, root_derivations};
+ghost use Rattle.nova_model.specs.State.{no_transfer};
+ghost use Rattle.nova_nodes.specs.NodesStates.{room};
 ghost use Rattle.nova_kernel.specs.Parts.{shown};
+ghost use Rattle.nova_kernel.specs.Reach.{page_range, selector_range};
 
+use crate::creation::NO_TRANSFER;
 use crate::parts::Parts;
 use crate::reach::Reach;
 use bitflags::Flags;
 use nova_ec::Ecs;
 use nova_frames::Frames;
-use nova_model::{Budget, Derivation, EcKind, EcState, Kind, Object, Rights, Root, State};
+use nova_model::{Budget, EcKind, EcState, Kind, Object, Rights, Root, State, Transfer};
+use nova_nodes::{ListIndex, Nodes};
 use nova_objects::Objects;
+use nova_range::{Range, Target};
 use rv_core::Regs;
 use std::alloc::{AllocError, Global};
 
@@ -79,6 +86,17 @@ fn root_budgets(alloc: Global, root: Root) -> Result<Vec<Option<Budget>>, AllocE
     Ok(budgets)
 }
 
+/// How far the root's execution context is with items: it gives none.
+fn root_transfers(alloc: Global) -> Result<Vec<Option<Transfer>>, AllocError>
+    ensures { IfOk result (λ v. v.items ≡ None ∷ Some no_transfer ∷ None ∷ []) }
+{
+    let mut transfers = Vec::with_capacity(alloc, 3)?;
+    transfers.push(None)?;
+    transfers.push(Some(NO_TRANSFER))?;
+    transfers.push(None)?;
+    Ok(transfers)
+}
+
 /// A table of what none of the root's objects has: portals' identifiers, or semaphores' counters.
 fn no_entries(alloc: Global) -> Result<Vec<Option<u32>>, AllocError>
     ensures { IfOk result (λ v. v.items ≡ None ∷ None ∷ None ∷ []) }
@@ -86,74 +104,95 @@ fn no_entries(alloc: Global) -> Result<Vec<Option<u32>>, AllocError>
     vec![in alloc; None; 3]
 }
 
-/// All RAM, to be read, written and executed.
-fn ram_derivation(order: u8) -> Derivation
-    ensures { result ≡ ram_derivation order }
+/// Adds all RAM, to be read, written and executed, and each console's page, to be read and written.
+fn add_memory(nodes: &mut Nodes<ListIndex>, order: u8, consoles: u32)
+    requires order { order ≤ 14 }
+    requires consoles { consoles ≤ 16 }
+    requires empty { nodes.old.delegations ≡ record { list = []; next = 0 } }
+    requires room { consoles + 4 ≤ room nodes.old 0 }
+    ensures delegations { nodes.new.delegations ≡ record { list = ram_derivation order ∷ map (console_derivation order) (range_with_len 0 consoles); next = 1 + consoles } }
+    ensures room { 3 ≤ room nodes.new 0 }
 {
-    Derivation {
-        id: 0,
-        pd: 0,
+    let ram = Range {
         kind: Kind::Mem,
         base: 0,
         order,
-        rights: Rights::from_bits_retain(7),
-        target: 0,
-        parent: None,
+    };
+    nodes.root(0, ram, Rights::from_bits_retain(7), 0);
+    for console in 0..consoles {
+        add_console(nodes, order, console);
     }
 }
 
-/// A console's page, to be read and written.
-fn console_derivation(order: u8, console: u32) -> Derivation
+/// The page of a console, after RAM and the consoles before it.
+fn console_page(order: u8, console: u32) -> u32
     requires order { order ≤ 14 }
     requires console { console < 16 }
-    ensures { result ≡ console_derivation order console }
+    ensures page { result ≡ 2 ^ order + console }
+    ensures few { result < 2 ^ 15 }
 {
-    let page = (1 << order) + console;
-    Derivation {
-        id: 1 + console,
-        pd: 0,
+    (1 << order) + console
+}
+
+/// The range of a page.
+fn page_range(page: u32) -> Range
+    ensures { result ≡ page_range page }
+{
+    Range {
         kind: Kind::Mem,
         base: page,
         order: 0,
-        rights: Rights::from_bits_retain(3),
-        target: page,
-        parent: None,
     }
 }
 
-/// An object of the root's, at the selector of its number.
-fn object_derivation(consoles: u32, object: u32, rights: u8) -> Derivation
-    requires consoles { consoles ≤ 16 }
-    requires object { object < 3 }
-    ensures { result ≡ object_derivation consoles object rights }
+/// Adds a console's page, after RAM and the consoles before it.
+fn add_console(nodes: &mut Nodes<ListIndex>, order: u8, console: u32)
+    requires order { order ≤ 14 }
+    requires console { console < 16 }
+    requires before { nodes.old.delegations ≡ record { list = ram_derivation order ∷ map (console_derivation order) (range_with_len 0 console); next = 1 + console } }
+    requires room { 0 < room nodes.old 0 }
+    ensures delegations { nodes.new.delegations ≡ record { list = ram_derivation order ∷ map (console_derivation order) (range_with_len 0 (console + 1)); next = 1 + (console + 1) } }
+    ensures room { room nodes.old 0 ≤ room nodes.new 0 + 1 }
 {
-    Derivation {
-        id: 1 + consoles + object,
-        pd: 0,
+    let page = console_page(order, console);
+    nodes.root(0, page_range(page), Rights::from_bits_retain(3), page);
+}
+
+/// The range of a selector.
+fn selector_range(selector: u32) -> Range
+    ensures { result ≡ selector_range selector }
+{
+    Range {
         kind: Kind::Obj,
-        base: object,
+        base: selector,
         order: 0,
-        rights: Rights::from_bits_retain(rights),
-        target: object,
-        parent: None,
     }
+}
+
+/// Adds the root's own three objects, at the selectors of their numbers: its protection domain, its
+/// execution context and its scheduling context.
+fn add_objects(nodes: &mut Nodes<ListIndex>, order: u8, consoles: u32)
+    requires consoles { consoles ≤ 16 }
+    requires before { nodes.old.delegations ≡ record { list = ram_derivation order ∷ map (console_derivation order) (range_with_len 0 consoles); next = 1 + consoles } }
+    requires room { 3 ≤ room nodes.old 0 }
+    ensures { nodes.new.delegations ≡ record { list = root_derivations order consoles; next = consoles + 4 } }
+{
+    nodes.root(0, selector_range(0), Rights::all_to(Target::Pd), 0);
+    nodes.root(0, selector_range(1), Rights::all_to(Target::Ec), 1);
+    nodes.root(0, selector_range(2), Rights::all_to(Target::Sc), 2);
 }
 
 /// What the root holds: RAM, the consoles, and its own three objects.
-fn root_derivations(alloc: Global, order: u8, consoles: u32) -> Result<Vec<Derivation>, AllocError>
+fn root_nodes(alloc: Global, order: u8, consoles: u32) -> Result<Nodes<ListIndex>, AllocError>
     requires order { order ≤ 14 }
     requires consoles { consoles ≤ 16 }
-    ensures { IfOk result (λ v. v.items ≡ root_derivations order consoles) }
+    ensures { IfOk result (λ n. n.delegations ≡ record { list = root_derivations order consoles; next = consoles + 4 }) }
 {
-    let mut derivations = Vec::with_capacity(alloc, 4 + consoles as usize)?;
-    derivations.push(ram_derivation(order))?;
-    for console in 0..consoles {
-        derivations.push(console_derivation(order, console))?;
-    }
-    derivations.push(object_derivation(consoles, 0, 1))?;
-    derivations.push(object_derivation(consoles, 1, 7))?;
-    derivations.push(object_derivation(consoles, 2, 1))?;
-    Ok(derivations)
+    let mut nodes = Nodes::new(alloc);
+    nodes.reserve(0, consoles as usize + 4)?;
+    add_memory(&mut nodes, order, consoles);
+    add_objects(&mut nodes, order, consoles);
+    Ok(nodes)
 }
 
 /// A count of 0 for each processor.
@@ -181,6 +220,7 @@ impl Parts {
         let reach = Reach::new(alloc, ram, consoles, log_room)?;
         let objects = root_objects(alloc, root)?;
         let contexts = root_contexts(alloc, root)?;
+        let transfers = root_transfers(alloc)?;
         let budgets = root_budgets(alloc, root)?;
         let identifiers = no_entries(alloc)?;
         let counts = no_entries(alloc)?;
@@ -189,6 +229,7 @@ impl Parts {
             reach,
             objects,
             contexts,
+            transfers,
             budgets,
             identifiers,
             counts,
@@ -202,27 +243,20 @@ impl Parts {
 
 impl Reach {
     /// Frames of zeros, and what the root holds.
-    #[tactic(auto, using(crate::proofs::Booted::root_placed))]
     fn new(alloc: Global, ram: u8, consoles: u32, log_room: u64) -> Result<Reach, AllocError>
         requires ram { ram ≤ 14 }
         requires consoles { consoles ≤ 16 }
-        ensures { IfOk result (λ r. r ≡ record {
-          delegations = record { list = root_derivations ram consoles; next = consoles + 4 };
-          memory = record { ram = replicate (2 ^ ram) (replicate 4096 0); log = [] };
-          pd = 0;
-          is_thread = true;
-          consoles = consoles;
-          room = log_room;
-          spare = 0;
-        }) }
+        ensures delegations { IfOk result (λ r. r.nodes.delegations ≡ record { list = root_derivations ram consoles; next = consoles + 4 }) }
+        ensures memory { IfOk result (λ r. r.memory ≡ record { ram = replicate (2 ^ ram) (replicate 4096 0); log = [] }) }
+        ensures consoles { IfOk result (λ r. r.consoles ≡ consoles) }
+        ensures room { IfOk result (λ r. r.room ≡ log_room) }
     {
         let frames = Frames::new(alloc, ram, consoles, log_room)?;
-        let derivations = root_derivations(alloc, ram, consoles)?;
+        let nodes = root_nodes(alloc, ram, consoles)?;
         Ok(Reach {
             frames,
-            derivations,
-            next: consoles + 4,
-            spare: 0,
+            nodes,
+            last: None,
             pd: 0,
             is_thread: true,
         })

@@ -45,7 +45,7 @@ impl Parts {
     pub fn is_held(&self, pd: u32, selector: u32) -> bool
         ensures { result ≡ is_held (shown self.now) pd selector }
     {
-        self.reach.find(Kind::Obj, pd, selector).is_some()
+        self.reach.covering(pd, Kind::Obj, selector).is_some()
     }
 
     /// The number of the object that the capability at a selector leads to. `BadCap` where no
@@ -60,7 +60,7 @@ impl Parts {
         ensures named { result ≡ named (shown self.now) pd (is_of object_type) right.0 selector }
         ensures there { IfOk result (λ number. number < length (shown self.now).objects) }
     {
-        let Some(capability) = self.reach.find(Kind::Obj, pd, selector) else {
+        let Some(capability) = self.reach.covering(pd, Kind::Obj, selector) else {
             return Err(Status::BadCap);
         };
         match self.objects.get(capability.target) {

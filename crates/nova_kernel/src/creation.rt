@@ -1,12 +1,12 @@
-ghost use Rattle.std.specs.Prelude.{◌≡◌, ◌^◌, ◌<◌, length, true, OnOk, OnErr};
-ghost use Rattle.nova_model.specs.Capabilities.{target_of};
-ghost use Rattle.nova_model.specs.Creation.{first_state, new_context, object_of, context_of, identifier_of, count_of, root_capability, with_object};
+ghost use Rattle.std.specs.Prelude.{◌≡◌, ◌^◌, ◌<◌, length, true, false, OnOk, OnErr};
+ghost use Rattle.nova_model.specs.Capabilities.{is_held, rights_to, target_of};
+ghost use Rattle.nova_model.specs.Creation.{first_state, new_context, object_of, context_of, transfer_of, identifier_of, count_of, root_capability, with_object};
 ghost use Rattle.nova_model.specs.Deeds.{is_making};
 ghost use Rattle.nova_kernel.specs.Parts.{shown, AreTables, HasRoom, HasRoomFor, IsNumbered};
 
 use crate::parts::Parts;
-use nova_model::{Deed, Derivation, EcKind, EcState, Kind, NewObject, Object, Rights, State};
-use nova_range::{Flags, Target};
+use nova_model::{Deed, EcKind, EcState, NewObject, Object, Rights, State, Transfer};
+use nova_range::Target;
 use rv_core::Regs;
 use std::alloc::AllocError;
 
@@ -38,6 +38,7 @@ fn object_of(new: NewObject) -> Object
     ensures { result ≡ object_of new }
 {
     match new {
+        NewObject::Pd => Object::Pd,
         NewObject::Ec {
             pd,
             cpu,
@@ -72,6 +73,23 @@ fn context_of(number: u32, new: NewObject) -> Option<EcState>
     }
 }
 
+/// An execution context gives no items yet.
+pub const NO_TRANSFER: Transfer = Transfer {
+    item: 0,
+    cursor: 0,
+    children: 0,
+};
+
+/// How far an execution context that is made is with items.
+fn transfer_of(object: Object) -> Option<Transfer>
+    ensures { result ≡ transfer_of object }
+{
+    match object {
+        Object::Ec { .. } => Some(NO_TRANSFER),
+        _ => None,
+    }
+}
+
 /// The identifier of a portal that is made.
 fn identifier_of(new: NewObject) -> Option<u32>
     ensures { result ≡ identifier_of new }
@@ -93,48 +111,51 @@ fn count_of(new: NewObject) -> Option<u32>
 }
 
 impl Parts {
-    /// Makes room for one more object and its capability. It refuses for want of memory alone.
-    fn reserve(&mut self) -> Result<(), AllocError>
+    /// Makes room for one more object and its capability, which a protection domain holds. It refuses
+    /// for want of memory alone.
+    fn reserve(&mut self, domain: u32) -> Result<(), AllocError>
         ensures shown { shown self.new ≡ shown self.old }
         ensures log { self.new.reach.room ≡ self.old.reach.room }
-        ensures room { OnOk result (HasRoom self.new) }
+        ensures room { OnOk result (HasRoom domain self.new) }
     {
         self.objects.reserve(1)?;
-        self.reach.reserve()?;
+        self.reach.reserve(domain)?;
         self.contexts.reserve(1)?;
+        self.transfers.reserve(1)?;
         self.budgets.reserve(1)?;
         self.identifiers.reserve(1)?;
         self.counts.reserve(1)?;
         Ok(())
     }
 
-    /// Makes room for what a deed makes. It refuses for want of memory alone.
-    pub fn make_room(&mut self, deed: Deed) -> Result<(), AllocError>
+    /// Makes room for one more protection domain too, with a space of its own.
+    fn reserve_domain(&mut self, domain: u32) -> Result<(), AllocError>
+        requires { length (shown self.old).objects < 2 ^ 32 }
         ensures shown { shown self.new ≡ shown self.old }
         ensures log { self.new.reach.room ≡ self.old.reach.room }
-        ensures room { OnOk result (HasRoomFor deed self.new) }
+        ensures room { OnOk result (HasRoom domain self.new) }
+    {
+        self.reserve(domain)?;
+        self.reach.add_domain(self.objects.len() as u32)
+    }
+
+    /// Makes room for what a deed of an execution context makes, whose protection domain is given. It
+    /// refuses for want of memory alone.
+    pub fn make_room(&mut self, domain: u32, deed: Deed) -> Result<(), AllocError>
+        requires { length (shown self.old).objects < 2 ^ 32 }
+        ensures shown { shown self.new ≡ shown self.old }
+        ensures log { self.new.reach.room ≡ self.old.reach.room }
+        ensures room { OnOk result (HasRoomFor domain deed self.new) }
         ensures making { OnErr result (is_making deed ≡ true) }
     {
         match deed {
-            Deed::Makes { .. } => self.reserve(),
+            Deed::Opens { .. }
+            | Deed::Makes {
+                new: NewObject::Pd,
+                ..
+            } => self.reserve_domain(domain),
+            Deed::Makes { .. } => self.reserve(domain),
             _ => Ok(()),
-        }
-    }
-
-    /// The capability of an object that a protection domain is about to make: all rights.
-    fn root_capability(&self, pd: u32, selector: u32, object: Object) -> Derivation
-        requires { length (shown self.now).objects < 2 ^ 32 }
-        ensures { result ≡ root_capability (shown self.now) pd selector object }
-    {
-        Derivation {
-            id: self.reach.next,
-            pd,
-            kind: Kind::Obj,
-            base: selector,
-            order: 0,
-            rights: Rights::all_to(target_of(object)),
-            target: self.objects.len() as u32,
-            parent: None,
         }
     }
 
@@ -142,19 +163,22 @@ impl Parts {
     /// made.
     #[tactic(auto, using(crate::proofs::Added::added))]
     pub fn add_object(&mut self, pd: u32, selector: u32, new: NewObject)
-        requires room { HasRoom self.old }
+        requires room { HasRoom pd self.old }
         requires numbered { IsNumbered (2 ^ 31) (shown self.old) }
         requires tables { AreTables (shown self.old) }
         requires selector { selector < 2 ^ 20 }
+        requires free { is_held (shown self.old) pd selector ≡ false }
         ensures added { shown self.new ≡ with_object (shown self.old) pd selector new }
         ensures log { self.new.reach.room ≡ self.old.reach.room }
     {
         let object = object_of(new);
-        let context = context_of(self.objects.len() as u32, new);
-        let capability = self.root_capability(pd, selector, object);
-        self.reach.add(capability);
+        let rights = Rights::all_to(target_of(object));
+        let number = self.objects.len() as u32;
+        let context = context_of(number, new);
+        self.reach.add_capability(pd, selector, rights, number);
         self.objects.add(object);
         self.contexts.add(context);
+        self.transfers.push_reserved(transfer_of(object));
         self.budgets.push_reserved(None);
         self.identifiers.push_reserved(identifier_of(new));
         self.counts.push_reserved(count_of(new));

@@ -1,17 +1,17 @@
 ghost use Rattle.std.specs.Prelude.{◌≡◌, ◌^◌, ◌<◌, IfOk};
 ghost use Rattle.rv_model.specs.Registers.{reg};
 ghost use Rattle.nova_calls.specs.SoundCalls.{IsSoundCall};
-ghost use Rattle.nova_model.specs.Hypercalls.{is_built, is_virtual, maker, create_ec, create_pt, create_sm, ticks_in, row, asked, or_refuses, hypercall};
+ghost use Rattle.nova_model.specs.Hypercalls.{is_built, is_virtual, maker, create_pd, create_ec, create_pt, create_sm, looked_up, ticks_in, row, asked, or_refuses, hypercall};
 ghost use Rattle.nova_model.specs.State.{budget_at};
-ghost use Rattle.nova_kernel.specs.Parts.{shown, IsCharged};
-ghost use Rattle.nova_kernel.specs.Acts.{Fits};
+ghost use Rattle.nova_kernel.specs.Parts.{shown, IsCharged, IsCounted};
+ghost use Rattle.nova_kernel.specs.Acts.{IsAsked};
 
 use crate::capabilities::ObjectType;
 use crate::parts::Parts;
 use bitflags::Flags;
 use nova_calls::{Call, numbers, read_call};
 use nova_model::{Deed, EcKind, NewObject, Rights};
-use nova_range::Status;
+use nova_range::{Range, Status, word_of};
 use rv_core::Regs;
 
 /// Where an object is to be made: the protection domain of the maker, the selector in it that the
@@ -23,15 +23,29 @@ pub struct Site {
     pub pd_selector: u32,
 }
 
+impl Site {
+    fn new(domain: u32, target: u32, pd_selector: u32) -> Site
+        ensures { result ≡ record { domain = domain; target = target; pd_selector = pd_selector } }
+    {
+        Site {
+            domain,
+            target,
+            pd_selector,
+        }
+    }
+}
+
 /// Whether a hypercall of this number is built.
 fn is_built(number: u32) -> bool
     ensures { result ≡ is_built number }
 {
     matches!(
         number,
-        numbers::CREATE_EC
+        numbers::CREATE_PD
+            | numbers::CREATE_EC
             | numbers::CREATE_PT
             | numbers::CREATE_SM
+            | numbers::LOOKUP
             | numbers::EC_CTRL
             | numbers::SC_CTRL
             | numbers::PT_CTRL
@@ -63,6 +77,27 @@ impl Parts {
         Ok(owner)
     }
 
+    /// `CREATE_PD`: makes a protection domain, and goes on where there is a first range to be given.
+    fn create_pd(&self, site: Site, first: Option<(Range, Rights)>) -> Result<Deed, Status>
+        requires counted { IsCounted (shown self.now) }
+        requires target { site.target < 2 ^ 20 }
+        ensures row { result ≡ create_pd (shown self.now) site.domain site.target site.pd_selector first }
+        ensures fits { IfOk result (IsAsked (shown self.now)) }
+    {
+        self.maker(site)?;
+        Ok(match first {
+            None => Deed::Makes {
+                call: numbers::CREATE_PD,
+                target: site.target,
+                new: NewObject::Pd,
+            },
+            Some(_) => Deed::Opens {
+                target: site.target,
+                domain: self.objects.len() as u32,
+            },
+        })
+    }
+
     /// `CREATE_EC`: makes an execution context.
     fn create_ec(
         &self,
@@ -74,7 +109,7 @@ impl Parts {
     ) -> Result<Deed, Status>
         requires { site.target < 2 ^ 20 }
         ensures row { result ≡ create_ec (shown self.now) site.domain site.target site.pd_selector cpu kind sp event }
-        ensures fits { IfOk result (Fits (shown self.now)) }
+        ensures fits { IfOk result (IsAsked (shown self.now)) }
     {
         if is_virtual(kind) {
             return Err(Status::BadPar);
@@ -100,7 +135,7 @@ impl Parts {
     fn create_pt(&self, site: Site, ec_selector: u32, mtd: u32, ip: u32) -> Result<Deed, Status>
         requires { site.target < 2 ^ 20 }
         ensures row { result ≡ create_pt (shown self.now) site.domain site.target site.pd_selector ec_selector mtd ip }
-        ensures fits { IfOk result (Fits (shown self.now)) }
+        ensures fits { IfOk result (IsAsked (shown self.now)) }
     {
         self.maker(site)?;
         let ec = self.named(site.domain, ObjectType::Local, Rights::BIND_PT, ec_selector)?;
@@ -115,7 +150,7 @@ impl Parts {
     fn create_sm(&self, site: Site, count: u32) -> Result<Deed, Status>
         requires { site.target < 2 ^ 20 }
         ensures row { result ≡ create_sm (shown self.now) site.domain site.target site.pd_selector count }
-        ensures fits { IfOk result (Fits (shown self.now)) }
+        ensures fits { IfOk result (IsAsked (shown self.now)) }
     {
         self.maker(site)?;
         Ok(Deed::Makes {
@@ -123,6 +158,17 @@ impl Parts {
             target: site.target,
             new: NewObject::Sm { count },
         })
+    }
+
+    /// `LOOKUP`: the word of the derivation that covers the base of a range, with its own base, order
+    /// and rights; 0 where there is none.
+    fn looked_up(&self, domain: u32, range: Range) -> u32
+        ensures { result ≡ looked_up (shown self.now) domain range }
+    {
+        match self.reach.covering(domain, range.kind, range.base) {
+            Some(found) => word_of(Some((found.range(), found.rights))),
+            None => word_of(None),
+        }
     }
 
     /// The turns that a scheduling context paid for before this one; 0 of another number.
@@ -138,12 +184,15 @@ impl Parts {
 
     /// The rows of the table of hypercalls. One that isn't built yet is `BadHyp`.
     fn row(&self, domain: u32, call: Call) -> Result<Deed, Status>
-        requires charged { IsCharged (shown self.now) }
+        requires counted { IsCounted (shown self.now) }
         requires sound { IsSoundCall call }
         ensures row { result ≡ row (shown self.now) domain call }
-        ensures fits { IfOk result (Fits (shown self.now)) }
+        ensures fits { IfOk result (IsAsked (shown self.now)) }
     {
         match call {
+            Call::CreatePd { target, pd, first } => {
+                self.create_pd(Site::new(domain, target, pd), first)
+            }
             Call::CreateEc {
                 target,
                 pd,
@@ -151,41 +200,21 @@ impl Parts {
                 kind,
                 sp,
                 event,
-            } => self.create_ec(
-                Site {
-                    domain,
-                    target,
-                    pd_selector: pd,
-                },
-                cpu,
-                kind,
-                sp,
-                event,
-            ),
+            } => self.create_ec(Site::new(domain, target, pd), cpu, kind, sp, event),
             Call::CreatePt {
                 target,
                 pd,
                 ec,
                 mtd,
                 ip,
-            } => self.create_pt(
-                Site {
-                    domain,
-                    target,
-                    pd_selector: pd,
-                },
-                ec,
-                mtd.bits(),
-                ip,
-            ),
-            Call::CreateSm { target, pd, count } => self.create_sm(
-                Site {
-                    domain,
-                    target,
-                    pd_selector: pd,
-                },
-                count,
-            ),
+            } => self.create_pt(Site::new(domain, target, pd), ec, mtd.bits(), ip),
+            Call::CreateSm { target, pd, count } => {
+                self.create_sm(Site::new(domain, target, pd), count)
+            }
+            Call::Lookup { range } => Ok(Deed::Tells {
+                call: numbers::LOOKUP,
+                value: self.looked_up(domain, range),
+            }),
             Call::EcCtrl { ec } => {
                 let ec = self.named(domain, ObjectType::Ec, Rights::CONTROL, ec)?;
                 Ok(Deed::Recalls { ec })
@@ -193,7 +222,8 @@ impl Parts {
             Call::ScCtrl { sc } => {
                 let sc = self.named(domain, ObjectType::Sc, Rights::CONTROL, sc)?;
                 Ok(Deed::Tells {
-                    ticks: self.ticks_before(sc),
+                    call: numbers::SC_CTRL,
+                    value: self.ticks_before(sc),
                 })
             }
             Call::PtCtrl { pt, identifier } => {
@@ -206,10 +236,10 @@ impl Parts {
 
     /// What the hypercall of a number asks for, in a protection domain.
     fn asked(&self, domain: u32, number: u32, regs: &Regs) -> Result<Deed, Status>
-        requires charged { IsCharged (shown self.now) }
+        requires counted { IsCounted (shown self.now) }
         requires number { number ≡ reg regs.now 17 }
         ensures asked { result ≡ asked (shown self.now) domain regs.now }
-        ensures fits { IfOk result (Fits (shown self.now)) }
+        ensures fits { IfOk result (IsAsked (shown self.now)) }
     {
         if !is_built(number) {
             return Err(Status::BadHyp);
@@ -219,9 +249,9 @@ impl Parts {
 
     /// The deed of a hypercall: a refusal is one too.
     pub fn hypercall(&self, domain: u32, regs: &Regs) -> Deed
-        requires { IsCharged (shown self.now) }
+        requires { IsCounted (shown self.now) }
         ensures deed { result ≡ hypercall (shown self.now) domain regs.now }
-        ensures fits { Fits (shown self.now) result }
+        ensures fits { IsAsked (shown self.now) result }
     {
         let number = regs.get(17);
         match self.asked(domain, number, regs) {

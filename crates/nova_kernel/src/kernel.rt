@@ -67,7 +67,7 @@ impl Kernel {
     /// One turn of an existing processor: the execution context to which the turns of the chosen
     /// scheduling context lead acts, and the scheduling context is charged. Idle, with nothing changed, exactly where no
     /// scheduling context of the processor is runnable. It refuses for want of memory alone, only in
-    /// a turn that makes an object, and then nothing has changed. Needs spare log, of which a turn
+    /// a turn that makes an object or a derivation, and then nothing has changed. Needs spare log, of which a turn
     /// uses at most one place, and fewer than 2^31 turns taken before.
     pub fn turn(&mut self, cpu: u32) -> Result<Turn, AllocError>
         requires cpu { cpu < self.old.state.cpus }
@@ -193,6 +193,6 @@ impl Kernel {
         ensures forest { IsForest self.now.state.delegations }
         ensures below { IfSome result (λ d. d.id < 2 ^ 32 - 1) }
     {
-        self.parts.reach.derivation_from(id)
+        self.parts.reach.from_id(id)
     }
 }

@@ -4,17 +4,18 @@ ghost use Rattle.nova_kernel.specs.Views.{semaphore_at};
 
 use crate::reach::Reach;
 use nova_ec::Ecs;
-use nova_model::Budget;
+use nova_model::{Budget, Transfer};
 use nova_objects::Objects;
 
 /// The parts of a kernel, which a turn changes one by one; `Kernel` shows them as one state. Tables
-/// are by the number of the object: execution contexts, the budgets of scheduling contexts, the
-/// identifiers of portals, and the counters of semaphores.
+/// are by the number of the object: execution contexts, how far they are with the items that they give,
+/// the budgets of scheduling contexts, the identifiers of portals, and the counters of semaphores.
 #[derive(Drop)]
 pub struct Parts {
     pub reach: Reach,
     pub objects: Objects,
     pub contexts: Ecs,
+    pub transfers: Vec<Option<Transfer>>,
     pub budgets: Vec<Option<Budget>>,
     pub identifiers: Vec<Option<u32>>,
     pub counts: Vec<Option<u32>>,

@@ -1,15 +1,21 @@
-ghost use Rattle.std.specs.Prelude.{true, ◌≡◌, ◌≤◌, ◌+◌, ◌-◌, ◌*◌, ◌/◌, ◌%◌, ◌^◌, ◌<◌, ℕ, [], ◌∷◌, ◌++◌, length, max, IfSome, OnOk, OnErr, option_map};
-ghost use Rattle.std.specs.Option.{option_copied};
+ghost use Rattle.std.specs.Prelude.{true, false, ℕ, ◌≡◌, ◌≤◌, ◌+◌, ◌-◌, ◌*◌, ◌/◌, ◌%◌, ◌^◌, ◌<◌, length, is_some, None, Some, IfSome, OnOk, OnErr, IfOk};
 ghost use Rattle.std.specs.List.{find};
-ghost use Rattle.nova_model.specs.Delegations.{covers};
 ghost use Rattle.nova_model.specs.AddressSpaces.{frame_for};
 ghost use Rattle.nova_model.specs.Boot.{laid};
-ghost use Rattle.nova_kernel.specs.Reach.{IsPlaced, reached};
-ghost use Rattle.nova_kernel.specs.Views.{is_from};
+ghost use Rattle.nova_model.specs.Delegations.{added, covers, derived, from_id, page_in, reach, with_id};
+ghost use Rattle.nova_range.specs.Rights.{IsRights};
+ghost use Rattle.nova_model.specs.Forest.{IsForest};
+ghost use Rattle.nova_model.specs.Transfers.{next_part, given, moved};
+ghost use Rattle.nova_nodes.specs.NodesStates.{IsPlaced, room};
+ghost use Rattle.nova_delegate.specs.Parts.{HasChild, IsUnderWay, MakesChild, done_of};
+ghost use Rattle.nova_kernel.specs.Reach.{never, reached, selector_range};
 
 use bitflags::Flags;
+use nova_delegate::{PartDone, part};
 use nova_frames::Frames;
-use nova_model::{Derivation, Kind, Page, Rights};
+use nova_model::{Derivation, Job, Kind, Page, Rights};
+use nova_nodes::{ListIndex, NoGuard, Nodes};
+use nova_range::Range;
 use rv_core::bus::Bus;
 use std::alloc::AllocError;
 use std::marker::Model;
@@ -17,52 +23,56 @@ use std::marker::Model;
 /// The page of a thread that is its own, for its message words: no delegation leads there.
 const OWN_PAGE: u32 = 0xfffff;
 
-/// What an instruction reaches: the frames, through the delegations of the protection domain of the
-/// execution context that acts. The next derivation takes the id `next`, and there is room for `spare`
-/// more.
+/// What an instruction reaches: the frames, through the derivations of the protection domain of the
+/// execution context that acts. The derivation of the last page that was looked up is looked at first.
 #[derive(Drop)]
 pub struct Reach {
     pub frames: Frames,
-    pub derivations: Vec<Derivation>,
-    pub next: u32,
-    pub spare: usize,
+    pub nodes: Nodes<ListIndex>,
+    pub last: Option<Derivation>,
     pub pd: u32,
     pub is_thread: bool,
 }
 
 impl Model for Reach {
-    ghost use Rattle.std.specs.Prelude.{◌+◌, ◌≤◌, length, vec_len, vec_capacity};
-    ghost use Rattle.nova_kernel.specs.Reach.{ReachState, LeadToFrames};
+    ghost use Rattle.std.specs.Prelude.{◌+◌, length, IfSome};
+    ghost use Rattle.nova_kernel.specs.Reach.{ReachState, IsFound, LeadToFrames};
 
     ghost Value = { ReachState };
 
     ghost view = { λ r. record {
-      delegations = record { list = r.derivations.items; next = r.next };
+      nodes = r.nodes;
       memory = r.frames.memory;
       pd = r.pd;
       is_thread = r.is_thread;
       consoles = r.frames.consoles;
       room = r.frames.room;
-      spare = r.spare;
     } };
 
-    ghost invariant = { λ r. LeadToFrames (length r.frames.memory.ram + r.frames.consoles) r.derivations.items
-        × (vec_len r.derivations + r.spare ≤ vec_capacity r.derivations) };
+    ghost invariant = { λ r. LeadToFrames (length r.frames.memory.ram + r.frames.consoles) r.nodes.delegations.list × IfSome r.last (IsFound r.nodes.delegations.list) };
 }
 
-/// Whether the derivation lies in this space of the protection domain and covers the place: a page
-/// or a selector.
-fn covers(derivation: &Derivation, kind: Kind, pd: u32, place: u32) -> bool
+/// Whether a derivation lies in the memory space of a protection domain and covers a page.
+fn covers(derivation: &Derivation, pd: u32, page: u32) -> bool
     requires { derivation.now.order ≤ 20 }
-    ensures { result ≡ covers kind pd place derivation.now }
+    ensures { result ≡ covers Kind.Mem pd page derivation.now }
 {
-    let range = derivation.range();
-    matches!(
-        (kind, range.kind),
-        (Kind::Mem, Kind::Mem) | (Kind::Obj, Kind::Obj)
-    ) && derivation.pd == pd
-        && range.base <= place
-        && place - range.base < 1 << range.order
+    matches!(derivation.kind, Kind::Mem)
+        && derivation.pd == pd
+        && derivation.base <= page
+        && page - derivation.base < 1 << derivation.order
+}
+
+/// What a page leads to through a derivation that covers it.
+fn page_in(derivation: &Derivation, page: u32) -> Page
+    requires place { derivation.now.base ≤ page }
+    requires frame { derivation.now.target + (page - derivation.now.base) < 2 ^ 32 }
+    ensures { result ≡ page_in page derivation.now }
+{
+    Page {
+        frame: derivation.target + (page - derivation.base),
+        rights: derivation.rights,
+    }
 }
 
 impl Reach {
@@ -82,78 +92,137 @@ impl Reach {
         self.frames.put(address, bytes);
     }
 
-    /// Makes room for one more derivation. It refuses for want of memory alone, and then nothing has
-    /// changed.
-    pub fn reserve(&mut self) -> Result<(), AllocError>
-        ensures ok { OnOk result (self.new ≡ record self.old { spare = max self.old.spare 1 }) }
-        ensures err { OnErr result (self.new ≡ self.old) }
+    /// Makes room for one more derivation of a protection domain. It refuses for want of memory alone,
+    /// and then no derivation has changed.
+    pub fn reserve(&mut self, pd: u32) -> Result<(), AllocError>
+        ensures room { OnOk result (0 < room self.new.nodes pd) }
+        ensures delegations { self.new.nodes.delegations ≡ self.old.nodes.delegations }
+        ensures memory { self.new.memory ≡ self.old.memory }
+        ensures consoles { self.new.consoles ≡ self.old.consoles }
+        ensures log { self.new.room ≡ self.old.room }
     {
-        self.derivations.reserve(1)?;
-        self.spare = self.spare.max(1);
-        Ok(())
+        self.nodes.reserve(pd, 1)
     }
 
-    /// Adds a derivation of the next id in the room that was made. It leads to frames, or to an object.
-    pub fn add(&mut self, derivation: Derivation)
-        requires room { 0 < self.old.spare }
-        requires placed { IsPlaced (length self.old.memory.ram + self.old.consoles) derivation }
-        requires next { self.old.delegations.next + 1 < 2 ^ 32 }
-        ensures { self.new ≡ record self.old {
-          delegations = record { list = self.old.delegations.list ++ derivation ∷ []; next = self.old.delegations.next + 1 };
-          spare = self.old.spare - 1;
-        } }
+    /// Makes the space of a new protection domain. It refuses for want of memory alone.
+    pub fn add_domain(&mut self, pd: u32) -> Result<(), AllocError>
+        ensures room { (other : ℕ) → room self.old.nodes other ≤ room self.new.nodes other }
+        ensures delegations { self.new.nodes.delegations ≡ self.old.nodes.delegations }
+        ensures memory { self.new.memory ≡ self.old.memory }
+        ensures consoles { self.new.consoles ≡ self.old.consoles }
+        ensures log { self.new.room ≡ self.old.room }
     {
-        self.derivations.push_reserved(derivation);
-        self.next += 1;
-        self.spare -= 1;
+        self.nodes.add_pd(pd)
     }
 
-    /// The derivation of a protection domain that covers a place, or nothing.
-    pub fn find(&self, kind: Kind, pd: u32, place: u32) -> Option<&Derivation>
-        ensures placed { IfSome result (λ d. IsPlaced (length self.now.memory.ram + self.now.consoles) d.now) }
-        ensures covers { IfSome result (λ d. covers kind pd place d.now ≡ true) }
-        ensures found { option_copied result ≡ find (covers kind pd place) self.now.delegations.list }
+    /// Adds the capability of an object, at a selector that is free, in the room that was made.
+    pub fn add_capability(&mut self, pd: u32, selector: u32, rights: Rights, object: u32)
+        requires room { 0 < room self.old.nodes pd }
+        requires next { self.old.nodes.delegations.next < 2 ^ 32 - 1 }
+        requires selector { selector < 2 ^ 20 }
+        requires free { is_some (find (covers Kind.Obj pd selector) self.old.nodes.delegations.list) ≡ false }
+        requires rights { IsRights rights }
+        requires object { object < 2 ^ 32 - 1 }
+        ensures delegations { self.new.nodes.delegations ≡ added self.old.nodes.delegations (derived self.old.nodes.delegations.next None pd (selector_range selector) rights object) }
+        ensures memory { self.new.memory ≡ self.old.memory }
+        ensures consoles { self.new.consoles ≡ self.old.consoles }
+        ensures log { self.new.room ≡ self.old.room }
     {
-        for derivation in &self.derivations {
-            if covers(derivation, kind, pd, place) {
-                return Some(derivation);
-            }
+        let place = Range {
+            kind: Kind::Obj,
+            base: selector,
+            order: 0,
+        };
+        self.nodes.root(pd, place, rights, object);
+    }
+
+    /// The derivation that covers a place of a protection domain, or nothing.
+    pub fn covering(&self, pd: u32, kind: Kind, place: u32) -> Option<Derivation>
+        ensures found { result ≡ find (covers kind pd place) self.now.nodes.delegations.list }
+        ensures placed { IfSome result IsPlaced }
+    {
+        self.nodes.covering(pd, kind, place)
+    }
+
+    /// The derivation of an id, or nothing.
+    pub fn get(&self, id: u32) -> Option<Derivation>
+        ensures { result ≡ with_id self.now.nodes.delegations.list id }
+    {
+        self.nodes.get(id)
+    }
+
+    /// The derivation of least id at or after a given one, or nothing.
+    pub fn from_id(&self, id: u32) -> Option<Derivation>
+        ensures { result ≡ from_id self.now.nodes.delegations.list id }
+    {
+        self.nodes.from_id(id)
+    }
+
+    /// Gives the next part of an item. No revoke is in its way yet. It refuses for want of memory
+    /// alone, where a child would be made, and then no derivation has changed.
+    pub fn give(&mut self, job: &mut Job) -> Result<PartDone, AllocError>
+        requires next { self.old.nodes.delegations.next < 2 ^ 32 - 1 }
+        requires forest { IsForest self.old.nodes.delegations }
+        requires job { IsUnderWay job.old }
+        ensures done { IfOk result (λ r. r ≡ done_of job.old (next_part never self.old.nodes.delegations job.old)) }
+        ensures delegations { OnOk result (self.new.nodes.delegations ≡ given self.old.nodes.delegations (next_part never self.old.nodes.delegations job.old)) }
+        ensures job { OnOk result (job.new ≡ moved job.old (next_part never self.old.nodes.delegations job.old)) }
+        ensures there { OnOk result (HasChild self.new.nodes.delegations (next_part never self.old.nodes.delegations job.old)) }
+        ensures refused { OnErr result (self.new.nodes.delegations ≡ self.old.nodes.delegations) }
+        ensures wanted { OnErr result (MakesChild (next_part never self.old.nodes.delegations job.old)) }
+        ensures memory { self.new.memory ≡ self.old.memory }
+        ensures consoles { self.new.consoles ≡ self.old.consoles }
+        ensures log { self.new.room ≡ self.old.room }
+    {
+        let revokes: [NoGuard; 0] = [];
+        part(&mut self.nodes, job, &revokes)
+    }
+
+    /// What a page leads to through the derivation of the last page, where that covers this one too.
+    fn last_page(&self, page: u32) -> Option<Page>
+        ensures page { IfSome result (λ p. reach self.now.nodes.delegations.list self.now.pd page ≡ Some p) }
+        ensures there { IfSome result (λ p. p.frame < length self.now.memory.ram + self.now.consoles) }
+    {
+        let last = self.last.as_ref()?;
+        if covers(last, self.pd, page) {
+            Some(page_in(last, page))
+        } else {
+            None
         }
-        None
     }
 
-    /// The first derivation of an id at or after a given one, or nothing.
-    pub fn derivation_from(&self, id: u32) -> Option<Derivation>
-        ensures { result ≡ find (is_from id) self.now.delegations.list }
+    /// The derivation that covers a page of the protection domain, or nothing.
+    fn memory_at(&mut self, page: u32) -> Option<Derivation>
+        ensures found { result ≡ find (covers Kind.Mem self.old.pd page) self.old.nodes.delegations.list }
+        ensures leads { IfSome result (λ d. (d.base ≤ page) × (d.target + (page - d.base) < length self.old.memory.ram + self.old.consoles)) }
+        ensures few { length self.old.memory.ram + self.old.consoles ≤ 2 ^ 32 }
+        ensures kept { self.new ≡ self.old }
     {
-        for derivation in &self.derivations {
-            if id <= derivation.id {
-                return Some(*derivation);
-            }
-        }
-        None
+        self.last = self.nodes.at(self.pd, Kind::Mem, page);
+        self.last
     }
 
     /// What a page leads to: the one derivation that covers it, or nothing.
-    #[tactic(auto, using(crate::proofs::Placed::page_placed))]
-    fn page_at(&self, page: u32) -> Option<Page>
-        ensures page { result ≡ (reached self.now).page page }
-        ensures there { IfSome result (λ p. p.frame < length self.now.memory.ram + self.now.consoles) }
+    fn page_at(&mut self, page: u32) -> Option<Page>
+        ensures page { result ≡ (reached self.old).page page }
+        ensures there { IfSome result (λ p. p.frame < length self.old.memory.ram + self.old.consoles) }
+        ensures kept { self.new ≡ self.old }
     {
         if self.is_thread && page == OWN_PAGE {
             return None;
         }
-        let derivation = self.find(Kind::Mem, self.pd, page)?;
-        Some(Page {
-            frame: derivation.target + (page - derivation.base),
-            rights: derivation.rights,
-        })
+        if let Some(found) = self.last_page(page) {
+            return Some(found);
+        }
+        let derivation = self.memory_at(page)?;
+        Some(page_in(&derivation, page))
     }
 
     /// The frame that an address leads to, where the right is there.
-    fn frame_for(&self, right: Rights, address: u32) -> Option<u32>
-        ensures frame { result ≡ frame_for (reached self.now) right.0 address }
-        ensures there { IfSome result (λ frame. frame < length self.now.memory.ram + self.now.consoles) }
+    fn frame_for(&mut self, right: Rights, address: u32) -> Option<u32>
+        ensures frame { result ≡ frame_for (reached self.old) right.0 address }
+        ensures there { IfSome result (λ frame. frame < length self.old.memory.ram + self.old.consoles) }
+        ensures kept { self.new ≡ self.old }
     {
         let page = self.page_at(address / 4096)?;
         if page.rights.contains(right) {

@@ -1,17 +1,19 @@
 ghost use Rattle.std.specs.Prelude.{not, ◌≡◌, ◌==◌, ◌&&◌, ◌+◌, ◌^◌, ◌<◌, ◌≤◌, ℕ, length, true, IsSome, IfOk, OnOk, OnErr};
 ghost use Rattle.rv_model.specs.Step.{environment_call};
-ghost use Rattle.nova_model.specs.Deeds.{instruction, signalled, stepping, deed, changed, recall, recalled, performed, answered, answered_registers, done, is_making};
+ghost use Rattle.nova_model.specs.Deeds.{instruction, signalled, stepping, deed, changed, recall, recalled, performed, answered, answered_registers, reason_number, parent_id, done, is_making};
 ghost use Rattle.nova_ec.specs.Tables.{with_items};
 ghost use Rattle.nova_model.specs.State.{ec_in, ec_of, with_ec, context_at, pd_of, is_thread};
 ghost use Rattle.nova_model.specs.Turn.{state_after, answer_of, turn, event_of};
 ghost use Rattle.nova_kernel.specs.Views.{IsMaking, turns_taken};
 ghost use Rattle.nova_kernel.specs.Parts.{shown, HasRoomFor, IsCounted, KeepsCounts};
-ghost use Rattle.nova_kernel.specs.Acts.{outcome_of, Fits, begun};
+ghost use Rattle.nova_kernel.specs.Acts.{outcome_of, Fits, IsAsked, TakesFree, begun, is_over};
 
 use crate::parts::Parts;
 use nova_calls::numbers;
 use nova_ec::Ecs;
-use nova_model::{Candidate, Deed, EcKind, EcState, Event, EventKind, Object, State, Turn};
+use nova_model::{
+    Candidate, Deed, EcKind, EcState, Event, EventKind, NewObject, Object, Reason, State, Turn,
+};
 use nova_range::Status;
 use rv_core::Regs;
 use rv_core::outcome::{ENVIRONMENT_CALL, Outcome};
@@ -36,6 +38,24 @@ fn answered_registers(mut regs: Regs, status: Status, value: Option<u32>) -> Reg
     regs
 }
 
+/// Why a part is skipped, as a number.
+fn reason_number(reason: Reason) -> u32
+    ensures { result ≡ reason_number reason }
+{
+    match reason {
+        Reason::Rights => 3,
+        Reason::Taken => 4,
+        Reason::Busy => 5,
+    }
+}
+
+/// The parent of a child, as a number.
+fn parent_id(parent: Option<u32>) -> u32
+    ensures { result ≡ parent_id parent }
+{
+    parent.unwrap_or(0)
+}
+
 /// The event of a deed.
 fn event_of(cpu: u32, chosen: Candidate, deed: Deed) -> Event
     ensures { result ≡ event_of cpu chosen deed }
@@ -47,8 +67,12 @@ fn event_of(cpu: u32, chosen: Candidate, deed: Deed) -> Event
         Deed::Refuses { call, status } => (EventKind::Answer, call, status.code()),
         Deed::Makes { call, .. } => (EventKind::Answer, call, 0),
         Deed::Recalls { .. } => (EventKind::Answer, numbers::EC_CTRL, 0),
-        Deed::Tells { .. } => (EventKind::Answer, numbers::SC_CTRL, 0),
+        Deed::Tells { call, .. } => (EventKind::Answer, call, 0),
         Deed::Names { .. } => (EventKind::Answer, numbers::PT_CTRL, 0),
+        Deed::Opens { domain, .. } => (EventKind::Begin, numbers::CREATE_PD, domain),
+        Deed::Gives { child, .. } => (EventKind::Made, child.id, parent_id(child.parent)),
+        Deed::Skips { reason, place, .. } => (EventKind::Skip, reason_number(reason), place),
+        Deed::Ends { item, children } => (EventKind::Ended, item, children),
     };
     Event {
         cpu,
@@ -87,27 +111,48 @@ fn answer(contexts: &mut Ecs, ec: u32, status: Status, value: Option<u32>)
     contexts.set_regs(ec, &regs);
 }
 
+/// A hypercall that went on ends with success.
+fn end(contexts: &mut Ecs, ec: u32)
+    requires { IsSome (ec_in contexts.old.items ec) }
+    ensures { contexts.new ≡ with_items contexts.old (with_ec contexts.old.items ec (changed (ec_of contexts.old.items ec) (Deed.Ends 0 0))) }
+{
+    answer(contexts, ec, Status::Success, None);
+    contexts.set_state(ec, State::Ready);
+}
+
 /// What a deed makes of the execution context itself.
 #[tactic(auto, using(nova_ec::proofs::Steps::rests))]
-fn change(contexts: &mut Ecs, ec: u32, deed: Deed)
+pub fn change(contexts: &mut Ecs, ec: u32, deed: Deed)
     requires { IsSome (ec_in contexts.old.items ec) }
     ensures { contexts.new ≡ with_items contexts.old (with_ec contexts.old.items ec (changed (ec_of contexts.old.items ec) deed)) }
 {
     match deed {
-        Deed::Rests | Deed::Steps => {}
+        Deed::Rests | Deed::Steps | Deed::Gives { .. } | Deed::Skips { .. } => {}
         Deed::Raises { reason, q0, q1 } => raise(contexts, ec, reason, q0, q1),
         Deed::Dies { .. } => contexts.set_state(ec, State::Dead),
         Deed::Refuses { status, .. } => answer(contexts, ec, status, None),
-        Deed::Tells { ticks } => answer(contexts, ec, Status::Success, Some(ticks)),
+        Deed::Tells { value, .. } => answer(contexts, ec, Status::Success, Some(value)),
         Deed::Makes { .. } | Deed::Recalls { .. } | Deed::Names { .. } => {
             answer(contexts, ec, Status::Success, None);
         }
+        Deed::Opens { domain, .. } => contexts.set_state(ec, State::Granting(Some(domain))),
+        Deed::Ends { .. } => end(contexts, ec),
     }
+}
+
+/// Whether nothing is left of a deed when it is decided.
+fn is_over(deed: Deed) -> bool
+    ensures { result ≡ is_over deed }
+{
+    matches!(
+        deed,
+        Deed::Rests | Deed::Steps | Deed::Gives { .. } | Deed::Skips { .. } | Deed::Ends { .. }
+    )
 }
 
 impl Parts {
     /// The protection domain of an execution context.
-    fn pd(&self, ec: u32) -> u32
+    pub fn pd(&self, ec: u32) -> u32
         ensures { result ≡ pd_of (shown self.now) ec }
     {
         match self.objects.get(ec) {
@@ -148,7 +193,7 @@ impl Parts {
         requires there { IsSome (context_at (shown self.now) ec) }
         requires counted { IsCounted (shown self.now) }
         ensures deed { result ≡ signalled (shown self.now) ec reason q0 q1 ((reason == environment_call) && is_thread (shown self.now) ec) }
-        ensures fits { Fits (shown self.now) result }
+        ensures fits { IsAsked (shown self.now) result }
     {
         if reason == ENVIRONMENT_CALL && self.is_thread(ec) {
             self.hypercall(self.pd(ec), &self.contexts.context(ec).regs)
@@ -175,21 +220,25 @@ impl Parts {
         }
     }
 
-    /// The deed of an execution context. An instruction that goes on is done at once, and nothing
-    /// else is.
+    /// The deed of an execution context. An instruction that goes on and a part of an item are done at
+    /// once, and nothing else is. It refuses for want of memory alone, where a part makes a child, and
+    /// then nothing has changed.
     #[tactic(auto, unfolding(nova_model::specs::Deeds::deed))]
-    fn decide(&mut self, ec: u32) -> Deed
+    fn decide(&mut self, ec: u32) -> Result<Deed, AllocError>
         requires there { IsSome (context_at (shown self.old) ec) }
         requires counted { IsCounted (shown self.old) }
+        requires turns { self.old.turns < 2 ^ 31 }
         requires log { 0 < self.old.reach.room }
-        ensures deed { result ≡ deed (shown self.old) ec }
-        ensures begun { shown self.new ≡ begun (shown self.old) ec result }
-        ensures fits { Fits (shown self.old) result }
+        ensures deed { IfOk result (λ d. d ≡ deed (shown self.old) ec) }
+        ensures begun { IfOk result (λ d. shown self.new ≡ begun (shown self.old) ec d) }
+        ensures fits { IfOk result (Fits (shown self.old)) }
         ensures log { self.old.reach.room ≤ self.new.reach.room + 1 }
-        ensures making { is_making result ≡ true → self.new.reach.room ≡ self.old.reach.room }
+        ensures making { IfOk result (λ d. is_making d ≡ true → self.new.reach.room ≡ self.old.reach.room) }
+        ensures memory { OnErr result ((shown self.new ≡ shown self.old) × (self.new.reach.room ≡ self.old.reach.room)) }
+        ensures wanted { OnErr result (is_making (deed (shown self.old) ec) ≡ true) }
     {
         let context = self.contexts.context(ec);
-        match context.state {
+        let deed = match context.state {
             State::Fresh => Deed::Raises {
                 reason: STARTUP,
                 q0: 0,
@@ -202,12 +251,15 @@ impl Parts {
             },
             State::Ready => self.step(ec),
             State::Exiting(reason, q0, _) => Deed::Dies { reason, q0 },
+            State::Granting(Some(domain)) => self.grant(ec, domain)?,
             State::Parked
             | State::Calling(_)
             | State::Helping(_)
             | State::Sending(..)
+            | State::Granting(None)
             | State::Dead => Deed::Rests,
-        }
+        };
+        Ok(deed)
     }
 
     /// The recall of an execution context is asked for.
@@ -226,7 +278,8 @@ impl Parts {
         requires there { IsSome (context_at (shown self.old) ec) }
         requires counted { IsCounted (shown self.old) }
         requires fits { Fits (shown self.old) deed }
-        requires room { HasRoomFor deed self.old }
+        requires free { TakesFree (shown self.old) (pd_of (shown self.old) ec) deed }
+        requires room { HasRoomFor (pd_of (shown self.old) ec) deed self.old }
         ensures performed { shown self.new ≡ performed (shown self.old) ec deed }
         ensures log { self.new.reach.room ≡ self.old.reach.room }
     {
@@ -234,6 +287,7 @@ impl Parts {
         change(&mut self.contexts, ec, deed);
         match deed {
             Deed::Makes { target, new, .. } => self.add_object(domain, target, new),
+            Deed::Opens { target, .. } => self.add_object(domain, target, NewObject::Pd),
             Deed::Recalls { ec } => self.ask_recall(ec),
             Deed::Names { pt, identifier } => self.identifiers[pt as usize] = Some(identifier),
             _ => {}
@@ -241,10 +295,11 @@ impl Parts {
     }
 
     /// The execution context does its deed. It refuses for want of memory alone, where the deed makes
-    /// an object, and then nothing has changed.
+    /// an object or a derivation, and then nothing has changed.
     fn act(&mut self, ec: u32) -> Result<Deed, AllocError>
         requires there { IsSome (context_at (shown self.old) ec) }
         requires counted { IsCounted (shown self.old) }
+        requires turns { self.old.turns < 2 ^ 31 }
         requires log { 0 < self.old.reach.room }
         ensures deed { IfOk result (λ d. d ≡ deed (shown self.old) ec) }
         ensures done { IfOk result (λ d. shown self.new ≡ done (shown self.old) ec d) }
@@ -253,20 +308,18 @@ impl Parts {
         ensures kept { OnOk result (KeepsCounts (shown self.old) (shown self.new)) }
         ensures log { self.old.reach.room ≤ self.new.reach.room + 1 }
     {
-        let deed = self.decide(ec);
-        match deed {
-            Deed::Rests | Deed::Steps => {}
-            _ => {
-                self.make_room(deed)?;
-                self.perform(ec, deed);
-            }
+        let deed = self.decide(ec)?;
+        if !is_over(deed) {
+            let domain = self.pd(ec);
+            self.make_room(domain, deed)?;
+            self.perform(ec, deed);
         }
         Ok(deed)
     }
 
     /// One turn of a processor: the execution context of the chosen scheduling context does its deed,
     /// and the scheduling context pays. It refuses for want of memory alone, where the turn would make
-    /// an object, and then nothing has changed.
+    /// an object or a derivation, and then nothing has changed.
     #[tactic(auto, unfolding(nova_model::specs::Turn::turn))]
     pub fn turn(&mut self, cpu: u32) -> Result<Turn, AllocError>
         requires counted { IsCounted (shown self.old) }

@@ -1,30 +1,31 @@
 -- Who is chosen acts, and what acts without an edge does something.
 use Rattle.std.proofs.Common.{◌≡◌, ℕ, ◌+◌, List, [], ◌∷◌, refl, ap}
-use Rattle.std.specs.Prelude.{Bool, true, false, ◌&&◌, ◌==◌, ◌≢◌, cond, Option, Some, None, IfSome, option_map, option_and_then, if◌then◌else◌, Result, Ok, Err}
+use Rattle.std.specs.Prelude.{Bool, true, false, ◌&&◌, ◌==◌, ◌≢◌, cond, Option, Some, None, IfSome, option_map, option_and_then, if◌then◌else◌, Ok}
 use Rattle.std.specs.List.{AllByRecursion, find}
 use Rattle.nova_calls.specs.declared.call.Call.{Call}
 use Rattle.nova_calls.specs.declared.call.Call.TheVariants as call
-use Rattle.nova_calls.specs.declared.numbers.TheConstants.{CREATE_EC, CREATE_PT, CREATE_SM}
+use Rattle.nova_calls.specs.declared.numbers.TheConstants.{CREATE_EC, CREATE_PT, CREATE_SM, SC_CTRL}
 use Rattle.nova_objects.specs.declared.object.Object.{Object}
 use Rattle.nova_objects.specs.declared.object.Object.TheVariants.{Sc}
-use Rattle.nova_range.specs.declared.status.Status.{Status}
 use Rattle.nova_range.specs.declared.status.Status.TheVariants.{BadPar}
 use Rattle.nova_model.specs.Capabilities.{is_ec, is_sc, is_pt, named, control_right}
 use Rattle.nova_model.specs.Choice.{actor, candidate_with, candidate_of, candidates_from, candidates, choice, in_front}
 use Rattle.nova_model.specs.Deeds.{deed, deed_in}
 use Rattle.nova_model.specs.Edges.{acts, acts_as, acts_by, edge_of, state_in}
-use Rattle.nova_model.specs.Hypercalls.{and_then, unless, maker, makes, row, is_virtual, ticks_in}
+use Rattle.nova_model.specs.Hypercalls.{new_domain, maker, row, is_virtual, ticks_in}
 use Rattle.nova_model.specs.State.{KernelState, budget_at, context, context_in, ec_in, pd_of}
 use Rattle.nova_model.specs.declared.budget.Budget.{Budget}
 use Rattle.nova_model.specs.declared.budget.Candidate.{Candidate}
 use Rattle.nova_model.specs.declared.context.EcState.{EcState}
 use Rattle.nova_model.specs.declared.context.State.{State}
-use Rattle.nova_model.specs.declared.context.State.TheVariants.{Fresh, Ready, Parked, Calling, Helping, Exiting, Sending, Dead}
+use Rattle.nova_model.specs.declared.context.State.TheVariants.{Fresh, Ready, Parked, Calling, Helping, Exiting, Sending, Granting, Dead}
 use Rattle.nova_model.specs.declared.deed.Deed.{Deed}
-use Rattle.nova_model.specs.declared.deed.Deed.TheVariants.{Rests, Makes, Recalls, Tells, Names}
-use Rattle.nova_model.specs.declared.new_object.NewObject.{NewObject}
+use Rattle.nova_model.specs.declared.deed.Deed.TheVariants.{Rests, Recalls, Tells, Names}
 use Rattle.nova_model.specs.declared.new_object.NewObject.TheVariants.{Sm}
-use Rattle.nova_forest.proofs.Walk.{IfDone, ready_holds}
+use Rattle.nova_range.specs.declared.range.Range.{Range}
+use Rattle.nova_range.specs.declared.rights.Rights.{Rights}
+use Rattle.nova_laws.proofs.Rows.{makes_hold, named_holds, unless_holds}
+use Rattle.nova_forest.proofs.Walk.{IfDone, granting_holds, ready_holds}
 
 -- WHO IS CHOSEN ACTS
 
@@ -74,62 +75,60 @@ is_rest other = false
 abbrev Does : Deed → Type 0
 Does d = is_rest d ≡ false
 
-makes_does : (k : KernelState) (domain number target pd : ℕ) (new : ℕ → Result NewObject Status) → IfDone Does (makes k domain number target pd new)
-makes_does k domain number target pd new = by_owner (maker k domain target pd)
-  where
-    by_new : (r : Result NewObject Status) → IfDone Does (and_then r (λ made. Ok (Makes number target made)))
-    by_new (Ok made) = refl
-    by_new (Err status) = tt
-
-    by_owner : (owner : Result ℕ Status) → IfDone Does (and_then owner (λ o. and_then (new o) (λ made. Ok (Makes number target made))))
-    by_owner (Ok o) = by_new (new o)
-    by_owner (Err status) = tt
-
-unless_does : (test : Bool) (status : Status) (r : Result Deed Status) → IfDone Does r → IfDone Does (unless test status r)
-unless_does true status r h = tt
-unless_does false status r h = h
-
-named_does : (r : Result ℕ Status) (d : ℕ → Deed) → ((n : ℕ) → Does (d n)) → IfDone Does (and_then r (λ n. Ok (d n)))
-named_does (Ok n) d h = h n
-named_does (Err status) d h = tt
+opens_does : (k : KernelState) (target : ℕ) (first : Option (Range × Rights)) → Does (new_domain k target first)
+opens_does k target None = refl
+opens_does k target (Some range) = refl
 
 row_does : (k : KernelState) (domain : ℕ) (c : Call) → IfDone Does (row k domain c)
-row_does k domain (call.CreateEc target pd cpu kind sp event) = unless_does (is_virtual kind) BadPar _ (makes_does k domain CREATE_EC target pd _)
-row_does k domain (call.CreatePt target pd ec mtd ip) = makes_does k domain CREATE_PT target pd _
-row_does k domain (call.CreateSm target pd count) = makes_does k domain CREATE_SM target pd (λ o. Ok (Sm count))
-row_does k domain (call.EcCtrl ec) = named_does (named k domain is_ec control_right ec) (λ n. Recalls n) (λ n. refl)
-row_does k domain (call.ScCtrl sc) = named_does (named k domain is_sc control_right sc) (λ n. Tells (ticks_in (budget_at k n))) (λ n. refl)
-row_does k domain (call.PtCtrl pt identifier) = named_does (named k domain is_pt control_right pt) (λ n. Names n identifier) (λ n. refl)
+row_does k domain (call.CreatePd target pd first) = named_holds Does (maker k domain target pd) (λ owner. new_domain k target first) (λ owner. opens_does k target first)
+row_does k domain (call.CreateEc target pd cpu kind sp event) = unless_holds Does (is_virtual kind) BadPar _ (makes_hold Does CREATE_EC target (λ made. refl) k domain pd _)
+row_does k domain (call.CreatePt target pd ec mtd ip) = makes_hold Does CREATE_PT target (λ made. refl) k domain pd _
+row_does k domain (call.CreateSm target pd count) = makes_hold Does CREATE_SM target (λ made. refl) k domain pd (λ o. Ok (Sm count))
+row_does k domain (call.Lookup range) = refl
+row_does k domain (call.EcCtrl ec) = named_holds Does (named k domain is_ec control_right ec) (λ n. Recalls n) (λ n. refl)
+row_does k domain (call.ScCtrl sc) = named_holds Does (named k domain is_sc control_right sc) (λ n. Tells SC_CTRL (ticks_in (budget_at k n))) (λ n. refl)
+row_does k domain (call.PtCtrl pt identifier) = named_holds Does (named k domain is_pt control_right pt) (λ n. Names n identifier) (λ n. refl)
 row_does k domain other = tt
 
-abbrev pub NoEdge : Option EcState → Type 0
-NoEdge None = Unit {0}
-NoEdge (Some x) = edge_of x.state ≡ None
+-- it takes the items of a call
+abbrev pub is_taking : State → Bool
+is_taking (Granting None) = true
+is_taking other = false
 
-state_does : (k : KernelState) (ec : ℕ) (s : State) → acts_by s (option_and_then (state_in k.contexts) (edge_of s)) ≡ true → edge_of s ≡ None → Does (deed_in k ec s)
-state_does k ec Fresh acts free = refl
-state_does k ec Ready acts free = ready_holds Does k ec (context k ec).recall
-    (record { steps = refl; raises = λ reason q0 q1. refl; dies = λ reason q0. refl; refuses = λ number status. refl; rows = λ c. row_does k (pd_of k ec) c })
-state_does k ec Parked acts free = absurd (cc)
-state_does k ec (Calling h) acts free = absurd (cc)
-state_does k ec (Helping h) acts free = absurd (cc)
-state_does k ec (Exiting reason q0 q1) acts free = refl
-state_does k ec (Sending reason q0 q1 h) acts free = absurd (cc)
-state_does k ec Dead acts free = absurd (cc)
+-- it has no edge, and takes no items: no call leads to either yet
+abbrev pub IsAlone : State → Type 0
+IsAlone s = (edge_of s ≡ None) × (is_taking s ≡ false)
 
-entry_does : (k : KernelState) (ec : ℕ) (o : Option EcState) → acts_as k.contexts (option_map (λ x. x.state) o) ≡ true → NoEdge o → Does (deed_in k ec (context_in o).state)
+abbrev pub Alone : Option EcState → Type 0
+Alone None = Unit {0}
+Alone (Some x) = IsAlone x.state
+
+state_does : (k : KernelState) (ec : ℕ) (s : State) → acts_by s (option_and_then (state_in k.contexts) (edge_of s)) ≡ true → IsAlone s → Does (deed_in k ec s)
+state_does k ec Fresh acts alone = refl
+state_does k ec Ready acts alone = ready_holds Does k ec (context k ec).recall
+    (record { steps = refl; raises = λ reason q0 q1. refl; dies = λ reason q0. refl; refuses = λ number status. refl; rows = λ c read. row_does k (pd_of k ec) c })
+state_does k ec Parked acts alone = absurd (cc)
+state_does k ec (Calling h) acts alone = let free = alone.0 in absurd (cc)
+state_does k ec (Helping h) acts alone = let free = alone.0 in absurd (cc)
+state_does k ec (Exiting reason q0 q1) acts alone = refl
+state_does k ec (Sending reason q0 q1 h) acts alone = let free = alone.0 in absurd (cc)
+state_does k ec (Granting None) acts alone = let free = alone.1 in absurd (cc)
+state_does k ec (Granting (Some new)) acts alone = granting_holds Does k ec new (record { gives = λ d x g. refl; skips = λ reason place cursor. refl; ends = refl })
+state_does k ec Dead acts alone = absurd (cc)
+
+entry_does : (k : KernelState) (ec : ℕ) (o : Option EcState) → acts_as k.contexts (option_map (λ x. x.state) o) ≡ true → Alone o → Does (deed_in k ec (context_in o).state)
 entry_does k ec None acts free = absurd (cc)
 entry_does k ec (Some x) acts free = state_does k ec x.state acts free
 
-deed_does : (k : KernelState) (ec : ℕ) → acts k.contexts ec ≡ true → NoEdge (ec_in k.contexts ec) → Does (deed k ec)
+deed_does : (k : KernelState) (ec : ℕ) → acts k.contexts ec ≡ true → Alone (ec_in k.contexts ec) → Does (deed k ec)
 unfolding deed
 deed_does k ec acts free = entry_does k ec (ec_in k.contexts ec) acts free
 
 something : (d : Deed) → Does d → d ≢ Rests
 something d does is = let rests = ap is_rest is in absurd (cc)
 
--- who is chosen does something, where there are no edges
-pub chosen_does : (k : KernelState) (cpu : ℕ) → ((e : ℕ) → NoEdge (ec_in k.contexts e)) → IfSome (choice k cpu) (λ c. deed k c.actor ≢ Rests)
+-- who is chosen does something, where all are alone
+pub chosen_does : (k : KernelState) (cpu : ℕ) → ((e : ℕ) → Alone (ec_in k.contexts e)) → IfSome (choice k cpu) (λ c. deed k c.actor ≢ Rests)
 chosen_does k cpu free = by_choice (choice k cpu) (choice_acts k cpu)
   where
     by_choice : (o : Option Candidate) → IfSome o (Acts k) → IfSome o (λ c. deed k c.actor ≢ Rests)

@@ -9,17 +9,19 @@ use Rattle.nova_model.specs.Boot.{Scenario, Image, boot, bare, with_image, with_
 use Rattle.nova_model.specs.Capabilities.{is_ec, is_local, is_pt, is_sc}
 use Rattle.nova_model.specs.Choice.{choice}
 use Rattle.nova_model.specs.Creation.{context_of, count_of, identifier_of, idle_semaphore, object_of, transfer_of, with_object, words_of}
-use Rattle.nova_model.specs.Deeds.{changed, deed, done, instruction, recalled, stepped, with_context}
+use Rattle.nova_model.specs.Deeds.{changed, deed, done, instruction, recalled, stepped, with_context, with_transfer}
+use Rattle.nova_model.specs.Delegations.{Delegations}
+use Rattle.nova_model.specs.declared.transfer.Transfer.{Transfer}
 use Rattle.nova_model.specs.Edges.{acts_as, acts}
 use Rattle.nova_model.specs.Memory.{Memory}
 use Rattle.nova_model.specs.Runs.{after, run}
-use Rattle.nova_model.specs.State.{KernelState, Contexts, budget_at, context, context_at, context_in, ec_in, entry, pd_of}
+use Rattle.nova_model.specs.State.{KernelState, Contexts, budget_at, context, context_at, context_in, ec_in, entry, no_transfer, pd_of}
 use Rattle.nova_model.specs.Turn.{budget_after, charged, counted, is_spent, paid_by, quantum_in, state_after, turn, turn_by}
 use Rattle.nova_model.specs.declared.budget.Budget.{Budget}
 use Rattle.nova_model.specs.declared.budget.Candidate.{Candidate}
 use Rattle.nova_model.specs.declared.context.EcState.{EcState}
 use Rattle.nova_model.specs.declared.deed.Deed.{Deed}
-use Rattle.nova_model.specs.declared.deed.Deed.TheVariants.{Rests, Steps, Raises, Dies, Refuses, Makes, Recalls, Tells, Names}
+use Rattle.nova_model.specs.declared.deed.Deed.TheVariants.{Rests, Steps, Raises, Dies, Refuses, Makes, Recalls, Tells, Names, Opens, Gives, Skips, Ends}
 use Rattle.nova_model.specs.declared.new_object.NewObject.{NewObject}
 use Rattle.nova_model.specs.declared.new_object.NewObject.TheVariants as new
 use Rattle.nova_laws.specs.Tables.{IsOf, is_sm}
@@ -42,7 +44,7 @@ map_set f [] n v h = refl
 map_set {A} {B} f (x ∷ xs) zero v h = ap (λ (y : B). y ∷ map f xs) h
 map_set {A} {B} f (x ∷ xs) (suc n) v h = ap (λ (l : List B). f x ∷ l) (map_set f xs n v h)
 
-get_more : (os : List Object) (o x : Object) (n : ℕ) → slice_get os n ≡ Some x → slice_get (os ++ o ∷ []) n ≡ Some x
+pub get_more : (os : List Object) (o x : Object) (n : ℕ) → slice_get os n ≡ Some x → slice_get (os ++ o ∷ []) n ≡ Some x
 get_more [] o x n h = absurd (cc)
 get_more (y ∷ os) o x zero h = h
 get_more (y ∷ os) o x (suc n) h = get_more os o x n h
@@ -110,8 +112,12 @@ changed_tag (Dies reason q0) x = refl
 changed_tag (Refuses call status) x = refl
 changed_tag (Makes call target made) x = refl
 changed_tag (Recalls ec) x = refl
-changed_tag (Tells ticks) x = refl
+changed_tag (Tells call value) x = refl
 changed_tag (Names pt identifier) x = refl
+changed_tag (Opens target domain) x = refl
+changed_tag (Gives child cursor) x = refl
+changed_tag (Skips reason place cursor) x = refl
+changed_tag (Ends item children) x = refl
 
 with_memory : (k : KernelState) (m : Memory) → Fits k → Fits (record k { memory = m })
 with_memory k m h = record {
@@ -145,7 +151,7 @@ recalled_fits k other (Some y) is h = record {
 }
 
 -- a portal gets an identifier
-there_by : (o : Option (Option ℕ)) (v : ℕ) → option_map is_some o ≡ Some true → IfSome o (λ e. is_some (Some v) ≡ is_some e)
+there_by : {T : Type 0} (o : Option (Option T)) (v : T) → option_map is_some o ≡ Some true → IfSome o (λ e. is_some (Some v) ≡ is_some e)
 there_by None v h = tt
 there_by (Some None) v h = absurd (cc)
 there_by (Some (Some x)) v h = refl
@@ -164,9 +170,51 @@ named_fits k pt identifier is h =
       refer = h.refer;
     }
 
+-- how far one is with its items
+with_delegations : (k : KernelState) (f : Delegations) → Fits k → Fits (record k { delegations = f })
+with_delegations k f h = record {
+  contexts = h.contexts;
+  messages = h.messages;
+  transfers = h.transfers;
+  budgets = h.budgets;
+  identifiers = h.identifiers;
+  semaphores = h.semaphores;
+  refer = h.refer;
+}
+
+-- an execution context that is there has an entry in the table of transfers
+tagged : (o : Option (Option EcState)) (object : Option Object) (n : ℕ) → option_map tag o ≡ option_map (tag_of n) object → is_some (entry o) ≡ true → option_map is_ec object ≡ Some true
+tagged None object n h there = absurd (cc)
+tagged (Some None) object n h there = absurd (cc)
+tagged (Some (Some x)) None n h there = absurd (cc)
+tagged (Some (Some x)) (Some Pd) n h there = absurd (cc)
+tagged (Some (Some x)) (Some (Ec pd cpu kind event)) n h there = refl
+tagged (Some (Some x)) (Some (Sc ec cpu priority quantum)) n h there = absurd (cc)
+tagged (Some (Some x)) (Some (Pt ec mtd ip)) n h there = absurd (cc)
+tagged (Some (Some x)) (Some Sm) n h there = absurd (cc)
+
+pub gives_there : (k : KernelState) (ec : ℕ) → is_some (context_at k ec) ≡ true → Fits k → option_map is_some (slice_get k.transfers ec) ≡ Some true
+gives_there k ec there h =
+    let same : option_map tag (slice_get k.contexts ec) ≡ option_map (tag_of (0 + ec)) (slice_get k.objects ec) =
+    sym (get_map tag k.contexts ec) ∙ ap (λ (l : List (Option (ℕ × ℕ))). slice_get l ec) h.contexts ∙ get_tags 0 k.objects ec in
+    sym (get_map is_some k.transfers ec) ∙ ap (λ (l : List Bool). slice_get l ec) h.transfers ∙ get_map is_ec k.objects ec
+    ∙ tagged (slice_get k.contexts ec) (slice_get k.objects ec) (0 + ec) same there
+
+with_transfer_fits : (k : KernelState) (ec : ℕ) (t : Transfer) → option_map is_some (slice_get k.transfers ec) ≡ Some true → Fits k → Fits (with_transfer k ec t)
+with_transfer_fits k ec t there h = record {
+  contexts = h.contexts;
+  messages = h.messages;
+  transfers = map_set is_some k.transfers ec (Some t) (there_by (slice_get k.transfers ec) t there) ∙ h.transfers;
+  budgets = h.budgets;
+  identifiers = h.identifiers;
+  semaphores = h.semaphores;
+  refer = h.refer;
+}
+
 -- ONE OBJECT MORE
 
 tag_new : (n : ℕ) (made : NewObject) → tag (context_of n made) ≡ tag_of n (object_of made)
+tag_new n new.Pd = refl
 tag_new n (new.Ec pd cpu kind sp event) = refl
 tag_new n (new.Pt ec mtd ip) = refl
 tag_new n (new.Sm count) = refl
@@ -186,16 +234,19 @@ transfer_new (Pt ec mtd ip) = refl
 transfer_new Sm = refl
 
 budget_new : (made : NewObject) → false ≡ is_sc (object_of made)
+budget_new new.Pd = refl
 budget_new (new.Ec pd cpu kind sp event) = refl
 budget_new (new.Pt ec mtd ip) = refl
 budget_new (new.Sm count) = refl
 
 identifier_new : (made : NewObject) → is_some (identifier_of made) ≡ is_pt (object_of made)
+identifier_new new.Pd = refl
 identifier_new (new.Ec pd cpu kind sp event) = refl
 identifier_new (new.Pt ec mtd ip) = refl
 identifier_new (new.Sm count) = refl
 
 semaphore_new : (made : NewObject) → is_some (option_map idle_semaphore (count_of made)) ≡ is_sm (object_of made)
+semaphore_new new.Pd = refl
 semaphore_new (new.Ec pd cpu kind sp event) = refl
 semaphore_new (new.Pt ec mtd ip) = refl
 semaphore_new (new.Sm count) = refl
@@ -249,12 +300,18 @@ done_fits k ec (Makes call target made) there asks h =
     made_fits _ (pd_of k ec) target made asks (edited k ec (λ x. changed x (Makes call target made)) (changed_tag (Makes call target made)) there h)
 done_fits k ec (Recalls other) there asks h =
     recalled_fits _ other _ refl (edited k ec (λ x. changed x (Recalls other)) (changed_tag (Recalls other)) there h)
+done_fits k ec (Opens target domain) there asks h =
+    made_fits _ (pd_of k ec) target new.Pd tt (edited k ec (λ x. changed x (Opens target domain)) (changed_tag (Opens target domain)) there h)
+done_fits k ec (Gives child cursor) there asks h = with_transfer_fits (record k { delegations = _ }) ec _ (gives_there k ec there h) (with_delegations k _ h)
+done_fits k ec (Skips reason place cursor) there asks h = with_transfer_fits k ec _ (gives_there k ec there h) h
+done_fits k ec (Ends item children) there asks h =
+    with_transfer_fits _ ec no_transfer (gives_there k ec there h) (edited k ec (λ x. changed x (Ends item children)) (changed_tag (Ends item children)) there h)
 done_fits k ec (Names pt identifier) there asks h =
     named_fits _ pt identifier asks (edited k ec (λ x. changed x (Names pt identifier)) (changed_tag (Names pt identifier)) there h)
 done_fits k ec (Raises reason q0 q1) there asks h = edited k ec (λ x. changed x (Raises reason q0 q1)) (changed_tag (Raises reason q0 q1)) there h
 done_fits k ec (Dies reason q0) there asks h = edited k ec (λ x. changed x (Dies reason q0)) (changed_tag (Dies reason q0)) there h
 done_fits k ec (Refuses call status) there asks h = edited k ec (λ x. changed x (Refuses call status)) (changed_tag (Refuses call status)) there h
-done_fits k ec (Tells ticks) there asks h = edited k ec (λ x. changed x (Tells ticks)) (changed_tag (Tells ticks)) there h
+done_fits k ec (Tells call value) there asks h = edited k ec (λ x. changed x (Tells call value)) (changed_tag (Tells call value)) there h
 
 entry_budget : (o : Option (Option Budget)) (b new : Budget) → entry o ≡ Some b → IfSome o (λ e. is_some (Some new) ≡ is_some e)
 entry_budget None b new h = tt
@@ -285,7 +342,7 @@ charged_fits : (k : KernelState) (cpu sc : ℕ) → Fits k → Fits (charged k c
 unfolding charged
 charged_fits k cpu sc h = paid_fits k cpu sc (quantum_in (slice_get k.objects sc)) (budget_at k sc) refl h
 
-entry_acts : (cs : Contexts) (o : Option EcState) → acts_as cs (option_map (λ x. x.state) o) ≡ true → is_some o ≡ true
+pub entry_acts : (cs : Contexts) (o : Option EcState) → acts_as cs (option_map (λ x. x.state) o) ≡ true → is_some o ≡ true
 entry_acts cs None h = absurd (cc)
 entry_acts cs (Some x) h = refl
 
@@ -295,7 +352,7 @@ turn_by_fits k cpu (Some c) acts h =
     let there : is_some (context_at k c.actor) ≡ true = entry_acts k.contexts (ec_in k.contexts c.actor) acts in
     charged_fits (done k c.actor (deed k c.actor)) cpu c.sc (done_fits k c.actor (deed k c.actor) there (deed_asks k c.actor) h)
 
-after_fits : (k : KernelState) (cpu : ℕ) → Fits k → Fits (after k cpu)
+pub after_fits : (k : KernelState) (cpu : ℕ) → Fits k → Fits (after k cpu)
 unfolding turn
 after_fits k cpu h = turn_by_fits k cpu (choice k cpu) (choice_acts k cpu) h
 
@@ -307,7 +364,7 @@ images_fit : (k : KernelState) (images : List Image) → Fits k → Fits (with_i
 images_fit k [] h = h
 images_fit k (image ∷ images) h = images_fit (with_image k image) images (with_memory k _ h)
 
-boot_fits : (s : Scenario) → Fits (boot s)
+pub boot_fits : (s : Scenario) → Fits (boot s)
 boot_fits s = images_fit (bare s.cpus s.ram s.consoles s.root) s.images
     (record { contexts = refl; messages = refl; transfers = refl; budgets = refl; identifiers = refl; semaphores = refl; refer = (tt, (refl, (refl, tt))) })
 

@@ -11,7 +11,7 @@ use Rattle.nova_model.specs.declared.budget.Budget.{Budget}
 use Rattle.nova_model.specs.declared.budget.Candidate.{Candidate}
 use Rattle.nova_model.specs.declared.context.EcState.{EcState}
 use Rattle.nova_model.specs.declared.deed.Deed.{Deed}
-use Rattle.nova_model.specs.declared.deed.Deed.TheVariants.{Rests, Steps, Makes, Recalls, Names}
+use Rattle.nova_model.specs.declared.deed.Deed.TheVariants.{Rests, Steps, Makes, Recalls, Names, Opens, Gives, Skips, Ends}
 
 stepped_cpus : (k : KernelState) (ec : ℕ) (o : Once) → (stepped k ec o).cpus ≡ k.cpus
 stepped_cpus k ec (Raised reason q0 q1) = refl
@@ -27,6 +27,10 @@ done_cpus k ec Steps = stepped_cpus k ec (instruction k ec)
 done_cpus k ec (Makes call target new) = refl
 done_cpus k ec (Recalls other) = recalled_cpus k ec other _ _
 done_cpus k ec (Names pt identifier) = refl
+done_cpus k ec (Opens target domain) = refl
+done_cpus k ec (Gives child cursor) = refl
+done_cpus k ec (Skips reason place cursor) = refl
+done_cpus k ec (Ends item children) = refl
 done_cpus k ec other = refl
 
 paid_cpus : (k : KernelState) (cpu sc quantum : ℕ) (o : Option Budget) → (counted (paid_by k sc quantum o) cpu).cpus ≡ k.cpus

@@ -3,7 +3,7 @@ use Rattle.std.proofs.Common.{◌≡◌, ℕ, List, refl}
 use Rattle.std.specs.Prelude.{Bool, true, false, not, nat_lt, ◌&&◌, if◌then◌else◌, slice_get, Option, Some, None, option_map, option_and_then, Result, Ok, Err}
 use Rattle.nova_calls.specs.declared.call.Call.{Call}
 use Rattle.nova_calls.specs.declared.call.Call.TheVariants as call
-use Rattle.nova_calls.specs.declared.numbers.TheConstants.{CREATE_EC, CREATE_PT, CREATE_SM}
+use Rattle.nova_calls.specs.declared.numbers.TheConstants.{CREATE_EC, CREATE_PT, CREATE_SM, SC_CTRL}
 use Rattle.nova_objects.specs.declared.object.EcKind.{EcKind}
 use Rattle.nova_objects.specs.declared.object.Object.{Object}
 use Rattle.nova_objects.specs.declared.object.Object.TheVariants.{Pd, Ec, Sc, Pt, Sm}
@@ -11,19 +11,20 @@ use Rattle.nova_range.specs.declared.status.Status.{Status}
 use Rattle.nova_range.specs.declared.status.Status.TheVariants.{BadCap, BadCpu, BadPar}
 use Rattle.nova_model.specs.Capabilities.{allowed, bind_portal_right, capability, control_right, create_right, is_held, is_ec, is_local, is_pd, is_pt, is_sc, named, or_bad_cap}
 use Rattle.nova_model.specs.Creation.{object_of}
-use Rattle.nova_model.specs.Deeds.{deed, deed_in}
+use Rattle.nova_model.specs.Deeds.{deed}
 use Rattle.nova_model.specs.Delegations.{allows}
-use Rattle.nova_model.specs.Hypercalls.{and_then, is_virtual, maker, makes, row, ticks_in, unless}
-use Rattle.nova_model.specs.State.{KernelState, budget_at, context, pd_of}
-use Rattle.nova_model.specs.declared.context.State.{State}
-use Rattle.nova_model.specs.declared.context.State.TheVariants.{Fresh, Ready, Exiting}
+use Rattle.nova_model.specs.Hypercalls.{and_then, is_virtual, maker, makes, new_domain, row, ticks_in, unless}
+use Rattle.nova_model.specs.State.{KernelState, budget_at, pd_of}
 use Rattle.nova_model.specs.declared.deed.Deed.{Deed}
 use Rattle.nova_model.specs.declared.deed.Deed.TheVariants.{Makes, Names, Recalls, Tells}
 use Rattle.nova_model.specs.declared.delegation.Derivation.{Derivation}
 use Rattle.nova_model.specs.declared.new_object.NewObject.{NewObject}
 use Rattle.nova_model.specs.declared.new_object.NewObject.TheVariants as new
 use Rattle.nova_laws.specs.Tables.{IsOf}
-use Rattle.nova_forest.proofs.Walk.{IfDone, ready_holds}
+use Rattle.nova_range.specs.declared.range.Range.{Range}
+use Rattle.nova_range.specs.declared.rights.Rights.{Rights}
+use Rattle.nova_laws.proofs.Rows.{named_holds, unless_holds}
+use Rattle.nova_forest.proofs.Walk.{IfDone, deed_holds}
 
 abbrev pub cpu_of : Option Object → Option ℕ
 cpu_of (Some (Ec pd cpu kind event)) = Some cpu
@@ -101,35 +102,32 @@ pt_refers : (k : KernelState) (mtd ip : ℕ) (r : Result ℕ Status) → IfDone 
 pt_refers k mtd ip (Ok handler) h = h
 pt_refers k mtd ip (Err status) h = tt
 
-unless_asks : (k : KernelState) (test : Bool) (status : Status) (r : Result Deed Status) → IfDone (Asks k) r → IfDone (Asks k) (unless test status r)
-unless_asks k true status r h = tt
-unless_asks k false status r h = h
-
 named_asks : (k : KernelState) (is : Object → Bool) (r : Result ℕ Status) (d : ℕ → Deed) → IfDone (IsOf k.objects is) r →
     ((n : ℕ) → IsOf k.objects is n → Asks k (d n)) → IfDone (Asks k) (and_then r (λ n. Ok (d n)))
 named_asks k is (Ok n) d h asks = asks n h
 named_asks k is (Err status) d h asks = tt
 
+opens_asks : (k : KernelState) (target : ℕ) (first : Option (Range × Rights)) → Asks k (new_domain k target first)
+opens_asks k target None = tt
+opens_asks k target (Some range) = tt
+
 row_asks : (k : KernelState) (domain : ℕ) (c : Call) → IfDone (Asks k) (row k domain c)
-row_asks k domain (call.CreateEc target pd cpu kind sp event) = unless_asks k (is_virtual kind) BadPar _
+row_asks k domain (call.CreatePd target pd first) = named_holds (Asks k) (maker k domain target pd) (λ owner. new_domain k target first) (λ owner. opens_asks k target first)
+row_asks k domain (call.CreateEc target pd cpu kind sp event) = unless_holds (Asks k) (is_virtual kind) BadPar _
     (makes_asks k domain CREATE_EC target pd _ (λ o is. ec_refers k o cpu kind sp event (not (nat_lt cpu k.cpus)) is))
 row_asks k domain (call.CreatePt target pd ec mtd ip) =
     makes_asks k domain CREATE_PT target pd _ (λ o is. pt_refers k mtd.0 ip (named k domain is_local bind_portal_right ec) (named_is k domain is_local bind_portal_right ec))
 row_asks k domain (call.CreateSm target pd count) = makes_asks k domain CREATE_SM target pd (λ o. Ok (new.Sm count)) (λ o is. tt)
+row_asks k domain (call.Lookup range) = tt
 row_asks k domain (call.EcCtrl ec) = named_asks k is_ec (named k domain is_ec control_right ec) (λ n. Recalls n) (named_is k domain is_ec control_right ec) (λ n is. tt)
 row_asks k domain (call.ScCtrl sc) =
-    named_asks k is_sc (named k domain is_sc control_right sc) (λ n. Tells (ticks_in (budget_at k n))) (named_is k domain is_sc control_right sc) (λ n is. tt)
+    named_asks k is_sc (named k domain is_sc control_right sc) (λ n. Tells SC_CTRL (ticks_in (budget_at k n))) (named_is k domain is_sc control_right sc) (λ n is. tt)
 row_asks k domain (call.PtCtrl pt identifier) =
     named_asks k is_pt (named k domain is_pt control_right pt) (λ n. Names n identifier) (named_is k domain is_pt control_right pt) (λ n is. is)
 row_asks k domain other = tt
 
-state_asks : (k : KernelState) (ec : ℕ) (s : State) → Asks k (deed_in k ec s)
-state_asks k ec Fresh = tt
-state_asks k ec Ready = ready_holds (Asks k) k ec (context k ec).recall
-    (record { steps = tt; raises = λ reason q0 q1. tt; dies = λ reason q0. tt; refuses = λ number status. tt; rows = λ c. row_asks k (pd_of k ec) c })
-state_asks k ec (Exiting reason q0 q1) = tt
-state_asks k ec other = tt
-
 pub deed_asks : (k : KernelState) (ec : ℕ) → Asks k (deed k ec)
-unfolding deed
-deed_asks k ec = state_asks k ec (context k ec).state
+deed_asks k ec =
+    deed_holds (Asks k) k ec tt
+    (record { steps = tt; raises = λ reason q0 q1. tt; dies = λ reason q0. tt; refuses = λ number status. tt; rows = λ c read. row_asks k (pd_of k ec) c })
+    (λ new state. record { gives = λ d x g. tt; skips = λ reason place cursor. tt; ends = tt })

@@ -1,19 +1,23 @@
 -- A turn whose event answers a hypercall with another status than SUCCESS is that of a refusal.
 use Rattle.std.proofs.Common.{◌≡◌, ℕ, ap, ◌∙◌, sym, subst, refl}
-use Rattle.std.specs.Prelude.{◌≢◌, Option, Some, None}
+use Rattle.std.specs.Prelude.{◌≢◌, ◌==◌, Bool, true, false, if◌then◌else◌, slice_index, slice_set, Option, Some, None, IsSome}
+use Rattle.nova_range.specs.Statuses.{status_code}
 use Rattle.nova_range.specs.declared.status.Status.{Status}
 use Rattle.nova_model.specs.Choice.{choice}
-use Rattle.nova_model.specs.Deeds.{deed, done, sign_of}
+use Rattle.nova_model.specs.Deeds.{answered, deed, done, sign_of, with_context}
 use Rattle.nova_model.specs.Runs.{after}
-use Rattle.nova_model.specs.State.{KernelState}
+use Rattle.nova_model.specs.State.{KernelState, Contexts, context, context_at, context_in, ec_in, ec_of}
 use Rattle.nova_model.specs.Turn.{charged, event_of, answer_of, turn, turn_by, state_after}
 use Rattle.nova_model.specs.declared.budget.Candidate.{Candidate}
+use Rattle.nova_model.specs.declared.context.EcState.{EcState}
 use Rattle.nova_model.specs.declared.deed.Deed.{Deed}
-use Rattle.nova_model.specs.declared.deed.Deed.TheVariants.{Rests, Steps, Raises, Dies, Refuses, Makes, Recalls, Tells, Names}
+use Rattle.nova_model.specs.declared.deed.Deed.TheVariants.{Rests, Steps, Raises, Dies, Refuses, Makes, Recalls, Tells, Names, Opens, Gives, Skips, Ends}
 use Rattle.nova_model.specs.declared.event.Event.{Event}
 use Rattle.nova_model.specs.declared.event.EventKind.TheVariants.{Answer}
 use Rattle.nova_model.specs.declared.event.Turn.TheVariants.{Stepped}
-use Rattle.nova_laws.specs.Refusals.{IsRefusal}
+use Rattle.nova_laws.specs.Refusals.{IsAnswered, IsRefusal, LeavesRest}
+use Rattle.nova_laws.proofs.Charges.{charge_leaves}
+use Rattle.nova_laws.proofs.Setting.{entry_itself, entry_other, index_itself, index_other}
 
 -- only a refusal answers with another status
 record IsRefused (d : Deed) : Type 0 where
@@ -25,26 +29,87 @@ refuses : (d : Deed) → (sign_of d).0 ≡ Answer → (sign_of d).2 ≢ 0 → Is
 refuses (Refuses call status) answers failed = record { call = call; status = status; is = refl }
 refuses (Makes call target new) answers failed = absurd (failed refl)
 refuses (Recalls ec) answers failed = absurd (failed refl)
-refuses (Tells ticks) answers failed = absurd (failed refl)
+refuses (Tells call value) answers failed = absurd (failed refl)
 refuses (Names pt identifier) answers failed = absurd (failed refl)
+refuses (Opens target domain) answers failed = absurd cc
+refuses (Gives child cursor) answers failed = absurd cc
+refuses (Skips reason place cursor) answers failed = absurd cc
+refuses (Ends item children) answers failed = absurd cc
 refuses Rests answers failed = absurd cc
 refuses Steps answers failed = absurd cc
 refuses (Raises reason q0 q1) answers failed = absurd cc
 refuses (Dies reason q0) answers failed = absurd cc
 
 -- the turn of the chosen one
-turn_chosen : (k : KernelState) (cpu : ℕ) (c : Candidate) → choice k cpu ≡ Some c → after k cpu ≡ charged (done k c.actor (deed k c.actor)) cpu c.sc
+pub turn_chosen : (k : KernelState) (cpu : ℕ) (c : Candidate) → choice k cpu ≡ Some c → after k cpu ≡ charged (done k c.actor (deed k c.actor)) cpu c.sc
 unfolding turn
 turn_chosen k cpu c chosen = ap (λ (o : Option Candidate). state_after k (turn_by k cpu o)) chosen
+
+-- the caller, and the rest, after a refusal and its charge
+answer_of_refusal : (x : EcState) (status : Status) → IsAnswered (status_code status) x (answered x status None)
+answer_of_refusal x status = record {
+  status = λ has. index_itself x.regs.x 10 (status_code status) has;
+  pc = refl;
+  registers = λ i other. by_test i other (i == 0);
+  number = refl;
+  cpu = refl;
+  state = refl;
+  caller = refl;
+  recall = refl;
+}
+  where
+    by_test : (i : ℕ) → i ≢ 10 → (t : Bool) →
+        (if t then 0 else slice_index (slice_set x.regs.x 10 (status_code status)) i) ≡ (if t then 0 else slice_index x.regs.x i)
+    by_test i other true = refl
+    by_test i other false = index_other x.regs.x 10 i (status_code status) other
+
+charged_answer : (k : KernelState) (ec cpu sc : ℕ) (status : Status) → IsSome (context_at k ec) →
+    IsAnswered (status_code status) (context k ec) (context (charged (with_context k ec (answered (context k ec) status None)) cpu sc) ec)
+charged_answer k ec cpu sc status there =
+    let new = with_context k ec (answered (context k ec) status None) in
+    let stays = (charge_leaves new cpu sc).contexts in
+    subst (λ (x : EcState). IsAnswered (status_code status) (context k ec) x)
+    (sym (ap (λ (cs : Contexts). ec_of cs ec) stays ∙ ap context_in (entry_itself k.contexts ec (answered (context k ec) status None) there)))
+    (answer_of_refusal (context k ec) status)
+
+charged_rest : (k : KernelState) (ec cpu sc : ℕ) (x : EcState) → LeavesRest k (charged (with_context k ec x) cpu sc) ec sc cpu
+charged_rest k ec cpu sc x =
+    let left = charge_leaves (with_context k ec x) cpu sc in record {
+      contexts = λ other differs. ap (λ (cs : Contexts). ec_in cs other) left.contexts ∙ entry_other k.contexts ec other x differs;
+      budgets = left.budgets;
+      delegations = left.delegations;
+      objects = left.objects;
+      messages = left.messages;
+      transfers = left.transfers;
+      identifiers = left.identifiers;
+      semaphores = left.semaphores;
+      memory = left.memory;
+      cpus = left.cpus;
+      consoles = left.consoles;
+      guests = left.guests;
+      processors = left.processors;
+      turns = left.turns;
+    }
+
+-- of the turn of who is chosen
+refusal_of : (k : KernelState) (cpu : ℕ) (c : Candidate) (d : Deed) (status : Status) (number : ℕ) → d ≡ Refuses number status →
+    after k cpu ≡ charged (with_context k c.actor (answered (context k c.actor) status None)) cpu c.sc → IsRefusal k cpu (event_of cpu c d)
+refusal_of k cpu c d status number is turns =
+    let code : status_code status ≡ (sign_of d).2 = sym (ap (λ (x : Deed). (sign_of x).2) is) in record {
+      status = status;
+      code = code;
+      answer = λ there.
+          subst (λ (n : ℕ). IsAnswered n (context k c.actor) (context (after k cpu) c.actor)) code
+          (subst (λ (new : KernelState). IsAnswered (status_code status) (context k c.actor) (context new c.actor)) (sym turns) (charged_answer k c.actor cpu c.sc status there));
+      rest = subst (λ (new : KernelState). LeavesRest k new c.actor c.sc cpu) (sym turns) (charged_rest k c.actor cpu c.sc (answered (context k c.actor) status None));
+      after = turns;
+    }
 
 chosen_refusal : (k : KernelState) (cpu : ℕ) (c : Candidate) → choice k cpu ≡ Some c → (sign_of (deed k c.actor)).0 ≡ Answer → (sign_of (deed k c.actor)).2 ≢ 0 →
     IsRefusal k cpu (event_of cpu c (deed k c.actor))
 chosen_refusal k cpu c chosen answers failed =
-    let r = refuses (deed k c.actor) answers failed in record {
-      status = r.status;
-      code = sym (ap (λ (d : Deed). (sign_of d).2) r.is);
-      after = turn_chosen k cpu c chosen ∙ ap (λ (d : Deed). charged (done k c.actor d) cpu c.sc) r.is;
-    }
+    let r = refuses (deed k c.actor) answers failed in
+    refusal_of k cpu c (deed k c.actor) r.status r.call r.is (turn_chosen k cpu c chosen ∙ ap (λ (d : Deed). charged (done k c.actor d) cpu c.sc) r.is)
 
 pub refusal : (k : KernelState) (cpu : ℕ) (e : Event) → answer_of (turn k cpu) ≡ Stepped e → e.kind ≡ Answer → e.b ≢ 0 → IsRefusal k cpu e
 unfolding turn

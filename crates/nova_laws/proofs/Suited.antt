@@ -13,7 +13,7 @@ use Rattle.nova_laws.specs.Tables.{IsContext, IsOf, Suits, is_sm}
 use Rattle.nova_laws.proofs.Fitting.{Fits, boot_run_fits, get_map, get_tags, tag, tag_of}
 use Rattle.nova_laws.proofs.Referring.{Refers, cpu_of}
 
-all_get : {A : Type 0} (P : A → Type 0) (xs : List A) (n : ℕ) → AllByRecursion P xs → IfSome (slice_get xs n) P
+pub all_get : {A : Type 0} (P : A → Type 0) (xs : List A) (n : ℕ) → AllByRecursion P xs → IfSome (slice_get xs n) P
 all_get P [] n h = tt
 all_get P (x ∷ xs) zero h = h.0
 all_get P (x ∷ xs) (suc n) h = all_get P xs n h.1

@@ -5,7 +5,7 @@ use Rattle.std.specs.Prelude.{ℕ, zero, suc, ⊤, ◌≡◌, ◌≢◌, ◌==�
 use Rattle.std.specs.List.{find, list_any}
 use Rattle.nova_model.specs.State.{Contexts, ec_in}
 use Rattle.nova_model.specs.declared.context.State.{State}
-use Rattle.nova_model.specs.declared.context.State.TheVariants.{Fresh, Ready, Parked, Calling, Helping, Exiting, Sending, Dead}
+use Rattle.nova_model.specs.declared.context.State.TheVariants.{Fresh, Ready, Parked, Calling, Helping, Exiting, Sending, Granting, Dead}
 
 abbrev pub state_in : Contexts → ℕ → Option State
 state_in cs e = option_map (λ x. x.state) (ec_in cs e)
@@ -42,6 +42,7 @@ acts_by (Calling h) handler = is_dead handler
 acts_by (Helping h) handler = is_free handler
 acts_by (Exiting reason q0 q1) handler = true
 acts_by (Sending reason q0 q1 h) handler = is_free handler
+acts_by (Granting new) handler = true
 acts_by Dead handler = false
 
 abbrev pub acts_as : Contexts → Option State → Bool

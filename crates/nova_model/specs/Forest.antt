@@ -4,7 +4,7 @@ use Rattle.std.specs.List.{AllByRecursion}
 use Rattle.nova_range.specs.declared.range.Kind.{Kind}
 use Rattle.nova_range.specs.declared.range.Kind.TheVariants.{Mem, Obj}
 use Rattle.nova_range.specs.Ranges.{overlaps}
-use Rattle.nova_model.specs.Delegations.{Delegations, allows, range_of}
+use Rattle.nova_model.specs.Delegations.{Delegations, allows, range_of, is_child_of}
 use Rattle.nova_model.specs.declared.delegation.Derivation.{Derivation}
 
 -- each of a list stands in a relation to all after it
@@ -44,3 +44,14 @@ pub record IsForest (d : Delegations) : Type 0 where
   pub aligned : AllByRecursion IsAligned d.list
   pub parents : AllByRecursion (λ a. HasParentIn d.list a a.parent) d.list
   pub apart : ArePairs (λ a b. a.pd ≡ b.pd → a.kind ≡ b.kind → AreApart a b) d.list
+
+-- a derivation that may join them: of the next id, within its parent, and apart from all of its space
+pub record IsFitting (f : Delegations) (x : Derivation) : Type 0 where
+  pub id : x.id ≡ f.next
+  pub aligned : IsAligned x
+  pub parent : HasParentIn f.list x x.parent
+  pub apart : AllByRecursion (λ a. a.pd ≡ x.pd → a.kind ≡ x.kind → AreApart a x) f.list
+
+-- no derivation of the list is a child of this id
+abbrev pub IsChildless : List Derivation → ℕ → Type 0
+IsChildless list id = AllByRecursion (λ d. is_child_of id d ≡ false) list

@@ -1,21 +1,25 @@
 -- The table of hypercalls: for each number its refusals in their order, each with its condition, and else the deed.
 -- (NOVA specification, hypercalls; the numbers and statuses are this project's.)
-use Rattle.std.specs.Prelude.{ℕ, ◌==◌, Bool, true, false, not, nat_lt, if◌then◌else◌, [], ◌∷◌, Option, Some, None, Result, Ok, Err}
-use Rattle.std.specs.List.{list_any}
+use Rattle.std.specs.Prelude.{ℕ, ◌==◌, Bool, true, false, not, nat_lt, if◌then◌else◌, [], ◌∷◌, length, Option, Some, None, option_map, Result, Ok, Err}
+use Rattle.std.specs.List.{find, list_any}
 use Rattle.rv_model.specs.Registers.{Registers, reg}
 use Rattle.nova_calls.specs.Hypercalls.{call_of}
 use Rattle.nova_calls.specs.declared.call.Call.{Call}
-use Rattle.nova_calls.specs.declared.numbers.TheConstants.{CREATE_EC, CREATE_PT, CREATE_SM, EC_CTRL, SC_CTRL, PT_CTRL}
-use Rattle.nova_calls.specs.declared.call.Call.TheVariants.{CreateEc, CreatePt, CreateSm, EcCtrl, ScCtrl, PtCtrl}
+use Rattle.nova_calls.specs.declared.numbers.TheConstants.{CREATE_PD, CREATE_EC, CREATE_PT, CREATE_SM, LOOKUP, EC_CTRL, SC_CTRL, PT_CTRL}
+use Rattle.nova_calls.specs.declared.call.Call.TheVariants.{CreatePd, CreateEc, CreatePt, CreateSm, Lookup, EcCtrl, ScCtrl, PtCtrl}
 use Rattle.nova_objects.specs.declared.object.EcKind.{EcKind}
 use Rattle.nova_objects.specs.declared.object.EcKind.TheVariants.{Local, Global, Vcpu}
+use Rattle.nova_range.specs.RangeWords.{word_of}
+use Rattle.nova_range.specs.declared.range.Range.{Range}
+use Rattle.nova_range.specs.declared.rights.Rights.{Rights}
 use Rattle.nova_range.specs.declared.status.Status.{Status}
 use Rattle.nova_range.specs.declared.status.Status.TheVariants.{BadHyp, BadCap, BadPar, BadCpu}
 use Rattle.nova_model.specs.Capabilities.{create_right, control_right, bind_portal_right, is_pd, is_ec, is_local, is_sc, is_pt, is_held, named}
+use Rattle.nova_model.specs.Delegations.{covers, range_of}
 use Rattle.nova_model.specs.State.{KernelState, budget_at}
 use Rattle.nova_model.specs.declared.budget.Budget.{Budget}
 use Rattle.nova_model.specs.declared.deed.Deed.{Deed}
-use Rattle.nova_model.specs.declared.deed.Deed.TheVariants.{Refuses, Makes, Recalls, Tells, Names}
+use Rattle.nova_model.specs.declared.deed.Deed.TheVariants.{Refuses, Makes, Recalls, Tells, Names, Opens}
 use Rattle.nova_model.specs.declared.new_object.NewObject.{NewObject}
 use Rattle.nova_model.specs.declared.new_object.NewObject.TheVariants as new
 
@@ -42,6 +46,14 @@ makes k domain call target pd_selector new =
     and_then (maker k domain target pd_selector) (λ owner.
     and_then (new owner) (λ made. Ok (Makes call target made)))
 
+-- create_pd: the create rules; it goes on where there is a first range to be given
+abbrev pub new_domain : KernelState → ℕ → Option (Range × Rights) → Deed
+new_domain k target None = Makes CREATE_PD target new.Pd
+new_domain k target (Some range) = Opens target (length k.objects)
+
+abbrev pub create_pd : KernelState → ℕ → ℕ → ℕ → Option (Range × Rights) → Result Deed Status
+create_pd k domain target pd_selector first = and_then (maker k domain target pd_selector) (λ owner. Ok (new_domain k target first))
+
 abbrev pub is_virtual : EcKind → Bool
 is_virtual Local = false
 is_virtual Global = false
@@ -67,20 +79,26 @@ abbrev pub ticks_in : Option Budget → ℕ
 ticks_in None = 0
 ticks_in (Some b) = b.ticks
 
--- the rows. ec_ctrl, sc_ctrl, pt_ctrl: BAD_CAP where the selector names no such object with control. A call that is not built
+-- the word of the derivation that covers the base of a range, with its own base, order and rights, or 0
+abbrev pub looked_up : KernelState → ℕ → Range → ℕ
+looked_up k domain range = word_of (option_map (λ d. (range_of d, d.rights)) (find (covers range.kind domain range.base) k.delegations.list))
+
+-- the rows. lookup has no refusal. ec_ctrl, sc_ctrl, pt_ctrl: BAD_CAP where the selector names no such object with control. A call that is not built
 -- yet has none.
 abbrev pub row : KernelState → ℕ → Call → Result Deed Status
+row k domain (CreatePd target pd first) = create_pd k domain target pd first
 row k domain (CreateEc target pd cpu kind sp event) = create_ec k domain target pd cpu kind sp event
 row k domain (CreatePt target pd ec mtd ip) = create_pt k domain target pd ec mtd.0 ip
 row k domain (CreateSm target pd count) = create_sm k domain target pd count
+row k domain (Lookup range) = Ok (Tells LOOKUP (looked_up k domain range))
 row k domain (EcCtrl ec) = and_then (named k domain is_ec control_right ec) (λ n. Ok (Recalls n))
-row k domain (ScCtrl sc) = and_then (named k domain is_sc control_right sc) (λ n. Ok (Tells (ticks_in (budget_at k n))))
+row k domain (ScCtrl sc) = and_then (named k domain is_sc control_right sc) (λ n. Ok (Tells SC_CTRL (ticks_in (budget_at k n))))
 row k domain (PtCtrl pt identifier) = and_then (named k domain is_pt control_right pt) (λ n. Ok (Names n identifier))
 row k domain other = Err BadHyp
 
 -- the numbers that are built
 abbrev pub is_built : ℕ → Bool
-is_built number = list_any (λ n. n == number) (CREATE_EC ∷ CREATE_PT ∷ CREATE_SM ∷ EC_CTRL ∷ SC_CTRL ∷ PT_CTRL ∷ [])
+is_built number = list_any (λ n. n == number) (CREATE_PD ∷ CREATE_EC ∷ CREATE_PT ∷ CREATE_SM ∷ LOOKUP ∷ EC_CTRL ∷ SC_CTRL ∷ PT_CTRL ∷ [])
 
 -- a number that is not built is BAD_HYP, whatever its arguments are; else the arguments are read
 abbrev pub asked : KernelState → ℕ → Registers → Result Deed Status

@@ -12,3 +12,5 @@ pub mod Turn
 pub mod Runs
 pub mod Boot
 pub mod Forest
+pub mod Lines
+pub mod Transfers

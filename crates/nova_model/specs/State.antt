@@ -9,17 +9,12 @@ use Rattle.nova_objects.specs.declared.object.EcKind.TheVariants.{Local, Global,
 use Rattle.nova_model.specs.declared.context.EcState.{EcState}
 use Rattle.nova_model.specs.declared.context.State.TheVariants.{Dead}
 use Rattle.nova_model.specs.declared.budget.Budget.{Budget}
+use Rattle.nova_model.specs.declared.transfer.Transfer.{Transfer}
 
 -- of a semaphore: its counter, and the execution contexts that wait at it
 pub record Semaphore : Type 0 where
   pub count : ℕ
   pub waiting : List ℕ
-
--- of an execution context that gives items: the item's index, the place in it, and the children made of it
-pub record Transfer : Type 0 where
-  pub item : ℕ
-  pub cursor : ℕ
-  pub children : ℕ
 
 -- Stir counts: how often something came between, so that what was planned from a state seen before no longer holds. Of each virtual CPU
 -- the inputs from outside, and of each processor its turns.
@@ -76,6 +71,20 @@ context_at k ec = ec_in k.contexts ec
 
 abbrev pub context : KernelState → ℕ → EcState
 context k ec = ec_of k.contexts ec
+
+-- how far an execution context is with the items that it gives
+abbrev pub no_transfer : Transfer
+no_transfer = record { item = 0; cursor = 0; children = 0 }
+
+abbrev pub transfer_in : Option Transfer → Transfer
+transfer_in (Some t) = t
+transfer_in None = no_transfer
+
+abbrev pub transfer_at : KernelState → ℕ → Option Transfer
+transfer_at k ec = entry (slice_get k.transfers ec)
+
+abbrev pub transfer : KernelState → ℕ → Transfer
+transfer k ec = transfer_in (transfer_at k ec)
 
 abbrev pub budget_at : KernelState → ℕ → Option Budget
 budget_at k sc = entry (slice_get k.budgets sc)

@@ -17,6 +17,9 @@ pub enum State {
     Exiting(u32, u32, u32),
     /// Its exit, by reason and two qualifications, found this handler busy.
     Sending(u32, u32, u32, u32),
+    /// It gives: a new protection domain its first range, as its creator; or, with none, it takes the
+    /// items of a call, as the handler.
+    Granting(Option<u32>),
     /// It ended.
     Dead,
 }

@@ -1,4 +1,6 @@
+use crate::delegation::Derivation;
 use crate::new_object::NewObject;
+use crate::transfer::Reason;
 use nova_range::Status;
 
 /// What an execution context does in its turn, and nothing of how it was found out. All that the turn
@@ -36,13 +38,38 @@ pub enum Deed {
     Recalls {
         ec: u32,
     },
-    /// Its hypercall is told the ticks of a scheduling context.
+    /// Its hypercall is told a number.
     Tells {
-        ticks: u32,
+        call: u32,
+        value: u32,
     },
     /// Its hypercall gives a portal an identifier.
     Names {
         pt: u32,
         identifier: u32,
+    },
+    /// Its hypercall makes a protection domain of this number, with a capability at a selector, and
+    /// goes on by giving it a first range.
+    Opens {
+        target: u32,
+        domain: u32,
+    },
+    /// It gives a part of an item: it makes a child, and the cursor moves.
+    Gives {
+        child: Derivation,
+        cursor: u32,
+    },
+    /// It skips a part of an item, whose overlap with what is given begins at a place, and the cursor
+    /// moves.
+    Skips {
+        reason: Reason,
+        place: u32,
+        cursor: u32,
+    },
+    /// Nothing is left of its last item, of this index, of which so many children were made: its
+    /// hypercall ends.
+    Ends {
+        item: u32,
+        children: u32,
     },
 }

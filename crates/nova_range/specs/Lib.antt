@@ -4,3 +4,4 @@ pub mod Mtds
 pub mod RangeWords
 pub mod Clamps
 pub mod Statuses
+pub mod Indices

@@ -3,6 +3,7 @@
 #![tactic(auto)]
 
 pub mod clamped;
+pub mod index;
 pub mod laws;
 pub mod mtd;
 pub mod range;
@@ -14,6 +15,7 @@ pub mod word;
 
 pub use bitflags::Flags;
 pub use clamped::{Clamped, clamp};
+pub use index::{Entry, Index};
 pub use mtd::Mtd;
 pub use range::{Kind, Range, inside, overlap};
 pub use rights::{Rights, Target};

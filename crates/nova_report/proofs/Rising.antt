@@ -1,11 +1,11 @@
 -- Derivations by rising id, and those that are left from an id on.
 use Rattle.std.proofs.Common.{◌≡◌, ◌∙◌, refl, sym, ap, subst, ℕ, ◌+◌, ◌<◌, ◌≤◌, Bool, true, false, List, [], ◌∷◌, ◌++◌, filter, flat_map, Some, None, arith}
 use Rattle.std.specs.Prelude.{nat_le, if◌then◌else◌}
-use Rattle.std.specs.List.{find, AllByRecursion}
+use Rattle.std.specs.List.{find, list_all, AllByRecursion}
 use Rattle.std.proofs.lemmas.Bool.Decides.{nat_tests}
 use Rattle.std.proofs.lemmas.List.{append_assoc, append-nil}
+use Rattle.nova_model.specs.Delegations.{is_from, from_id, id_of, least_by}
 use Rattle.nova_model.specs.Forest.{ArePairs}
-use Rattle.nova_kernel.specs.Views.{is_from}
 use Rattle.nova_model.specs.declared.delegation.Derivation.{Derivation}
 
 abbrev pub Rise : List Derivation → Type 0
@@ -61,6 +61,26 @@ found_none id (x ∷ xs) e = go (nat_le id x.id) (found_none id xs) e where
       → (if b then x ∷ filter (is_from id) xs else filter (is_from id) xs) ≡ []
   go true rest is = cc
   go false rest is = rest is
+
+-- those that are kept of all that come after one come after it
+all_kept : (d : Derivation) (p : Derivation → Bool) (ds : List Derivation) → AllByRecursion (λ b. d.id < b.id) ds → list_all (λ b. nat_le d.id b.id) (filter p ds) ≡ true
+all_kept d p [] all = refl
+all_kept d p (x ∷ xs) all = go (p x) (all_kept d p xs all.1) where
+  go : (b : Bool) → list_all (λ y. nat_le d.id y.id) (filter p xs) ≡ true → list_all (λ y. nat_le d.id y.id) (if b then x ∷ filter p xs else filter p xs) ≡ true
+  go true rest = let after = all.0 in grind (arith, rest, after)
+  go false rest = rest
+
+first_least : (d : Derivation) (ds : List Derivation) → list_all (λ b. nat_le d.id b.id) ds ≡ true → least_by id_of (d ∷ ds) ≡ Some d
+first_least d ds all = let itself : nat_le d.id d.id ≡ true = grind arith in grind (arith, itself, all)
+
+-- the one of least id is the first that is found
+pub least_found : (id : ℕ) (list : List Derivation) → Rise list → from_id list id ≡ find (is_from id) list
+least_found id [] rise = refl
+least_found id (x ∷ xs) rise = go (nat_le id x.id) (least_found id xs rise.1) where
+  go : (b : Bool) → from_id xs id ≡ find (is_from id) xs
+      → least_by id_of (if b then x ∷ filter (is_from id) xs else filter (is_from id) xs) ≡ (if b then Some x else find (is_from id) xs)
+  go true rest = first_least x (filter (is_from id) xs) (all_kept x (is_from id) xs rise.0)
+  go false rest = rest
 
 -- what a loop over them wrote, and what is left to write
 module _ (f : Derivation → List ℕ) (id : ℕ) (list : List Derivation) (before total : List ℕ)

@@ -30,6 +30,7 @@ fn state_word<'a>(state: State) -> &'a str
         State::Helping(_) => "helping",
         State::Exiting(..) => "exiting",
         State::Sending(..) => "sending",
+        State::Granting(_) => "granting",
         State::Dead => "dead",
     }
 }

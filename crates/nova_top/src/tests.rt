@@ -15,7 +15,7 @@ struct Row {
     text: &'static str,
 }
 
-const ROWS: [Row; 9] = [
+const ROWS: [Row; 13] = [
     Row {
         shows: "the root writes to a console",
         words: "solo scenario",
@@ -41,12 +41,44 @@ const ROWS: [Row; 9] = [
         text: "run quiet 13\nat 4 0 1 answer 6 6\nat 11 0 1 answer 3 7\nat 12 0 1 raise 7 0\nat 13 0 1 died 7 0\nec 1 global dead 0000002c x10=00000007 x12=00000001 x17=00000003\nsc 2 0 13\ncap 0 - 0 mem 0 0 7 0\ncap 1 - 0 obj 0 0 1 0\ncap 2 - 0 obj 1 0 7 1\ncap 3 - 0 obj 2 0 1 2\n",
     },
     Row {
+        shows: "a first range of selectors",
+        words: "solo scenario",
+        scenario: "cpus 1\nram 0\nconsoles 0\nroot 0 0 1 10\nimage 0 asm\naddi x17, x0, 2\naddi x10, x0, 32\naddi x12, x0, 639\necall\nebreak\nend\n",
+        room: 4096,
+        exit: Exit::Done,
+        text: "run quiet 10\nat 4 0 1 begin 2 3\nat 5 0 1 made 5 1\nat 6 0 1 made 6 2\nat 7 0 1 made 7 3\nat 8 0 1 ended 0 3\nat 9 0 1 raise 7 0\nat 10 0 1 died 7 0\nec 1 global dead 00000010 x12=0000027f x17=00000002\nsc 2 0 10\ncap 0 - 0 mem 0 0 7 0\ncap 1 - 0 obj 0 0 1 0\ncap 2 - 0 obj 1 0 7 1\ncap 3 - 0 obj 2 0 1 2\ncap 4 - 0 obj 32 0 1 3\ncap 5 1 3 obj 0 0 1 0\ncap 6 2 3 obj 1 0 7 1\ncap 7 3 3 obj 2 0 1 2\n",
+    },
+    Row {
+        shows: "a first range of memory, and one of which parts are skipped",
+        words: "solo scenario",
+        scenario: "cpus 1\nram 2\nconsoles 0\nroot 0 0 1 10\nimage 0 asm\naddi x17, x0, 2\naddi x10, x0, 32\naddi x12, x0, 133\necall\naddi x10, x0, 33\naddi x12, x0, 283\necall\nebreak\nend\n",
+        room: 4096,
+        exit: Exit::Done,
+        text: "run quiet 15\nat 4 0 1 begin 2 3\nat 5 0 1 made 5 0\nat 6 0 1 ended 0 1\nat 9 0 1 begin 2 4\nat 10 0 1 skip 3 0\nat 11 0 1 made 7 2\nat 12 0 1 skip 3 2\nat 13 0 1 ended 0 1\nat 14 0 1 raise 7 0\nat 15 0 1 died 7 0\nec 1 global dead 0000001c x12=0000011b x17=00000002\nsc 2 0 15\ncap 0 - 0 mem 0 2 7 0\ncap 1 - 0 obj 0 0 1 0\ncap 2 - 0 obj 1 0 7 1\ncap 3 - 0 obj 2 0 1 2\ncap 4 - 0 obj 32 0 1 3\ncap 5 0 3 mem 0 1 1 0\ncap 6 - 0 obj 33 0 1 4\ncap 7 2 4 obj 1 0 6 1\n",
+    },
+    Row {
+        shows: "lookup",
+        words: "solo scenario",
+        scenario: "cpus 1\nram 2\nconsoles 0\nroot 0 0 1 10\nimage 0 asm\naddi x17, x0, 8\naddi x10, x0, 1\necall\nebreak\nend\n",
+        room: 4096,
+        exit: Exit::Done,
+        text: "run quiet 5\nat 3 0 1 answer 8 0\nat 4 0 1 raise 7 0\nat 5 0 1 died 7 0\nec 1 global dead 0000000c x11=0000011d x17=00000008\nsc 2 0 5\ncap 0 - 0 mem 0 2 7 0\ncap 1 - 0 obj 0 0 1 0\ncap 2 - 0 obj 1 0 7 1\ncap 3 - 0 obj 2 0 1 2\n",
+    },
+    Row {
         shows: "an endless loop ends at the limit",
         words: "--limit 5 solo scenario",
         scenario: "cpus 1\nram 0\nconsoles 0\nroot 0 0 1 10\nimage 0 hex\n0000006f\nend\n",
         room: 4096,
         exit: Exit::Limit,
         text: "run open 5\nec 1 global ready 00000000\nsc 2 0 5\ncap 0 - 0 mem 0 0 7 0\ncap 1 - 0 obj 0 0 1 0\ncap 2 - 0 obj 1 0 7 1\ncap 3 - 0 obj 2 0 1 2\n",
+    },
+    Row {
+        shows: "the limit comes while a first range is given",
+        words: "solo scenario --limit 5",
+        scenario: "cpus 1\nram 0\nconsoles 0\nroot 0 0 1 10\nimage 0 asm\naddi x17, x0, 2\naddi x10, x0, 32\naddi x12, x0, 639\necall\nebreak\nend\n",
+        room: 4096,
+        exit: Exit::Limit,
+        text: "run open 5\nat 4 0 1 begin 2 3\nat 5 0 1 made 5 1\nec 1 global granting 0000000c x10=00000020 x12=0000027f x17=00000002\nsc 2 0 5\ncap 0 - 0 mem 0 0 7 0\ncap 1 - 0 obj 0 0 1 0\ncap 2 - 0 obj 1 0 7 1\ncap 3 - 0 obj 2 0 1 2\ncap 4 - 0 obj 32 0 1 3\ncap 5 1 3 obj 0 0 1 0\n",
     },
     Row {
         shows: "a valid scenario is ok",

@@ -1,4 +1,4 @@
-use Rattle.nova_forest.proofs.Boots.{boot_run_forest}
+use Rattle.nova_forest.proofs.Changes.{boot_run_forest}
 use Rattle.nova_forest.proofs.delegations_stay_a_forest.Goals as goal
 
 pub returns : goal.returns

@@ -1,6 +1,6 @@
 use Rattle.std.proofs.Common.{◌≡◌, ◌++◌, string_bytes, flat_map, filter, length}
 use Rattle.nova_report.specs.Report.{derivation_line, derivation_lines}
-use Rattle.nova_kernel.specs.Views.{is_from}
+use Rattle.nova_model.specs.Delegations.{is_from}
 use Rattle.nova_report.proofs.derivations.write_derivations.Given as goal
 
 abbrev pub invariant-loop-derivation : goal.invariant-loop-derivation

@@ -1,5 +1,5 @@
 use Rattle.std.proofs.Common.{subst, sym, ◌∙◌}
-use Rattle.nova_forest.proofs.Boots.{done_forest}
+use Rattle.nova_forest.proofs.Changes.{done_forest}
 use Rattle.nova_model.specs.Forest.{IsForest}
 use Rattle.nova_model.specs.State.{KernelState}
 use Rattle.nova_kernel.specs.Parts.{shown, IsCounted}

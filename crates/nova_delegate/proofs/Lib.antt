@@ -1,0 +1,4 @@
+pub mod Least
+pub mod Sources
+pub mod Holdings
+pub mod Children

@@ -1,0 +1,137 @@
+ghost use Rattle.std.specs.Prelude.{◌≤◌};
+ghost use Rattle.nova_delegate.specs.Parts.{IsUnderWay};
+
+use crate::{Job, PartDone, Reason, Skip, job, part};
+use bitflags::Flags;
+use nova_nodes::{Guarded, ListIndex, NoGuard, Nodes};
+use nova_range::{Index, Kind, Range, Rights};
+use std::alloc::Global;
+use std::process::Abort;
+
+/// The protection domains that give and receive.
+const GIVER: u32 = 0;
+
+const RECEIVER: u32 = 5;
+
+/// The word of a range of memory with rights.
+const fn memory(base: u32, order: u32, rights: u32) -> u32 {
+    base << 12 | order << 7 | rights << 2 | 1
+}
+
+/// An item between the two, with hotspot 0.
+fn item(rt: &impl Abort, sent: u32, window: u32) -> Job
+    ensures { IsUnderWay result }
+{
+    match job(sent, 0, window, GIVER, RECEIVER) {
+        Ok(item) => item,
+        Err(_) => panic!(rt; "{sent:08x} is skipped"),
+    }
+}
+
+/// A revoke that forbids each child.
+#[derive(Clone, Copy)]
+struct ForbidsAll;
+
+impl Guarded for ForbidsAll {
+    ghost use Rattle.std.specs.Prelude.{true};
+
+    ghost busy = { λ g delegations parent pd range target. true };
+
+    fn would_grow<I: Index>(
+        &self,
+        _nodes: &Nodes<I>,
+        _parent: Option<u32>,
+        _pd: u32,
+        _range: Range,
+        _target: u32,
+    ) -> bool {
+        true
+    }
+}
+
+/// The giver holds pages 0 to 3 as derivation 0, to read and write, from frame 0 on; the receiver holds
+/// page 8 as derivation 1, the last of these pages to read.
+fn nodes(rt: &impl Abort, alloc: Global) -> Nodes<ListIndex>
+    ensures { result.delegations.next ≤ 2 }
+{
+    let mut nodes = Nodes::new(alloc);
+    nodes.reserve(GIVER, 1).expect(rt, "ample memory");
+    let range = Range {
+        kind: Kind::Mem,
+        base: 0,
+        order: 2,
+    };
+    nodes.root(GIVER, range, Rights::from_bits_retain(3), 0);
+    let mut item = item(rt, memory(3, 0, 1), memory(8, 0, 1));
+    part(&mut nodes, &mut item, &[NoGuard]).expect(rt, "ample memory");
+    nodes
+}
+
+/// What a part did, as a test compares it.
+fn told(done: PartDone) -> (&'static str, u32) {
+    match done {
+        PartDone::Made(id) => ("made", id),
+        PartDone::Skipped(Reason::Rights, place) => ("no right", place),
+        PartDone::Skipped(Reason::Taken, place) => ("taken", place),
+        PartDone::Skipped(Reason::Busy, place) => ("busy", place),
+        PartDone::Ended => ("ended", 0),
+    }
+}
+
+#[test]
+fn a_part_is_made_or_skipped_for_the_first_reason(rt: HostRuntime) {
+    let rows = [
+        (memory(0, 2, 4), memory(16, 2, 7), ("no right", 0)),
+        (memory(0, 0, 1), memory(8, 0, 7), ("taken", 0)),
+        (memory(0, 0, 4), memory(8, 0, 7), ("no right", 0)),
+        (memory(1, 0, 4), memory(16, 2, 7), ("no right", 1)),
+        (memory(0, 2, 1), memory(16, 2, 7), ("made", 2)),
+    ];
+    for (sent, window, wanted) in rows {
+        let mut nodes = nodes(&rt, rt.alloc());
+        let mut item = item(&rt, sent, window);
+        let done = part(&mut nodes, &mut item, &[NoGuard]).expect(&rt, "ample memory");
+        assert!(rt; told(done) == wanted, "{sent:08x}");
+        let done = part(&mut nodes, &mut item, &[NoGuard]).expect(&rt, "ample memory");
+        assert!(rt; told(done) == ("ended", 0), "{sent:08x}");
+    }
+}
+
+#[test]
+fn a_revoke_forbids_a_child(rt: HostRuntime) {
+    let mut nodes = nodes(&rt, rt.alloc());
+    let mut item = item(&rt, memory(0, 2, 1), memory(16, 2, 7));
+    let done = part(&mut nodes, &mut item, &[ForbidsAll]).expect(&rt, "ample memory");
+    assert!(rt; told(done) == ("busy", 0));
+}
+
+#[test]
+fn a_child_lies_where_the_window_says(rt: HostRuntime) {
+    let mut nodes = nodes(&rt, rt.alloc());
+    let mut item = item(&rt, memory(0, 2, 1), memory(16, 2, 7));
+    part(&mut nodes, &mut item, &[NoGuard]).expect(&rt, "ample memory");
+    let child = nodes.get(2).expect(&rt, "the child");
+    assert_eq!(rt; (child.pd, child.parent), (RECEIVER, Some(0)));
+    assert_eq!(rt; (child.base, child.order), (16, 2));
+    assert_eq!(rt; (child.rights.bits(), child.target), (1, 0));
+}
+
+#[test]
+fn an_item_is_skipped_for_the_first_reason(rt: HostRuntime) {
+    let objects = memory(16, 2, 7) | 2;
+    let rows = [
+        (0, memory(16, 2, 7), "empty"),
+        (memory(0, 2, 1), 0, "empty"),
+        (objects, 0, "empty"),
+        (objects, memory(16, 2, 7), "window"),
+        (memory(0, 2, 1), memory(16, 2, 7), "given"),
+    ];
+    for (sent, window, wanted) in rows {
+        let told = match job(sent, 0, window, GIVER, RECEIVER) {
+            Ok(_) => "given",
+            Err(Skip::Empty) => "empty",
+            Err(Skip::Window) => "window",
+        };
+        assert!(rt; told == wanted, "{sent:08x}");
+    }
+}

@@ -1,0 +1,10 @@
+pub mod Sorted
+pub mod Tables
+pub mod Found
+pub mod Indexed
+pub mod Joined
+pub mod Last
+pub mod Rooms
+pub mod Kept
+pub mod Points
+pub mod Bounds

@@ -1,0 +1,53 @@
+use Rattle.std.proofs.Common.{rules, arith, ◌≡◌, ◌∙◌, List, ap, sym, subst, not, ◌==◌}
+use Rattle.std.specs.Prelude.{map, Some, None}
+use Rattle.std.proofs.lemmas.Bool.{eqb-true}
+use Rattle.std.proofs.lemmas.Fn.{filter_same}
+use Rattle.nova_model.specs.Delegations.{Delegations, without, with_id}
+use Rattle.nova_model.specs.Forest.{IsChildless}
+use Rattle.nova_model.specs.declared.delegation.Derivation.{Derivation}
+use Rattle.nova_forest.proofs.Members.{found_in}
+use Rattle.nova_nodes.specs.Spaces.{IsIndexed, shown_room}
+use Rattle.nova_nodes.specs.NodesStates.{IsSound}
+use Rattle.nova_nodes.proofs.Joined.{indexed_less}
+use Rattle.nova_nodes.proofs.Kept.{nothing_goes, sound_without}
+use Rattle.nova_nodes.proofs.Rooms.{shown_more, total_same}
+use Rattle.nova_nodes.proofs.nodes.Nodes.remove_leaf.Goals as goal
+
+pub returns-in_default-clause-removed : goal.returns-in_default-clause-removed
+returns-in_default-clause-removed g c =
+    let none : with_id c.args.self.now.delegations.list c.args.id ≡ None = search rules in
+    sym (nothing_goes c.args.self.now.delegations c.args.id none)
+
+pub invariant_of-self : goal.invariant_of-self
+invariant_of-self g c =
+    let list = c.self.inside.list.items in
+    let f : Delegations = record { list = list; next = c.self.inside.next } in
+    let d = c.in-Some.d in
+    let left : c.retain.new.self.items ≡ (without f c.args.id).list =
+    filter_same _ (λ (d : Derivation). not (d.id == c.args.id)) _ (λ x b f' k. search rules) _ _ c.retain.ensures.filtered in
+    let seen : c.args.self.now.delegations.list ≡ list = search rules in
+    let found : with_id list c.args.id ≡ Some d = search rules in
+    let there = found_in (λ (a : Derivation). a.id == c.args.id) list d found in
+    let id : d.id ≡ c.args.id = eqb-true d.id c.args.id there.1 in
+    let sound = sound_without f c.args.id c.self.invariant.0 (subst (λ (ds : List Derivation). IsChildless ds c.args.id) seen c.requires.childless) in
+    let indexed = indexed_less c.self.inside.spaces c.remove.new.self f d c.self.invariant.0.forest there.0 c.self.invariant.1.0 c.remove.ensures.here c.remove.ensures.others in
+    let total = total_same c.self.inside.spaces c.remove.new.self c.remove.ensures.rooms in
+    let room = c.self.invariant.1.1.0 in
+    let same : c.retain.new.self.items ≡ (without f d.id).list = left ∙ ap (λ n. (without f n).list) (sym id) in (
+      subst (λ (ds : List Derivation). IsSound (record { list = ds; next = c.self.inside.next })) (sym left) sound,
+      (subst (λ (ds : List Derivation). IsIndexed c.remove.new.self ds) (sym same) indexed, (omega arith, omega arith)),
+    )
+
+pub returns-clause-removed : goal.returns-clause-removed
+returns-clause-removed g c =
+    let list = c.self.inside.list.items in
+    let left : c.retain.new.self.items ≡ (without (record { list = list; next = c.self.inside.next }) c.args.id).list =
+    filter_same _ (λ (d : Derivation). not (d.id == c.args.id)) _ (λ x b f' k. search rules) _ _ c.retain.ensures.filtered in
+    let seen : c.args.self.now.delegations ≡ record { list = list; next = c.self.inside.next } = search rules in
+    ap (λ (ds : List Derivation). record { list = ds; next = c.self.inside.next }) left ∙ ap (λ (f : Delegations). without f c.args.id) (sym seen)
+
+pub returns-clause-rooms : goal.returns-clause-rooms
+returns-clause-rooms g c = λ other.
+    let seen : c.args.self.now.rooms ≡ map shown_room c.self.inside.spaces = search rules in
+    let same = c.remove.ensures.rooms other in
+    shown_more c.args.self.now.rooms c.self.inside.spaces c.remove.new.self other seen (omega arith)

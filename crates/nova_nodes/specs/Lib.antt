@@ -1,0 +1,4 @@
+pub mod ListIndices
+pub mod Spaces
+pub mod NodesStates
+pub mod Searches

@@ -1,0 +1,16 @@
+//! Derivations in a list by rising id, found by an index for each space of a protection domain.
+#![tactic(auto)]
+
+pub mod guarded;
+pub mod list_index;
+pub mod nodes;
+mod space;
+mod spaces;
+#[cfg(test)]
+mod tests;
+
+pub use guarded::{Guarded, NoGuard};
+pub use list_index::ListIndex;
+pub use nodes::Nodes;
+pub use nova_model::Derivation;
+pub use nova_range::{Entry, Index, Kind, Range, Rights};

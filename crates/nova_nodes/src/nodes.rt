@@ -1,0 +1,299 @@
+ghost use Rattle.std.specs.Prelude.{◌≡◌, ◌<◌, ◌≤◌, ◌+◌, ◌-◌, ◌^◌, ℕ, [], IfSome, IsSome, IsOk, OnOk, OnErr, Some, None, option_map};
+ghost use Rattle.std.specs.List.{find};
+ghost use Rattle.nova_model.specs.Delegations.{covers, first_from, with_id, from_id, is_child_of, newest_child, older_child, parent_of, derived, added, without, id_of};
+ghost use Rattle.nova_model.specs.Forest.{IsFitting, IsChildless};
+ghost use Rattle.nova_nodes.specs.NodesStates.{HasSpaces, IsPlaced, IsSound, room};
+ghost use Rattle.nova_nodes.specs.Searches.{child_below};
+
+use crate::spaces::Spaces;
+use nova_model::Derivation;
+use nova_range::{Index, Kind, Range, Rights};
+use std::alloc::{AllocError, Global};
+use std::marker::Model;
+
+/// The delegations: derivations by rising id, the id of the next one, and for each protection domain
+/// an index of its memory and one of its objects. Room for more is reserved before they are added, for
+/// each domain by itself.
+#[derive(Drop)]
+pub struct Nodes<I: Index> {
+    list: Vec<Derivation>,
+    next: u32,
+    spare: usize,
+    spaces: Spaces<I>,
+}
+
+impl<I: Index> Model for Nodes<I> {
+    ghost use Rattle.std.specs.Prelude.{◌+◌, ◌≤◌, map, vec_len, vec_capacity};
+    ghost use Rattle.nova_nodes.specs.NodesStates.{NodesState, IsSound};
+    ghost use Rattle.nova_nodes.specs.Spaces.{IsIndexed, shown_room, total_room};
+
+    ghost Value = { NodesState };
+
+    ghost view = { λ n. record {
+      delegations = record { list = n.list.items; next = n.next };
+      rooms = map shown_room n.spaces;
+    } };
+
+    ghost invariant = { λ n. IsSound (record { list = n.list.items; next = n.next }) × (IsIndexed n.spaces n.list.items × ((total_room n.spaces ≤ n.spare) × (vec_len n.list + n.spare ≤ vec_capacity n.list))) };
+}
+
+/// Whether a derivation is a child of this parent.
+fn is_child_of(d: &Derivation, parent: u32) -> bool
+    ensures { result ≡ is_child_of parent d.now }
+{
+    match d.parent {
+        Some(id) => id == parent,
+        None => false,
+    }
+}
+
+impl<I: Index> Nodes<I> {
+    /// No derivations, and room for none. The first one that is added has id 0.
+    pub fn new(alloc: Global) -> Nodes<I>
+        ensures none { result.delegations ≡ record { list = []; next = 0 } }
+        ensures room { (pd : ℕ) → room result pd ≡ 0 }
+    {
+        Nodes {
+            list: Vec::new(alloc),
+            next: 0,
+            spare: 0,
+            spaces: Spaces::new(alloc),
+        }
+    }
+
+    /// The id that the next derivation takes.
+    pub fn next(&self) -> u32
+        ensures next { result ≡ self.now.delegations.next }
+        ensures sound { IsSound self.now.delegations }
+    {
+        self.next
+    }
+
+    /// Makes the two spaces of a protection domain, with no derivations; those that are there stay. It
+    /// refuses for want of memory alone, and then nothing has changed.
+    pub fn add_pd(&mut self, pd: u32) -> Result<(), AllocError>
+        ensures there { OnOk result (HasSpaces self.new pd) }
+        ensures kept { self.new.delegations ≡ self.old.delegations }
+        ensures rooms { (other : ℕ) → room self.old other ≤ room self.new other }
+        ensures err { OnErr result (self.new ≡ self.old) }
+    {
+        self.spaces.add_pd(pd)
+    }
+
+    /// Makes room for `n` more derivations of a protection domain, counted from those that are there,
+    /// and its spaces where they are wanted for that. Room that was made before stays, for each domain
+    /// its own, and where it is enough, this succeeds. It refuses for want of memory alone, and then no
+    /// derivation has changed.
+    pub fn reserve(&mut self, pd: u32, n: usize) -> Result<(), AllocError>
+        ensures kept { self.new.delegations ≡ self.old.delegations }
+        ensures ok { OnOk result (n ≤ room self.new pd) }
+        ensures enough { n ≤ room self.old pd → IsOk result }
+        ensures rooms { (other : ℕ) → room self.old other ≤ room self.new other }
+    {
+        let room = self.spaces.room(pd);
+        if n <= room {
+            return Ok(());
+        }
+        let spare = self.spare.checked_add(n - room).ok_or(AllocError)?;
+        self.list.reserve(spare)?;
+        self.spaces.reserve(pd, n)?;
+        self.spare = spare;
+        Ok(())
+    }
+
+    /// Makes room for `n` more derivations of a protection domain than there was room for. It refuses
+    /// for want of memory alone, and then no derivation has changed.
+    pub fn reserve_more(&mut self, pd: u32, n: usize) -> Result<(), AllocError>
+        ensures kept { self.new.delegations ≡ self.old.delegations }
+        ensures ok { OnOk result (room self.old pd + n ≤ room self.new pd) }
+        ensures rooms { (other : ℕ) → room self.old other ≤ room self.new other }
+    {
+        let room = self.spaces.room(pd).checked_add(n).ok_or(AllocError)?;
+        self.reserve(pd, room)
+    }
+
+    /// Adds a derivation in room that was made for its domain, and answers its id. With the next id it
+    /// fits into the forest: it lies within its parent, and shares no place with another of its space.
+    fn add(
+        &mut self,
+        parent: Option<u32>,
+        pd: u32,
+        range: Range,
+        rights: Rights,
+        target: u32,
+    ) -> u32
+        requires room { 0 < room self.old pd }
+        requires next { self.old.delegations.next < 2 ^ 32 - 1 }
+        requires fits { IsFitting self.old.delegations (derived self.old.delegations.next parent pd range rights target) }
+        requires placed { IsPlaced (derived self.old.delegations.next parent pd range rights target) }
+        ensures id { result ≡ self.old.delegations.next }
+        ensures added { self.new.delegations ≡ added self.old.delegations (derived self.old.delegations.next parent pd range rights target) }
+        ensures room { room self.old pd ≤ room self.new pd + 1 }
+        ensures others { (other : ℕ) → ¬ (other ≡ pd) → room self.old other ≤ room self.new other }
+        ensures there { with_id self.new.delegations.list result ≡ Some (derived self.old.delegations.next parent pd range rights target) }
+    {
+        let id = self.next;
+        self.list.push_reserved(Derivation {
+            id,
+            pd,
+            kind: range.kind,
+            base: range.base,
+            order: range.order,
+            rights,
+            target,
+            parent,
+        });
+        self.spaces.insert(pd, range, id);
+        self.next += 1;
+        self.spare -= 1;
+        id
+    }
+
+    /// Adds a derivation with no parent in room that was made, and answers its id. It fits into the
+    /// forest: it is aligned, and shares no place with another of its space.
+    pub fn root(&mut self, pd: u32, range: Range, rights: Rights, target: u32) -> u32
+        requires room { 0 < room self.old pd }
+        requires next { self.old.delegations.next < 2 ^ 32 - 1 }
+        requires fits { IsFitting self.old.delegations (derived self.old.delegations.next None pd range rights target) }
+        requires placed { IsPlaced (derived self.old.delegations.next None pd range rights target) }
+        ensures id { result ≡ self.old.delegations.next }
+        ensures added { self.new.delegations ≡ added self.old.delegations (derived self.old.delegations.next None pd range rights target) }
+        ensures room { room self.old pd ≤ room self.new pd + 1 }
+        ensures others { (other : ℕ) → ¬ (other ≡ pd) → room self.old other ≤ room self.new other }
+        ensures there { with_id self.new.delegations.list result ≡ Some (derived self.old.delegations.next None pd range rights target) }
+    {
+        self.add(None, pd, range, rights, target)
+    }
+
+    /// Adds a derivation with a parent in room that was made, and answers its id. It fits into the
+    /// forest: it is aligned, lies within its parent, and shares no place with another of its space.
+    pub fn child(&mut self, parent: u32, pd: u32, range: Range, rights: Rights, target: u32) -> u32
+        requires room { 0 < room self.old pd }
+        requires next { self.old.delegations.next < 2 ^ 32 - 1 }
+        requires fits { IsFitting self.old.delegations (derived self.old.delegations.next (Some parent) pd range rights target) }
+        requires placed { IsPlaced (derived self.old.delegations.next (Some parent) pd range rights target) }
+        ensures id { result ≡ self.old.delegations.next }
+        ensures added { self.new.delegations ≡ added self.old.delegations (derived self.old.delegations.next (Some parent) pd range rights target) }
+        ensures room { room self.old pd ≤ room self.new pd + 1 }
+        ensures others { (other : ℕ) → ¬ (other ≡ pd) → room self.old other ≤ room self.new other }
+        ensures there { with_id self.new.delegations.list result ≡ Some (derived self.old.delegations.next (Some parent) pd range rights target) }
+    {
+        self.add(Some(parent), pd, range, rights, target)
+    }
+
+    /// Takes away the derivation of an id, which is no other's parent. Where no derivation has the id,
+    /// nothing changes.
+    pub fn remove_leaf(&mut self, id: u32)
+        requires childless { IsChildless self.old.delegations.list id }
+        ensures removed { self.new.delegations ≡ without self.old.delegations id }
+        ensures rooms { (other : ℕ) → room self.old other ≤ room self.new other }
+    {
+        let Some(d) = self.get(id) else { return };
+        self.spaces.remove(d.pd, d.kind, d.base);
+        self.list.retain(|d| d.id != id);
+    }
+
+    /// The derivation of an id, or nothing where none has it.
+    pub fn get(&self, id: u32) -> Option<Derivation>
+        ensures found { result ≡ with_id self.now.delegations.list id }
+        ensures placed { IfSome result IsPlaced }
+        ensures sound { IsSound self.now.delegations }
+    {
+        let d = self.from_id(id)?;
+        if d.id == id { Some(d) } else { None }
+    }
+
+    /// The derivation of least id at or after the given one, or nothing where there is none.
+    pub fn from_id(&self, id: u32) -> Option<Derivation>
+        ensures found { result ≡ from_id self.now.delegations.list id }
+        ensures placed { IfSome result IsPlaced }
+        ensures sound { IsSound self.now.delegations }
+    {
+        let at = self.list.partition_point(|d| d.id < id);
+        self.list.get(at).copied()
+    }
+
+    /// The derivation that covers a place of a protection domain's space, or nothing where none does.
+    /// The search may be quicker the next time; what is kept stays.
+    pub fn at(&mut self, pd: u32, kind: Kind, place: u32) -> Option<Derivation>
+        ensures found { result ≡ find (covers kind pd place) self.new.delegations.list }
+        ensures kept { self.new ≡ self.old }
+        ensures placed { IfSome result IsPlaced }
+        ensures sound { IsSound self.new.delegations }
+    {
+        let id = self.spaces.find(pd, kind, place)?;
+        self.get(id)
+    }
+
+    /// The derivation that covers a place of a protection domain's space, or nothing where none does,
+    /// for callers that only look.
+    pub fn covering(&self, pd: u32, kind: Kind, place: u32) -> Option<Derivation>
+        ensures found { result ≡ find (covers kind pd place) self.now.delegations.list }
+        ensures placed { IfSome result IsPlaced }
+        ensures sound { IsSound self.now.delegations }
+    {
+        let (range, id) = self.spaces.first_from(pd, kind, place)?;
+        if range.base > place {
+            return None;
+        }
+        self.get(id)
+    }
+
+    /// Of a protection domain's space the derivation of least base among those that hold some place at
+    /// or after the given one, or nothing where there is none.
+    pub fn first_from(&self, pd: u32, kind: Kind, place: u32) -> Option<Derivation>
+        ensures found { result ≡ first_from self.now.delegations.list kind pd place }
+        ensures placed { IfSome result IsPlaced }
+        ensures sound { IsSound self.now.delegations }
+    {
+        let (_, id) = self.spaces.first_from(pd, kind, place)?;
+        self.get(id)
+    }
+
+    /// The child of a derivation that has the greatest id, or nothing where it has no child.
+    pub fn newest_child(&self, id: u32) -> Option<u32>
+        ensures found { result ≡ option_map id_of (newest_child self.now.delegations.list id) }
+        ensures sound { IsSound self.now.delegations }
+    {
+        self.child_below(id, self.next)
+    }
+
+    /// The child of a parent of greatest id below another.
+    fn child_below(&self, parent: u32, bound: u32) -> Option<u32>
+        ensures found { result ≡ option_map id_of (child_below self.now.delegations.list parent bound) }
+    {
+        let mut last: Option<u32> = None;
+        for d in &self.list {
+            if d.id < bound && is_child_of(d, parent) {
+                last = Some(d.id);
+            }
+        }
+        last
+    }
+
+    /// Of the children of a derivation's parent the one of greatest id below its own, or nothing where
+    /// it has no parent or none is older. The derivation is there.
+    pub fn older(&self, id: u32) -> Option<u32>
+        requires there { IsSome (with_id self.now.delegations.list id) }
+        ensures found { IfSome (with_id self.now.delegations.list id) (λ d. result ≡ option_map id_of (older_child self.now.delegations.list d)) }
+        ensures sound { IsSound self.now.delegations }
+    {
+        let Some(d) = self.get(id) else {
+            unreachable!()
+        };
+        let parent = d.parent?;
+        self.child_below(parent, d.id)
+    }
+
+    /// The parent of a derivation, which is there; nothing where it has none.
+    pub fn parent(&self, id: u32) -> Option<u32>
+        requires there { IsSome (with_id self.now.delegations.list id) }
+        ensures found { IfSome (with_id self.now.delegations.list id) (λ d. result ≡ option_map id_of (parent_of self.now.delegations.list d)) }
+        ensures sound { IsSound self.now.delegations }
+    {
+        let Some(d) = self.get(id) else {
+            unreachable!()
+        };
+        d.parent
+    }
+}
