@@ -43,8 +43,8 @@ use Rattle.nova_forest.proofs.Selectors.{TakesSelector, call_takes}
 use Rattle.nova_forest.proofs.Transfers.{kinds_equal, next_facts, left_facts, judged_facts, child_rights, child_is_range, free_child_fits}
 use Rattle.nova_forest.proofs.Walk.{IfDone, resumed, IsGiving, deed_holds}
 
--- deciding: a selector that a deed takes is free and one, its domain may make objects, a domain that it opens has the next number, and a child
--- that it gives is one
+-- deciding: a selector that a deed takes is below 2^20 and free, the domain that takes it may make objects, a domain that it opens has the next
+-- number, and a child that it gives is one
 
 -- what is asked of a maker
 pub record IsAsked (k : KernelState) (domain target : ℕ) (object : Object) : Type 0 where

@@ -147,7 +147,7 @@ turn_by_counts k cpu (Some c) acts fits sound h =
     charged_counts (done k c.actor (deed k c.actor)) cpu c.sc
     (done_counts k c.actor (deed k c.actor) (deed_wants k c.actor) (deed_allowed k c.actor) there fits sound h)
 
-after_counts : (k : KernelState) (cpu : ℕ) → Fits k → Sound k → AreCounted k → AreCounted (after k cpu)
+pub after_counts : (k : KernelState) (cpu : ℕ) → Fits k → Sound k → AreCounted k → AreCounted (after k cpu)
 unfolding turn
 after_counts k cpu fits sound h = turn_by_counts k cpu (choice k cpu) (choice_acts k cpu) fits sound h
 
@@ -164,7 +164,7 @@ consoles_below : (order c n : ℕ) (rest : List Derivation) → AllByRecursion (
 consoles_below order c zero rest h = h
 consoles_below order c (suc n) rest h = ((λ is. absurd (cc)), consoles_below order (c + 1) n rest h)
 
-bare_gives : (s : Scenario) (e : ℕ) → receiver (ec_in (bare s.cpus s.ram s.consoles s.root).contexts e) ≡ None
+pub bare_gives : (s : Scenario) (e : ℕ) → receiver (ec_in (bare s.cpus s.ram s.consoles s.root).contexts e) ≡ None
 bare_gives s zero = refl
 bare_gives s (suc zero) = refl
 bare_gives s (suc (suc zero)) = refl

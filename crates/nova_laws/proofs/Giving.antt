@@ -295,7 +295,7 @@ bare_for s (suc (suc (suc e))) = refl
 pub boot_for : (s : Scenario) → Sound (boot s)
 boot_for s = images_for (bare s.cpus s.ram s.consoles s.root) s.images (bare_for s)
 
-boot_run_for : (s : Scenario) (turns : List ℕ) → Sound (run (boot s) turns)
+pub boot_run_for : (s : Scenario) (turns : List ℕ) → Sound (run (boot s) turns)
 boot_run_for s turns = run_for (boot s) turns (boot_for s)
 
 -- THE LAW
@@ -335,11 +335,13 @@ entry_gives : (os : List Object) (o : Option EcState) (t : Transfer) (domain : �
 entry_gives os None t domain is h = absurd (cc)
 entry_gives os (Some x) t domain is h = subst (λ (s : State). IsFor os s x.regs t) is h
 
-pub creators_give : (s : Scenario) (turns : List ℕ) (ec domain : ℕ) → (context (run (boot s) turns) ec).state ≡ Granting (Some domain) → GivesRange (run (boot s) turns) ec domain
-creators_give s turns ec domain is =
-    let k = run (boot s) turns in
-    let h = entry_gives k.objects (ec_in k.contexts ec) (transfer k ec) domain is (boot_run_for s turns ec) in
+pub sound_gives : (k : KernelState) (ec domain : ℕ) → (context k ec).state ≡ Granting (Some domain) → Sound k → GivesRange k ec domain
+sound_gives k ec domain is sounds =
+    let h = entry_gives k.objects (ec_in k.contexts ec) (transfer k ec) domain is (sounds ec) in
     gives_by k ec domain (meaning_of (reg (context k ec).regs 12)) refl h.1 (sound (reg (context k ec).regs 12)) h.0
+
+pub creators_give : (s : Scenario) (turns : List ℕ) (ec domain : ℕ) → (context (run (boot s) turns) ec).state ≡ Granting (Some domain) → GivesRange (run (boot s) turns) ec domain
+creators_give s turns ec domain is = sound_gives (run (boot s) turns) ec domain is (boot_run_for s turns)
 
 pub others_rest : (s : Scenario) (turns : List ℕ) (ec : ℕ) → is_giving (context (run (boot s) turns) ec).state ≡ false → transfer (run (boot s) turns) ec ≡ no_transfer
 others_rest s turns ec is =

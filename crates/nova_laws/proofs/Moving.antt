@@ -22,7 +22,7 @@ use Rattle.nova_forest.proofs.Walk.{ready_holds, resumed}
 use Rattle.nova_laws.specs.Giving.{MovesOn}
 use Rattle.nova_laws.proofs.Rows.{IsWhole, done_weaker, row_whole}
 
-abbrev Moves : KernelState → ℕ → Deed → Type 0
+abbrev pub Moves : KernelState → ℕ → Deed → Type 0
 Moves k ec (Gives child cursor) = MovesOn k ec cursor
 Moves k ec (Skips reason place cursor) = MovesOn k ec cursor
 Moves k ec other = Unit {0}
@@ -78,7 +78,7 @@ state_moves k ec (Calling handler) = tt
 state_moves k ec (Helping handler) = tt
 state_moves k ec (Sending reason q0 q1 handler) = tt
 
-deed_moves : (k : KernelState) (ec : ℕ) → Moves k ec (deed k ec)
+pub deed_moves : (k : KernelState) (ec : ℕ) → Moves k ec (deed k ec)
 unfolding deed
 deed_moves k ec = state_moves k ec (context k ec).state
 

@@ -81,7 +81,7 @@ common_places a low b high ha hb first second = by_order (cases_lt high low)
 -- CHILDREN
 
 -- the item of a creator, from its cursor on
-abbrev item : (k : KernelState) (ec domain : ℕ) → GivesRange k ec domain → Job
+abbrev pub item : (k : KernelState) (ec domain : ℕ) → GivesRange k ec domain → Job
 item k ec domain gift = resumed k ec (whole gift.range gift.rights (pd_of k ec) domain)
 
 child_shared : (k : KernelState) (ec domain : ℕ) (d : Derivation) (gift : GivesRange k ec domain) → IsForest k.delegations →
@@ -123,26 +123,39 @@ child_shared k ec domain d gift forest is =
       rights = shared_rights d.rights gift.rights;
     }
 
-giving_shared : (k : KernelState) (ec domain : ℕ) (d x : Derivation) → IsGiving k ec domain d x → IsForest k.delegations → GivesRange k ec domain → IsShared k ec x
+child_ends : (k : KernelState) (ec domain : ℕ) (d : Derivation) (gift : GivesRange k ec domain) → IsForest k.delegations →
+    next_source k.delegations.list (item k ec domain gift) ≡ Some d →
+    (child_of (item k ec domain gift) k.delegations.next d).base + 2 ^ (child_of (item k ec domain gift) k.delegations.next d).order ≤ d.base + 2 ^ d.order
+child_ends k ec domain d gift forest is =
+    let next = next_facts k.delegations.list (item k ec domain gift) d is in
+    let left = left_facts (item k ec domain gift) d next.left in
+    let aligned = all_at IsAligned k.delegations.list d forest.aligned next.there in
+    (common_places d.base d.order gift.range.base gift.range.order aligned.base gift.places.aligned left.first left.second).in_first
+
+giving_shared : (k : KernelState) (ec domain : ℕ) (d x : Derivation) → IsGiving k ec domain d x → IsForest k.delegations → GivesRange k ec domain →
+    IsShared k ec x × (x.base + 2 ^ x.order ≤ d.base + 2 ^ d.order)
 giving_shared k ec domain d x g forest gift =
     let both : Ok g.job ≡ Ok (whole gift.range gift.rights (pd_of k ec) domain) = sym g.reads ∙ gift.job in
     let same : g.job ≡ whole gift.range gift.rights (pd_of k ec) domain = cc in
     let next = subst (λ (j : Job). next_source k.delegations.list (resumed k ec j) ≡ Some d) same g.next in
     let good = subst (λ (j : Job). judged (is_busy k) k.delegations.list (child_of (resumed k ec j) k.delegations.next d) ≡ Ok x) same g.good in
-    let child = judged_facts (is_busy k) k.delegations.list (child_of (item k ec domain gift) k.delegations.next d) x good in
-    subst (IsShared k ec) (sym child.same) (child_shared k ec domain d gift forest next)
+    let child = judged_facts (is_busy k) k.delegations.list (child_of (item k ec domain gift) k.delegations.next d) x good in (
+      subst (IsShared k ec) (sym child.same) (child_shared k ec domain d gift forest next),
+      subst (λ (y : Derivation). y.base + 2 ^ y.order ≤ d.base + 2 ^ d.order) (sym child.same) (child_ends k ec domain d gift forest next),
+    )
 
 -- of each deed
-abbrev Shares : KernelState → ℕ → Deed → Type 0
+abbrev pub Shares : KernelState → ℕ → Deed → Type 0
 Shares k ec (Gives x cursor) =
-    IsForest k.delegations → ((domain : ℕ) → (context k ec).state ≡ Granting (Some domain) → GivesRange k ec domain) → IsShared k ec x
+    IsForest k.delegations → ((domain : ℕ) → (context k ec).state ≡ Granting (Some domain) → GivesRange k ec domain) →
+    IsShared k ec x × (x.base + 2 ^ x.order ≤ cursor)
 Shares k ec other = Unit {0}
 
 whole_shares : (k : KernelState) (ec : ℕ) (d : Deed) → is_part d ≡ false → Shares k ec d
 whole_shares k ec (Gives x cursor) whole = absurd (cc)
 whole_shares k ec other whole = tt
 
-deed_shares : (k : KernelState) (ec : ℕ) → Shares k ec (deed k ec)
+pub deed_shares : (k : KernelState) (ec : ℕ) → Shares k ec (deed k ec)
 deed_shares k ec =
     deed_holds (Shares k ec) k ec tt
     (record { steps = tt; raises = λ reason q0 q1. tt; dies = λ reason q0. tt; refuses = λ number status. tt; rows = λ c read. done_weaker IsWhole (Shares k ec) (row k (pd_of k ec) c) (whole_shares k ec) (row_whole k (pd_of k ec) c) })
@@ -151,4 +164,4 @@ deed_shares k ec =
 pub children_shared : (s : Scenario) (turns : List ℕ) (ec cursor : ℕ) (child : Derivation) → deed (run (boot s) turns) ec ≡ Gives child cursor → IsShared (run (boot s) turns) ec child
 children_shared s turns ec cursor child is =
     let k = run (boot s) turns in
-    subst (Shares k ec) is (deed_shares k ec) (boot_run_forest s turns) (λ domain state. creators_give s turns ec domain state)
+    (subst (Shares k ec) is (deed_shares k ec) (boot_run_forest s turns) (λ domain state. creators_give s turns ec domain state)).0

@@ -21,8 +21,8 @@ pub record IsAnswered (code : ℕ) (old new : EcState) : Type 0 where
   pub caller : new.caller ≡ old.caller
   pub recall : new.recall ≡ old.recall
 
--- the rest is as before: all but one execution context, the budget of one scheduling context, and the counts of turns, of which those of
--- other processors stay
+-- the rest is as before: all but one execution context, the budget of one scheduling context, the next stamp, and the counts of turns, of
+-- which those of other processors stay
 pub record LeavesRest (old new : KernelState) (ec sc cpu : ℕ) : Type 0 where
   pub contexts : (other : ℕ) → other ≢ ec → context_at new other ≡ context_at old other
   pub budgets : (other : ℕ) → other ≢ sc → budget_at new other ≡ budget_at old other

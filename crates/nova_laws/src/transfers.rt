@@ -45,8 +45,9 @@ pub fn a_child_is_what_range_and_derivation_share()
 {}
 
 /// Each part that is given or skipped moves the cursor on, from a place below 2^20, so that an item has
-/// at most 2^20 parts. Afterwards the cursor is there, a child that was given is counted, and the item
-/// and all other transfers are as before; and so they are after the turn.
+/// at most 2^20 parts. Where the execution context has a transfer, the cursor is there afterwards, a
+/// child that was given is counted, and the item and all other transfers are as before. And whatever
+/// list of turns is taken from whatever boot state, so it is after a turn whose event tells of a part.
 pub fn each_part_moves_on()
     ensures gives { (k : KernelState) (ec cursor : ℕ) (child : Derivation) → deed k ec ≡ Gives child cursor → MovesOn k ec cursor }
     ensures skips { (k : KernelState) (ec place cursor : ℕ) (reason : Reason) → deed k ec ≡ Skips reason place cursor → MovesOn k ec cursor }
