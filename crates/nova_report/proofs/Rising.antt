@@ -26,6 +26,17 @@ found P p (x ∷ xs) d all e = go (p x) (found P p xs d all.1) e where
   go true rest is = let same : x ≡ d = cc in subst P same all.0
   go false rest is = rest is
 
+-- it passes the test itself
+passes : (p : Derivation → Bool) (list : List Derivation) (d : Derivation) → find p list ≡ Some d → p d ≡ true
+passes p [] d e = cc
+passes p (x ∷ xs) d e = go (p x) refl (passes p xs d) e where
+  go : (b : Bool) → p x ≡ b → (find p xs ≡ Some d → p d ≡ true) → (if b then Some x else find p xs) ≡ Some d → p d ≡ true
+  go true test rest is = let same : x ≡ d = cc in subst (λ a. p a ≡ true) same test
+  go false test rest is = rest is
+
+pub found_from : (id : ℕ) (list : List Derivation) (d : Derivation) → find (is_from id) list ≡ Some d → id ≤ d.id
+found_from id list d is = let test = passes (is_from id) list d is in grind (arith, nat_tests, test)
+
 -- all that come after one are from its next id on
 rest_from : (id : ℕ) (x : Derivation) (xs : List Derivation) → AllByRecursion (λ d. x.id < d.id) xs → id ≤ x.id + 1 → filter (is_from id) xs ≡ xs
 rest_from id x [] all le = refl

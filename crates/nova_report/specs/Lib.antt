@@ -1,3 +1,4 @@
 pub use Rattle.nova_model.specs.State
 pub mod Words
 pub mod Report
+pub mod Summary

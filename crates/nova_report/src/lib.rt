@@ -1,6 +1,7 @@
 //! The report of a run: its turns, its events, and what the kernel holds at the end, as text.
 #![tactic(auto)]
 
+mod bench;
 mod consoles;
 mod derivations;
 mod events;
@@ -10,4 +11,5 @@ mod run;
 #[cfg(test)]
 mod tests;
 
+pub use bench::summary;
 pub use run::report;

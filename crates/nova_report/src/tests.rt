@@ -1,6 +1,6 @@
 ghost use Rattle.std.specs.Prelude.{◌≡◌, ◌≤◌, ◌<◌, ◌+◌, IfOk};
 
-use crate::report;
+use crate::{report, summary};
 use nova_kernel::Kernel;
 use nova_model::{Root, Turn};
 use std::alloc::{AllocError, Global};
@@ -43,7 +43,7 @@ fn kernel_of(
     Ok(kernel)
 }
 
-/// The report of a program after at most `turns` turns.
+/// The report of a program after at most `turns` turns, and the summary of scenario 7.
 fn report_of(
     rt: &impl Abort,
     alloc: Global,
@@ -61,11 +61,14 @@ fn report_of(
         };
         trace.push(event)?;
     }
-    report(alloc, &kernel, trace.as_slice())
+    let mut text = report(alloc, &kernel, trace.as_slice())?;
+    text.extend_from_slice(summary(alloc, 7, &kernel, trace.as_slice())?.as_slice())?;
+    Ok(text)
 }
 
-/// How many consoles there are, how many turns are taken at most, a program, and its report.
-const RUNS: [(u32, u32, &[u32], &str); 4] = [
+/// How many consoles there are, how many turns are taken at most, a program, its report and its
+/// summary.
+const RUNS: [(u32, u32, &[u32], &str); 5] = [
     (
         0,
         0,
@@ -78,6 +81,7 @@ cap 0 - 0 mem 0 0 7 0
 cap 1 - 0 obj 0 0 1 0
 cap 2 - 0 obj 1 0 7 1
 cap 3 - 0 obj 2 0 1 2
+bench 7 turns 0 made 0 gone 0 caps 4
 ",
     ),
     (
@@ -100,6 +104,7 @@ cap 0 - 0 mem 0 0 7 0
 cap 1 - 0 obj 0 0 1 0
 cap 2 - 0 obj 1 0 7 1
 cap 3 - 0 obj 2 0 1 2
+bench 7 turns 5 made 0 gone 0 caps 4
 ",
     ),
     (
@@ -130,6 +135,7 @@ cap 3 - 0 mem 3 0 3 3
 cap 4 - 0 obj 0 0 1 0
 cap 5 - 0 obj 1 0 7 1
 cap 6 - 0 obj 2 0 1 2
+bench 7 turns 8 made 0 gone 0 caps 7
 ",
     ),
     (
@@ -165,6 +171,27 @@ cap 2 - 0 obj 1 0 7 1
 cap 3 - 0 obj 2 0 1 2
 cap 4 - 0 obj 32 0 7 3
 cap 5 - 0 obj 33 0 3 4
+bench 7 turns 12 made 0 gone 0 caps 6
+",
+    ),
+    (
+        0,
+        6,
+        &[0x0020_0893, 0x0200_0513, 0x0050_0613, 0x0000_0073],
+        "\
+run open 6
+at 4 0 1 begin 2 3
+at 5 0 1 made 5 0
+at 6 0 1 ended 0 1
+ec 1 global ready 00000010 x12=00000005 x17=00000002
+sc 2 0 6
+cap 0 - 0 mem 0 0 7 0
+cap 1 - 0 obj 0 0 1 0
+cap 2 - 0 obj 1 0 7 1
+cap 3 - 0 obj 2 0 1 2
+cap 4 - 0 obj 32 0 1 3
+cap 5 0 3 mem 0 0 1 0
+bench 7 turns 6 made 1 gone 0 caps 6
 ",
     ),
 ];

@@ -1,0 +1,5 @@
+pub mod BlockLemmas
+pub mod LineLemmas
+pub mod NumberLemmas
+pub mod OrderLemmas
+pub mod TextLemmas

@@ -1,0 +1,172 @@
+-- What is written is read back, and what is read was written.
+use Rattle.std.proofs.Common.{◌≡◌, ℕ, ◌+◌, ◌≤◌, ◌<◌, ◌^◌, ◌==◌, Bool, true, false, cond, List, [], ◌∷◌, ◌++◌, refl, ap, sym, subst, ◌∙◌, arith, nat_lt, nat_le, Option, Some, None, Result, Ok, Err, append_assoc}
+use Rattle.std.specs.Prelude.{flat_map, IsTrue}
+use Rattle.std.specs.Fmt.{decimal}
+use Rattle.std.specs.List.{last_or, list_all, slice_split, join_with_byte}
+use Rattle.std.proofs.lemmas.List.Sums.{sum_by-cons}
+use Rattle.std.proofs.lemmas.List.Folds.{list_all-append}
+use Rattle.std.proofs.lemmas.List.Concat.{flat_map-append}
+use Rattle.std.proofs.lemmas.List.Splits.{slice_split_at, join_with_byte-slice_split}
+use Rattle.nova_order.specs.Blocks.{total, is_of, is_merged_after, IsOrder, is_within}
+use Rattle.nova_order.specs.Text.{line_of, text_of, block_of, is_line_feed}
+use Rattle.nova_order.specs.Read.{judged, with_block, with_line, and_then, ended, read_lines, order_of, next_line}
+use Rattle.nova_order.specs.declared.block.Block.{Block}
+use Rattle.nova_order.specs.declared.fault.OrderFault.{OrderFault}
+use Rattle.nova_order.specs.declared.fault.OrderFault.TheVariants.{BadCpu, ZeroCount, NotMerged, TooMany}
+use Rattle.nova_order.proofs.BlockLemmas.{merged_push, total_push, counted_push}
+use Rattle.nova_order.proofs.LineLemmas.{parts, read_line}
+use Rattle.nova_order.proofs.TextLemmas.{words_of, block_of_words, no_feed_in_words, words_of_line}
+
+append-nil : {X : Type 0} (xs : List X) → xs ++ [] ≡ xs
+append-nil [] = refl
+append-nil (x ∷ xs) = ap (λ ys. x ∷ ys) (append-nil xs)
+
+last_push : (o : Option Block) (bs : List Block) (b : Block) → last_or o (bs ++ b ∷ []) ≡ Some b
+last_push o [] b = refl
+last_push o (x ∷ xs) b = last_push (Some x) xs b
+
+-- a block's line is its words and a line feed
+words_first : (b : Block) (rest : List ℕ) → line_of b ++ rest ≡ words_of b ++ 10 ∷ rest
+words_first b rest =
+    append_assoc (decimal b.cpu) (32 ∷ (decimal b.count ++ 10 ∷ [])) rest
+    ∙ ap (λ bytes. decimal b.cpu ++ 32 ∷ bytes) (append_assoc (decimal b.count) (10 ∷ []) rest)
+    ∙ sym (append_assoc (decimal b.cpu) (32 ∷ decimal b.count) (10 ∷ rest))
+
+-- the line of a block that fits after others
+module _ (cpus most : ℕ) (before : List Block) (b : Block) where
+  judged_fits : b.cpu < cpus → 0 < b.count → is_of (last_or None before) b.cpu ≡ false → total before + b.count ≤ most → judged cpus most before (Some b) ≡ Ok b
+  judged_fits cpu count other fits =
+      let one : nat_le cpus b.cpu ≡ false = grind arith in
+      let two : (b.count == 0) ≡ false = grind arith in
+      let four : nat_lt most (total before + b.count) ≡ false = grind arith in
+      rw (one, two, other, four) refl
+
+  pub line_fits : b.cpu < 2 ^ 64 → b.count < 2 ^ 64 → b.cpu < cpus → 0 < b.count → is_of (last_or None before) b.cpu ≡ false → total before + b.count ≤ most → with_line cpus most before (words_of b) ≡ Ok (before ++ b ∷ [])
+  line_fits cpu_fits count_fits cpu count other fits =
+      ap (λ o. with_block before (judged cpus most before o)) (block_of_words b cpu_fits count_fits)
+      ∙ ap (with_block before) (judged_fits cpu count other fits)
+
+module _ (cpus most : ℕ) (few : cpus ≤ 2 ^ 32) where
+  read_step : (before : List Block) (b : Block) (rest : List ℕ) (whole : Result (List Block) OrderFault)
+      → b.cpu < cpus → b.count < 2 ^ 64 → 0 < b.count → is_of (last_or None before) b.cpu ≡ false → total before + b.count ≤ most
+      → read_lines cpus most (before ++ b ∷ []) (slice_split is_line_feed rest) ≡ whole
+      → read_lines cpus most before (slice_split is_line_feed (line_of b ++ rest)) ≡ whole
+  read_step before b rest whole cpu count_fits count other fits is =
+      let cpu_fits : b.cpu < 2 ^ 64 = omega arith in
+      ap (λ bytes. read_lines cpus most before (slice_split is_line_feed bytes)) (words_first b rest)
+      ∙ ap (read_lines cpus most before) (slice_split_at is_line_feed (words_of b) 10 rest (no_feed_in_words b cpu_fits count_fits) refl)
+      ∙ read_line cpus most before (words_of b) (slice_split is_line_feed rest) (parts rest)
+      ∙ ap (λ w. and_then w (λ more. read_lines cpus most more (slice_split is_line_feed rest))) (line_fits cpus most before b cpu_fits count_fits cpu count other fits)
+      ∙ is
+
+  pub read_back : (before bs : List Block) → list_all (λ block. nat_lt block.cpu cpus) bs ≡ true → list_all (λ block. nat_lt 0 block.count) bs ≡ true → is_merged_after (last_or None before) bs ≡ true → total before + total bs ≤ most → total before + total bs < 2 ^ 64
+      → read_lines cpus most before (slice_split is_line_feed (flat_map line_of bs)) ≡ Ok (before ++ bs)
+  read_back before [] cpu count merged within fits = ap Ok (sym (append-nil before))
+  read_back before (b ∷ bs) cpu count merged within fits =
+      let sum : total (b ∷ bs) ≡ b.count + total bs = sum_by-cons (λ block. block.count) b bs in
+      let more : total (before ++ b ∷ []) ≡ total before + b.count = total_push before b in
+      let last = sym (last_push None before b) in
+      let rest_merged = subst (λ o. is_merged_after o bs ≡ true) last (grind arith) in
+      read_step before b (flat_map line_of bs) _ (grind arith) (omega arith) (grind arith) (grind arith) (omega arith)
+      (read_back (before ++ b ∷ []) bs (grind arith) (grind arith) rest_merged (omega arith) (omega arith) ∙ ap Ok (append_assoc before (b ∷ []) bs))
+
+pub written_is_read : (blocks : List Block) (cpus most : ℕ) → cpus ≤ 2 ^ 32 → IsOrder blocks → IsTrue (is_within cpus most blocks) → order_of (text_of blocks) cpus most ≡ Ok blocks
+unfolding order_of text_of
+written_is_read blocks cpus most few is within =
+    read_back cpus most few [] blocks (grind arith) is.counted is.merged (grind arith) (omega (arith, is.fits))
+
+-- a block that is found fits after those before
+pub record Fits (cpus most : ℕ) (before : List Block) (o : Option Block) (b : Block) : Type 0 where
+  pub said : o ≡ Some b
+  pub cpu : nat_lt b.cpu cpus ≡ true
+  pub count : nat_lt 0 b.count ≡ true
+  pub other : is_of (last_or None before) b.cpu ≡ false
+  pub within : total before + b.count ≤ most
+
+module _ (cpus most : ℕ) (before : List Block) (x b : Block) where
+  tests_fit : (one two three four : Bool) → nat_le cpus x.cpu ≡ one → (x.count == 0) ≡ two → is_of (last_or None before) x.cpu ≡ three → nat_lt most (total before + x.count) ≡ four
+      → cond one (Err (BadCpu (next_line before))) (cond two (Err (ZeroCount (next_line before))) (cond three (Err (NotMerged (next_line before))) (cond four (Err (TooMany (next_line before))) (Ok x)))) ≡ Ok b
+      → Fits cpus most before (Some x) b
+  tests_fit true two three four is_one is_two is_three is_four is = absurd cc
+  tests_fit false true three four is_one is_two is_three is_four is = absurd cc
+  tests_fit false false true four is_one is_two is_three is_four is = absurd cc
+  tests_fit false false false true is_one is_two is_three is_four is = absurd cc
+  tests_fit false false false false is_one is_two is_three is_four is =
+      let same : x ≡ b = cc in
+      let P : Block → Type 0 = λ y. Fits cpus most before (Some x) y in
+      subst P same (record { said = refl; cpu = grind arith; count = grind arith; other = is_three; within = grind arith })
+
+judged_ok : (cpus most : ℕ) (before : List Block) (o : Option Block) (b : Block) → judged cpus most before o ≡ Ok b → Fits cpus most before o b
+judged_ok cpus most before None b is = absurd cc
+judged_ok cpus most before (Some x) b is = tests_fit cpus most before x b _ _ _ _ refl refl refl refl is
+
+-- what holds of blocks that were read
+pub record AreRead (cpus most : ℕ) (blocks : List Block) : Type 0 where
+  pub cpu : list_all (λ block. nat_lt block.cpu cpus) blocks ≡ true
+  pub counted : list_all (λ block. nat_lt 0 block.count) blocks ≡ true
+  pub merged : is_merged_after None blocks ≡ true
+  pub within : total blocks ≤ most
+
+module _ (cpus most : ℕ) where
+  read_push : (before : List Block) (o : Option Block) (b : Block) → AreRead cpus most before → Fits cpus most before o b → AreRead cpus most (before ++ b ∷ [])
+  read_push before o b are fits = record {
+    cpu = grind (arith, list_all-append (λ block. nat_lt block.cpu cpus) before (b ∷ []), are.cpu, fits.cpu);
+    counted = grind (arith, counted_push before b, are.counted, fits.count);
+    merged = grind (arith, merged_push None before b, are.merged, fits.other);
+    within = omega (arith, total_push before b, fits.within);
+  }
+
+  -- the blocks before with the text that is left are the blocks of the whole
+  abbrev Reads : List Block → List ℕ → List Block → Type 0
+  Reads before left blocks = (flat_map line_of before ++ left ≡ flat_map line_of blocks) × AreRead cpus most blocks
+
+  reads_none : (before blocks : List Block) → before ≡ blocks → AreRead cpus most before → Reads before [] blocks
+  reads_none before blocks same are = (append-nil (flat_map line_of before) ∙ ap (flat_map line_of) same, subst (AreRead cpus most) same are)
+
+  reads_rest : (before blocks : List Block) (rest : List ℕ) → ended before rest ≡ Ok blocks → AreRead cpus most before → Reads before rest blocks
+  reads_rest before blocks [] is are = reads_none before blocks (cc) are
+  reads_rest before blocks (b ∷ bs) is are = absurd cc
+
+  reads_line : (before blocks : List Block) (line left : List ℕ) (b : Block) → block_of line ≡ Some b → Reads (before ++ b ∷ []) left blocks → Reads before (line ++ 10 ∷ left) blocks
+  reads_line before blocks line left b said reads =
+      let words = words_of_line line b said in (
+        ap (λ bytes. flat_map line_of before ++ (bytes ++ 10 ∷ left)) words
+            ∙ ap (λ bytes. flat_map line_of before ++ bytes) (sym (words_first b left))
+            ∙ sym (append_assoc (flat_map line_of before) (line_of b) left)
+            ∙ ap (λ bytes. bytes ++ left) (sym (flat_map-append line_of before (b ∷ []) ∙ ap (λ bytes. flat_map line_of before ++ bytes) (append-nil (line_of b))))
+            ∙ reads.0,
+        reads.1,
+      )
+
+  reads_judged : (before blocks : List Block) (line left : List ℕ) (next : List Block → Result (List Block) OrderFault) (r : Result Block OrderFault)
+      → judged cpus most before (block_of line) ≡ r → and_then (with_block before r) next ≡ Ok blocks → AreRead cpus most before
+      → ((more : List Block) → next more ≡ Ok blocks → AreRead cpus most more → Reads more left blocks)
+      → Reads before (line ++ 10 ∷ left) blocks
+  reads_judged before blocks line left next (Err fault) is_r is are rest = absurd cc
+  reads_judged before blocks line left next (Ok b) is_r is are rest =
+      let fits = judged_ok cpus most before (block_of line) b is_r in
+      reads_line before blocks line left b fits.said (rest (before ++ b ∷ []) is (read_push before (block_of line) b are fits))
+
+  pub reads : (before blocks : List Block) (ps : List (List ℕ)) → read_lines cpus most before ps ≡ Ok blocks → AreRead cpus most before → Reads before (join_with_byte 10 ps) blocks
+  reads before blocks [] is are = reads_none before blocks (cc) are
+  reads before blocks (rest ∷ []) is are = reads_rest before blocks rest is are
+  reads before blocks (line ∷ next ∷ lines) is are =
+      reads_judged before blocks line (join_with_byte 10 (next ∷ lines)) (λ more. read_lines cpus most more (next ∷ lines)) _ refl is are (λ more. reads more blocks (next ∷ lines))
+
+  read_none : AreRead cpus most []
+  read_none = record { cpu = refl; counted = refl; merged = refl; within = omega arith }
+
+module _ (bytes : List ℕ) (cpus most : ℕ) (blocks : List Block) (is : order_of bytes cpus most ≡ Ok blocks) where
+  read_whole : Reads cpus most [] (join_with_byte 10 (slice_split is_line_feed bytes)) blocks
+  unfolding order_of
+  read_whole = reads cpus most [] blocks (slice_split is_line_feed bytes) is (read_none cpus most)
+
+  pub read_was_written : bytes ≡ text_of blocks
+  unfolding text_of
+  read_was_written = sym (join_with_byte-slice_split 10 bytes) ∙ read_whole.0
+
+  pub read_is_order : most < 2 ^ 64 → IsOrder blocks
+  read_is_order small = let are = read_whole.1 in record { counted = are.counted; merged = are.merged; fits = omega (arith, are.within) }
+
+  pub read_is_within : IsTrue (is_within cpus most blocks)
+  read_is_within = let are = read_whole.1 in let all = are.cpu in let few = are.within in grind arith

@@ -1,0 +1,30 @@
+use Rattle.std.proofs.Common.{rules, ◌≡◌, ◌+◌, ◌≤◌, ◌∙◌, ap, sym, subst}
+use Rattle.nova_order.specs.Blocks.{BlockList, turns, total, pushed}
+use Rattle.nova_order.proofs.BlockLemmas.{turns_pushed, total_pushed, spare_pushed}
+use Rattle.nova_order.proofs.order.Order.push.Goals as goal
+
+pub returns-then-ends_with-clause-turns : goal.returns-then-ends_with-clause-turns
+returns-then-ends_with-clause-turns c =
+    let is : c.grow.new.self ≡ pushed c.args.cpu c.args.count c.args.self.now = search rules in
+    ap (λ list. turns list.blocks) is ∙ turns_pushed c.args.self.now c.args.cpu c.args.count
+
+pub returns-then-ends_with-clause-sum : goal.returns-then-ends_with-clause-sum
+returns-then-ends_with-clause-sum c =
+    let is : c.grow.new.self ≡ pushed c.args.cpu c.args.count c.args.self.now = search rules in
+    ap (λ list. total list.blocks) is ∙ total_pushed c.args.self.now c.args.cpu c.args.count
+
+pub returns-then-ends_with-clause-spare : goal.returns-then-ends_with-clause-spare
+returns-then-ends_with-clause-spare c =
+    let is : c.grow.new.self ≡ pushed c.args.cpu c.args.count c.args.self.now = search rules in
+    let P : BlockList → Type 0 = λ list. c.args.self.now.spare ≤ list.spare + 1 in
+    subst P (sym is) (spare_pushed c.args.self.now c.args.cpu c.args.count)
+
+pub returns-else-ends_with-clause-turns : goal.returns-else-ends_with-clause-turns
+returns-else-ends_with-clause-turns c =
+    let is : c.add.new.self ≡ pushed c.args.cpu c.args.count c.args.self.now = search rules in
+    ap (λ list. turns list.blocks) is ∙ turns_pushed c.args.self.now c.args.cpu c.args.count
+
+pub returns-else-ends_with-clause-sum : goal.returns-else-ends_with-clause-sum
+returns-else-ends_with-clause-sum c =
+    let is : c.add.new.self ≡ pushed c.args.cpu c.args.count c.args.self.now = search rules in
+    ap (λ list. total list.blocks) is ∙ total_pushed c.args.self.now c.args.cpu c.args.count
