@@ -29,3 +29,7 @@ given-names a b c p q r = rw (not_dashes a p, not_long a p, not_short a p, not_d
 pub given-limit : (word name text : List ℕ) → IsPlain word → IsPlain name → IsPlain text → given (codes "nova" ∷ word ∷ name ∷ codes "--limit" ∷ text ∷ []) ≡ Some (record { command = Some word; first = Some name; second = None; limit = Some text })
 unfolding given clap_on_literals
 given-limit a b c p q r = rw (not_dashes a p, not_long a p, not_short a p, not_dashes b q, not_long b q, not_short b q, not_dashes c r, not_long c r, not_short c r) refl
+
+pub given-names-limit : (word first second text : List ℕ) → IsPlain word → IsPlain first → IsPlain second → IsPlain text → given (codes "nova" ∷ word ∷ first ∷ second ∷ codes "--limit" ∷ text ∷ []) ≡ Some (record { command = Some word; first = Some first; second = Some second; limit = Some text })
+unfolding given clap_on_literals
+given-names-limit a b c d p q r s = rw (not_dashes a p, not_long a p, not_short a p, not_dashes b q, not_long b q, not_short b q, not_dashes c r, not_long c r, not_short c r, not_dashes d s, not_long d s, not_short d s) refl

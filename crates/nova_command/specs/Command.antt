@@ -10,7 +10,7 @@ use Rattle.nova_command.specs.declared.command.Command.TheVariants.{Solo, Check}
 
 -- the commands, each by its verb, its names and the limit
 abbrev pub asked : Option Verb → Option Text → Option Text → Option ℕ → Option Command
-asked (Some verb.Solo) (Some scenario) None (Some limit) = Some (Solo scenario limit)
+asked (Some verb.Solo) (Some scenario) order (Some limit) = Some (Solo scenario order limit)
 asked (Some verb.Check) (Some scenario) None (Some limit) = Some (Check scenario)
 asked _ _ _ _ = None
 
@@ -25,5 +25,5 @@ command words = option_and_then command_of (given (codes "nova" ∷ words))
 
 -- where a command has a limit, it is one
 abbrev pub HasLimit : Command → Type 0
-HasLimit (Solo scenario limit) = IsLimit limit
+HasLimit (Solo scenario order limit) = IsLimit limit
 HasLimit (Check scenario) = Unit {0}

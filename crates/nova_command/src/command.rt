@@ -8,6 +8,9 @@ pub enum Command {
         /// The file of the scenario.
         scenario: Name,
 
+        /// The file of the order of its turns. Where none is named, they go round robin.
+        order: Option<Name>,
+
         /// The most turns, from 1 to 10,000,000.
         limit: u32,
     },

@@ -15,26 +15,30 @@ pub fn plain_words()
         → command (word ∷ first ∷ second ∷ []) ≡ asked (verb_of word) (Some first) (Some second) (Some 1000000) }
     ensures limit { (word name text : List ℕ) → IsPlain word → IsPlain name → IsPlain text
         → command (word ∷ name ∷ codes "--limit" ∷ text ∷ []) ≡ asked (verb_of word) (Some name) None (limit_of text) }
+    ensures names_limit { (word first second text : List ℕ) → IsPlain word → IsPlain first → IsPlain second → IsPlain text
+        → command (word ∷ first ∷ second ∷ codes "--limit" ∷ text ∷ []) ≡ asked (verb_of word) (Some first) (Some second) (limit_of text) }
 {}
 
 /// Commands, where the limit may be given anywhere and in hexadecimal, and the name of a file may begin with a dash.
 pub fn commands()
-    ensures solo { command (typed "solo a") ≡ Some (Command.Solo (codes "a") 1000000) }
+    ensures solo { command (typed "solo a") ≡ Some (Command.Solo (codes "a") None 1000000) }
+    ensures order { command (typed "solo a b") ≡ Some (Command.Solo (codes "a") (Some (codes "b")) 1000000) }
     ensures check { command (typed "check a") ≡ Some (Command.Check (codes "a")) }
-    ensures limit { command (typed "solo a --limit 7") ≡ Some (Command.Solo (codes "a") 7) }
-    ensures zeros { command (typed "solo a --limit 007") ≡ Some (Command.Solo (codes "a") 7) }
-    ensures hexadecimal { command (typed "solo a --limit=0x10") ≡ Some (Command.Solo (codes "a") 16) }
-    ensures option_first { command (typed "--limit 5 solo a") ≡ Some (Command.Solo (codes "a") 5) }
-    ensures most { command (typed "solo a --limit 10000000") ≡ Some (Command.Solo (codes "a") 10000000) }
+    ensures limit { command (typed "solo a --limit 7") ≡ Some (Command.Solo (codes "a") None 7) }
+    ensures order_limit { command (typed "solo a b --limit 7") ≡ Some (Command.Solo (codes "a") (Some (codes "b")) 7) }
+    ensures limit_between { command (typed "solo a --limit 7 b") ≡ Some (Command.Solo (codes "a") (Some (codes "b")) 7) }
+    ensures zeros { command (typed "solo a --limit 007") ≡ Some (Command.Solo (codes "a") None 7) }
+    ensures hexadecimal { command (typed "solo a --limit=0x10") ≡ Some (Command.Solo (codes "a") None 16) }
+    ensures option_first { command (typed "--limit 5 solo a") ≡ Some (Command.Solo (codes "a") None 5) }
+    ensures most { command (typed "solo a --limit 10000000") ≡ Some (Command.Solo (codes "a") None 10000000) }
     ensures check_limit { command (typed "check a --limit 7") ≡ Some (Command.Check (codes "a")) }
-    ensures dashes { command (typed "solo -- --limit") ≡ Some (Command.Solo (codes "--limit") 1000000) }
+    ensures dashes { command (typed "solo -- --limit") ≡ Some (Command.Solo (codes "--limit") None 1000000) }
 {}
 
 /// Words that are no command.
 pub fn no_commands()
     ensures no_words { command [] ≡ None }
     ensures no_name { command (typed "solo") ≡ None }
-    ensures two_names { command (typed "solo a b") ≡ None }
     ensures three_names { command (typed "solo a b c") ≡ None }
     ensures check_two_names { command (typed "check a b") ≡ None }
     ensures run { command (typed "run a b") ≡ None }

@@ -1,5 +1,5 @@
 // Words to a command.
-ghost use Rattle.std.specs.Prelude.{◌≡◌, map, string_bytes, IfOk};
+ghost use Rattle.std.specs.Prelude.{◌≡◌, map, string_bytes, IfOk, option_map};
 ghost use Rattle.clap.specs.Walk.{rows_of};
 ghost use Rattle.clap.specs.Matches.{found_of};
 ghost use Rattle.nova_command.specs.Form.{given_in};
@@ -15,8 +15,8 @@ use crate::verb::Verb;
 use clap::ArgMatches;
 use std::alloc::{AllocError, Global};
 
-/// Reads the words after the program's own name as a command: `solo NAME` or `check NAME`, with the option `--limit N`
-/// anywhere among them.
+/// Reads the words after the program's own name as a command: `solo SCENARIO`, `solo SCENARIO ORDER` or `check SCENARIO`, with the
+/// option `--limit N` anywhere among them.
 ///
 /// N is decimal digits, or `0x` and hexadecimal digits, and a number from 1 to 10,000,000, for `check` too, which has no
 /// use for it; where it is not given, the limit is 1,000,000. `Usage` comes exactly where the words are no command, and
@@ -41,8 +41,9 @@ fn command_of(alloc: Global, matches: &ArgMatches) -> Result<Command, CommandFau
     let second = text_of(matches, "second");
     let limit = text_of(matches, "limit").and_then(read_limit);
     match (verb, first, second, limit) {
-        (Some(Verb::Solo), Some(scenario), None, Some(limit)) => Ok(Command::Solo {
+        (Some(Verb::Solo), Some(scenario), order, Some(limit)) => Ok(Command::Solo {
             scenario: name_of(alloc, scenario)?,
+            order: optional_name_of(alloc, order)?,
             limit,
         }),
         (Some(Verb::Check), Some(scenario), None, Some(_)) => Ok(Command::Check {
@@ -57,4 +58,14 @@ fn name_of(alloc: Global, text: &str) -> Result<Name, AllocError>
     ensures { IfOk result (λ name. name ≡ text.now) }
 {
     Ok(Name::from(String::from_str(alloc, text)?))
+}
+
+/// A text that may be missing, as a name of its own.
+fn optional_name_of(alloc: Global, text: Option<&str>) -> Result<Option<Name>, AllocError>
+    ensures { IfOk result (λ name. name ≡ option_map (λ t. t.now) text.entry) }
+{
+    match text {
+        Some(text) => Ok(Some(name_of(alloc, text)?)),
+        None => Ok(None),
+    }
 }

@@ -9,9 +9,26 @@ fn asked(alloc: Global, line: &str) -> Result<String, AllocError> {
         words.push(String::from_str(alloc, word)?)?;
     }
     match read_command(alloc, words.as_slice()) {
-        Ok(Command::Solo { scenario, limit }) => {
+        Ok(
+            Command::Solo {
+                scenario,
+                order: None,
+                limit,
+            },
+        ) => {
             let name = scenario.as_str();
             format!(in alloc; "run {name} for {limit}")
+        }
+        Ok(
+            Command::Solo {
+                scenario,
+                order: Some(order),
+                limit,
+            },
+        ) => {
+            let name = scenario.as_str();
+            let order = order.as_str();
+            format!(in alloc; "run {name} by {order} for {limit}")
         }
         Ok(Command::Check { scenario }) => {
             let name = scenario.into_string();
@@ -25,8 +42,13 @@ fn asked(alloc: Global, line: &str) -> Result<String, AllocError> {
 fn reads_commands(rt: HostRuntime) -> Result<(), Fail> {
     for (line, meant) in [
         ("solo a", "run a for 1000000"),
+        ("solo a b", "run a by b for 1000000"),
+        ("solo b --limit 9 a", "run b by a for 9"),
+        ("solo a a", "run a by a for 1000000"),
+        ("solo -- a --limit", "run a by --limit for 1000000"),
         ("check a", "check a"),
         ("solo a --limit 7", "run a for 7"),
+        ("solo a b --limit 7", "run a by b for 7"),
         ("solo a --limit 007", "run a for 7"),
         ("solo a --limit=0x10", "run a for 16"),
         ("solo --limit=0xfF a", "run a for 255"),
@@ -52,7 +74,6 @@ fn refuses_other_words(rt: HostRuntime) -> Result<(), Fail> {
         "",
         "solo",
         "check",
-        "solo a b",
         "solo a b c",
         "check a b",
         "run a b",

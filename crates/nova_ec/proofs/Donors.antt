@@ -1,7 +1,7 @@
 -- Where one changes, those that do not lead to it are not touched.
 use mathlib.Core.Path.{fun_ext}
-use Rattle.std.proofs.Common.{◌≡◌, ℕ, zero, suc, ◌<◌, length, ap, ap₂, sym, ◌∙◌, subst, refl, arith, IsSome}
-use Rattle.std.specs.Prelude.{Bool, true, false, ◌==◌, ◌||◌, ◌≢◌, Option, Some, None, is_none, option_map, option_and_then, slice_set, if◌then◌else◌}
+use Rattle.std.proofs.Common.{◌≡◌, ℕ, suc, ◌<◌, length, ap, ap₂, sym, ◌∙◌, subst, refl, arith, IsSome}
+use Rattle.std.specs.Prelude.{Bool, true, false, ◌==◌, ◌||◌, ◌≢◌, Option, Some, None, is_none, option_map, option_and_then, slice_set}
 use Rattle.std.specs.List.{find}
 use Rattle.std.proofs.lemmas.List.{length-set}
 use Rattle.nova_model.specs.State.{Contexts, ec_in}
@@ -9,9 +9,9 @@ use Rattle.nova_model.specs.Edges.{after_edges, met_within, edge, edge_of, acts,
 use Rattle.nova_model.specs.declared.context.EcState.{EcState}
 use Rattle.nova_model.specs.declared.context.State.{State}
 use Rattle.nova_model.specs.declared.context.State.TheVariants.{Fresh, Ready, Parked, Calling, Helping, Exiting, Sending, Granting, Dead}
-use Rattle.nova_ec.specs.Ways.{IsUnmoved, UnmovedKeepsChases, OnlyDonorsChange}
+use Rattle.nova_ec.specs.Ways.{IsUnmoved, UnmovedKeepsChases, OnlyDonorsChange, SameStateKeepsChases}
 use Rattle.nova_ec.proofs.Tables.{ec_in-set_other, ec_in-set_same, there_below, no_way}
-use Rattle.nova_ec.proofs.Ends.{chases_end}
+use Rattle.nova_ec.proofs.Untouched.{AreSame, turns_stay, as_far}
 
 -- no way leads from x to e
 abbrev IsAway : Contexts → ℕ → ℕ → Type 0
@@ -20,55 +20,16 @@ IsAway cs e x = (k : ℕ) → after_edges k (edge cs) x ≢ Some e
 away_next : (cs : Contexts) (e x h : ℕ) → IsAway cs e x → edge cs x ≡ Some h → IsAway cs e h
 away_next cs e x h away is k way = away (suc k) (ap (option_and_then (after_edges k (edge cs))) is ∙ way)
 
-state-same : (cs : Contexts) (e x : ℕ) (y : EcState) → IsAway cs e x → state_in (slice_set cs e (Some y)) x ≡ state_in cs x
-state-same cs e x y away = ap (option_map (λ (z : EcState). z.state)) (ec_in-set_other cs e x (Some y) (λ same. away 0 (ap Some same)))
-
-edge-same : (cs : Contexts) (e x : ℕ) (y : EcState) → IsAway cs e x → edge (slice_set cs e (Some y)) x ≡ edge cs x
-edge-same cs e x y away = ap (option_and_then edge_of) (state-same cs e x y away)
-
-acts-same : (cs : Contexts) (e x : ℕ) (y : EcState) → IsAway cs e x → acts (slice_set cs e (Some y)) x ≡ acts cs x
-acts-same cs e x y away = ap (acts_as (slice_set cs e (Some y))) (state-same cs e x y away) ∙ by_state (state_in cs x) refl
-  where
-    by_edge : (s : State) (o : Option ℕ) → edge_of s ≡ o → state_in cs x ≡ Some s → acts_by s (option_and_then (state_in (slice_set cs e (Some y))) o) ≡ acts_by s (option_and_then (state_in cs) o)
-    by_edge s None is at = refl
-    by_edge s (Some h) is at = ap (acts_by s) (state-same cs e h y (away_next cs e x h away (ap (option_and_then edge_of) at ∙ is)))
-
-    by_state : (o : Option State) → state_in cs x ≡ o → acts_as (slice_set cs e (Some y)) o ≡ acts_as cs o
-    by_state None at = refl
-    by_state (Some s) at = by_edge s (edge_of s) refl at
-
-stays-same : (cs : Contexts) (e x : ℕ) (y : EcState) → IsAway cs e x → stays (slice_set cs e (Some y)) x ≡ stays cs x
-stays-same cs e x y away = ap₂ (λ (a : Bool) (o : Option ℕ). a || is_none o) (acts-same cs e x y away) (edge-same cs e x y away)
-
-search-same : (n : ℕ) (cs : Contexts) (e : ℕ) (y : EcState) (o : Option ℕ) → ((x : ℕ) → o ≡ Some x → IsAway cs e x) →
-    find (stays (slice_set cs e (Some y))) (met_within n (edge (slice_set cs e (Some y))) o) ≡ find (stays cs) (met_within n (edge cs) o)
-search-same zero cs e y o away = refl
-search-same (suc n) cs e y None away = refl
-search-same (suc n) cs e y (Some x) away =
-    let here = away x refl in
-    let rest = search-same n cs e y (edge cs x) (λ h is. away_next cs e x h here is) in
-    let goes : find (stays (slice_set cs e (Some y))) (met_within n (edge (slice_set cs e (Some y))) (edge (slice_set cs e (Some y)) x)) ≡ find (stays cs) (met_within n (edge cs) (edge cs x)) =
-    ap (λ (o : Option ℕ). find (stays (slice_set cs e (Some y))) (met_within n (edge (slice_set cs e (Some y))) o)) (edge-same cs e x y here) ∙ rest in
-    ap₂ (λ (t : Bool) (o : Option ℕ). if t then Some x else o) (stays-same cs e x y here) goes
-
-away_along : (k : ℕ) (cs : Contexts) (e x f : ℕ) → IsAway cs e x → after_edges k (edge cs) x ≡ Some f → IsAway cs e f
-away_along zero cs e x f away way = subst (λ (n : ℕ). IsAway cs e n) (let same : x ≡ f = cc in same) away
-away_along (suc k) cs e x f away way = by_edge (edge cs x) refl way (λ h is rest. away_along k cs e h f (away_next cs e x h away is) rest)
-  where
-    by_edge : (o : Option ℕ) → edge cs x ≡ o → option_and_then (after_edges k (edge cs)) o ≡ Some f →
-        ((h : ℕ) → edge cs x ≡ Some h → after_edges k (edge cs) h ≡ Some f → IsAway cs e f) → IsAway cs e f
-    by_edge None is way go = absurd cc
-    by_edge (Some h) is way go = go h is way
+same_away : (cs : Contexts) (e : ℕ) (y : EcState) → AreSame cs (slice_set cs e (Some y)) (IsAway cs e)
+same_away cs e y = record {
+  states = λ x away. ap (option_map (λ (z : EcState). z.state)) (ec_in-set_other cs e x (Some y) (λ at. away 0 (ap Some at)));
+  closed = λ x h away leads. away_next cs e x h away leads;
+}
 
 pub only_donors_change : OnlyDonorsChange
 only_donors_change cs e x y sound there apart =
     let away : IsAway cs e x = no_way cs sound e x (below (ec_in cs x) refl there) apart in
-    let end = chases_end cs x sound in (
-      ap (or_itself x)
-          (ap (λ (n : ℕ). find (stays (slice_set cs e (Some y))) (met_within n (edge (slice_set cs e (Some y))) (Some x))) (length-set cs e (Some y))
-          ∙ search-same (length cs) cs e y (Some x) (λ z is. subst (λ (n : ℕ). IsAway cs e n) (let same : x ≡ z = cc in same) away)),
-      acts-same cs e (chase cs x) y (away_along end.edges cs e x (chase cs x) away end.way),
-    )
+    turns_stay cs (slice_set cs e (Some y)) (IsAway cs e) x sound (same_away cs e y) away (as_far cs e x y)
   where
     below : (o : Option EcState) → ec_in cs x ≡ o → IsSome o → x < length cs
     below None is some = absurd cc
@@ -154,3 +115,14 @@ unmoved_keeps_chases cs e z x y there same =
           ∙ ap₂ (λ (p : ℕ → Bool) (g : ℕ → Option ℕ). find p (met_within (length cs) g (Some z))) (fun_ext stay) (fun_ext edges)),
       acts_alike cs (slice_set cs e (Some y)) alike z,
     )
+
+-- the same state
+pub same_state_keeps_chases : SameStateKeepsChases
+same_state_keeps_chases cs e z x y there same =
+    let unmoved : IsUnmoved x.state y.state = record {
+      edge = ap edge_of same;
+      acts = λ handler. ap (λ (s : State). acts_by s handler) same;
+      dead = ap (λ (s : State). is_dead (Some s)) same;
+      free = ap (λ (s : State). is_free (Some s)) same;
+    } in
+    ((unmoved_keeps_chases cs e z x y there unmoved).0, (unmoved_keeps_chases cs e (chase cs z) x y there unmoved).1)

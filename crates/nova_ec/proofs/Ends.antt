@@ -81,7 +81,7 @@ circles_are_ways cs h e sound there = (λ met. met_way (length cs) (edge cs) h e
 
 -- a chase by its steps
 
-found_more : (n : ℕ) (g : ℕ → Option ℕ) (o : Option ℕ) (p : ℕ → Bool) (f : ℕ) → find p (met_within n g o) ≡ Some f → find p (met_within (suc n) g o) ≡ Some f
+pub found_more : (n : ℕ) (g : ℕ → Option ℕ) (o : Option ℕ) (p : ℕ → Bool) (f : ℕ) → find p (met_within n g o) ≡ Some f → find p (met_within (suc n) g o) ≡ Some f
 found_more zero g o p f h = absurd cc
 found_more (suc n) g None p f h = absurd cc
 found_more (suc n) g (Some e) p f h = by_test (p e) refl (λ there. found_more n g (g e) p f there)

@@ -1,5 +1,6 @@
 pub mod Walks
 pub mod Tables
 pub mod Ends
+pub mod Untouched
 pub mod Donors
 pub mod Steps

@@ -63,7 +63,7 @@ edge-set_other cs e y f other = ap (λ (o : Option EcState). option_and_then edg
 edge-set_same : (cs : Contexts) (e : ℕ) (x y : EcState) → ec_in cs e ≡ Some x → edge (slice_set cs e (Some y)) e ≡ edge_of y.state
 edge-set_same cs e x y there = ap (λ (o : Option EcState). option_and_then edge_of (option_map (λ (z : EcState). z.state) o)) (ec_in-set_same cs e x y there)
 
-cpu-set : (cs : Contexts) (e : ℕ) (x y : EcState) → ec_in cs e ≡ Some x → y.cpu ≡ x.cpu → (f : ℕ) → cpu_in (slice_set cs e (Some y)) f ≡ cpu_in cs f
+pub cpu-set : (cs : Contexts) (e : ℕ) (x y : EcState) → ec_in cs e ≡ Some x → y.cpu ≡ x.cpu → (f : ℕ) → cpu_in (slice_set cs e (Some y)) f ≡ cpu_in cs f
 cpu-set cs e x y there cpu f = by_place (f == e) refl
   where
     by_place : (t : Bool) → (f == e) ≡ t → cpu_in (slice_set cs e (Some y)) f ≡ cpu_in cs f
@@ -114,7 +114,7 @@ edges_kept cs e x y sound there cpu state =
 
 -- one joins
 
-ec_in-more : (cs : Contexts) (o : Option EcState) (e : ℕ) (x : EcState) → ec_in cs e ≡ Some x → ec_in (cs ++ o ∷ []) e ≡ Some x
+pub ec_in-more : (cs : Contexts) (o : Option EcState) (e : ℕ) (x : EcState) → ec_in cs e ≡ Some x → ec_in (cs ++ o ∷ []) e ≡ Some x
 ec_in-more [] o e x h = absurd cc
 ec_in-more (c ∷ cs) o zero x h = h
 ec_in-more (c ∷ cs) o (suc e) x h = ec_in-more cs o e x h
@@ -125,7 +125,7 @@ edge-more [] o (suc e) h = refl
 edge-more (c ∷ cs) o zero h = refl
 edge-more (c ∷ cs) o (suc e) h = edge-more cs o e h
 
-cpu-more : (cs : Contexts) (o : Option EcState) (e cpu : ℕ) → cpu_in cs e ≡ Some cpu → cpu_in (cs ++ o ∷ []) e ≡ Some cpu
+pub cpu-more : (cs : Contexts) (o : Option EcState) (e cpu : ℕ) → cpu_in cs e ≡ Some cpu → cpu_in (cs ++ o ∷ []) e ≡ Some cpu
 cpu-more [] o e cpu h = absurd cc
 cpu-more (c ∷ cs) o zero cpu h = h
 cpu-more (c ∷ cs) o (suc e) cpu h = cpu-more cs o e cpu h

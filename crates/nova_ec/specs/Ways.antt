@@ -1,9 +1,10 @@
 -- The same in other words: ways along edges.
-use Rattle.std.specs.Prelude.{ℕ, ◌≡◌, ◌↔◌, ◌<◌, true, false, Option, Some, IfSome, IsSome, slice_set}
+use Rattle.std.specs.Prelude.{ℕ, ◌≡◌, ◌≢◌, ◌↔◌, ◌<◌, [], ◌∷◌, ◌++◌, true, false, Option, Some, IfSome, IsSome, slice_set}
 use Rattle.nova_model.specs.State.{Contexts, ec_in}
-use Rattle.nova_model.specs.Edges.{AreEdges, after_edges, edge, edge_of, circle, acts, acts_by, is_dead, is_free, stays, chase}
+use Rattle.nova_model.specs.Edges.{AreEdges, after_edges, edge, edge_of, circle, acts, acts_by, is_dead, is_free, stays, chase, cpu_in}
 use Rattle.nova_model.specs.declared.context.EcState.{EcState}
 use Rattle.nova_model.specs.declared.context.State.{State}
+use Rattle.nova_ec.specs.Tables.{actor_in}
 
 -- a way leads from one to another
 abbrev pub Leads : Contexts → ℕ → ℕ → Type 0
@@ -24,11 +25,15 @@ pub record EndsAt (cs : Contexts) (e f : ℕ) : Type 0 where
 abbrev pub ChasesEnd : Type 0
 ChasesEnd = (cs : Contexts) (e : ℕ) → AreEdges cs → EndsAt cs e (chase cs e)
 
--- Who does not lead to one that changes is not touched: turns of `x` stay with whom they stayed, and it acts or not as before. So
--- where one changes, only scheduling contexts of those that lead to it can become runnable or cease to be.
+-- from the first table to the second, turns of an execution context stay with whom they stayed, and that one acts or not as before
+abbrev pub TurnsStay : Contexts → Contexts → ℕ → Type 0
+TurnsStay cs ds e = (chase ds e ≡ chase cs e) × (acts ds (chase cs e) ≡ acts cs (chase cs e))
+
+-- Who does not lead to one that changes is not touched. So where one changes, only scheduling contexts of those that lead to it can
+-- become runnable or cease to be.
 abbrev pub OnlyDonorsChange : Type 0
 OnlyDonorsChange = (cs : Contexts) (e x : ℕ) (y : EcState) → AreEdges cs → IsSome (ec_in cs x) → circle cs x e ≡ false →
-    (chase (slice_set cs e (Some y)) x ≡ chase cs x) × (acts (slice_set cs e (Some y)) (chase cs x) ≡ acts cs (chase cs x))
+    TurnsStay cs (slice_set cs e (Some y)) x
 
 -- a chase by its steps: it stays, or goes on from whom the edge leads to
 pub record IsChase (cs : Contexts) (e : ℕ) : Type 0 where
@@ -49,3 +54,19 @@ pub record IsUnmoved (s t : State) : Type 0 where
 abbrev pub UnmovedKeepsChases : Type 0
 UnmovedKeepsChases = (cs : Contexts) (e z : ℕ) (x y : EcState) → ec_in cs e ≡ Some x → IsUnmoved x.state y.state →
     (chase (slice_set cs e (Some y)) z ≡ chase cs z) × (acts (slice_set cs e (Some y)) z ≡ acts cs z)
+
+-- so none that leaves the state as it is
+abbrev pub SameStateKeepsChases : Type 0
+SameStateKeepsChases = (cs : Contexts) (e z : ℕ) (x y : EcState) → ec_in cs e ≡ Some x → y.state ≡ x.state → TurnsStay cs (slice_set cs e (Some y)) z
+
+-- where an entry joins, turns of those that are there stay
+abbrev pub JoiningMovesNone : Type 0
+JoiningMovesNone = (cs : Contexts) (o : Option EcState) (e : ℕ) → AreEdges cs → IsSome (ec_in cs e) → TurnsStay cs (cs ++ o ∷ []) e
+
+-- where one changes, turns on other processors stay
+abbrev pub OthersStay : Type 0
+OthersStay = (cs : Contexts) (e z : ℕ) (y : EcState) → AreEdges cs → cpu_in cs z ≢ cpu_in cs e → TurnsStay cs (slice_set cs e (Some y)) z
+
+-- where turns stay, the same one acts in them, or none does
+abbrev pub SameActs : Type 0
+SameActs = (cs ds : Contexts) (e : ℕ) → TurnsStay cs ds e → actor_in ds e ≡ actor_in cs e

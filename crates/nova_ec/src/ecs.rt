@@ -1,4 +1,4 @@
-ghost use Rattle.std.specs.Prelude.{false, true, ◌≡◌, ◌+◌, ◌-◌, ◌<◌, ◌≤◌, [], ◌∷◌, ◌++◌, length, max, IsOk, IsSome, IfSome, OnOk, OnErr, option_and_then, option_map, Some, None};
+ghost use Rattle.std.specs.Prelude.{false, true, ◌≡◌, ◌+◌, ◌-◌, ◌<◌, ◌≤◌, [], ◌∷◌, ◌++◌, length, max, IsOk, IsSome, IfOk, IfSome, OnOk, OnErr, option_and_then, option_map, Some, None};
 ghost use Rattle.rv_model.specs.Step.{one};
 ghost use Rattle.rv_core.specs.Steps.{space_of};
 ghost use Rattle.nova_model.specs.State.{ec_in, ec_of, with_ec};
@@ -95,6 +95,15 @@ impl Ecs {
         self.items.reserve(n)?;
         self.spare = self.spare.max(n);
         Ok(())
+    }
+
+    /// The same entries in memory of their own, with no spare room. It refuses for want of memory
+    /// alone.
+    pub fn copy(&self) -> Result<Ecs, AllocError>
+        ensures { IfOk result (λ copy. copy ≡ record { items = self.now.items; spare = 0 }) }
+    {
+        let items = Vec::from_slice(*self.items.allocator(), self.items.as_slice())?;
+        Ok(Ecs { items, spare: 0 })
     }
 
     /// Adds the entry of the next number in reserved room: the execution context of that number, which

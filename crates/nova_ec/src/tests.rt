@@ -29,4 +29,7 @@ fn turns_go_along_edges(rt: HostRuntime) {
     assert!(rt; ecs.chase(0) == 2);
     assert!(rt; ecs.circle(0, 2));
     assert!(rt; !ecs.circle(2, 0));
+    let copy = ecs.copy().expect(&rt, "ample memory");
+    ecs.set_state(0, State::Parked);
+    assert!(rt; copy.chase(0) == 2 && ecs.chase(0) == 0);
 }

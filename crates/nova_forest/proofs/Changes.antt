@@ -10,7 +10,7 @@ use Rattle.nova_model.specs.Delegations.{Delegations, covers}
 use Rattle.nova_model.specs.Forest.{IsForest, IsFitting}
 use Rattle.nova_model.specs.Runs.{after, run}
 use Rattle.nova_model.specs.State.{KernelState}
-use Rattle.nova_model.specs.declared.budget.Candidate.{Candidate}
+use Rattle.nova_model.specs.Choice.{Candidate}
 use Rattle.nova_model.specs.declared.deed.Deed.{Deed}
 use Rattle.nova_model.specs.declared.delegation.Derivation.{Derivation}
 use Rattle.nova_forest.specs.Changes.{Change, Stays, Joins, Goes}

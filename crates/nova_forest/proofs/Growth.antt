@@ -1,6 +1,6 @@
 -- What a turn adds to objects and delegations: what its deed does, one row a variant.
 use Rattle.std.proofs.Common.{◌≡◌, ℕ, [], ◌∷◌, ◌++◌, refl, sym, ap, ◌∙◌, subst}
-use Rattle.std.specs.Prelude.{◌<◌, ◌^◌, ◌&&◌, Bool, true, false, if◌then◌else◌, Contains, length, slice_get, Option, Some, None, Result, Ok, Err, ◌==◌, not, nat_lt, option_and_then}
+use Rattle.std.specs.Prelude.{◌<◌, ◌≤◌, ◌^◌, ◌&&◌, Bool, true, false, if◌then◌else◌, Contains, length, slice_get, Option, Some, None, Result, Ok, Err, ◌==◌, not, nat_lt, option_and_then, option_map}
 use Rattle.std.specs.List.{find}
 use Rattle.std.proofs.lemmas.Bool.{and_parts, eqb-true}
 use Rattle.nova_objects.specs.declared.object.EcKind.{EcKind}
@@ -11,24 +11,24 @@ use Rattle.nova_objects.specs.declared.object.Object.{Object}
 use Rattle.nova_objects.specs.declared.object.Object.TheVariants.{Pd, Ec, Sc, Pt, Sm}
 use Rattle.nova_calls.specs.declared.call.Call.{Call}
 use Rattle.nova_calls.specs.declared.call.Call.TheVariants as call
-use Rattle.nova_calls.specs.declared.numbers.TheConstants.{CREATE_EC, CREATE_PT, CREATE_SM, SC_CTRL}
+use Rattle.nova_calls.specs.declared.numbers.TheConstants.{CREATE_EC, CREATE_SC, CREATE_PT, CREATE_SM, SC_CTRL}
 use Rattle.nova_range.specs.declared.range.Range.{Range}
 use Rattle.nova_range.specs.declared.rights.Rights.{Rights}
 use Rattle.nova_range.specs.declared.status.Status.{Status}
 use Rattle.nova_range.specs.declared.status.Status.TheVariants.{BadCap, BadPar, BadCpu}
-use Rattle.nova_model.specs.Capabilities.{is_held, is_pd, is_ec, is_sc, is_pt, named, create_right, control_right, allowed, or_bad_cap, bind_portal_right, is_local}
+use Rattle.nova_model.specs.Capabilities.{is_held, is_pd, is_ec, is_sc, is_pt, named, create_right, control_right, allowed, or_bad_cap, bind_portal_right, bind_scheduling_right, is_local, is_schedulable}
 use Rattle.nova_model.specs.Choice.{choice}
 use Rattle.nova_model.specs.Creation.{object_of, root_capability}
 use Rattle.nova_model.specs.Deeds.{with_context, recalled, stepped, is_busy, done, deed, instruction}
 use Rattle.nova_model.specs.Delegations.{Delegations, added, allows, covers, has_place, is_same_kind, range_of}
 use Rattle.nova_model.specs.Forest.{IsAligned, IsForest, IsFitting}
-use Rattle.nova_model.specs.Hypercalls.{and_then, unless, maker, makes, new_domain, row, is_virtual, ticks_in}
+use Rattle.nova_model.specs.Hypercalls.{and_then, unless, maker, makes, new_domain, row, is_scheduled, is_virtual, ticks_in}
 use Rattle.nova_model.specs.Runs.{after}
-use Rattle.nova_model.specs.State.{KernelState, budget_at, context, pd_of}
+use Rattle.nova_model.specs.State.{KernelState, budget_at, context, pd_of, processor_of}
 use Rattle.nova_model.specs.Transfers.{child_of}
 use Rattle.nova_model.specs.Turn.{counted, paid_by, charged, quantum_in, turn, turn_by, state_after}
 use Rattle.nova_model.specs.declared.budget.Budget.{Budget}
-use Rattle.nova_model.specs.declared.budget.Candidate.{Candidate}
+use Rattle.nova_model.specs.Choice.{Candidate}
 use Rattle.nova_model.specs.declared.context.EcState.{EcState}
 use Rattle.nova_model.specs.declared.context.State.TheVariants.{Granting}
 use Rattle.nova_model.specs.declared.deed.Deed.{Deed}
@@ -36,7 +36,7 @@ use Rattle.nova_model.specs.declared.deed.Deed.TheVariants.{Rests, Steps, Makes,
 use Rattle.nova_model.specs.declared.delegation.Derivation.{Derivation}
 use Rattle.nova_model.specs.declared.new_object.NewObject.{NewObject}
 use Rattle.nova_model.specs.declared.new_object.NewObject.TheVariants as new
-use Rattle.nova_forest.specs.Made.{MayCreate, IsMadeIn, IsGivenChild, IsSame, Grows, Leaves, MakesObject, GivesChild, GrowsBy}
+use Rattle.nova_forest.specs.Made.{MayCreate, MayUse, IsBoundBy, IsMadeIn, IsGivenChild, IsSame, Grows, Leaves, MakesObject, GivesChild, GrowsBy}
 use Rattle.nova_forest.proofs.Jobs.{job_ranges, job_between_them}
 use Rattle.nova_forest.proofs.Members.{IsIn, all_at, contains_from_in, found_in, in_from_contains}
 use Rattle.nova_forest.proofs.Selectors.{TakesSelector, call_takes}
@@ -52,6 +52,7 @@ pub record IsAsked (k : KernelState) (domain target : ℕ) (object : Object) : T
   pub selector : target < 2 ^ 20
   pub creator : MayCreate k domain
   pub place : IsMadeIn creator.capability.target object
+  pub bound : IsBoundBy k domain object
 
 abbrev pub IsAllowed : KernelState → ℕ → Deed → Type 0
 IsAllowed k ec (Makes call target new) = IsAsked k (pd_of k ec) target (object_of new)
@@ -59,73 +60,95 @@ IsAllowed k ec (Opens target number) = IsAsked k (pd_of k ec) target Pd × (numb
 IsAllowed k ec (Gives child cursor) = IsGivenChild k ec child
 IsAllowed k ec other = Unit {0}
 
--- a selector that names a protection domain with create is that of such a capability
+-- a selector that names such an object with such a right is that of a capability to it
+named_used : (k : KernelState) (domain : ℕ) (is : Object → Bool) (right selector : ℕ) → IfDone (MayUse k domain is right) (named k domain is right selector)
+named_used k domain is right selector = by_capability (find (covers Obj domain selector) k.delegations.list) refl
+  where
+    by_right : (d : Derivation) → IsIn k.delegations.list d × (covers Obj domain selector d ≡ true) → (fits may : Bool) →
+        (fits ≡ true → option_map is (slice_get k.objects d.target) ≡ Some true) → allows d.rights right ≡ may →
+        IfDone (MayUse k domain is right) (or_bad_cap (if fits && may then Some d.target else None))
+    by_right d found true true leads allowed =
+        let parts = and_parts (is_same_kind Obj d.kind) (d.pd == domain && has_place (range_of d) selector) found.1 in
+        record {
+          capability = d;
+          there = contains_from_in k.delegations.list d found.0;
+          held = eqb-true d.pd domain (and_parts (d.pd == domain) (has_place (range_of d) selector) parts.1).0;
+          kind = sym (kinds_equal Obj d.kind parts.0);
+          target = refl;
+          leads = leads refl;
+          allowed = allowed;
+        }
+    by_right d found true false leads allowed = tt
+    by_right d found false may leads allowed = tt
+
+    by_object : (d : Derivation) → IsIn k.delegations.list d × (covers Obj domain selector d ≡ true) → (o : Option Object) → slice_get k.objects d.target ≡ o →
+        IfDone (MayUse k domain is right) (or_bad_cap (option_and_then (λ x. if is x && allows d.rights right then Some d.target else None) o))
+    by_object d found None at = tt
+    by_object d found (Some x) at = by_right d found (is x) (allows d.rights right) (λ h. rw (at, h) refl) refl
+
+    by_capability : (c : Option Derivation) → find (covers Obj domain selector) k.delegations.list ≡ c →
+        IfDone (MayUse k domain is right) (or_bad_cap (option_and_then (allowed k.objects is right) c))
+    by_capability None found = tt
+    by_capability (Some d) found = by_object d (found_in (covers Obj domain selector) k.delegations.list d found) (slice_get k.objects d.target) refl
+
+-- one that names a protection domain with create is that of a capability with which it may be made in
 record IsNamed (k : KernelState) (domain owner : ℕ) : Type 0 where
   creator : MayCreate k domain
   its : owner ≡ creator.capability.target
 
-named_creates : (k : KernelState) (domain selector owner : ℕ) → named k domain is_pd create_right selector ≡ Ok owner → IsNamed k domain owner
-named_creates k domain selector owner h = by_capability (find (covers Obj domain selector) k.delegations.list) refl h
-  where
-    by_right : (d : Derivation) → IsIn k.delegations.list d × (covers Obj domain selector d ≡ true) → slice_get k.objects d.target ≡ Some Pd → (t : Bool) →
-        allows d.rights create_right ≡ t → or_bad_cap (if t then Some d.target else None) ≡ Ok owner → IsNamed k domain owner
-    by_right d found leads true create g =
-        let parts = and_parts (is_same_kind Obj d.kind) (d.pd == domain && has_place (range_of d) selector) found.1 in
-        let same : d.target ≡ owner = cc in
-        record {
-          creator = record {
-            capability = d;
-            there = contains_from_in k.delegations.list d found.0;
-            held = eqb-true d.pd domain (and_parts (d.pd == domain) (has_place (range_of d) selector) parts.1).0;
-            kind = sym (kinds_equal Obj d.kind parts.0);
-            leads = leads;
-            create = create;
-          };
-          its = sym same;
-        }
-    by_right d found leads false create g = absurd (cc)
+pd_there : (o : Option Object) → option_map is_pd o ≡ Some true → o ≡ Some Pd
+pd_there None h = absurd (cc)
+pd_there (Some Pd) h = refl
+pd_there (Some (Ec pd cpu kind event)) h = absurd (cc)
+pd_there (Some (Sc ec cpu priority quantum)) h = absurd (cc)
+pd_there (Some (Pt ec mtd ip)) h = absurd (cc)
+pd_there (Some Sm) h = absurd (cc)
 
-    by_object : (d : Derivation) → IsIn k.delegations.list d × (covers Obj domain selector d ≡ true) → (o : Option Object) → slice_get k.objects d.target ≡ o →
-        or_bad_cap (option_and_then (λ x. if is_pd x && allows d.rights create_right then Some d.target else None) o) ≡ Ok owner → IsNamed k domain owner
-    by_object d found (Some Pd) leads g = by_right d found leads (allows d.rights create_right) refl g
-    by_object d found None leads g = absurd (cc)
-    by_object d found (Some (Ec pd cpu kind event)) leads g = absurd (cc)
-    by_object d found (Some (Sc ec cpu priority quantum)) leads g = absurd (cc)
-    by_object d found (Some (Pt ec mtd ip)) leads g = absurd (cc)
-    by_object d found (Some Sm) leads g = absurd (cc)
-
-    by_capability : (c : Option Derivation) → find (covers Obj domain selector) k.delegations.list ≡ c →
-        or_bad_cap (option_and_then (allowed k.objects is_pd create_right) c) ≡ Ok owner → IsNamed k domain owner
-    by_capability None is g = absurd (cc)
-    by_capability (Some d) is g = by_object d (found_in (covers Obj domain selector) k.delegations.list d is) (slice_get k.objects d.target) refl g
+named_creates : (k : KernelState) (domain owner : ℕ) → MayUse k domain is_pd create_right owner → IsNamed k domain owner
+named_creates k domain owner used = record {
+  creator = record {
+    capability = used.capability;
+    there = used.there;
+    held = used.held;
+    kind = used.kind;
+    leads = ap (slice_get k.objects) used.target ∙ pd_there (slice_get k.objects owner) used.leads;
+    create = used.allowed;
+  };
+  its = sym used.target;
+}
 
 maker_free : (k : KernelState) (domain target pd : ℕ) (P : Deed → Type 0) (next : ℕ → Result Deed Status) →
     ((o : ℕ) → is_held k domain target ≡ false → IsNamed k domain o → IfDone P (next o)) →
     IfDone P (and_then (maker k domain target pd) next)
-maker_free k domain target pd P next h = by_owner (named k domain is_pd create_right pd) refl (is_held k domain target) refl
+maker_free k domain target pd P next h = by_owner (named k domain is_pd create_right pd) (named_used k domain is_pd create_right pd) (is_held k domain target) refl
   where
-    by_owner : (owner : Result ℕ Status) → named k domain is_pd create_right pd ≡ owner → (held : Bool) → is_held k domain target ≡ held →
+    by_owner : (owner : Result ℕ Status) → IfDone (MayUse k domain is_pd create_right) owner → (held : Bool) → is_held k domain target ≡ held →
         IfDone P (and_then (and_then owner (λ o. unless held BadCap (Ok o))) next)
-    by_owner (Err status) of held is = tt
-    by_owner (Ok o) of true is = tt
-    by_owner (Ok o) of false is = h o is (named_creates k domain pd o of)
+    by_owner (Err status) used held is = tt
+    by_owner (Ok o) used true is = tt
+    by_owner (Ok o) used false is = h o is (named_creates k domain o used)
 
--- what is made there, where an execution context is one of the domain that was named
+-- an object that the rules of a call make, where an execution context is one of the domain that was named
+abbrev IsGood : KernelState → ℕ → ℕ → NewObject → Type 0
+IsGood k domain owner made = IsMadeIn owner (object_of made) × IsBoundBy k domain (object_of made)
+
+-- what is made there
 makes_free : (k : KernelState) (ec number target pd : ℕ) (made : ℕ → Result NewObject Status) → target < 2 ^ 20 →
-    ((o : ℕ) → IfDone (λ m. IsMadeIn o (object_of m)) (made o)) → IfDone (IsAllowed k ec) (makes k (pd_of k ec) number target pd made)
+    ((o : ℕ) → IfDone (IsGood k (pd_of k ec) o) (made o)) → IfDone (IsAllowed k ec) (makes k (pd_of k ec) number target pd made)
 makes_free k ec number target pd made selector places =
     maker_free k (pd_of k ec) target pd (IsAllowed k ec) (λ o. and_then (made o) (λ m. Ok (Makes number target m)))
     (λ o free named. by_new o (made o) free named (places o))
   where
-    by_new : (o : ℕ) (r : Result NewObject Status) → is_held k (pd_of k ec) target ≡ false → IsNamed k (pd_of k ec) o → IfDone (λ m. IsMadeIn o (object_of m)) r →
+    by_new : (o : ℕ) (r : Result NewObject Status) → is_held k (pd_of k ec) target ≡ false → IsNamed k (pd_of k ec) o → IfDone (IsGood k (pd_of k ec) o) r →
         IfDone (IsAllowed k ec) (and_then r (λ m. Ok (Makes number target m)))
-    by_new o (Ok m) free named place = record {
+    by_new o (Ok m) free named good = record {
       free = free;
       selector = selector;
       creator = named.creator;
-      place = subst (λ (n : ℕ). IsMadeIn n (object_of m)) named.its place;
+      place = subst (λ (n : ℕ). IsMadeIn n (object_of m)) named.its good.0;
+      bound = good.1;
     }
-    by_new o (Err status) free named place = tt
+    by_new o (Err status) free named good = tt
 
 new_domain_free : (k : KernelState) (ec target : ℕ) (first : Option (Range × Rights)) → IsAsked k (pd_of k ec) target Pd → IsAllowed k ec (new_domain k target first)
 new_domain_free k ec target None asked = asked
@@ -139,24 +162,40 @@ named_free : (k : KernelState) (ec : ℕ) (r : Result ℕ Status) (d : ℕ → D
 named_free k ec (Ok n) d h = h n
 named_free k ec (Err status) d h = tt
 
-made_context : (owner cpu : ℕ) (kind : EcKind) (sp event : ℕ) (missing : Bool) →
-    IfDone (λ m. IsMadeIn owner (object_of m)) (unless missing BadCpu (Ok (new.Ec owner cpu kind sp event)))
-made_context owner cpu kind sp event true = tt
-made_context owner cpu kind sp event false = refl
+made_context : (k : KernelState) (domain owner cpu : ℕ) (kind : EcKind) (sp event : ℕ) (missing : Bool) →
+    IfDone (IsGood k domain owner) (unless missing BadCpu (Ok (new.Ec owner cpu kind sp event)))
+made_context k domain owner cpu kind sp event true = tt
+made_context k domain owner cpu kind sp event false = (refl, tt)
 
-made_portal : (owner mtd ip : ℕ) (handler : Result ℕ Status) → IfDone (λ m. IsMadeIn owner (object_of m)) (and_then handler (λ h. Ok (new.Pt h mtd ip)))
-made_portal owner mtd ip (Ok h) = tt
-made_portal owner mtd ip (Err status) = tt
+made_schedule : (k : KernelState) (domain owner quantum priority : ℕ) → 1 ≤ quantum → (ec : Result ℕ Status) →
+    IfDone (MayUse k domain is_schedulable bind_scheduling_right) ec →
+    IfDone (IsGood k domain owner) (and_then ec (λ e. unless (is_scheduled k e) BadCap (Ok (new.Sc e (processor_of k e) priority quantum))))
+made_schedule k domain owner quantum priority turns (Err status) used = tt
+made_schedule k domain owner quantum priority turns (Ok e) used = by_test (is_scheduled k e) refl
+  where
+    by_test : (t : Bool) → is_scheduled k e ≡ t → IfDone (IsGood k domain owner) (unless t BadCap (Ok (new.Sc e (processor_of k e) priority quantum)))
+    by_test true is = tt
+    by_test false is = (tt, record { bound = used; processor = refl; alone = is; turns = turns })
+
+made_portal : (k : KernelState) (domain owner mtd ip : ℕ) (handler : Result ℕ Status) → IfDone (MayUse k domain is_local bind_portal_right) handler →
+    IfDone (IsGood k domain owner) (and_then handler (λ h. Ok (new.Pt h mtd ip)))
+made_portal k domain owner mtd ip (Ok h) used = (tt, used)
+made_portal k domain owner mtd ip (Err status) used = tt
 
 row_free : (k : KernelState) (ec : ℕ) (c : Call) → TakesSelector c → IfDone (IsAllowed k ec) (row k (pd_of k ec) c)
 row_free k ec (call.CreatePd target pd first) selector =
     maker_free k (pd_of k ec) target pd (IsAllowed k ec) (λ o. Ok (new_domain k target first))
-    (λ o free named. new_domain_free k ec target first (record { free = free; selector = selector; creator = named.creator; place = tt }))
-row_free k ec (call.CreateEc target pd cpu kind sp event) selector =
-    unless_free k ec (is_virtual kind) BadPar _ (makes_free k ec CREATE_EC target pd _ selector (λ o. made_context o cpu kind sp event (not (nat_lt cpu k.cpus))))
+    (λ o free named. new_domain_free k ec target first (record { free = free; selector = selector; creator = named.creator; place = tt; bound = tt }))
+row_free k ec (call.CreateEc target pd cpu kind sp event) selector = unless_free k ec (is_virtual kind) BadPar _
+    (makes_free k ec CREATE_EC target pd _ selector (λ o. made_context k (pd_of k ec) o cpu kind sp event (not (nat_lt cpu k.cpus))))
+row_free k ec (call.CreateSc target pd its quantum priority) (selector, turns) =
+    makes_free k ec CREATE_SC target pd _ selector (λ o.
+    made_schedule k (pd_of k ec) o quantum priority turns (named k (pd_of k ec) is_schedulable bind_scheduling_right its)
+    (named_used k (pd_of k ec) is_schedulable bind_scheduling_right its))
 row_free k ec (call.CreatePt target pd handler mtd ip) selector =
-    makes_free k ec CREATE_PT target pd _ selector (λ o. made_portal o mtd.0 ip (named k (pd_of k ec) is_local bind_portal_right handler))
-row_free k ec (call.CreateSm target pd count) selector = makes_free k ec CREATE_SM target pd (λ o. Ok (new.Sm count)) selector (λ o. tt)
+    makes_free k ec CREATE_PT target pd _ selector (λ o.
+    made_portal k (pd_of k ec) o mtd.0 ip (named k (pd_of k ec) is_local bind_portal_right handler) (named_used k (pd_of k ec) is_local bind_portal_right handler))
+row_free k ec (call.CreateSm target pd count) selector = makes_free k ec CREATE_SM target pd (λ o. Ok (new.Sm count)) selector (λ o. (tt, tt))
 row_free k ec (call.EcCtrl other) selector = named_free k ec (named k (pd_of k ec) is_ec control_right other) (λ n. Recalls n) (λ n. tt)
 row_free k ec (call.ScCtrl sc) selector =
     named_free k ec (named k (pd_of k ec) is_sc control_right sc) (λ n. Tells SC_CTRL (ticks_in (budget_at k n))) (λ n. tt)
@@ -270,6 +309,7 @@ made_grows k s ec target made asked objects delegations = MakesObject (record {
     target = refl;
     creator = asked.creator;
     place = asked.place;
+    bound = asked.bound;
     newest = ids_below k;
   };
   objects = objects;

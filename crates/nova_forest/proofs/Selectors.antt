@@ -1,15 +1,16 @@
--- The selector at which a call puts what it makes.
-use Rattle.std.proofs.Common.{◌≡◌, ◌<◌, ℕ, zero, suc, ◌^◌, List, [], ◌∷◌, slice_get, Option, Some, None, Ok, IfSome, subst, arith}
+-- The selector at which a call puts what it makes, and the quantum that it gives.
+use Rattle.std.proofs.Common.{◌≡◌, ◌<◌, ◌≤◌, ℕ, zero, suc, ◌^◌, List, [], ◌∷◌, slice_get, Option, Some, None, Ok, IfSome, subst, arith}
 use Rattle.std.proofs.lemmas.Bool.Decides.{nat_tests}
 use Rattle.rv_model.specs.Registers.{Registers, reg}
 use Rattle.nova_calls.specs.Hypercalls.{create_pd_row, create_ec_row, create_sc_row, create_pt_row, create_sm_row, call_row, revoke_row, lookup_row, ec_ctrl_row, sc_ctrl_row, pt_ctrl_row, sm_ctrl_row, rows, read_row, call_of}
 use Rattle.nova_calls.specs.declared.call.Call.{Call}
 use Rattle.nova_calls.specs.declared.call.Call.TheVariants as call
 
--- it is one
+-- it is one, and a quantum is at least 1
 abbrev pub TakesSelector : Call → Type 0
 TakesSelector (call.CreatePd target pd first) = target < 2 ^ 20
 TakesSelector (call.CreateEc target pd cpu kind sp event) = target < 2 ^ 20
+TakesSelector (call.CreateSc target pd ec quantum priority) = (target < 2 ^ 20) × (1 ≤ quantum)
 TakesSelector (call.CreatePt target pd ec mtd ip) = target < 2 ^ 20
 TakesSelector (call.CreateSm target pd count) = target < 2 ^ 20
 TakesSelector other = Unit {0}

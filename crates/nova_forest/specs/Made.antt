@@ -1,14 +1,15 @@
 -- What a turn may do to objects and delegations, and by whom.
-use Rattle.std.specs.Prelude.{◌≡◌, ℕ, ◌<◌, ◌^◌, ◌==◌, Contains, true, false, [], ◌∷◌, ◌++◌, length, slice_get, Option, Some, None}
+use Rattle.std.specs.Prelude.{◌≡◌, ℕ, ◌<◌, ◌≤◌, ◌^◌, ◌==◌, Bool, Contains, true, false, [], ◌∷◌, ◌++◌, length, option_map, slice_get, Option, Some, None}
 use Rattle.nova_objects.specs.declared.object.Object.{Object}
-use Rattle.nova_objects.specs.declared.object.Object.TheVariants.{Pd, Ec}
+use Rattle.nova_objects.specs.declared.object.Object.TheVariants.{Pd, Ec, Sc, Pt}
 use Rattle.nova_range.specs.Ranges.{IsRange}
 use Rattle.nova_range.specs.declared.range.Kind.TheVariants.{Obj}
-use Rattle.nova_model.specs.Capabilities.{create_right, is_held, rights_to}
+use Rattle.nova_model.specs.Capabilities.{bind_portal_right, bind_scheduling_right, create_right, is_held, is_local, is_schedulable, rights_to}
 use Rattle.nova_model.specs.Delegations.{allows, range_of, is_held_in, added}
 use Rattle.nova_model.specs.Forest.{IsForest, IsFitting}
-use Rattle.nova_model.specs.State.{KernelState, context, pd_of}
-use Rattle.nova_model.specs.declared.budget.Candidate.{Candidate}
+use Rattle.nova_model.specs.Hypercalls.{is_scheduled}
+use Rattle.nova_model.specs.State.{KernelState, context, pd_of, processor_of}
+use Rattle.nova_model.specs.Choice.{Candidate}
 use Rattle.nova_model.specs.declared.context.State.TheVariants.{Granting}
 use Rattle.nova_model.specs.declared.delegation.Derivation.{Derivation}
 
@@ -26,9 +27,35 @@ abbrev pub IsMadeIn : ℕ → Object → Type 0
 IsMadeIn domain (Ec pd cpu kind event) = pd ≡ domain
 IsMadeIn domain other = Unit {0}
 
+-- a protection domain holds a capability to the object of this number, which is one of these, with this right
+pub record MayUse (k : KernelState) (domain : ℕ) (is : Object → Bool) (right object : ℕ) : Type 0 where
+  pub capability : Derivation
+  pub there : Contains k.delegations.list capability
+  pub held : capability.pd ≡ domain
+  pub kind : capability.kind ≡ Obj
+  pub target : capability.target ≡ object
+  pub leads : option_map is (slice_get k.objects object) ≡ Some true
+  pub allowed : allows capability.rights right ≡ true
+
+-- a scheduling context of an execution context that is no local thread and has none yet, on its processor, with a quantum of at least 1; the
+-- protection domain may bind one to it
+pub record IsFirstSchedule (k : KernelState) (domain ec cpu quantum : ℕ) : Type 0 where
+  pub bound : MayUse k domain is_schedulable bind_scheduling_right ec
+  pub processor : cpu ≡ processor_of k ec
+  pub alone : is_scheduled k ec ≡ false
+  pub turns : 1 ≤ quantum
+
+-- what an object is bound to, where a protection domain has it made: a scheduling context to such an execution context, and a portal to a
+-- local thread, each with the right to do so
+abbrev pub IsBoundBy : KernelState → ℕ → Object → Type 0
+IsBoundBy k domain (Sc ec cpu priority quantum) = IsFirstSchedule k domain ec cpu quantum
+IsBoundBy k domain (Pt ec mtd ip) = MayUse k domain is_local bind_portal_right ec
+IsBoundBy k domain other = Unit {0}
+
 -- the capability of a new object: its maker's, of the next id and without a parent, at a selector below 2^20 that the maker's domain did not
 -- hold, with all rights to the object, whose number is the next. The maker's domain may make objects in a protection domain, and an
--- execution context is made in that one. Where delegations are a sound forest each id of theirs is less.
+-- execution context is made in that one, and may bind the object as it is bound. Where delegations are a sound forest each id of theirs is
+-- less.
 pub record IsFirstCapability (k : KernelState) (maker : ℕ) (object : Object) (d : Derivation) : Type 0 where
   pub pd : d.pd ≡ pd_of k maker
   pub id : d.id ≡ k.delegations.next
@@ -41,6 +68,7 @@ pub record IsFirstCapability (k : KernelState) (maker : ℕ) (object : Object) (
   pub target : d.target ≡ length k.objects
   pub creator : MayCreate k d.pd
   pub place : IsMadeIn creator.capability.target object
+  pub bound : IsBoundBy k d.pd object
   pub newest : IsForest k.delegations → (a : Derivation) → Contains k.delegations.list a → a.id < d.id
 
 -- a child that is given: of a derivation of the giver's domain, to the domain that the giver's state names, of the next id and of the same

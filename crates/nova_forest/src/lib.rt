@@ -25,9 +25,12 @@ pub fn delegations_stay_a_forest()
 /// or it gives one child and makes no object. The capability of an object is that of the domain of the
 /// execution context that acts, at a selector below 2^20 that was free, with all rights to the object
 /// and without a parent; that domain holds the right to make objects in a protection domain, and an
-/// execution context is made in that one. The child's parent is a derivation of that domain, and the
-/// child goes to the domain that the execution context's state names, at places that were free there.
-/// What joins has the next id, which where delegations are a sound forest is above all before.
+/// execution context is made in that one. A scheduling context is of an execution context that is no
+/// local thread and has none yet, on its processor, with a quantum of at least 1; a portal is to a local
+/// thread; and for each of both that domain holds the right to bind it. The child's parent is a
+/// derivation of that domain, and the child goes to the domain that the execution context's state names,
+/// at places that were free there. What joins has the next id, which where delegations are a sound
+/// forest is above all before.
 pub fn a_turn_makes_at_most_one_object()
     ensures { (k : KernelState) (cpu : ℕ) → GrowsBy k (choice k cpu) (after k cpu) }
 {}

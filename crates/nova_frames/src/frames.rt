@@ -67,6 +67,23 @@ impl Frames {
         })
     }
 
+    /// The same RAM, consoles and log in memory of their own. The copy's log has no room for more bytes.
+    /// It refuses for want of memory alone.
+    pub fn copy(&self) -> Result<Frames, AllocError>
+        ensures memory { IfOk result (λ copy. copy.memory ≡ self.now.memory) }
+        ensures consoles { IfOk result (λ copy. copy.consoles ≡ self.now.consoles) }
+        ensures room { IfOk result (λ copy. copy.room ≡ 0) }
+    {
+        let ram = Vec::from_slice(*self.ram.allocator(), self.ram.as_slice())?;
+        let log = Vec::from_slice(*self.log.allocator(), self.log.as_slice())?;
+        Ok(Frames {
+            ram,
+            consoles: self.consoles,
+            log,
+            room: 0,
+        })
+    }
+
     /// The number of RAM frames. The first console has the number after them.
     pub fn ram_frames(&self) -> u32
         ensures count { result ≡ length self.now.memory.ram }

@@ -64,6 +64,8 @@ fn consoles_log_what_is_stored_at_offset_0(rt: HostRuntime) -> Result<(), Fail> 
     assert!(rt; entries.next().is_none());
     assert_eq!(rt; frames.room(), 1);
     assert_eq!(rt; load(&rt, &frames, 2, 0, 4), 0);
+    let copy = frames.copy()?;
+    assert_eq!(rt; (copy.log().len(), copy.consoles(), copy.room()), (2, 2, 0));
     Ok(())
 }
 

@@ -31,6 +31,7 @@ waits-for_none Vcpu = refl
 pub made_alone : (number : ℕ) (new : NewObject) → option_and_then edge_of (option_map (λ (x : EcState). x.state) (context_of number new)) ≡ None
 made_alone number new.Pd = refl
 made_alone number (new.Ec pd cpu kind sp event) = waits-for_none kind
+made_alone number (new.Sc ec cpu priority quantum) = refl
 made_alone number (new.Pt ec mtd ip) = refl
 made_alone number (new.Sm count) = refl
 

@@ -1,19 +1,19 @@
 -- What is counted stays bounded by the turns that were taken.
 use Rattle.std.proofs.Common.{◌≡◌, ℕ, zero, suc, ◌+◌, ◌*◌, ◌^◌, ◌<◌, ◌≤◌, List, [], ◌∷◌, refl, sym, ◌∙◌, subst, arith}
-use Rattle.std.specs.Prelude.{Bool, true, false, Option, Some, None, IsSome, slice_get, slice_index, slice_set}
+use Rattle.std.specs.Prelude.{Bool, true, false, Option, Some, None, slice_get, slice_index, slice_set}
 use Rattle.std.proofs.lemmas.List.{length-set}
 use Rattle.nova_model.specs.Forest.{IsForest}
 use Rattle.nova_model.specs.State.{KernelState, budget_at, transfer_at, entry}
 use Rattle.nova_model.specs.Turn.{charged, is_spent, budget_after, stamp_after, quantum_in, counted, paid_by}
 use Rattle.nova_model.specs.declared.budget.Budget.{Budget}
-use Rattle.nova_kernel.specs.Parts.{AreTables, IsCharged, IsCounted, IsGivenWithin, IsNumbered, IsPaidWithin, KeepsCounts}
+use Rattle.nova_kernel.specs.Parts.{AreTables, IsCharged, IsToBeCharged, IsCounted, IsGivenWithin, IsNumbered, IsPaidWithin, KeepsCounts}
 
-pub IsCharged-kept : (old new : KernelState) → KeepsCounts old new → IsCharged old → IsCharged new
+pub IsCharged-kept : (old new : KernelState) → KeepsCounts old new → IsCharged old → IsToBeCharged new
 IsCharged-kept old new kept charged = record {
   turns = rw kept.turns charged.turns;
   processors = rw (kept.processors, kept.cpus) charged.processors;
-  stamps = rw (kept.next_stamp, kept.turns) charged.stamps;
-  ticks = λ sc. rw (kept.turns, kept.budgets sc) (charged.ticks sc);
+  stamps = let more = kept.next_stamp in let few = charged.stamps in let t = kept.turns in omega (arith, more, few, t);
+  ticks = λ sc. rw kept.turns (kept.ticks sc old.turns (charged.ticks sc));
   stirs = λ cpu. rw (kept.processors, kept.turns) (charged.stirs cpu);
 }
 
@@ -45,7 +45,7 @@ IsPaidWithin-set turns (x ∷ xs) zero (suc n) b new old = IsPaidWithin-more tur
 IsPaidWithin-set turns (x ∷ xs) (suc i) zero b new old = IsPaidWithin-more turns x old
 IsPaidWithin-set turns (x ∷ xs) (suc i) (suc n) b new old = IsPaidWithin-set turns xs i n b new old
 
-stamp-after : (spent : Bool) (stamp turns : ℕ) → stamp ≤ 2 * turns + 1 → stamp_after spent stamp ≤ 2 * (turns + 1) + 1
+stamp-after : (spent : Bool) (stamp turns : ℕ) → stamp ≤ 2 * turns + 2 → stamp_after spent stamp ≤ 2 * (turns + 1) + 1
 stamp-after true stamp turns h = omega arith
 stamp-after false stamp turns h = omega arith
 
@@ -56,7 +56,7 @@ index-set turns (x ∷ xs) zero (suc n) v new old = omega arith
 index-set turns (x ∷ xs) (suc i) zero v new old = omega arith
 index-set turns (x ∷ xs) (suc i) (suc n) v new old = index-set turns xs i n v new old
 
-IsCharged-paid : (k : KernelState) (cpu sc quantum : ℕ) (o : Option Budget) → budget_at k sc ≡ o → k.turns < 2 ^ 31 → IsCharged k →
+IsCharged-paid : (k : KernelState) (cpu sc quantum : ℕ) (o : Option Budget) → budget_at k sc ≡ o → k.turns < 2 ^ 31 → IsToBeCharged k →
     IsCharged (counted (paid_by k sc quantum o) cpu)
 IsCharged-paid k cpu sc quantum None at few c = record {
   turns = omega arith;
@@ -116,7 +116,3 @@ IsCounted-charged old k cpu sc kept forest few c =
           (children-paid k cpu sc quantum (k.turns + 1) o (children-kept old k kept c.children));
       forest = subst IsForest (sym (delegations-paid k cpu sc quantum o)) forest;
     }
-
--- a scheduling context stays there
-pub budget-kept : (old new : KernelState) (sc : ℕ) → KeepsCounts old new → IsSome (budget_at old sc) → IsSome (budget_at new sc)
-budget-kept old new sc kept there = subst (λ (o : Option Budget). IsSome o) (sym (kept.budgets sc)) there

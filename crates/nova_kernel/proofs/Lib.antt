@@ -1,4 +1,13 @@
-pub mod Foremost
+pub mod Budgets
+pub mod Nexts
+pub mod Chosen
+pub mod Waits
+pub mod Joins
+pub mod Moves
+pub mod Marks
+pub mod Charges
+pub mod Named
+pub mod Started
 pub mod Steps
 pub mod Keeps
 pub mod Counts

@@ -1,15 +1,18 @@
 -- A turn makes a derivation where its deed does.
 use Rattle.std.proofs.Common.{◌≡◌, ℕ, ◌<◌, sym, subst, arith, rules}
-use Rattle.std.specs.Prelude.{Option, Some, true, Result, Ok, Err, OnErr}
+use Rattle.std.specs.Prelude.{Option, Some, option_map, true, Result, Ok, Err, OnErr}
 use Rattle.nova_model.specs.Choice.{choice}
 use Rattle.nova_model.specs.Deeds.{deed, done, is_making}
 use Rattle.nova_model.specs.Delegations.{Delegations}
 use Rattle.nova_model.specs.State.{KernelState}
 use Rattle.nova_model.specs.Turn.{state_after, turn, turn_by}
-use Rattle.nova_model.specs.declared.budget.Candidate.{Candidate}
+use Rattle.nova_model.specs.Choice.{Candidate}
 use Rattle.nova_model.specs.declared.deed.Deed.{Deed}
 use Rattle.nova_model.specs.declared.deed.Deed.TheVariants.{Makes, Opens, Gives}
 use Rattle.nova_kernel.specs.Views.{HasMade, IsMaking}
+use Rattle.nova_kernel.specs.Choices.{chosen_of}
+use Rattle.nova_kernel.specs.declared.choice.Chosen.{Chosen}
+use Rattle.nova_kernel.proofs.Chosen.{IsTold, told_by}
 use Rattle.nova_kernel.proofs.Counts.{delegations-charged}
 
 done-making : (k : KernelState) (ec : ℕ) (d : Deed) → is_making d ≡ true → HasMade k (done k ec d)
@@ -25,7 +28,11 @@ making-turn k cpu c chosen making =
     (subst (λ (f : Delegations). k.delegations.next < f.next) (sym (delegations-charged (done k c.actor (deed k c.actor)) cpu c.sc))
     (done-making k c.actor (deed k c.actor) making))
 
-pub making-wants : {T E : Type 0} (k : KernelState) (cpu : ℕ) (c : Candidate) (result : Result T E) → choice k cpu ≡ Some c →
-    is_making (deed k c.actor) ≡ true → OnErr result (IsMaking k cpu)
-making-wants k cpu c (Ok x) chosen making = search rules
-making-wants k cpu c (Err error) chosen making = making-turn k cpu c chosen making
+making-told : (k : KernelState) (cpu : ℕ) (chosen : Chosen) → IsTold k cpu chosen → is_making (deed k chosen.actor) ≡ true → IsMaking k cpu
+making-told k cpu chosen told making =
+    making-turn k cpu told.candidate told.is (subst (λ (c : Chosen). is_making (deed k c.actor) ≡ true) (sym told.told) making)
+
+pub making-wants : {T E : Type 0} (k : KernelState) (cpu : ℕ) (chosen : Chosen) (result : Result T E) → Some chosen ≡ option_map chosen_of (choice k cpu) →
+    is_making (deed k chosen.actor) ≡ true → OnErr result (IsMaking k cpu)
+making-wants k cpu chosen (Ok x) is making = search rules
+making-wants k cpu chosen (Err error) is making = making-told k cpu chosen (told_by k cpu chosen is) making

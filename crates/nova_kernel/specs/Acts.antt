@@ -7,6 +7,7 @@ use Rattle.nova_model.specs.Capabilities.{is_held}
 use Rattle.nova_model.specs.Deeds.{done, is_busy}
 use Rattle.nova_model.specs.State.{KernelState, transfer}
 use Rattle.nova_model.specs.Transfers.{Part, next_part, given}
+use Rattle.nova_kernel.specs.Schedules.{IsPlacedIn}
 use Rattle.nova_model.specs.declared.transfer.Job.{Job}
 use Rattle.nova_model.specs.declared.transfer.Transfer.{Transfer}
 use Rattle.nova_model.specs.declared.deed.Deed.{Deed}
@@ -17,9 +18,9 @@ abbrev pub outcome_of : Once → Outcome
 outcome_of (Raised reason q0 q1) = Raise reason q0 q1
 outcome_of (Went regs store) = Next
 
--- what a deed names is there, and a selector is one
+-- what a deed names is there, a selector is one, and what it makes is of a processor that is there
 abbrev pub Fits : KernelState → Deed → Type 0
-Fits k (Makes call target new) = target < 2 ^ 20
+Fits k (Makes call target new) = (target < 2 ^ 20) × IsPlacedIn k new
 Fits k (Opens target domain) = (target < 2 ^ 20) × (domain ≡ length k.objects)
 Fits k (Recalls ec) = ec < length k.objects
 Fits k (Names pt identifier) = pt < length k.objects

@@ -15,5 +15,6 @@ pub mod Birth
 pub mod Parts
 pub mod ObjectTypes
 pub mod Acts
-pub mod Best
+pub mod Schedules
+pub mod Choices
 pub mod Reach

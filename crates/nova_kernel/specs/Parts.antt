@@ -5,10 +5,14 @@ use Rattle.nova_model.specs.State.{KernelState, context_at, budget_at, transfer_
 use Rattle.nova_model.specs.declared.deed.Deed.{Deed}
 use Rattle.nova_model.specs.declared.deed.Deed.TheVariants.{Makes, Opens}
 use Rattle.nova_model.specs.declared.budget.Budget.{Budget}
-use Rattle.nova_model.specs.declared.budget.Candidate.{Candidate}
 use Rattle.nova_model.specs.declared.transfer.Transfer.{Transfer}
+use Rattle.nova_model.specs.declared.new_object.NewObject.{NewObject}
+use Rattle.nova_model.specs.declared.new_object.NewObject.TheVariants.{Sc}
 use Rattle.nova_nodes.specs.NodesStates.{room}
+use Rattle.nova_sched.specs.Queues.{QueuesState, Schedule}
+use Rattle.nova_sched.specs.Queues as queues
 use Rattle.nova_kernel.specs.Birth.{messages_at_birth, semaphores_at_birth, guests_at_birth}
+use Rattle.nova_kernel.specs.Schedules.{budgets_of}
 use Rattle.nova_kernel.specs.declared.parts.Parts.{Parts}
 
 -- the state that the lists show
@@ -19,11 +23,11 @@ shown p = record {
   contexts = p.contexts.items;
   messages = messages_at_birth p.objects.items;
   transfers = p.transfers.items;
-  budgets = p.budgets.items;
+  budgets = budgets_of p.queues.all (length p.objects.items);
   identifiers = p.identifiers.items;
   semaphores = semaphores_at_birth p.counts.items;
   memory = p.reach.memory;
-  next_stamp = p.next_stamp;
+  next_stamp = p.queues.all.next_stamp;
   turns = p.turns;
   cpus = p.cpus;
   consoles = p.reach.consoles;
@@ -36,13 +40,22 @@ pub record HasRoom (pd : ℕ) (p : Parts) : Type 0 where
   pub derivations : 0 < room p.reach.nodes pd
   pub contexts : 0 < p.contexts.spare
   pub transfers : vec_len p.transfers < vec_capacity p.transfers
-  pub budgets : vec_len p.budgets < vec_capacity p.budgets
   pub identifiers : vec_len p.identifiers < vec_capacity p.identifiers
   pub counts : vec_len p.counts < vec_capacity p.counts
 
+-- and a scheduling context has room in the queue of its processor
+abbrev pub HasQueue : NewObject → ℕ → QueuesState → Type 0
+HasQueue (Sc ec cpu priority quantum) number q = (cpu < q.all.cpus) × queues.HasRoom q number cpu
+HasQueue other number q = Unit {0}
+
+-- a new scheduling context is of one of the processors that have a queue
+abbrev pub FitsQueues : Deed → Schedule → Type 0
+FitsQueues (Makes call target (Sc ec cpu priority quantum)) s = cpu < s.cpus
+FitsQueues other s = Unit {0}
+
 -- a deed that makes an object wants it
 abbrev pub HasRoomFor : ℕ → Deed → Parts → Type 0
-HasRoomFor pd (Makes call target new) p = HasRoom pd p
+HasRoomFor pd (Makes call target new) p = HasRoom pd p × HasQueue new (length p.objects.items) p.queues
 HasRoomFor pd (Opens target domain) p = HasRoom pd p
 HasRoomFor pd other p = Unit {0}
 
@@ -69,14 +82,21 @@ abbrev pub IsGivenWithin : ℕ → Option Transfer → Type 0
 IsGivenWithin turns (Some t) = t.children ≤ turns
 IsGivenWithin turns None = 0 ≤ turns
 
--- what turns are charged to is bounded by the turns that were taken. A turn takes at most two stamps: one for a scheduling context that is
--- made, and one for a quantum that begins anew.
-pub record IsCharged (k : KernelState) : Type 0 where
+-- what turns are charged to is bounded by the turns that were taken, and stamps by a number
+pub record IsChargedWithin (most : ℕ) (k : KernelState) : Type 0 where
   pub turns : k.turns ≤ 2 ^ 31
   pub processors : length k.stirs.processors ≡ k.cpus
-  pub stamps : k.next_stamp ≤ 2 * k.turns + 1
+  pub stamps : k.next_stamp ≤ most
   pub ticks : (sc : ℕ) → IsPaidWithin k.turns (budget_at k sc)
   pub stirs : (cpu : ℕ) → slice_index k.stirs.processors cpu ≤ k.turns
+
+-- a turn takes at most two stamps: one for a scheduling context that is made, and one for a quantum that begins anew
+abbrev pub IsCharged : KernelState → Type 0
+IsCharged k = IsChargedWithin (2 * k.turns + 1) k
+
+-- after a deed, before its turn is charged
+abbrev pub IsToBeCharged : KernelState → Type 0
+IsToBeCharged k = IsChargedWithin (2 * k.turns + 2) k
 
 -- what always holds: bounds of what is counted, an entry of each table for each object, and delegations that are a sound forest
 pub record IsCounted (k : KernelState) : Type 0 where
@@ -86,21 +106,17 @@ pub record IsCounted (k : KernelState) : Type 0 where
   pub children : (ec : ℕ) → IsGivenWithin k.turns (transfer_at k ec)
   pub forest : IsForest k.delegations
 
--- an act leaves each execution context there, and what turns are charged to; it gives at most one number to an object and to a
--- derivation, and counts at most one child
+-- an act leaves each execution context and each scheduling context there, and lets none pay; it gives at most one number to an object and to
+-- a derivation, at most one stamp, and counts at most one child
 pub record KeepsCounts (old new : KernelState) : Type 0 where
   pub contexts : (ec : ℕ) → IsSome (context_at old ec) → IsSome (context_at new ec)
-  pub budgets : (sc : ℕ) → budget_at new sc ≡ budget_at old sc
+  pub budgets : (sc : ℕ) → IsSome (budget_at old sc) → IsSome (budget_at new sc)
+  pub ticks : (sc turns : ℕ) → IsPaidWithin turns (budget_at old sc) → IsPaidWithin turns (budget_at new sc)
   pub transfers : (ec turns : ℕ) → IsGivenWithin turns (transfer_at old ec) → IsGivenWithin (turns + 1) (transfer_at new ec)
-  pub next_stamp : new.next_stamp ≡ old.next_stamp
+  pub next_stamp : new.next_stamp ≤ old.next_stamp + 1
   pub turns : new.turns ≡ old.turns
   pub cpus : new.cpus ≡ old.cpus
   pub processors : new.stirs.processors ≡ old.stirs.processors
   pub objects : length new.objects ≤ length old.objects + 1
   pub derivations : new.delegations.next ≤ old.delegations.next + 1
   pub tables : AreTables old → AreTables new
-
--- what a candidate names is there
-pub record IsThere (k : KernelState) (c : Candidate) : Type 0 where
-  pub context : IsSome (context_at k c.actor)
-  pub budget : IsSome (budget_at k c.sc)

@@ -4,6 +4,7 @@ ghost use Rattle.nova_model.specs.Boot.{bare, root_objects, root_context, root_r
 ghost use Rattle.nova_model.specs.State.{no_transfer};
 ghost use Rattle.nova_nodes.specs.NodesStates.{room};
 ghost use Rattle.nova_kernel.specs.Parts.{shown};
+ghost use Rattle.nova_kernel.specs.Schedules.{root_schedule};
 ghost use Rattle.nova_kernel.specs.Reach.{page_range, selector_range};
 
 use crate::creation::NO_TRANSFER;
@@ -12,10 +13,11 @@ use crate::reach::Reach;
 use bitflags::Flags;
 use nova_ec::Ecs;
 use nova_frames::Frames;
-use nova_model::{Budget, EcKind, EcState, Kind, Object, Rights, Root, State, Transfer};
+use nova_model::{EcKind, EcState, Kind, Object, Rights, Root, State, Transfer};
 use nova_nodes::{ListIndex, Nodes};
 use nova_objects::Objects;
 use nova_range::{Range, Target};
+use nova_sched::Queues;
 use rv_core::Regs;
 use std::alloc::{AllocError, Global};
 
@@ -71,19 +73,17 @@ fn root_contexts(alloc: Global, root: Root) -> Result<Ecs, AllocError>
     Ok(contexts)
 }
 
-/// The table of scheduling contexts: a full quantum, and the first stamp.
-fn root_budgets(alloc: Global, root: Root) -> Result<Vec<Option<Budget>>, AllocError>
-    ensures { IfOk result (λ v. v.items ≡ None ∷ None ∷ Some (record { left = root.quantum; stamp = 0; ticks = 0 }) ∷ []) }
+/// The queues, with the root's scheduling context, which has a full quantum and the first stamp, and is
+/// runnable. A machine without processors has a queue too, for that one.
+#[tactic(auto, unfolding(crate::specs::Schedules::root_schedule))]
+fn root_queues(alloc: Global, cpus: u32, root: Root) -> Result<Queues, AllocError>
+    ensures { IfOk result (λ q. q.all ≡ root_schedule cpus root) }
 {
-    let mut budgets = Vec::with_capacity(alloc, 3)?;
-    budgets.push(None)?;
-    budgets.push(None)?;
-    budgets.push(Some(Budget {
-        left: root.quantum,
-        stamp: 0,
-        ticks: 0,
-    }))?;
-    Ok(budgets)
+    let mut queues = Queues::new(alloc, cpus.max(1))?;
+    queues.reserve(2, 0)?;
+    queues.add(2, 0, root.priority, root.quantum);
+    queues.set_runnable(2, true);
+    Ok(queues)
 }
 
 /// How far the root's execution context is with items: it gives none.
@@ -204,6 +204,7 @@ fn first_stirs(alloc: Global, cpus: u32) -> Result<Vec<u64>, AllocError>
 
 impl Parts {
     /// The parts of a machine that boots, without images.
+    #[tactic(auto, using(crate::proofs::Started::started))]
     pub fn new(
         alloc: Global,
         cpus: u32,
@@ -215,13 +216,14 @@ impl Parts {
         requires ram { ram ≤ 14 }
         requires consoles { consoles ≤ 16 }
         ensures shown { IfOk result (λ p. shown p ≡ bare cpus ram consoles root) }
+        ensures queues { IfOk result (λ p. p.queues.all ≡ root_schedule cpus root) }
         ensures room { IfOk result (λ p. p.reach.room ≡ log_room) }
     {
         let reach = Reach::new(alloc, ram, consoles, log_room)?;
         let objects = root_objects(alloc, root)?;
         let contexts = root_contexts(alloc, root)?;
         let transfers = root_transfers(alloc)?;
-        let budgets = root_budgets(alloc, root)?;
+        let queues = root_queues(alloc, cpus, root)?;
         let identifiers = no_entries(alloc)?;
         let counts = no_entries(alloc)?;
         let stirs = first_stirs(alloc, cpus)?;
@@ -229,11 +231,10 @@ impl Parts {
             reach,
             objects,
             contexts,
+            queues,
             transfers,
-            budgets,
             identifiers,
             counts,
-            next_stamp: 1,
             turns: 0,
             cpus,
             stirs,

@@ -1,4 +1,4 @@
-ghost use Rattle.std.specs.Prelude.{◌≡◌, ◌<◌, length, IfOk};
+ghost use Rattle.std.specs.Prelude.{◌≡◌, ◌<◌, true, length, slice_get, Some, option_map, IfOk};
 ghost use Rattle.nova_model.specs.Capabilities.{is_held, named};
 ghost use Rattle.nova_kernel.specs.Parts.{shown};
 ghost use Rattle.nova_kernel.specs.ObjectTypes.{is_of};
@@ -15,6 +15,8 @@ pub enum ObjectType {
     Ec,
     /// An execution context that is a local thread.
     Local,
+    /// An execution context that may have a scheduling context: any but a local thread.
+    Schedulable,
     Sc,
     Pt,
 }
@@ -31,6 +33,13 @@ impl ObjectType {
                 object,
                 Object::Ec {
                     kind: EcKind::Local,
+                    ..
+                }
+            ),
+            ObjectType::Schedulable => matches!(
+                object,
+                Object::Ec {
+                    kind: EcKind::Global | EcKind::Vcpu,
                     ..
                 }
             ),
@@ -59,6 +68,7 @@ impl Parts {
     ) -> Result<u32, Status>
         ensures named { result ≡ named (shown self.now) pd (is_of object_type) right.0 selector }
         ensures there { IfOk result (λ number. number < length (shown self.now).objects) }
+        ensures fits { IfOk result (λ number. option_map (is_of object_type) (slice_get (shown self.now).objects number) ≡ Some true) }
     {
         let Some(capability) = self.reach.covering(pd, Kind::Obj, selector) else {
             return Err(Status::BadCap);

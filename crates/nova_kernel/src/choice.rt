@@ -1,83 +1,73 @@
-ghost use Rattle.std.specs.Prelude.{◌≡◌, ◌^◌, ◌≤◌, length, IfSome};
-ghost use Rattle.nova_model.specs.Choice.{candidate_of, goes_before, choice, is_quiet};
-ghost use Rattle.nova_kernel.specs.Parts.{shown, IsThere};
-ghost use Rattle.nova_kernel.specs.Best.{yields};
+ghost use Rattle.std.specs.Prelude.{◌≡◌, slice_get, IsSome, IfSome, option_map};
+ghost use Rattle.nova_model.specs.Choice.{choice, choose, is_quiet};
+ghost use Rattle.nova_model.specs.State.{budget_at, context_at, ec_in};
+ghost use Rattle.nova_sched.specs.Queues as queues;
+ghost use Rattle.nova_kernel.specs.Choices.{chosen_of, led};
+ghost use Rattle.nova_kernel.specs.Parts.{shown};
+ghost use Rattle.nova_kernel.specs.Schedules.{AreQueued, actor_of};
 
 use crate::parts::Parts;
-use nova_model::{Candidate, Object};
+use nova_ec::Ecs;
+use nova_model::Object;
+use nova_objects::Objects;
 
-/// Whether the first goes before the second: a greater priority, or the same and a lesser stamp.
-fn precedes(a: &Candidate, b: &Candidate) -> bool
-    ensures { result ≡ goes_before a.now b.now }
-{
-    b.priority < a.priority || (a.priority == b.priority && a.stamp < b.stamp)
+/// A scheduling context that has a turn, and the execution context that acts in it.
+#[derive(Clone, Copy)]
+pub struct Chosen {
+    pub sc: u32,
+    pub actor: u32,
 }
 
-/// Whether the best so far yields to a further one.
-fn yields(best: &Option<Candidate>, further: &Candidate) -> bool
-    ensures { result ≡ yields best.now further.now }
+/// The execution context that acts in the turns of a scheduling context; none where none acts, and of
+/// another object.
+pub fn actor_of(objects: &Objects, contexts: &Ecs, sc: u32) -> Option<u32>
+    ensures actor { result ≡ actor_of contexts.now.items (slice_get objects.now.items sc) }
+    ensures there { IfSome result (λ actor. IsSome (ec_in contexts.now.items actor)) }
 {
-    match best {
-        Some(best) => precedes(further, best),
-        None => true,
+    match objects.get(sc) {
+        Some(Object::Sc { ec, .. }) => contexts.actor(*ec),
+        _ => None,
     }
 }
 
 impl Parts {
-    /// The object of this number as a candidate, where it is a runnable scheduling context of the
-    /// processor: its turns lead to an execution context that acts.
-    fn candidate(&self, cpu: u32, sc: u32, object: &Object) -> Option<Candidate>
-        ensures candidate { result ≡ candidate_of (shown self.now) cpu sc object.now }
-        ensures there { IfSome result (IsThere (shown self.now)) }
+    /// The scheduling context of the processor that the queues choose, and who acts in its turns.
+    fn next(&self, cpu: u32) -> Option<Chosen>
+        ensures next { result ≡ led (shown self.now) (queues.choose self.now.queues.all cpu) }
+        ensures acts { IfSome result (λ c. IsSome (context_at (shown self.now) c.actor)) }
+        ensures pays { IfSome result (λ c. IsSome (queues.queued_at self.now.queues.all c.sc)) }
     {
-        let Object::Sc {
-            ec,
-            cpu: home,
-            priority,
-            ..
-        } = object
-        else {
-            return None;
-        };
-        if *home != cpu {
-            return None;
-        }
-        let actor = self.contexts.actor(*ec)?;
-        match self.budgets.get(sc as usize) {
-            Some(Some(budget)) => Some(Candidate {
-                sc,
-                actor,
-                priority: *priority,
-                stamp: budget.stamp,
-            }),
-            _ => None,
-        }
+        let sc = self.queues.choose(cpu)?;
+        let actor = actor_of(&self.objects, &self.contexts, sc)?;
+        Some(Chosen { sc, actor })
     }
 
-    /// The runnable scheduling context of the processor before which no other goes.
-    pub fn choice(&self, cpu: u32) -> Option<Candidate>
-        requires { length (shown self.now).objects ≤ 2 ^ 32 }
-        ensures choice { result ≡ choice (shown self.now) cpu }
-        ensures there { IfSome result (IsThere (shown self.now)) }
+    /// The runnable scheduling context of the processor before which no other goes, and who acts.
+    pub fn choice(&self, cpu: u32) -> Option<Chosen>
+        requires { AreQueued (shown self.now) self.now.queues.all }
+        ensures choice { result ≡ option_map chosen_of (choice (shown self.now) cpu) }
+        ensures acts { IfSome result (λ c. IsSome (context_at (shown self.now) c.actor)) }
+        ensures pays { IfSome result (λ c. IsSome (queues.queued_at self.now.queues.all c.sc)) }
     {
-        let mut best: Option<Candidate> = None;
-        for (sc, object) in self.objects.as_slice().iter().enumerate() {
-            if let Some(further) = self.candidate(cpu, sc as u32, object)
-                && yields(&best, &further)
-            {
-                best = Some(further);
-            }
-        }
-        best
+        self.next(cpu)
+    }
+
+    /// The scheduling context that the processor's next turn is charged to; none where it is idle.
+    #[tactic(auto, using(crate::proofs::Nexts::choose_told))]
+    pub fn choose(&self, cpu: u32) -> Option<u32>
+        requires { AreQueued (shown self.now) self.now.queues.all }
+        ensures { result ≡ choose (shown self.now) cpu }
+    {
+        self.queues.choose(cpu)
     }
 
     /// Whether no processor has a turn to take.
     pub fn is_quiet(&self) -> bool
-        requires { length (shown self.now).objects ≤ 2 ^ 32 }
+        requires { AreQueued (shown self.now) self.now.queues.all }
         ensures { result ≡ is_quiet (shown self.now) }
     {
         for cpu in 0..self.cpus {
-            if self.choice(cpu).is_some() {
+            if self.choose(cpu).is_some() {
                 return false;
             }
         }

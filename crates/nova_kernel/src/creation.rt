@@ -1,10 +1,13 @@
-ghost use Rattle.std.specs.Prelude.{◌≡◌, ◌^◌, ◌<◌, length, true, false, OnOk, OnErr};
+ghost use Rattle.std.specs.Prelude.{◌≡◌, ◌^◌, ◌-◌, ◌<◌, ◌≤◌, length, true, false, OnOk, OnErr};
 ghost use Rattle.nova_model.specs.Capabilities.{is_held, rights_to, target_of};
 ghost use Rattle.nova_model.specs.Creation.{first_state, new_context, object_of, context_of, transfer_of, identifier_of, count_of, root_capability, with_object};
 ghost use Rattle.nova_model.specs.Deeds.{is_making};
-ghost use Rattle.nova_kernel.specs.Parts.{shown, AreTables, HasRoom, HasRoomFor, IsNumbered};
+ghost use Rattle.nova_sched.specs.Queues.{HasRoom as HasRoomIn};
+ghost use Rattle.nova_kernel.specs.Parts.{shown, AreTables, FitsQueues, HasQueue, HasRoom, HasRoomFor, IsNumbered};
+ghost use Rattle.nova_kernel.specs.Schedules.{joined};
 
 use crate::parts::Parts;
+use crate::queues::enqueue;
 use nova_model::{Deed, EcKind, EcState, NewObject, Object, Rights, State, Transfer};
 use nova_range::Target;
 use rv_core::Regs;
@@ -50,6 +53,17 @@ fn object_of(new: NewObject) -> Object
             cpu,
             kind,
             event,
+        },
+        NewObject::Sc {
+            ec,
+            cpu,
+            priority,
+            quantum,
+        } => Object::Sc {
+            ec,
+            cpu,
+            priority,
+            quantum,
         },
         NewObject::Pt { ec, mtd, ip } => Object::Pt { ec, mtd, ip },
         NewObject::Sm { .. } => Object::Sm,
@@ -115,6 +129,7 @@ impl Parts {
     /// for want of memory alone.
     fn reserve(&mut self, domain: u32) -> Result<(), AllocError>
         ensures shown { shown self.new ≡ shown self.old }
+        ensures queues { self.new.queues ≡ self.old.queues }
         ensures log { self.new.reach.room ≡ self.old.reach.room }
         ensures room { OnOk result (HasRoom domain self.new) }
     {
@@ -122,7 +137,6 @@ impl Parts {
         self.reach.reserve(domain)?;
         self.contexts.reserve(1)?;
         self.transfers.reserve(1)?;
-        self.budgets.reserve(1)?;
         self.identifiers.reserve(1)?;
         self.counts.reserve(1)?;
         Ok(())
@@ -132,6 +146,7 @@ impl Parts {
     fn reserve_domain(&mut self, domain: u32) -> Result<(), AllocError>
         requires { length (shown self.old).objects < 2 ^ 32 }
         ensures shown { shown self.new ≡ shown self.old }
+        ensures queues { self.new.queues ≡ self.old.queues }
         ensures log { self.new.reach.room ≡ self.old.reach.room }
         ensures room { OnOk result (HasRoom domain self.new) }
     {
@@ -139,11 +154,27 @@ impl Parts {
         self.reach.add_domain(self.objects.len() as u32)
     }
 
+    /// Makes room for one more scheduling context too, in the queue of a processor.
+    fn reserve_sc(&mut self, domain: u32, cpu: u32) -> Result<(), AllocError>
+        requires objects { length (shown self.old).objects < 2 ^ 32 }
+        requires cpu { cpu < self.old.queues.all.cpus }
+        ensures shown { shown self.new ≡ shown self.old }
+        ensures queues { self.new.queues.all ≡ self.old.queues.all }
+        ensures log { self.new.reach.room ≡ self.old.reach.room }
+        ensures room { OnOk result (HasRoom domain self.new) }
+        ensures queue { OnOk result (HasRoomIn self.new.queues (length self.new.objects.items) cpu) }
+    {
+        self.reserve(domain)?;
+        self.queues.reserve(self.objects.len() as u32, cpu)
+    }
+
     /// Makes room for what a deed of an execution context makes, whose protection domain is given. It
     /// refuses for want of memory alone.
     pub fn make_room(&mut self, domain: u32, deed: Deed) -> Result<(), AllocError>
-        requires { length (shown self.old).objects < 2 ^ 32 }
+        requires objects { length (shown self.old).objects < 2 ^ 32 }
+        requires queue { FitsQueues deed self.old.queues.all }
         ensures shown { shown self.new ≡ shown self.old }
+        ensures queues { self.new.queues.all ≡ self.old.queues.all }
         ensures log { self.new.reach.room ≡ self.old.reach.room }
         ensures room { OnOk result (HasRoomFor domain deed self.new) }
         ensures making { OnErr result (is_making deed ≡ true) }
@@ -154,6 +185,10 @@ impl Parts {
                 new: NewObject::Pd,
                 ..
             } => self.reserve_domain(domain),
+            Deed::Makes {
+                new: NewObject::Sc { cpu, .. },
+                ..
+            } => self.reserve_sc(domain, cpu),
             Deed::Makes { .. } => self.reserve(domain),
             _ => Ok(()),
         }
@@ -164,22 +199,26 @@ impl Parts {
     #[tactic(auto, using(crate::proofs::Added::added))]
     pub fn add_object(&mut self, pd: u32, selector: u32, new: NewObject)
         requires room { HasRoom pd self.old }
+        requires queue { HasQueue new (length self.old.objects.items) self.old.queues }
+        requires few { length self.old.queues.all.entries ≤ length self.old.objects.items }
+        requires stamp { self.old.queues.all.next_stamp < 2 ^ 64 - 1 }
         requires numbered { IsNumbered (2 ^ 31) (shown self.old) }
         requires tables { AreTables (shown self.old) }
         requires selector { selector < 2 ^ 20 }
         requires free { is_held (shown self.old) pd selector ≡ false }
         ensures added { shown self.new ≡ with_object (shown self.old) pd selector new }
+        ensures joined { self.new.queues.all ≡ joined (shown self.old).contexts self.old.queues.all (length (shown self.old).objects) new }
         ensures log { self.new.reach.room ≡ self.old.reach.room }
     {
         let object = object_of(new);
         let rights = Rights::all_to(target_of(object));
         let number = self.objects.len() as u32;
         let context = context_of(number, new);
+        enqueue(&mut self.queues, &self.contexts, number, new);
         self.reach.add_capability(pd, selector, rights, number);
         self.objects.add(object);
         self.contexts.add(context);
         self.transfers.push_reserved(transfer_of(object));
-        self.budgets.push_reserved(None);
         self.identifiers.push_reserved(identifier_of(new));
         self.counts.push_reserved(count_of(new));
     }

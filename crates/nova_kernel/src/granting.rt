@@ -57,6 +57,7 @@ impl Parts {
     fn set_transfer(&mut self, ec: u32, transfer: Transfer)
         requires { ec < length (shown self.old).transfers }
         ensures transfer { shown self.new ≡ with_transfer (shown self.old) ec transfer }
+        ensures queues { self.new.queues ≡ self.old.queues }
         ensures log { self.new.reach.room ≡ self.old.reach.room }
     {
         self.transfers[ec as usize] = Some(transfer);
@@ -71,6 +72,7 @@ impl Parts {
         ensures over { is_over result ≡ true }
         ensures fits { Fits (shown self.old) result }
         ensures transfer { shown self.new ≡ with_transfer (shown self.old) ec (gave transfer cursor) }
+        ensures queues { self.new.queues ≡ self.old.queues }
         ensures log { self.new.reach.room ≡ self.old.reach.room }
     {
         let Some(child) = self.reach.get(id) else {
@@ -94,6 +96,7 @@ impl Parts {
         ensures over { is_over result ≡ true }
         ensures fits { Fits (shown self.old) result }
         ensures transfer { shown self.new ≡ with_transfer (shown self.old) ec (skipped transfer cursor) }
+        ensures queues { self.new.queues ≡ self.old.queues }
         ensures log { self.new.reach.room ≡ self.old.reach.room }
     {
         self.set_transfer(ec, Transfer { cursor, ..transfer });
@@ -112,6 +115,7 @@ impl Parts {
         ensures over { is_over result ≡ true }
         ensures fits { Fits (shown self.old) result }
         ensures done { shown self.new ≡ done (shown self.old) ec result }
+        ensures queues { self.new.queues ≡ self.old.queues }
         ensures log { self.new.reach.room ≡ self.old.reach.room }
     {
         let deed = Deed::Ends {
@@ -135,6 +139,7 @@ impl Parts {
         ensures there { OnOk result (HasChild (shown self.new).delegations (part_now (shown self.old) job.old)) }
         ensures refused { OnErr result (shown self.new ≡ shown self.old) }
         ensures wanted { OnErr result (MakesChild (part_now (shown self.old) job.old)) }
+        ensures queues { self.new.queues ≡ self.old.queues }
         ensures log { self.new.reach.room ≡ self.old.reach.room }
     {
         self.reach.give(job)
@@ -154,6 +159,7 @@ impl Parts {
         ensures fits { IfOk result (Fits (shown self.old)) }
         ensures memory { OnErr result (shown self.new ≡ shown self.old) }
         ensures wanted { OnErr result (is_making (part_deed transfer job (part_now (shown self.old) job)) ≡ true) }
+        ensures queues { self.new.queues ≡ self.old.queues }
         ensures log { self.new.reach.room ≡ self.old.reach.room }
     {
         let mut job = job;
@@ -178,6 +184,7 @@ impl Parts {
         ensures fits { IfOk result (Fits (shown self.old)) }
         ensures memory { OnErr result (shown self.new ≡ shown self.old) }
         ensures wanted { OnErr result (is_making (granting (shown self.old) (now_at (shown self.old) ec) (first_job (shown self.old) ec domain)) ≡ true) }
+        ensures queues { self.new.queues ≡ self.old.queues }
         ensures log { self.new.reach.room ≡ self.old.reach.room }
     {
         let transfer = self.transfer(ec);

@@ -1,7 +1,7 @@
 ghost use Rattle.std.specs.Prelude.{◌≡◌, ◌^◌, ◌<◌, IfOk};
 ghost use Rattle.rv_model.specs.Registers.{reg};
 ghost use Rattle.nova_calls.specs.SoundCalls.{IsSoundCall};
-ghost use Rattle.nova_model.specs.Hypercalls.{is_built, is_virtual, maker, create_pd, create_ec, create_pt, create_sm, looked_up, ticks_in, row, asked, or_refuses, hypercall};
+ghost use Rattle.nova_model.specs.Hypercalls.{is_built, is_virtual, maker, create_pd, create_ec, schedules, is_scheduled, create_sc, create_pt, create_sm, looked_up, ticks_in, row, asked, or_refuses, hypercall};
 ghost use Rattle.nova_model.specs.State.{budget_at};
 ghost use Rattle.nova_kernel.specs.Parts.{shown, IsCharged, IsCounted};
 ghost use Rattle.nova_kernel.specs.Acts.{IsAsked};
@@ -10,7 +10,7 @@ use crate::capabilities::ObjectType;
 use crate::parts::Parts;
 use bitflags::Flags;
 use nova_calls::{Call, numbers, read_call};
-use nova_model::{Deed, EcKind, NewObject, Rights};
+use nova_model::{Deed, EcKind, NewObject, Object, Rights};
 use nova_range::{Range, Status, word_of};
 use rv_core::Regs;
 
@@ -43,6 +43,7 @@ fn is_built(number: u32) -> bool
         number,
         numbers::CREATE_PD
             | numbers::CREATE_EC
+            | numbers::CREATE_SC
             | numbers::CREATE_PT
             | numbers::CREATE_SM
             | numbers::LOOKUP
@@ -57,6 +58,16 @@ fn is_virtual(kind: EcKind) -> bool
     ensures { result ≡ is_virtual kind }
 {
     matches!(kind, EcKind::Vcpu)
+}
+
+/// Whether an object is a scheduling context of an execution context.
+fn schedules(object: &Object, ec: u32) -> bool
+    ensures { result ≡ schedules ec object.now }
+{
+    match object {
+        Object::Sc { ec: its, .. } => *its == ec,
+        _ => false,
+    }
 }
 
 impl Parts {
@@ -131,6 +142,53 @@ impl Parts {
         })
     }
 
+    /// Whether an execution context has a scheduling context.
+    fn is_scheduled(&self, ec: u32) -> bool
+        ensures { result ≡ is_scheduled (shown self.now) ec }
+    {
+        for object in self.objects.as_slice() {
+            if schedules(object, ec) {
+                return true;
+            }
+        }
+        false
+    }
+
+    /// `CREATE_SC`: makes the one scheduling context of an execution context, on its processor.
+    #[tactic(auto, using(crate::proofs::Named::placed_there))]
+    fn create_sc(
+        &self,
+        site: Site,
+        ec_selector: u32,
+        quantum: u32,
+        priority: u8,
+    ) -> Result<Deed, Status>
+        requires { site.target < 2 ^ 20 }
+        ensures row { result ≡ create_sc (shown self.now) site.domain site.target site.pd_selector ec_selector quantum priority }
+        ensures fits { IfOk result (IsAsked (shown self.now)) }
+    {
+        self.maker(site)?;
+        let ec = self.named(
+            site.domain,
+            ObjectType::Schedulable,
+            Rights::BIND_SC,
+            ec_selector,
+        )?;
+        if self.is_scheduled(ec) {
+            return Err(Status::BadCap);
+        }
+        Ok(Deed::Makes {
+            call: numbers::CREATE_SC,
+            target: site.target,
+            new: NewObject::Sc {
+                ec,
+                cpu: self.processor(ec),
+                priority,
+                quantum,
+            },
+        })
+    }
+
     /// `CREATE_PT`: makes a portal.
     fn create_pt(&self, site: Site, ec_selector: u32, mtd: u32, ip: u32) -> Result<Deed, Status>
         requires { site.target < 2 ^ 20 }
@@ -176,9 +234,9 @@ impl Parts {
         requires { IsCharged (shown self.now) }
         ensures { result ≡ ticks_in (budget_at (shown self.now) sc) }
     {
-        match self.budgets.get(sc as usize) {
-            Some(Some(budget)) => budget.ticks as u32,
-            _ => 0,
+        match self.ticks(sc) {
+            Some(ticks) => ticks as u32,
+            None => 0,
         }
     }
 
@@ -201,6 +259,13 @@ impl Parts {
                 sp,
                 event,
             } => self.create_ec(Site::new(domain, target, pd), cpu, kind, sp, event),
+            Call::CreateSc {
+                target,
+                pd,
+                ec,
+                quantum,
+                priority,
+            } => self.create_sc(Site::new(domain, target, pd), ec, quantum, priority),
             Call::CreatePt {
                 target,
                 pd,

@@ -10,7 +10,7 @@ ghost use Rattle.nova_kernel.specs.Views.{ticks_of, left_of, semaphore_at, deriv
 use crate::parts::Parts;
 use crate::reach::Reach;
 use nova_frames::{Frames, LogByte};
-use nova_model::{Budget, Derivation, EcKind, EcState, Kind, Object, Rights, Root, State, Turn};
+use nova_model::{Derivation, EcKind, EcState, Kind, Object, Rights, Root, State, Turn};
 use rv_core::Regs;
 use std::alloc::{AllocError, Global};
 use std::marker::Model;
@@ -31,7 +31,9 @@ impl Model for Kernel {
 
     ghost view = { λ k. record { state = shown k.parts; room = k.parts.reach.room } };
 
-    ghost invariant = { λ k. IsCounted (shown k.parts) };
+    ghost use Rattle.nova_kernel.specs.Schedules.{AreQueued};
+
+    ghost invariant = { λ k. IsCounted (shown k.parts) × AreQueued (shown k.parts) k.parts.queues.all };
 }
 
 impl Kernel {
@@ -51,6 +53,16 @@ impl Kernel {
         ensures { IfOk result (λ k. k ≡ record { state = bare cpus ram consoles root; room = log_room }) }
     {
         let parts = Parts::new(alloc, cpus, ram, consoles, root, log_room)?;
+        Ok(Kernel { parts })
+    }
+
+    /// The same state in memory of its own. The copy's console log has no room for more bytes, so that it
+    /// takes no turn. It refuses for want of memory alone.
+    pub fn copy(&self) -> Result<Kernel, AllocError>
+        ensures state { IfOk result (λ k. k.state ≡ self.now.state) }
+        ensures room { IfOk result (λ k. k.room ≡ 0) }
+    {
+        let parts = self.parts.copy()?;
         Ok(Kernel { parts })
     }
 
@@ -89,7 +101,7 @@ impl Kernel {
     pub fn choose(&self, cpu: u32) -> Option<u32>
         ensures { result ≡ choose self.now.state cpu }
     {
-        Some(self.parts.choice(cpu)?.sc)
+        self.parts.choose(cpu)
     }
 
     /// Whether every processor is idle.
@@ -154,10 +166,7 @@ impl Kernel {
     pub fn ticks(&self, sc: u32) -> Option<u64>
         ensures { result ≡ ticks_of self.now.state sc }
     {
-        match self.parts.budgets.get(sc as usize) {
-            Some(Some(budget)) => Some(budget.ticks),
-            _ => None,
-        }
+        self.parts.ticks(sc)
     }
 
     /// The turns that are left of a scheduling context's quantum; none where no scheduling context
@@ -165,10 +174,7 @@ impl Kernel {
     pub fn left(&self, sc: u32) -> Option<u32>
         ensures { result ≡ left_of self.now.state sc }
     {
-        match self.parts.budgets.get(sc as usize) {
-            Some(Some(budget)) => Some(budget.left),
-            _ => None,
-        }
+        self.parts.left(sc)
     }
 
     /// The counter of a semaphore and how many execution contexts wait at it; none where no semaphore

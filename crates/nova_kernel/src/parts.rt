@@ -1,25 +1,26 @@
-ghost use Rattle.std.specs.Prelude.{◌≡◌, ◌+◌, ◌<◌, ◌≤◌, [], ◌∷◌, ◌++◌, length, option_map, vec_len, vec_capacity};
+ghost use Rattle.std.specs.Prelude.{◌≡◌, ◌+◌, ◌<◌, ◌≤◌, [], ◌∷◌, ◌++◌, length, option_map, vec_len, vec_capacity, IfOk};
 ghost use Rattle.nova_kernel.specs.Parts.{shown};
 ghost use Rattle.nova_kernel.specs.Views.{semaphore_at};
 
 use crate::reach::Reach;
 use nova_ec::Ecs;
-use nova_model::{Budget, Transfer};
+use nova_model::Transfer;
 use nova_objects::Objects;
+use nova_sched::Queues;
+use std::alloc::AllocError;
 
 /// The parts of a kernel, which a turn changes one by one; `Kernel` shows them as one state. Tables
 /// are by the number of the object: execution contexts, how far they are with the items that they give,
-/// the budgets of scheduling contexts, the identifiers of portals, and the counters of semaphores.
+/// the identifiers of portals, and the counters of semaphores. Scheduling contexts wait in queues.
 #[derive(Drop)]
 pub struct Parts {
     pub reach: Reach,
     pub objects: Objects,
     pub contexts: Ecs,
+    pub queues: Queues,
     pub transfers: Vec<Option<Transfer>>,
-    pub budgets: Vec<Option<Budget>>,
     pub identifiers: Vec<Option<u32>>,
     pub counts: Vec<Option<u32>>,
-    pub next_stamp: u64,
     pub turns: u64,
     pub cpus: u32,
     pub stirs: Vec<u64>,
@@ -34,5 +35,26 @@ impl Parts {
             Some(Some(count)) => Some((*count, 0)),
             _ => None,
         }
+    }
+
+    /// The same parts in memory of their own, with no room in the console log. It refuses for want of
+    /// memory alone.
+    pub fn copy(&self) -> Result<Parts, AllocError>
+        ensures shown { IfOk result (λ p. shown p ≡ shown self.now) }
+        ensures queues { IfOk result (λ p. p.queues.all ≡ self.now.queues.all) }
+        ensures room { IfOk result (λ p. p.reach.room ≡ 0) }
+    {
+        Ok(Parts {
+            reach: self.reach.copy()?,
+            objects: self.objects.copy()?,
+            contexts: self.contexts.copy()?,
+            queues: self.queues.copy()?,
+            transfers: Vec::from_slice(*self.transfers.allocator(), &self.transfers)?,
+            identifiers: Vec::from_slice(*self.identifiers.allocator(), &self.identifiers)?,
+            counts: Vec::from_slice(*self.counts.allocator(), &self.counts)?,
+            turns: self.turns,
+            cpus: self.cpus,
+            stirs: Vec::from_slice(*self.stirs.allocator(), &self.stirs)?,
+        })
     }
 }

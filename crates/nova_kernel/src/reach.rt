@@ -92,6 +92,23 @@ impl Reach {
         self.frames.put(address, bytes);
     }
 
+    /// The same in memory of its own. The copy's log has no room for more bytes. It refuses for want of
+    /// memory alone.
+    pub fn copy(&self) -> Result<Reach, AllocError>
+        ensures delegations { IfOk result (λ r. r.nodes.delegations ≡ self.now.nodes.delegations) }
+        ensures memory { IfOk result (λ r. r.memory ≡ self.now.memory) }
+        ensures consoles { IfOk result (λ r. r.consoles ≡ self.now.consoles) }
+        ensures log { IfOk result (λ r. r.room ≡ 0) }
+    {
+        Ok(Reach {
+            frames: self.frames.copy()?,
+            nodes: self.nodes.copy()?,
+            last: self.last,
+            pd: self.pd,
+            is_thread: self.is_thread,
+        })
+    }
+
     /// Makes room for one more derivation of a protection domain. It refuses for want of memory alone,
     /// and then no derivation has changed.
     pub fn reserve(&mut self, pd: u32) -> Result<(), AllocError>

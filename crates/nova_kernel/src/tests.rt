@@ -106,3 +106,34 @@ fn tells_ticks_and_recalls(rt: HostRuntime) {
     let state = root.state;
     assert!(rt; matches!(state, State::Exiting(8, 0, 0)));
 }
+
+#[test]
+fn a_new_scheduling_context_has_its_turns(rt: HostRuntime) {
+    let words = [
+        0x0030_0893, // addi x17, x0, 3: create_ec
+        0x0200_0513, // addi x10, x0, 32
+        0x0000_0593, // addi x11, x0, 0
+        0x1000_0613, // addi x12, x0, 256
+        0x0000_0073, // ecall: object 3, a global thread
+        0x0040_0893, // addi x17, x0, 4: create_sc
+        0x0210_0513, // addi x10, x0, 33
+        0x0200_0613, // addi x12, x0, 32
+        0x1020_0693, // addi x13, x0, 258: quantum 1, and priority 2, which is more than the root's
+        0x0000_0073, // ecall: object 4, its scheduling context
+        0x0220_0513, // addi x10, x0, 34
+        0x0000_0073, // ecall: it has one
+    ];
+    let mut kernel = booted(rt.alloc(), &words).expect(&rt, "ample memory");
+    let all = answers(rt.alloc(), &mut kernel, 14).expect(&rt, "ample memory");
+    assert!(rt; all.as_slice() == [(3, 0), (4, 0), (4, 5)].as_slice());
+    assert_eq!(rt; kernel.choose(0), Some(2));
+    assert_eq!(rt; kernel.ticks(4), Some(2));
+}
+
+#[test]
+fn a_copy_is_the_same(rt: HostRuntime) {
+    let kernel = booted(rt.alloc(), &[]).expect(&rt, "ample memory");
+    let copy = kernel.copy().expect(&rt, "ample memory");
+    assert_eq!(rt; copy.left(2), Some(10));
+    assert_eq!(rt; copy.choose(0), Some(2));
+}

@@ -2,18 +2,19 @@ ghost use Rattle.std.specs.Prelude.{not, ◌≡◌, ◌==◌, ◌&&◌, ◌+◌,
 ghost use Rattle.rv_model.specs.Step.{environment_call};
 ghost use Rattle.nova_model.specs.Deeds.{instruction, signalled, stepping, deed, changed, recall, recalled, performed, answered, answered_registers, reason_number, parent_id, done, is_making};
 ghost use Rattle.nova_ec.specs.Tables.{with_items};
-ghost use Rattle.nova_model.specs.State.{ec_in, ec_of, with_ec, context_at, pd_of, is_thread};
-ghost use Rattle.nova_model.specs.Turn.{state_after, answer_of, turn, event_of};
+ghost use Rattle.nova_model.specs.State.{ec_in, ec_of, with_ec, context_at, pd_of, processor_of, is_thread};
+ghost use Rattle.nova_model.specs.Turn.{state_after, answer_of, turn, event_by};
 ghost use Rattle.nova_kernel.specs.Views.{IsMaking, turns_taken};
 ghost use Rattle.nova_kernel.specs.Parts.{shown, HasRoomFor, IsCounted, KeepsCounts};
+ghost use Rattle.nova_kernel.specs.Schedules.{AreQueued, IsPlacedBy, schedule_after};
 ghost use Rattle.nova_kernel.specs.Acts.{outcome_of, Fits, IsAsked, TakesFree, begun, is_over};
 
+use crate::choice::Chosen;
 use crate::parts::Parts;
+use crate::queues::is_moving;
 use nova_calls::numbers;
 use nova_ec::Ecs;
-use nova_model::{
-    Candidate, Deed, EcKind, EcState, Event, EventKind, NewObject, Object, Reason, State, Turn,
-};
+use nova_model::{Deed, EcKind, EcState, Event, EventKind, NewObject, Object, Reason, State, Turn};
 use nova_range::Status;
 use rv_core::Regs;
 use rv_core::outcome::{ENVIRONMENT_CALL, Outcome};
@@ -57,8 +58,8 @@ fn parent_id(parent: Option<u32>) -> u32
 }
 
 /// The event of a deed.
-fn event_of(cpu: u32, chosen: Candidate, deed: Deed) -> Event
-    ensures { result ≡ event_of cpu chosen deed }
+fn event_of(cpu: u32, chosen: Chosen, deed: Deed) -> Event
+    ensures { result ≡ event_by cpu chosen.sc chosen.actor deed }
 {
     let (kind, a, b) = match deed {
         Deed::Rests | Deed::Steps => (EventKind::Step, 0, 0),
@@ -161,6 +162,16 @@ impl Parts {
         }
     }
 
+    /// The processor of an execution context.
+    pub fn processor(&self, ec: u32) -> u32
+        ensures { result ≡ processor_of (shown self.now) ec }
+    {
+        match self.objects.get(ec) {
+            Some(Object::Ec { cpu, .. }) => *cpu,
+            _ => 0,
+        }
+    }
+
     /// Whether an execution context is a thread.
     fn is_thread(&self, ec: u32) -> bool
         ensures { result ≡ is_thread (shown self.now) ec }
@@ -178,6 +189,7 @@ impl Parts {
         requires log { 0 < self.old.reach.room }
         ensures outcome { result ≡ outcome_of (instruction (shown self.old) ec) }
         ensures done { shown self.new ≡ done (shown self.old) ec Deed.Steps }
+        ensures queues { self.new.queues ≡ self.old.queues }
         ensures log { self.old.reach.room ≤ self.new.reach.room + 1 }
         ensures raised { (reason q0 q1 : ℕ) → result ≡ Outcome.Raise reason q0 q1 → self.new.reach.room ≡ self.old.reach.room }
     {
@@ -210,6 +222,7 @@ impl Parts {
         requires log { 0 < self.old.reach.room }
         ensures deed { result ≡ stepping (shown self.old) ec (instruction (shown self.old) ec) }
         ensures begun { shown self.new ≡ begun (shown self.old) ec result }
+        ensures queues { self.new.queues ≡ self.old.queues }
         ensures fits { Fits (shown self.old) result }
         ensures log { self.old.reach.room ≤ self.new.reach.room + 1 }
         ensures making { is_making result ≡ true → self.new.reach.room ≡ self.old.reach.room }
@@ -231,6 +244,7 @@ impl Parts {
         requires log { 0 < self.old.reach.room }
         ensures deed { IfOk result (λ d. d ≡ deed (shown self.old) ec) }
         ensures begun { IfOk result (λ d. shown self.new ≡ begun (shown self.old) ec d) }
+        ensures queues { self.new.queues ≡ self.old.queues }
         ensures fits { IfOk result (Fits (shown self.old)) }
         ensures log { self.old.reach.room ≤ self.new.reach.room + 1 }
         ensures making { IfOk result (λ d. is_making d ≡ true → self.new.reach.room ≡ self.old.reach.room) }
@@ -266,6 +280,7 @@ impl Parts {
     fn ask_recall(&mut self, ec: u32)
         requires { ec < length (shown self.old).contexts }
         ensures recalled { shown self.new ≡ recalled (shown self.old) ec (context_at (shown self.old) ec) }
+        ensures queues { self.new.queues ≡ self.old.queues }
         ensures log { self.new.reach.room ≡ self.old.reach.room }
     {
         if self.contexts.get(ec).is_some() {
@@ -280,7 +295,9 @@ impl Parts {
         requires fits { Fits (shown self.old) deed }
         requires free { TakesFree (shown self.old) (pd_of (shown self.old) ec) deed }
         requires room { HasRoomFor (pd_of (shown self.old) ec) deed self.old }
+        requires few { length self.old.queues.all.entries ≤ length self.old.objects.items }
         ensures performed { shown self.new ≡ performed (shown self.old) ec deed }
+        ensures queues { self.new.queues.all ≡ schedule_after (shown self.old) ec self.old.queues.all deed }
         ensures log { self.new.reach.room ≡ self.old.reach.room }
     {
         let domain = self.pd(ec);
@@ -294,18 +311,21 @@ impl Parts {
         }
     }
 
-    /// The execution context does its deed. It refuses for want of memory alone, where the deed makes
-    /// an object or a derivation, and then nothing has changed.
-    fn act(&mut self, ec: u32) -> Result<Deed, AllocError>
+    /// The execution context does its deed, and the marks of the queues stay as they were. It refuses
+    /// for want of memory alone, where the deed makes an object or a derivation, and then nothing has changed.
+    fn carry_out(&mut self, ec: u32) -> Result<Deed, AllocError>
         requires there { IsSome (context_at (shown self.old) ec) }
         requires counted { IsCounted (shown self.old) }
+        requires queued { AreQueued (shown self.old) self.old.queues.all }
         requires turns { self.old.turns < 2 ^ 31 }
         requires log { 0 < self.old.reach.room }
         ensures deed { IfOk result (λ d. d ≡ deed (shown self.old) ec) }
+        ensures placed { IfOk result (IsPlacedBy (shown self.old)) }
         ensures done { IfOk result (λ d. shown self.new ≡ done (shown self.old) ec d) }
+        ensures queues { IfOk result (λ d. self.new.queues.all ≡ schedule_after (shown self.old) ec self.old.queues.all d) }
+        ensures refused { OnErr result (self.new.queues.all ≡ self.old.queues.all) }
         ensures memory { OnErr result ((shown self.new ≡ shown self.old) × (self.new.reach.room ≡ self.old.reach.room)) }
         ensures making { OnErr result (is_making (deed (shown self.old) ec) ≡ true) }
-        ensures kept { OnOk result (KeepsCounts (shown self.old) (shown self.new)) }
         ensures log { self.old.reach.room ≤ self.new.reach.room + 1 }
     {
         let deed = self.decide(ec)?;
@@ -317,12 +337,38 @@ impl Parts {
         Ok(deed)
     }
 
+    /// The execution context does its deed, and where it moves, the scheduling contexts of its
+    /// processor are marked anew. It refuses as `carry_out`.
+    fn act(&mut self, ec: u32) -> Result<Deed, AllocError>
+        requires there { IsSome (context_at (shown self.old) ec) }
+        requires counted { IsCounted (shown self.old) }
+        requires queued { AreQueued (shown self.old) self.old.queues.all }
+        requires turns { self.old.turns < 2 ^ 31 }
+        requires log { 0 < self.old.reach.room }
+        ensures deed { IfOk result (λ d. d ≡ deed (shown self.old) ec) }
+        ensures done { IfOk result (λ d. shown self.new ≡ done (shown self.old) ec d) }
+        ensures queued { AreQueued (shown self.new) self.new.queues.all }
+        ensures memory { OnErr result ((shown self.new ≡ shown self.old) × (self.new.reach.room ≡ self.old.reach.room)) }
+        ensures making { OnErr result (is_making (deed (shown self.old) ec) ≡ true) }
+        ensures kept { OnOk result (KeepsCounts (shown self.old) (shown self.new)) }
+        ensures log { self.old.reach.room ≤ self.new.reach.room + 1 }
+    {
+        self.contexts.keeps_edges();
+        let cpu = self.contexts.context(ec).cpu;
+        let deed = self.carry_out(ec)?;
+        if is_moving(deed) {
+            self.refresh(cpu);
+        }
+        Ok(deed)
+    }
+
     /// One turn of a processor: the execution context of the chosen scheduling context does its deed,
     /// and the scheduling context pays. It refuses for want of memory alone, where the turn would make
     /// an object or a derivation, and then nothing has changed.
     #[tactic(auto, unfolding(nova_model::specs::Turn::turn))]
     pub fn turn(&mut self, cpu: u32) -> Result<Turn, AllocError>
         requires counted { IsCounted (shown self.old) }
+        requires queued { AreQueued (shown self.old) self.old.queues.all }
         requires turns { self.old.turns < 2 ^ 31 }
         requires cpu { cpu < self.old.cpus }
         requires log { 0 < self.old.reach.room }
@@ -331,6 +377,7 @@ impl Parts {
         ensures memory { OnErr result ((shown self.new ≡ shown self.old) × (self.new.reach.room ≡ self.old.reach.room)) }
         ensures making { OnErr result (IsMaking (shown self.old) cpu) }
         ensures counted { IsCounted (shown self.new) }
+        ensures queued { AreQueued (shown self.new) self.new.queues.all }
         ensures log { self.old.reach.room ≤ self.new.reach.room + 1 }
         ensures idle { IfOk result (λ t. t ≡ Turn.Idle → self.new.reach.room ≡ self.old.reach.room) }
         ensures turns { IfOk result (λ t. self.new.turns ≡ self.old.turns + turns_taken t) }

@@ -4,7 +4,7 @@ use Rattle.std.specs.Prelude.{Bool, true, false, not, cond, nat_lt, ◌⊎◌, �
 use Rattle.std.specs.List.{Contains, find, list_all}
 use Rattle.nova_model.specs.Choice.{goes_before, foremost, choice, candidates}
 use Rattle.nova_model.specs.State.{KernelState}
-use Rattle.nova_model.specs.declared.budget.Candidate.{Candidate}
+use Rattle.nova_model.specs.Choice.{Candidate}
 use Rattle.nova_laws.specs.Choices.{IsBest}
 
 -- what is found is there and passes

@@ -4,7 +4,7 @@ use Rattle.std.specs.Prelude.{Bool, true, false, ◌&&◌, ◌==◌, ◌≢◌, 
 use Rattle.std.specs.List.{AllByRecursion, find}
 use Rattle.nova_calls.specs.declared.call.Call.{Call}
 use Rattle.nova_calls.specs.declared.call.Call.TheVariants as call
-use Rattle.nova_calls.specs.declared.numbers.TheConstants.{CREATE_EC, CREATE_PT, CREATE_SM, SC_CTRL}
+use Rattle.nova_calls.specs.declared.numbers.TheConstants.{CREATE_EC, CREATE_SC, CREATE_PT, CREATE_SM, SC_CTRL}
 use Rattle.nova_objects.specs.declared.object.Object.{Object}
 use Rattle.nova_objects.specs.declared.object.Object.TheVariants.{Sc}
 use Rattle.nova_range.specs.declared.status.Status.TheVariants.{BadPar}
@@ -15,7 +15,7 @@ use Rattle.nova_model.specs.Edges.{acts, acts_as, acts_by, edge_of, state_in}
 use Rattle.nova_model.specs.Hypercalls.{new_domain, maker, row, is_virtual, ticks_in}
 use Rattle.nova_model.specs.State.{KernelState, budget_at, context, context_in, ec_in, pd_of}
 use Rattle.nova_model.specs.declared.budget.Budget.{Budget}
-use Rattle.nova_model.specs.declared.budget.Candidate.{Candidate}
+use Rattle.nova_model.specs.Choice.{Candidate}
 use Rattle.nova_model.specs.declared.context.EcState.{EcState}
 use Rattle.nova_model.specs.declared.context.State.{State}
 use Rattle.nova_model.specs.declared.context.State.TheVariants.{Fresh, Ready, Parked, Calling, Helping, Exiting, Sending, Granting, Dead}
@@ -46,15 +46,15 @@ candidate_acts k cpu sc (Sc ec its_cpu priority quantum) = by_test (its_cpu == c
     by_test false test is = tt
 candidate_acts k cpu sc other = tt
 
-front_acts : (k : KernelState) (o : Option Candidate) (cs : List Candidate) → IfSome o (Acts k) → AllByRecursion (Acts k) cs → AllByRecursion (Acts k) (in_front o cs)
-front_acts k None cs first others = others
-front_acts k (Some c) cs first others = (first, others)
+pub with_front : (P : Candidate → Type 0) (o : Option Candidate) (cs : List Candidate) → IfSome o P → AllByRecursion P cs → AllByRecursion P (in_front o cs)
+with_front P None cs first others = others
+with_front P (Some c) cs first others = (first, others)
 
 candidates_act : (k : KernelState) (cpu sc : ℕ) (os : List Object) → AllByRecursion (Acts k) (candidates_from k cpu sc os)
 candidates_act k cpu sc [] = tt
-candidates_act k cpu sc (o ∷ os) = front_acts k (candidate_of k cpu sc o) _ (candidate_acts k cpu sc o) (candidates_act k cpu (sc + 1) os)
+candidates_act k cpu sc (o ∷ os) = with_front (Acts k) (candidate_of k cpu sc o) _ (candidate_acts k cpu sc o) (candidates_act k cpu (sc + 1) os)
 
-found_all : (P : Candidate → Type 0) (p : Candidate → Bool) (cs : List Candidate) → AllByRecursion P cs → IfSome (find p cs) P
+pub found_all : (P : Candidate → Type 0) (p : Candidate → Bool) (cs : List Candidate) → AllByRecursion P cs → IfSome (find p cs) P
 found_all P p [] h = tt
 found_all P p (c ∷ cs) h = by_test (p c) (found_all P p cs h.1)
   where
@@ -82,6 +82,7 @@ opens_does k target (Some range) = refl
 row_does : (k : KernelState) (domain : ℕ) (c : Call) → IfDone Does (row k domain c)
 row_does k domain (call.CreatePd target pd first) = named_holds Does (maker k domain target pd) (λ owner. new_domain k target first) (λ owner. opens_does k target first)
 row_does k domain (call.CreateEc target pd cpu kind sp event) = unless_holds Does (is_virtual kind) BadPar _ (makes_hold Does CREATE_EC target (λ made. refl) k domain pd _)
+row_does k domain (call.CreateSc target pd ec quantum priority) = makes_hold Does CREATE_SC target (λ made. refl) k domain pd _
 row_does k domain (call.CreatePt target pd ec mtd ip) = makes_hold Does CREATE_PT target (λ made. refl) k domain pd _
 row_does k domain (call.CreateSm target pd count) = makes_hold Does CREATE_SM target (λ made. refl) k domain pd (λ o. Ok (Sm count))
 row_does k domain (call.Lookup range) = refl

@@ -117,6 +117,7 @@ new_none n new.Pd = refl
 new_none n (new.Ec pd cpu Local sp event) = refl
 new_none n (new.Ec pd cpu Global sp event) = refl
 new_none n (new.Ec pd cpu Vcpu sp event) = refl
+new_none n (new.Sc ec cpu priority quantum) = refl
 new_none n (new.Pt ec mtd ip) = refl
 new_none n (new.Sm count) = refl
 

@@ -7,7 +7,7 @@ use Rattle.nova_model.specs.Deeds.{deed, done, gave, sign_of, skipped}
 use Rattle.nova_model.specs.Runs.{after, run}
 use Rattle.nova_model.specs.State.{KernelState, ec_in, entry, transfer, transfer_at, transfer_in}
 use Rattle.nova_model.specs.Turn.{answer_of, event_of, turn, turn_by}
-use Rattle.nova_model.specs.declared.budget.Candidate.{Candidate}
+use Rattle.nova_model.specs.Choice.{Candidate}
 use Rattle.nova_model.specs.declared.deed.Deed.{Deed}
 use Rattle.nova_model.specs.declared.deed.Deed.TheVariants.{Rests, Steps, Raises, Dies, Refuses, Makes, Recalls, Tells, Names, Opens, Gives, Skips, Ends}
 use Rattle.nova_model.specs.declared.delegation.Derivation.{Derivation}

@@ -14,7 +14,7 @@ use Rattle.nova_model.specs.Runs.{after, run}
 use Rattle.nova_model.specs.State.{KernelState, Contexts, budget_at, context_in, ec_in, ec_of, with_ec}
 use Rattle.nova_model.specs.Turn.{charged, counted, paid_by, quantum_in, state_after, turn, turn_by}
 use Rattle.nova_model.specs.declared.budget.Budget.{Budget}
-use Rattle.nova_model.specs.declared.budget.Candidate.{Candidate}
+use Rattle.nova_model.specs.Choice.{Candidate}
 use Rattle.nova_model.specs.declared.context.EcState.{EcState}
 use Rattle.nova_model.specs.declared.deed.Deed.{Deed}
 use Rattle.nova_model.specs.declared.deed.Deed.TheVariants.{Rests, Steps, Raises, Dies, Refuses, Makes, Recalls, Tells, Names, Opens, Gives, Skips, Ends}
@@ -66,6 +66,7 @@ first_free Vcpu = (refl, refl)
 new_free : (n : ℕ) (made : NewObject) → Alone (context_of n made)
 new_free n new.Pd = tt
 new_free n (new.Ec pd cpu kind sp event) = first_free kind
+new_free n (new.Sc ec cpu priority quantum) = tt
 new_free n (new.Pt ec mtd ip) = tt
 new_free n (new.Sm count) = tt
 

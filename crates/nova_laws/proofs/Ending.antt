@@ -8,7 +8,7 @@ use Rattle.nova_model.specs.Hypercalls.{row}
 use Rattle.nova_model.specs.Runs.{run}
 use Rattle.nova_model.specs.State.{KernelState, context, pd_of, transfer}
 use Rattle.nova_model.specs.Turn.{event_of, answer_of, turn, turn_by}
-use Rattle.nova_model.specs.declared.budget.Candidate.{Candidate}
+use Rattle.nova_model.specs.Choice.{Candidate}
 use Rattle.nova_model.specs.declared.context.State.TheVariants.{Granting}
 use Rattle.nova_model.specs.declared.deed.Deed.{Deed}
 use Rattle.nova_model.specs.declared.deed.Deed.TheVariants.{Rests, Steps, Raises, Dies, Refuses, Makes, Recalls, Tells, Names, Opens, Gives, Skips, Ends}

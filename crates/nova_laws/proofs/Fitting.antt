@@ -1,6 +1,6 @@
 -- Tables fit the objects: as lists, entry by entry. One row a deed, the charge, and the fold over turns.
 use Rattle.std.proofs.Common.{◌≡◌, ℕ, zero, suc, ◌+◌, List, [], ◌∷◌, ◌++◌, length, refl, ap, ◌∙◌, sym, arith}
-use Rattle.std.specs.Prelude.{Bool, true, false, map, slice_get, slice_set, Option, Some, None, IfSome, is_some, option_map}
+use Rattle.std.specs.Prelude.{Bool, true, map, slice_get, slice_set, Option, Some, None, IfSome, is_some, option_map}
 use Rattle.std.specs.List.{AllByRecursion}
 use Rattle.rv_model.specs.Step.{Once, Raised, Went}
 use Rattle.nova_objects.specs.declared.object.Object.{Object}
@@ -8,7 +8,7 @@ use Rattle.nova_objects.specs.declared.object.Object.TheVariants.{Pd, Ec, Sc, Pt
 use Rattle.nova_model.specs.Boot.{Scenario, Image, boot, bare, with_image, with_images}
 use Rattle.nova_model.specs.Capabilities.{is_ec, is_local, is_pt, is_sc}
 use Rattle.nova_model.specs.Choice.{choice}
-use Rattle.nova_model.specs.Creation.{context_of, count_of, identifier_of, idle_semaphore, object_of, transfer_of, with_object, words_of}
+use Rattle.nova_model.specs.Creation.{budget_of, context_of, count_of, identifier_of, idle_semaphore, object_of, transfer_of, with_object, words_of}
 use Rattle.nova_model.specs.Deeds.{changed, deed, done, instruction, recalled, stepped, with_context, with_transfer}
 use Rattle.nova_model.specs.Delegations.{Delegations}
 use Rattle.nova_model.specs.declared.transfer.Transfer.{Transfer}
@@ -18,7 +18,7 @@ use Rattle.nova_model.specs.Runs.{after, run}
 use Rattle.nova_model.specs.State.{KernelState, Contexts, budget_at, context, context_at, context_in, ec_in, entry, no_transfer, pd_of}
 use Rattle.nova_model.specs.Turn.{budget_after, charged, counted, is_spent, paid_by, quantum_in, state_after, turn, turn_by}
 use Rattle.nova_model.specs.declared.budget.Budget.{Budget}
-use Rattle.nova_model.specs.declared.budget.Candidate.{Candidate}
+use Rattle.nova_model.specs.Choice.{Candidate}
 use Rattle.nova_model.specs.declared.context.EcState.{EcState}
 use Rattle.nova_model.specs.declared.deed.Deed.{Deed}
 use Rattle.nova_model.specs.declared.deed.Deed.TheVariants.{Rests, Steps, Raises, Dies, Refuses, Makes, Recalls, Tells, Names, Opens, Gives, Skips, Ends}
@@ -26,6 +26,7 @@ use Rattle.nova_model.specs.declared.new_object.NewObject.{NewObject}
 use Rattle.nova_model.specs.declared.new_object.NewObject.TheVariants as new
 use Rattle.nova_laws.specs.Tables.{IsOf, is_sm}
 use Rattle.nova_laws.proofs.Chosen.{Acts, choice_acts}
+use Rattle.nova_laws.proofs.Setting.{get_kept}
 use Rattle.nova_laws.proofs.Referring.{Asks, Refers, cpu_of, deed_asks}
 
 -- LISTS
@@ -43,11 +44,6 @@ map_set : {A B : Type 0} (f : A → B) (xs : List A) (n : ℕ) (v : A) → IfSom
 map_set f [] n v h = refl
 map_set {A} {B} f (x ∷ xs) zero v h = ap (λ (y : B). y ∷ map f xs) h
 map_set {A} {B} f (x ∷ xs) (suc n) v h = ap (λ (l : List B). f x ∷ l) (map_set f xs n v h)
-
-pub get_more : (os : List Object) (o x : Object) (n : ℕ) → slice_get os n ≡ Some x → slice_get (os ++ o ∷ []) n ≡ Some x
-get_more [] o x n h = absurd (cc)
-get_more (y ∷ os) o x zero h = h
-get_more (y ∷ os) o x (suc n) h = get_more os o x n h
 
 -- NUMBERS AND PROCESSORS OF EXECUTION CONTEXTS
 
@@ -216,6 +212,7 @@ with_transfer_fits k ec t there h = record {
 tag_new : (n : ℕ) (made : NewObject) → tag (context_of n made) ≡ tag_of n (object_of made)
 tag_new n new.Pd = refl
 tag_new n (new.Ec pd cpu kind sp event) = refl
+tag_new n (new.Sc ec cpu priority quantum) = refl
 tag_new n (new.Pt ec mtd ip) = refl
 tag_new n (new.Sm count) = refl
 
@@ -233,21 +230,24 @@ transfer_new (Sc ec cpu priority quantum) = refl
 transfer_new (Pt ec mtd ip) = refl
 transfer_new Sm = refl
 
-budget_new : (made : NewObject) → false ≡ is_sc (object_of made)
-budget_new new.Pd = refl
-budget_new (new.Ec pd cpu kind sp event) = refl
-budget_new (new.Pt ec mtd ip) = refl
-budget_new (new.Sm count) = refl
+budget_new : (stamp : ℕ) (made : NewObject) → is_some (budget_of stamp made) ≡ is_sc (object_of made)
+budget_new stamp new.Pd = refl
+budget_new stamp (new.Ec pd cpu kind sp event) = refl
+budget_new stamp (new.Sc ec cpu priority quantum) = refl
+budget_new stamp (new.Pt ec mtd ip) = refl
+budget_new stamp (new.Sm count) = refl
 
 identifier_new : (made : NewObject) → is_some (identifier_of made) ≡ is_pt (object_of made)
 identifier_new new.Pd = refl
 identifier_new (new.Ec pd cpu kind sp event) = refl
+identifier_new (new.Sc ec cpu priority quantum) = refl
 identifier_new (new.Pt ec mtd ip) = refl
 identifier_new (new.Sm count) = refl
 
 semaphore_new : (made : NewObject) → is_some (option_map idle_semaphore (count_of made)) ≡ is_sm (object_of made)
 semaphore_new new.Pd = refl
 semaphore_new (new.Ec pd cpu kind sp event) = refl
+semaphore_new (new.Sc ec cpu priority quantum) = refl
 semaphore_new (new.Pt ec mtd ip) = refl
 semaphore_new (new.Sm count) = refl
 
@@ -258,15 +258,15 @@ maps_more is xs os x o h new =
 
 cpu_more : (os : List Object) (o : Object) (ec cpu : ℕ) (at : Option Object) → slice_get os ec ≡ at → cpu_of at ≡ Some cpu → cpu_of (slice_get (os ++ o ∷ []) ec) ≡ Some cpu
 cpu_more os o ec cpu None is h = absurd (cc)
-cpu_more os o ec cpu (Some x) is h = ap cpu_of (get_more os o x ec is) ∙ h
+cpu_more os o ec cpu (Some x) is h = ap cpu_of (get_kept os o ec x is) ∙ h
 
 kind_more : (os : List Object) (o : Object) (is : Object → Bool) (n : ℕ) (at : Option Object) → slice_get os n ≡ at → option_map is at ≡ Some true → IsOf (os ++ o ∷ []) is n
 kind_more os o is n None at h = absurd (cc)
-kind_more os o is n (Some x) at h = ap (λ (e : Option Object). option_map is e) (get_more os o x n at) ∙ h
+kind_more os o is n (Some x) at h = ap (λ (e : Option Object). option_map is e) (get_kept os o n x at) ∙ h
 
 refers_more : (os : List Object) (o x : Object) → Refers os x → Refers (os ++ o ∷ []) x
 refers_more os o Pd h = tt
-refers_more os o (Ec pd cpu kind event) h = get_more os o Pd pd h
+refers_more os o (Ec pd cpu kind event) h = get_kept os o pd Pd h
 refers_more os o (Sc ec cpu priority quantum) h = cpu_more os o ec cpu (slice_get os ec) refl h
 refers_more os o (Pt ec mtd ip) h = kind_more os o is_local ec (slice_get os ec) refl h
 refers_more os o Sm h = tt
@@ -285,7 +285,7 @@ made_fits k domain target made refers h = record {
       ∙ sym (tags_more 0 k.objects (object_of made));
   messages = maps_more is_ec k.messages k.objects (words_of (object_of made)) (object_of made) h.messages (words_new (object_of made));
   transfers = maps_more is_ec k.transfers k.objects (transfer_of (object_of made)) (object_of made) h.transfers (transfer_new (object_of made));
-  budgets = maps_more is_sc k.budgets k.objects None (object_of made) h.budgets (budget_new made);
+  budgets = maps_more is_sc k.budgets k.objects (budget_of k.next_stamp made) (object_of made) h.budgets (budget_new k.next_stamp made);
   identifiers = maps_more is_pt k.identifiers k.objects (identifier_of made) (object_of made) h.identifiers (identifier_new made);
   semaphores = maps_more is_sm k.semaphores k.objects (option_map idle_semaphore (count_of made)) (object_of made) h.semaphores (semaphore_new made);
   refer = all_refer k.objects (object_of made) k.objects h.refer refers;

@@ -16,7 +16,7 @@ use Rattle.nova_model.specs.Runs.{after, run}
 use Rattle.nova_model.specs.State.{KernelState, Contexts, budget_at, context, context_in, ec_in, entry, no_transfer, pd_of, transfer, transfer_in, with_ec}
 use Rattle.nova_model.specs.Turn.{charged, counted, paid_by, quantum_in, state_after, turn, turn_by}
 use Rattle.nova_model.specs.declared.budget.Budget.{Budget}
-use Rattle.nova_model.specs.declared.budget.Candidate.{Candidate}
+use Rattle.nova_model.specs.Choice.{Candidate}
 use Rattle.nova_model.specs.declared.context.EcState.{EcState}
 use Rattle.nova_model.specs.declared.context.State.{State}
 use Rattle.nova_model.specs.declared.context.State.TheVariants.{Fresh, Ready, Parked, Calling, Helping, Exiting, Sending, Granting, Dead}
@@ -38,7 +38,7 @@ use Rattle.nova_model.specs.Delegations.{is_same_kind}
 use Rattle.nova_model.specs.Transfers.{hotspot_in, job_at, job_between, job_of, read_as}
 use Rattle.nova_model.specs.declared.transfer.Skip.TheVariants.{Window}
 use Rattle.nova_laws.specs.Giving.{GivesRange, is_giving, whole}
-use Rattle.nova_laws.proofs.Fitting.{get_more}
+use Rattle.nova_laws.proofs.Setting.{get_kept}
 use Rattle.nova_laws.proofs.Opening.{HasRange, Wants, deed_wants}
 
 -- TABLES
@@ -147,7 +147,7 @@ longer os o (Calling handler) r t h = h
 longer os o (Helping handler) r t h = h
 longer os o (Exiting reason q0 q1) r t h = h
 longer os o (Sending reason q0 q1 handler) r t h = h
-longer os o (Granting (Some domain)) r t h = (get_more os o Pd domain h.0, h.1)
+longer os o (Granting (Some domain)) r t h = (get_kept os o domain Pd h.0, h.1)
 longer os o (Granting None) r t h = h
 longer os o Dead r t h = h
 
@@ -202,6 +202,7 @@ first_rests os Vcpu r t h = h
 new_rests : (os : List Object) (n : ℕ) (made : NewObject) (t : Transfer) → t ≡ no_transfer → IsForEntry os (context_of n made) t
 new_rests os n new.Pd t h = h
 new_rests os n (new.Ec pd cpu kind sp event) t h = first_rests os kind (first_registers sp) t h
+new_rests os n (new.Sc ec cpu priority quantum) t h = h
 new_rests os n (new.Pt ec mtd ip) t h = h
 new_rests os n (new.Sm count) t h = h
 

@@ -18,3 +18,16 @@ pub mod Ending
 pub mod Moving
 pub mod Cursors
 pub mod Sharing
+pub mod Candidates
+pub mod Paying
+pub mod Stamps
+pub mod Ticks
+pub mod Quanta
+pub mod Schedules
+pub mod Paid
+pub mod Idleness
+pub mod Naming
+pub mod Traces
+pub mod Rotation
+pub mod Holding
+pub mod Asking

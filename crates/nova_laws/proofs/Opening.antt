@@ -8,7 +8,7 @@ use Rattle.rv_model.specs.Step.{Once, Raised, Went}
 use Rattle.nova_calls.specs.Hypercalls.{action_of, call_of, is_flag, is_selector, kind_of, range_of, read_row, readable, rows}
 use Rattle.nova_calls.specs.declared.call.Call.{Call}
 use Rattle.nova_calls.specs.declared.call.Call.TheVariants as call
-use Rattle.nova_calls.specs.declared.numbers.TheConstants.{CREATE_EC, CREATE_PT, CREATE_SM, SC_CTRL}
+use Rattle.nova_calls.specs.declared.numbers.TheConstants.{CREATE_EC, CREATE_SC, CREATE_PT, CREATE_SM, SC_CTRL}
 use Rattle.nova_range.specs.RangeWords.{meaning_of}
 use Rattle.nova_range.specs.declared.range.Range.{Range}
 use Rattle.nova_range.specs.declared.rights.Rights.{Rights}
@@ -138,6 +138,7 @@ row_wants k ec domain (call.CreatePd target pd first) rests range =
     (λ owner. new_domain_wants k ec target first rests (first_range (context k ec).regs target pd first range))
 row_wants k ec domain (call.CreateEc target pd cpu kind sp event) rests range =
     unless_holds (Wants k ec) (is_virtual kind) BadPar _ (makes_hold (Wants k ec) CREATE_EC target (λ made. rests) k domain pd _)
+row_wants k ec domain (call.CreateSc target pd its quantum priority) rests range = makes_hold (Wants k ec) CREATE_SC target (λ made. rests) k domain pd _
 row_wants k ec domain (call.CreatePt target pd handler mtd ip) rests range = makes_hold (Wants k ec) CREATE_PT target (λ made. rests) k domain pd _
 row_wants k ec domain (call.CreateSm target pd count) rests range = makes_hold (Wants k ec) CREATE_SM target (λ made. rests) k domain pd (λ o. Ok (Sm count))
 row_wants k ec domain (call.Lookup range) rests has = rests

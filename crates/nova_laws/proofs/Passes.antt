@@ -6,9 +6,9 @@ use Rattle.std.proofs.lemmas.List.{length-append}
 use Rattle.nova_model.specs.State.{KernelState}
 use Rattle.nova_model.specs.Choice.{choice, is_quiet}
 use Rattle.nova_model.specs.Turn.{turn, turn_by}
-use Rattle.nova_model.specs.Runs.{after, run, pass, passes, rounds}
-use Rattle.nova_model.specs.declared.budget.Candidate.{Candidate}
-use Rattle.nova_laws.specs.Orders.{IsFreeOfIdle, IsRunOut}
+use Rattle.nova_model.specs.Runs.{IsFreeOfIdle, after, run, pass, passes, rounds}
+use Rattle.nova_model.specs.Choice.{Candidate}
+use Rattle.nova_laws.specs.Orders.{IsRunOut}
 use Rattle.nova_laws.proofs.Processors.{run_cpus}
 
 pub run_append : (k : KernelState) (xs ys : List ℕ) → run k (xs ++ ys) ≡ run (run k xs) ys

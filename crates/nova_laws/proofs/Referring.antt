@@ -3,18 +3,18 @@ use Rattle.std.proofs.Common.{◌≡◌, ℕ, List, refl}
 use Rattle.std.specs.Prelude.{Bool, true, false, not, nat_lt, ◌&&◌, if◌then◌else◌, slice_get, Option, Some, None, option_map, option_and_then, Result, Ok, Err}
 use Rattle.nova_calls.specs.declared.call.Call.{Call}
 use Rattle.nova_calls.specs.declared.call.Call.TheVariants as call
-use Rattle.nova_calls.specs.declared.numbers.TheConstants.{CREATE_EC, CREATE_PT, CREATE_SM, SC_CTRL}
+use Rattle.nova_calls.specs.declared.numbers.TheConstants.{CREATE_EC, CREATE_SC, CREATE_PT, CREATE_SM, SC_CTRL}
 use Rattle.nova_objects.specs.declared.object.EcKind.{EcKind}
 use Rattle.nova_objects.specs.declared.object.Object.{Object}
 use Rattle.nova_objects.specs.declared.object.Object.TheVariants.{Pd, Ec, Sc, Pt, Sm}
 use Rattle.nova_range.specs.declared.status.Status.{Status}
 use Rattle.nova_range.specs.declared.status.Status.TheVariants.{BadCap, BadCpu, BadPar}
-use Rattle.nova_model.specs.Capabilities.{allowed, bind_portal_right, capability, control_right, create_right, is_held, is_ec, is_local, is_pd, is_pt, is_sc, named, or_bad_cap}
+use Rattle.nova_model.specs.Capabilities.{allowed, bind_portal_right, bind_scheduling_right, capability, control_right, create_right, is_held, is_ec, is_local, is_pd, is_pt, is_sc, is_schedulable, named, or_bad_cap}
 use Rattle.nova_model.specs.Creation.{object_of}
 use Rattle.nova_model.specs.Deeds.{deed}
 use Rattle.nova_model.specs.Delegations.{allows}
-use Rattle.nova_model.specs.Hypercalls.{and_then, is_virtual, maker, makes, new_domain, row, ticks_in, unless}
-use Rattle.nova_model.specs.State.{KernelState, budget_at, pd_of}
+use Rattle.nova_model.specs.Hypercalls.{and_then, is_scheduled, is_virtual, maker, makes, new_domain, row, ticks_in, unless}
+use Rattle.nova_model.specs.State.{KernelState, budget_at, pd_of, processor_in, processor_of}
 use Rattle.nova_model.specs.declared.deed.Deed.{Deed}
 use Rattle.nova_model.specs.declared.deed.Deed.TheVariants.{Makes, Names, Recalls, Tells}
 use Rattle.nova_model.specs.declared.delegation.Derivation.{Derivation}
@@ -102,6 +102,23 @@ pt_refers : (k : KernelState) (mtd ip : ℕ) (r : Result ℕ Status) → IfDone 
 pt_refers k mtd ip (Ok handler) h = h
 pt_refers k mtd ip (Err status) h = tt
 
+processor_there : (o : Option Object) → option_map is_schedulable o ≡ Some true → cpu_of o ≡ Some (processor_in o)
+processor_there None h = absurd (cc)
+processor_there (Some Pd) h = absurd (cc)
+processor_there (Some (Ec pd cpu kind event)) h = refl
+processor_there (Some (Sc ec cpu priority quantum)) h = absurd (cc)
+processor_there (Some (Pt ec mtd ip)) h = absurd (cc)
+processor_there (Some Sm) h = absurd (cc)
+
+sc_refers : (k : KernelState) (quantum priority : ℕ) (r : Result ℕ Status) → IfDone (IsOf k.objects is_schedulable) r →
+    IfDone (λ made. Refers k.objects (object_of made)) (and_then r (λ ec. unless (is_scheduled k ec) BadCap (Ok (new.Sc ec (processor_of k ec) priority quantum))))
+sc_refers k quantum priority (Err status) h = tt
+sc_refers k quantum priority (Ok ec) h = by_test (is_scheduled k ec)
+  where
+    by_test : (t : Bool) → IfDone (λ made. Refers k.objects (object_of made)) (unless t BadCap (Ok (new.Sc ec (processor_of k ec) priority quantum)))
+    by_test true = tt
+    by_test false = processor_there (slice_get k.objects ec) h
+
 named_asks : (k : KernelState) (is : Object → Bool) (r : Result ℕ Status) (d : ℕ → Deed) → IfDone (IsOf k.objects is) r →
     ((n : ℕ) → IsOf k.objects is n → Asks k (d n)) → IfDone (Asks k) (and_then r (λ n. Ok (d n)))
 named_asks k is (Ok n) d h asks = asks n h
@@ -115,6 +132,8 @@ row_asks : (k : KernelState) (domain : ℕ) (c : Call) → IfDone (Asks k) (row 
 row_asks k domain (call.CreatePd target pd first) = named_holds (Asks k) (maker k domain target pd) (λ owner. new_domain k target first) (λ owner. opens_asks k target first)
 row_asks k domain (call.CreateEc target pd cpu kind sp event) = unless_holds (Asks k) (is_virtual kind) BadPar _
     (makes_asks k domain CREATE_EC target pd _ (λ o is. ec_refers k o cpu kind sp event (not (nat_lt cpu k.cpus)) is))
+row_asks k domain (call.CreateSc target pd ec quantum priority) = makes_asks k domain CREATE_SC target pd _
+    (λ o is. sc_refers k quantum priority (named k domain is_schedulable bind_scheduling_right ec) (named_is k domain is_schedulable bind_scheduling_right ec))
 row_asks k domain (call.CreatePt target pd ec mtd ip) =
     makes_asks k domain CREATE_PT target pd _ (λ o is. pt_refers k mtd.0 ip (named k domain is_local bind_portal_right ec) (named_is k domain is_local bind_portal_right ec))
 row_asks k domain (call.CreateSm target pd count) = makes_asks k domain CREATE_SM target pd (λ o. Ok (new.Sm count)) (λ o is. tt)

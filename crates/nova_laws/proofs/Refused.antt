@@ -8,7 +8,7 @@ use Rattle.nova_model.specs.Deeds.{answered, deed, done, sign_of, with_context}
 use Rattle.nova_model.specs.Runs.{after}
 use Rattle.nova_model.specs.State.{KernelState, Contexts, context, context_at, context_in, ec_in, ec_of}
 use Rattle.nova_model.specs.Turn.{charged, event_of, answer_of, turn, turn_by, state_after}
-use Rattle.nova_model.specs.declared.budget.Candidate.{Candidate}
+use Rattle.nova_model.specs.Choice.{Candidate}
 use Rattle.nova_model.specs.declared.context.EcState.{EcState}
 use Rattle.nova_model.specs.declared.deed.Deed.{Deed}
 use Rattle.nova_model.specs.declared.deed.Deed.TheVariants.{Rests, Steps, Raises, Dies, Refuses, Makes, Recalls, Tells, Names, Opens, Gives, Skips, Ends}

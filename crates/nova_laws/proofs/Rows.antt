@@ -3,7 +3,7 @@ use Rattle.std.proofs.Common.{◌≡◌, ℕ, refl}
 use Rattle.std.specs.Prelude.{Bool, true, false, Option, Some, None, Result, Ok, Err}
 use Rattle.nova_calls.specs.declared.call.Call.{Call}
 use Rattle.nova_calls.specs.declared.call.Call.TheVariants as call
-use Rattle.nova_calls.specs.declared.numbers.TheConstants.{CREATE_EC, CREATE_PT, CREATE_SM, SC_CTRL}
+use Rattle.nova_calls.specs.declared.numbers.TheConstants.{CREATE_EC, CREATE_SC, CREATE_PT, CREATE_SM, SC_CTRL}
 use Rattle.nova_range.specs.declared.range.Range.{Range}
 use Rattle.nova_range.specs.declared.rights.Rights.{Rights}
 use Rattle.nova_range.specs.declared.status.Status.TheVariants.{BadPar}
@@ -63,6 +63,7 @@ row_whole k domain (call.CreatePd target pd first) =
     named_holds IsWhole (maker k domain target pd) (λ owner. new_domain k target first) (λ owner. new_domain_whole k target first)
 row_whole k domain (call.CreateEc target pd cpu kind sp event) =
     unless_holds IsWhole (is_virtual kind) BadPar _ (makes_hold IsWhole CREATE_EC target (λ made. refl) k domain pd _)
+row_whole k domain (call.CreateSc target pd ec quantum priority) = makes_hold IsWhole CREATE_SC target (λ made. refl) k domain pd _
 row_whole k domain (call.CreatePt target pd handler mtd ip) = makes_hold IsWhole CREATE_PT target (λ made. refl) k domain pd _
 row_whole k domain (call.CreateSm target pd count) = makes_hold IsWhole CREATE_SM target (λ made. refl) k domain pd (λ o. Ok (Sm count))
 row_whole k domain (call.Lookup range) = refl

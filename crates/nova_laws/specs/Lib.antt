@@ -3,3 +3,7 @@ pub mod Orders
 pub mod Choices
 pub mod Tables
 pub mod Giving
+pub mod Scheduling
+pub mod Events
+pub mod Rounds
+pub mod Asked

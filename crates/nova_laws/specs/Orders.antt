@@ -1,15 +1,9 @@
 -- Orders of turns: lists of processors, one turn each.
-use Rattle.std.specs.Prelude.{◌≡◌, ℕ, ◌<◌, ◌≤◌, ◌⊎◌, true, List, [], ◌∷◌, length, IsSome}
+use Rattle.std.specs.Prelude.{◌≡◌, ℕ, ◌<◌, ◌≤◌, ◌⊎◌, true, List, length}
 use Rattle.std.specs.List.{AllByRecursion}
 use Rattle.nova_model.specs.State.{KernelState}
 use Rattle.nova_model.specs.Choice.{is_quiet}
-use Rattle.nova_model.specs.Turn.{turn}
-use Rattle.nova_model.specs.Runs.{after, run}
-
--- each processor has a turn to take when its place in the order comes
-abbrev pub IsFreeOfIdle : KernelState → List ℕ → Type 0
-IsFreeOfIdle k [] = Unit {0}
-IsFreeOfIdle k (cpu ∷ order) = IsSome (turn k cpu) × IsFreeOfIdle (after k cpu) order
+use Rattle.nova_model.specs.Runs.{IsFreeOfIdle, run}
 
 -- an order of at most so many turns, each of a processor that is there and not idle, that ends quiet or takes them all
 pub record IsRunOut (k : KernelState) (most : ℕ) (order : List ℕ) : Type 0 where

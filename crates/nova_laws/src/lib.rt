@@ -3,15 +3,28 @@
 
 mod choice;
 mod edges;
+mod events;
+mod making;
 mod orders;
+mod quiet;
 mod refusals;
+mod rounds;
+mod scheduling;
 mod tables;
 mod transfers;
 
 pub use choice::the_best_is_chosen;
 pub use edges::no_call_makes_an_edge;
+pub use events::{a_trace_has_an_event_a_turn, an_event_names_the_chosen};
+pub use making::a_schedule_is_made_as_asked;
 pub use orders::round_robin_runs_out;
+pub use quiet::quiet_is_every_processor_idle;
 pub use refusals::a_refused_call_changes_its_callers_registers;
+pub use rounds::round_robin_goes_round;
+pub use scheduling::{
+    each_has_at_most_one_scheduling_context, stamps_are_given_once, the_chosen_pays,
+    ticks_count_turns, what_is_left_is_within_its_quantum,
+};
 pub use tables::tables_go_with_objects;
 pub use transfers::{
     a_child_is_what_range_and_derivation_share, a_creator_counts_what_it_gives,

@@ -4,9 +4,15 @@ use Rattle.std.specs.List.{find, list_all, range_with_len}
 use Rattle.nova_model.specs.Edges.{acts, chase}
 use Rattle.nova_model.specs.State.{KernelState, budget_at}
 use Rattle.nova_model.specs.declared.budget.Budget.{Budget}
-use Rattle.nova_model.specs.declared.budget.Candidate.{Candidate}
 use Rattle.nova_objects.specs.declared.object.Object.{Object}
 use Rattle.nova_objects.specs.declared.object.Object.TheVariants.{Sc}
+
+-- a runnable scheduling context: its number, the execution context that acts in its turns, its priority and its stamp
+pub record Candidate : Type 0 where
+  pub sc : ℕ
+  pub actor : ℕ
+  pub priority : ℕ
+  pub stamp : ℕ
 
 abbrev pub candidate_with : ℕ → ℕ → ℕ → Option Budget → Option Candidate
 candidate_with sc actor priority (Some b) = Some (record { sc = sc; actor = actor; priority = priority; stamp = b.stamp })
@@ -34,13 +40,20 @@ candidates_from k cpu sc (o ∷ os) = in_front (candidate_of k cpu sc o) (candid
 abbrev pub candidates : KernelState → ℕ → List Candidate
 candidates k cpu = candidates_from k cpu 0 k.objects
 
--- the first goes before the second: a greater priority, or the same and a lesser stamp
+-- of two priorities, each with its stamp, the first goes before the second: a greater priority, or the same and a lesser stamp
+abbrev pub outranks : ℕ → ℕ → ℕ → ℕ → Bool
+outranks priority stamp other_priority other_stamp =
+    nat_lt other_priority priority || ((priority == other_priority) && nat_lt stamp other_stamp)
+
 abbrev pub goes_before : Candidate → Candidate → Bool
-goes_before a b = nat_lt b.priority a.priority || ((a.priority == b.priority) && nat_lt a.stamp b.stamp)
+goes_before a b = outranks a.priority a.stamp b.priority b.stamp
 
 -- the one before which none of them goes
+abbrev pub first_of : {T : Type 0} → (T → T → Bool) → List T → Option T
+first_of before xs = find (λ a. list_all (λ b. not (before b a)) xs) xs
+
 abbrev pub foremost : List Candidate → Option Candidate
-foremost cs = find (λ a. list_all (λ b. not (goes_before b a)) cs) cs
+foremost cs = first_of goes_before cs
 
 unfoldable pub choice : KernelState → ℕ → Option Candidate
 choice k cpu = foremost (candidates k cpu)

@@ -5,8 +5,10 @@ use Rattle.std.specs.List.{find, list_any}
 use Rattle.rv_model.specs.Registers.{Registers, reg}
 use Rattle.nova_calls.specs.Hypercalls.{call_of}
 use Rattle.nova_calls.specs.declared.call.Call.{Call}
-use Rattle.nova_calls.specs.declared.numbers.TheConstants.{CREATE_PD, CREATE_EC, CREATE_PT, CREATE_SM, LOOKUP, EC_CTRL, SC_CTRL, PT_CTRL}
-use Rattle.nova_calls.specs.declared.call.Call.TheVariants.{CreatePd, CreateEc, CreatePt, CreateSm, Lookup, EcCtrl, ScCtrl, PtCtrl}
+use Rattle.nova_calls.specs.declared.numbers.TheConstants.{CREATE_PD, CREATE_EC, CREATE_SC, CREATE_PT, CREATE_SM, LOOKUP, EC_CTRL, SC_CTRL, PT_CTRL}
+use Rattle.nova_calls.specs.declared.call.Call.TheVariants.{CreatePd, CreateEc, CreateSc, CreatePt, CreateSm, Lookup, EcCtrl, ScCtrl, PtCtrl}
+use Rattle.nova_objects.specs.declared.object.Object.{Object}
+use Rattle.nova_objects.specs.declared.object.Object.TheVariants.{Sc}
 use Rattle.nova_objects.specs.declared.object.EcKind.{EcKind}
 use Rattle.nova_objects.specs.declared.object.EcKind.TheVariants.{Local, Global, Vcpu}
 use Rattle.nova_range.specs.RangeWords.{word_of}
@@ -14,9 +16,9 @@ use Rattle.nova_range.specs.declared.range.Range.{Range}
 use Rattle.nova_range.specs.declared.rights.Rights.{Rights}
 use Rattle.nova_range.specs.declared.status.Status.{Status}
 use Rattle.nova_range.specs.declared.status.Status.TheVariants.{BadHyp, BadCap, BadPar, BadCpu}
-use Rattle.nova_model.specs.Capabilities.{create_right, control_right, bind_portal_right, is_pd, is_ec, is_local, is_sc, is_pt, is_held, named}
+use Rattle.nova_model.specs.Capabilities.{create_right, control_right, bind_scheduling_right, bind_portal_right, is_pd, is_ec, is_local, is_schedulable, is_sc, is_pt, is_held, named}
 use Rattle.nova_model.specs.Delegations.{covers, range_of}
-use Rattle.nova_model.specs.State.{KernelState, budget_at}
+use Rattle.nova_model.specs.State.{KernelState, budget_at, processor_of}
 use Rattle.nova_model.specs.declared.budget.Budget.{Budget}
 use Rattle.nova_model.specs.declared.deed.Deed.{Deed}
 use Rattle.nova_model.specs.declared.deed.Deed.TheVariants.{Refuses, Makes, Recalls, Tells, Names, Opens}
@@ -65,6 +67,21 @@ create_ec k domain target pd_selector cpu kind sp event =
     unless (is_virtual kind) BadPar (
     makes k domain CREATE_EC target pd_selector (λ owner. unless (not (nat_lt cpu k.cpus)) BadCpu (Ok (new.Ec owner cpu kind sp event))))
 
+-- an execution context has a scheduling context
+abbrev pub schedules : ℕ → Object → Bool
+schedules ec (Sc its cpu priority quantum) = its == ec
+schedules ec other = false
+
+abbrev pub is_scheduled : KernelState → ℕ → Bool
+is_scheduled k ec = list_any (schedules ec) k.objects
+
+-- create_sc: the create rules, and BAD_CAP where `ec_selector` names no execution context with bind SC, or a local thread, or one that has a
+-- scheduling context already. The new one is of its processor.
+abbrev pub create_sc : KernelState → ℕ → ℕ → ℕ → ℕ → ℕ → ℕ → Result Deed Status
+create_sc k domain target pd_selector ec_selector quantum priority =
+    makes k domain CREATE_SC target pd_selector (λ owner. and_then (named k domain is_schedulable bind_scheduling_right ec_selector) (λ ec.
+    unless (is_scheduled k ec) BadCap (Ok (new.Sc ec (processor_of k ec) priority quantum))))
+
 -- create_pt: the create rules, and BAD_CAP where `ec_selector` names no local thread with bind PT
 abbrev pub create_pt : KernelState → ℕ → ℕ → ℕ → ℕ → ℕ → ℕ → Result Deed Status
 create_pt k domain target pd_selector ec_selector mtd ip =
@@ -88,6 +105,7 @@ looked_up k domain range = word_of (option_map (λ d. (range_of d, d.rights)) (f
 abbrev pub row : KernelState → ℕ → Call → Result Deed Status
 row k domain (CreatePd target pd first) = create_pd k domain target pd first
 row k domain (CreateEc target pd cpu kind sp event) = create_ec k domain target pd cpu kind sp event
+row k domain (CreateSc target pd ec quantum priority) = create_sc k domain target pd ec quantum priority
 row k domain (CreatePt target pd ec mtd ip) = create_pt k domain target pd ec mtd.0 ip
 row k domain (CreateSm target pd count) = create_sm k domain target pd count
 row k domain (Lookup range) = Ok (Tells LOOKUP (looked_up k domain range))
@@ -98,7 +116,7 @@ row k domain other = Err BadHyp
 
 -- the numbers that are built
 abbrev pub is_built : ℕ → Bool
-is_built number = list_any (λ n. n == number) (CREATE_PD ∷ CREATE_EC ∷ CREATE_PT ∷ CREATE_SM ∷ LOOKUP ∷ EC_CTRL ∷ SC_CTRL ∷ PT_CTRL ∷ [])
+is_built number = list_any (λ n. n == number) (CREATE_PD ∷ CREATE_EC ∷ CREATE_SC ∷ CREATE_PT ∷ CREATE_SM ∷ LOOKUP ∷ EC_CTRL ∷ SC_CTRL ∷ PT_CTRL ∷ [])
 
 -- a number that is not built is BAD_HYP, whatever its arguments are; else the arguments are read
 abbrev pub asked : KernelState → ℕ → Registers → Result Deed Status

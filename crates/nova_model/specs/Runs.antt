@@ -1,5 +1,5 @@
 -- Runs: the turns of a list of processors, one after another.
-use Rattle.std.specs.Prelude.{ℕ, zero, suc, ◌+◌, ◌-◌, List, [], ◌∷◌, ◌++◌, length, is_some, option_map, if◌then◌else◌}
+use Rattle.std.specs.Prelude.{ℕ, zero, suc, ◌+◌, ◌-◌, List, [], ◌∷◌, ◌++◌, length, is_some, IsSome, option_map, if◌then◌else◌}
 use Rattle.nova_model.specs.State.{KernelState}
 use Rattle.nova_model.specs.Choice.{in_front}
 use Rattle.nova_model.specs.Turn.{turn, state_after}
@@ -18,6 +18,11 @@ run k (cpu ∷ cpus) = run (after k cpu) cpus
 abbrev pub trace : KernelState → List ℕ → List Event
 trace k [] = []
 trace k (cpu ∷ cpus) = in_front (option_map (λ s. s.event) (turn k cpu)) (trace (after k cpu) cpus)
+
+-- each processor has a turn to take when its place in the order comes
+abbrev pub IsFreeOfIdle : KernelState → List ℕ → Type 0
+IsFreeOfIdle k [] = Unit {0}
+IsFreeOfIdle k (cpu ∷ order) = IsSome (turn k cpu) × IsFreeOfIdle (after k cpu) order
 
 -- a pass over `count` processors from `cpu` on: one turn of each that is not idle, at most `most` turns
 abbrev pub pass : KernelState → ℕ → ℕ → ℕ → List ℕ

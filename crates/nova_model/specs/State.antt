@@ -89,10 +89,14 @@ transfer k ec = transfer_in (transfer_at k ec)
 abbrev pub budget_at : KernelState → ℕ → Option Budget
 budget_at k sc = entry (slice_get k.budgets sc)
 
--- the protection domain of an execution context, and whether it is a thread
+-- the protection domain of an execution context, its processor, and whether it is a thread
 abbrev pub pd_in : Option Object → ℕ
 pd_in (Some (Ec pd cpu kind event)) = pd
 pd_in other = 0
+
+abbrev pub processor_in : Option Object → ℕ
+processor_in (Some (Ec pd cpu kind event)) = cpu
+processor_in other = 0
 
 abbrev pub is_thread_kind : EcKind → Bool
 is_thread_kind Local = true
@@ -105,6 +109,9 @@ is_thread_in other = false
 
 abbrev pub pd_of : KernelState → ℕ → ℕ
 pd_of k ec = pd_in (slice_get k.objects ec)
+
+abbrev pub processor_of : KernelState → ℕ → ℕ
+processor_of k ec = processor_in (slice_get k.objects ec)
 
 abbrev pub is_thread : KernelState → ℕ → Bool
 is_thread k ec = is_thread_in (slice_get k.objects ec)

@@ -1,12 +1,11 @@
 -- One turn of a processor: the execution context of the chosen scheduling context does its deed, and the scheduling context is charged.
 use Rattle.std.specs.Prelude.{ℕ, ◌+◌, ◌-◌, ◌==◌, Bool, true, false, slice_get, slice_index, slice_set, Option, Some, None}
-use Rattle.nova_model.specs.Choice.{choice}
+use Rattle.nova_model.specs.Choice.{Candidate, choice}
 use Rattle.nova_model.specs.Deeds.{deed, done, sign_of}
 use Rattle.nova_model.specs.State.{KernelState, budget_at}
 use Rattle.nova_objects.specs.declared.object.Object.{Object}
 use Rattle.nova_objects.specs.declared.object.Object.TheVariants.{Sc}
 use Rattle.nova_model.specs.declared.budget.Budget.{Budget}
-use Rattle.nova_model.specs.declared.budget.Candidate.{Candidate}
 use Rattle.nova_model.specs.declared.deed.Deed.{Deed}
 use Rattle.nova_model.specs.declared.event.Event.{Event}
 use Rattle.nova_model.specs.declared.event.Turn.{Turn}
@@ -54,8 +53,12 @@ pub record Step : Type 0 where
   pub kernel : KernelState
   pub event : Event
 
+-- the event of a deed, by processor, scheduling context and who does it
+abbrev pub event_by : ℕ → ℕ → ℕ → Deed → Event
+event_by cpu sc ec d = record { cpu = cpu; sc = sc; ec = ec; kind = (sign_of d).0; a = (sign_of d).1; b = (sign_of d).2 }
+
 abbrev pub event_of : ℕ → Candidate → Deed → Event
-event_of cpu c d = record { cpu = cpu; sc = c.sc; ec = c.actor; kind = (sign_of d).0; a = (sign_of d).1; b = (sign_of d).2 }
+event_of cpu c d = event_by cpu c.sc c.actor d
 
 abbrev pub taken : KernelState → ℕ → Candidate → Deed → Step
 taken k cpu c d = record { kernel = charged (done k c.actor d) cpu c.sc; event = event_of cpu c d }

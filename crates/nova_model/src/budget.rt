@@ -6,13 +6,3 @@ pub struct Budget {
     pub stamp: u64,
     pub ticks: u64,
 }
-
-/// A runnable scheduling context: its number, the execution context that acts in its turns, its
-/// priority and its stamp.
-#[derive(Clone, Copy)]
-pub struct Candidate {
-    pub sc: u32,
-    pub actor: u32,
-    pub priority: u8,
-    pub stamp: u64,
-}

@@ -1,5 +1,6 @@
 pub mod Sorted
 pub mod Tables
+pub mod Copies
 pub mod Found
 pub mod Indexed
 pub mod Joined

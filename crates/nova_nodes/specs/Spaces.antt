@@ -34,6 +34,11 @@ room_there (Some s) = room_in s
 abbrev pub room_at : List (Option SpaceState) → ℕ → ℕ
 room_at spaces pd = room_there (slice_get spaces pd)
 
+-- the same with no room for more
+abbrev pub roomless : Option SpaceState → Option SpaceState
+roomless None = None
+roomless (Some s) = Some (record s { room = 0 })
+
 -- for how many more there is room in the spaces of all domains
 abbrev pub total_room : List (Option SpaceState) → ℕ
 total_room spaces = sum_by room_in spaces

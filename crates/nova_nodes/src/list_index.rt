@@ -98,6 +98,11 @@ impl Index for ListIndex {
         Some((e.range, e.key))
     }
 
+    fn copy(&self) -> Result<ListIndex, AllocError> {
+        let items = Vec::from_slice(*self.items.allocator(), self.items.as_slice())?;
+        Ok(ListIndex { items, spare: 0 })
+    }
+
     fn reserve(&mut self, n: usize) -> Result<(), AllocError> {
         self.items.reserve(n)?;
         self.spare = self.spare.max(n);

@@ -1,4 +1,4 @@
-ghost use Rattle.std.specs.Prelude.{◌≡◌, ◌<◌, ◌≤◌, ◌+◌, ◌-◌, ◌^◌, ℕ, [], IfSome, IsSome, IsOk, OnOk, OnErr, Some, None, option_map};
+ghost use Rattle.std.specs.Prelude.{◌≡◌, ◌<◌, ◌≤◌, ◌+◌, ◌-◌, ◌^◌, ℕ, [], IfSome, IsSome, IsOk, IfOk, OnOk, OnErr, Some, None, option_map};
 ghost use Rattle.std.specs.List.{find};
 ghost use Rattle.nova_model.specs.Delegations.{covers, first_from, with_id, from_id, is_child_of, newest_child, older_child, parent_of, derived, added, without, id_of};
 ghost use Rattle.nova_model.specs.Forest.{IsFitting, IsChildless};
@@ -59,6 +59,22 @@ impl<I: Index> Nodes<I> {
             spare: 0,
             spaces: Spaces::new(alloc),
         }
+    }
+
+    /// The same derivations in memory of their own, and the same domains with spaces, with no room for
+    /// more. It refuses for want of memory alone.
+    pub fn copy(&self) -> Result<Nodes<I>, AllocError>
+        ensures same { IfOk result (λ copy. copy.delegations ≡ self.now.delegations) }
+        ensures spaces { IfOk result (λ copy. (pd : ℕ) → HasSpaces self.now pd → HasSpaces copy pd) }
+    {
+        let list = Vec::from_slice(*self.list.allocator(), self.list.as_slice())?;
+        let spaces = self.spaces.copy()?;
+        Ok(Nodes {
+            list,
+            next: self.next,
+            spare: 0,
+            spaces,
+        })
     }
 
     /// The id that the next derivation takes.

@@ -1,4 +1,4 @@
-ghost use Rattle.std.specs.Prelude.{◌≡◌, ◌<◌, ◌-◌, [], false, max, OnOk, OnErr};
+ghost use Rattle.std.specs.Prelude.{◌≡◌, ◌<◌, ◌-◌, [], false, max, IfOk, OnOk, OnErr};
 ghost use Rattle.std.specs.List.{AllByRecursion};
 ghost use Rattle.nova_range.specs.Ranges.{IsRange, overlaps};
 ghost use Rattle.nova_range.specs.Indices.{IsSorted, key_at, range_from, key_of_base, put_in, taken_out};
@@ -67,6 +67,16 @@ impl<I: Index> Space<I> {
             Kind::Mem => self.mem.first_from(place),
             Kind::Obj => self.obj.first_from(place),
         }
+    }
+
+    /// The same ranges in memory of their own, with no room for more. It refuses for want of memory
+    /// alone.
+    pub(crate) fn copy(&self) -> Result<Space<I>, AllocError>
+        ensures { IfOk result (λ copy. copy ≡ record self.now { room = 0 }) }
+    {
+        let mem = self.mem.copy()?;
+        let obj = self.obj.copy()?;
+        Ok(Space { mem, obj, room: 0 })
     }
 
     /// Makes room for `n` more ranges in each space. Where it refuses nothing has changed.

@@ -1,9 +1,9 @@
-ghost use Rattle.std.specs.Prelude.{◌≡◌, ◌<◌, ◌≤◌, ◌+◌, ◌-◌, ◌==◌, ◌&&◌, ℕ, [], Bool, false, max, Some, OnOk, OnErr, IfSome, IsSome, option_map, slice_get, slice_set, length};
+ghost use Rattle.std.specs.Prelude.{◌≡◌, ◌<◌, ◌≤◌, ◌+◌, ◌-◌, ◌==◌, ◌&&◌, ℕ, [], Bool, false, max, Some, IfOk, OnOk, OnErr, IfSome, IsSome, option_map, slice_get, slice_set, length, map};
 ghost use Rattle.std.specs.List.{AllByRecursion};
 ghost use Rattle.nova_range.specs.Ranges.{IsRange, overlaps};
 ghost use Rattle.nova_range.specs.Indices.{IsSorted, key_at, range_from, put_in, taken_out};
 ghost use Rattle.nova_model.specs.Delegations.{is_same_kind};
-ghost use Rattle.nova_nodes.specs.Spaces.{entries_of, entries_in, entries_at, room_in, room_at, with_entries, is_of};
+ghost use Rattle.nova_nodes.specs.Spaces.{entries_of, entries_in, entries_at, room_in, room_at, with_entries, is_of, roomless};
 
 use crate::space::Space;
 use nova_range::{Index, Kind, Range};
@@ -59,6 +59,16 @@ fn room_in<I: Index>(space: &Option<Space<I>>) -> usize
     }
 }
 
+/// The same space in memory of its own, with no room for more; nothing where it isn't there.
+fn copy_of<I: Index>(space: &Option<Space<I>>) -> Result<Option<Space<I>>, AllocError>
+    ensures { IfOk result (λ copy. copy ≡ roomless space.now) }
+{
+    match space {
+        Some(space) => Ok(Some(space.copy()?)),
+        None => Ok(None),
+    }
+}
+
 /// Makes room for `n` more ranges in a space that is there. Where it refuses nothing has changed.
 fn reserve_in<I: Index>(space: &mut Option<Space<I>>, n: usize) -> Result<(), AllocError>
     requires there { IsSome space.old }
@@ -99,6 +109,21 @@ impl<I: Index> Spaces<I> {
             items: Vec::new(alloc),
             alloc,
         }
+    }
+
+    /// The same spaces in memory of their own, with no room for more. It refuses for want of memory
+    /// alone.
+    pub(crate) fn copy(&self) -> Result<Spaces<I>, AllocError>
+        ensures { IfOk result (λ copy. copy ≡ map roomless self.now) }
+    {
+        let mut items = Vec::new(self.alloc);
+        for space in &self.items {
+            items.push(copy_of(space)?)?;
+        }
+        Ok(Spaces {
+            items,
+            alloc: self.alloc,
+        })
     }
 
     /// The key of the range of a domain's space that has a place, or nothing where none has it.

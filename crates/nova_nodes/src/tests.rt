@@ -24,7 +24,9 @@ fn derivations_are_found_by_their_places(rt: HostRuntime) {
     assert!(rt; matches!(nodes.first_from(0, Kind::Mem, 0), Some(d) if d.id == 0));
     assert!(rt; nodes.first_from(0, Kind::Mem, 20).is_none());
     assert_eq!(rt; nodes.newest_child(0), Some(1));
+    let mut copy = nodes.copy().expect(&rt, "ample memory");
     nodes.remove_leaf(1);
     assert!(rt; nodes.at(1, Kind::Mem, 5).is_none());
     assert_eq!(rt; nodes.newest_child(0), None);
+    assert!(rt; matches!(copy.at(1, Kind::Mem, 5), Some(d) if d.id == 1));
 }

@@ -1,4 +1,4 @@
-ghost use Rattle.std.specs.Prelude.{◌≡◌, ◌+◌, ◌-◌, ◌<◌, ◌≤◌, ◌↔◌, ◌^◌, [], ◌∷◌, ◌++◌, length, max, slice_get, IsOk, IsSome, OnOk, OnErr};
+ghost use Rattle.std.specs.Prelude.{◌≡◌, ◌+◌, ◌-◌, ◌<◌, ◌≤◌, ◌↔◌, ◌^◌, [], ◌∷◌, ◌++◌, length, max, slice_get, IsOk, IsSome, IfOk, OnOk, OnErr};
 ghost use Rattle.std.specs.Option.{option_copied};
 
 use crate::object::Object;
@@ -74,6 +74,15 @@ impl Objects {
         ensures { result.now ≡ self.now.items }
     {
         self.items.as_slice()
+    }
+
+    /// The same objects in memory of their own, with no spare room. It refuses for want of memory
+    /// alone.
+    pub fn copy(&self) -> Result<Objects, AllocError>
+        ensures { IfOk result (λ copy. copy ≡ record { items = self.now.items; spare = 0 }) }
+    {
+        let items = Vec::from_slice(*self.items.allocator(), self.items.as_slice())?;
+        Ok(Objects { items, spare: 0 })
     }
 
     /// How many objects there are.

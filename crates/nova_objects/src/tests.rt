@@ -18,6 +18,8 @@ fn objects_are_numbered_as_they_are_made(rt: HostRuntime) {
     assert!(rt; objects.get(2).is_none());
     assert_eq!(rt; objects.len(), 2);
     assert!(rt; matches!(objects.as_slice(), [Object::Pd, Object::Ec { .. }]));
+    let copy = objects.copy().expect(&rt, "ample memory");
+    assert!(rt; matches!(copy.as_slice(), [Object::Pd, Object::Ec { event: 16, .. }]));
 }
 
 #[test]

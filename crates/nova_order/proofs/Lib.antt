@@ -3,3 +3,4 @@ pub mod LineLemmas
 pub mod NumberLemmas
 pub mod OrderLemmas
 pub mod TextLemmas
+pub mod TurnLemmas

@@ -1,5 +1,5 @@
 -- Orders of turns as blocks.
-use Rattle.std.specs.Prelude.{ℕ, ◌+◌, ◌-◌, ◌^◌, ◌<◌, ◌==◌, Bool, true, false, not, ◌&&◌, if◌then◌else◌, List, [], ◌∷◌, ◌++◌, length, replicate, nat_lt, nat_le, slice_set, sum_by, flat_map, IsTrue, Option, Some, None}
+use Rattle.std.specs.Prelude.{◌≡◌, ℕ, ◌+◌, ◌-◌, ◌^◌, ◌<◌, ◌==◌, Bool, true, false, not, ◌&&◌, if◌then◌else◌, List, [], ◌∷◌, ◌++◌, length, replicate, nat_lt, nat_le, slice_set, sum_by, flat_map, IsTrue, Option, Some, None}
 use Rattle.std.specs.List.{last_or, list_all}
 use Rattle.nova_order.specs.declared.block.Block.{Block}
 
@@ -51,3 +51,9 @@ added cpu count list =
 abbrev pub pushed : ℕ → ℕ → BlockList → BlockList
 pushed cpu count list =
     let last = last_or None list.blocks in if is_of last cpu then grown last count list else added cpu count list
+
+-- turns are those of an order
+pub record HasOrder (sequence : List ℕ) : Type 0 where
+  pub blocks : List Block
+  pub order : IsOrder blocks
+  pub said : turns blocks ≡ sequence

@@ -1,8 +1,9 @@
 //! Laws of the definitions that the contracts of this crate cite. The functions do nothing: their contracts are the laws.
 
-ghost use Rattle.std.specs.Prelude.{◌≡◌, ℕ, ◌^◌, ◌<◌, ◌≤◌, List, IsTrue, Ok};
+ghost use Rattle.std.specs.Prelude.{◌≡◌, ℕ, ◌^◌, ◌<◌, ◌≤◌, ◌&&◌, List, length, nat_lt, nat_le, IsTrue, Ok};
+ghost use Rattle.std.specs.List.{list_all};
 ghost use Rattle.nova_order.specs.declared.block.Block.{Block};
-ghost use Rattle.nova_order.specs.Blocks.{IsOrder, is_within};
+ghost use Rattle.nova_order.specs.Blocks.{IsOrder, HasOrder, turns, is_within};
 ghost use Rattle.nova_order.specs.Text.{text_of};
 ghost use Rattle.nova_order.specs.Read.{order_of};
 
@@ -20,4 +21,16 @@ pub fn what_is_read_was_written()
         → IsOrder blocks }
     ensures within { (bytes : List ℕ) (cpus most : ℕ) (blocks : List Block) → order_of bytes cpus most ≡ Ok blocks
         → IsTrue (is_within cpus most blocks) }
+{}
+
+/// Fewer than 2^64 turns have one order, and so one text: there is one, and no other has the same turns.
+pub fn turns_have_one_order()
+    ensures there { (sequence : List ℕ) → length sequence < 2 ^ 64 → HasOrder sequence }
+    ensures one { (a b : List Block) → IsOrder a → IsOrder b → turns a ≡ turns b → a ≡ b }
+{}
+
+/// An order is within bounds exactly where each of its turns is of a processor below their number, and no more are there than may be.
+pub fn bounds_are_of_turns()
+    ensures { (cpus most : ℕ) (blocks : List Block) → IsOrder blocks
+        → is_within cpus most blocks ≡ (list_all (λ cpu. nat_lt cpu cpus) (turns blocks) && nat_le (length (turns blocks)) most) }
 {}

@@ -1,4 +1,4 @@
-ghost use Rattle.std.specs.Prelude.{◌≡◌, ◌<◌, ◌≤◌, ◌-◌, ℕ, [], List, false, max, OnOk, OnErr};
+ghost use Rattle.std.specs.Prelude.{◌≡◌, ◌<◌, ◌≤◌, ◌-◌, ℕ, [], List, false, max, IfOk, OnOk, OnErr};
 ghost use Rattle.std.specs.List.{AllByRecursion};
 ghost use Rattle.nova_range.specs.Ranges.{IsRange, overlaps};
 ghost use Rattle.nova_range.specs.Indices.{IsSorted, key_at, range_from, key_of_base, put_in, taken_out};
@@ -40,6 +40,11 @@ pub trait Index: Sized + Drop {
     fn first_from(&self, place: u32) -> Option<(Range, u32)>
         ensures first { result ≡ range_from place (entries self.now) }
         ensures sound { IsSorted (entries self.now) };
+
+    /// The same ranges with their keys in memory of their own, in which there may be no room for more.
+    /// It refuses for want of memory alone.
+    fn copy(&self) -> Result<Self, AllocError>
+        ensures same { IfOk result (λ copy. entries copy ≡ entries self.now) };
 
     /// Makes room for `n` more ranges, counted from those that are there. Room that was made before
     /// stays. It refuses for want of memory alone, and then nothing has changed.

@@ -1,4 +1,6 @@
-pub mod Turns
-pub mod Finish
+pub mod Idle
+pub mod Reports
+pub mod Counts
+pub mod Made
 pub mod Complete
 pub mod Unread

@@ -1,18 +1,47 @@
 -- Where a command could not be read for want of memory, nothing was fetched.
-use Rattle.std.proofs.Common.{◌≡◌, [], inl, sym, subst, arith}
+use Rattle.std.proofs.Common.{◌≡◌, ℕ, List, [], inl, inr, refl, sym, subst, arith}
 use Rattle.std.specs.Prelude.{Option, Some, None, Err, IfSome}
 use Rattle.nova_command.specs.CommandFault.{Answers}
 use Rattle.nova_command.specs.declared.command.Command.{Command}
+use Rattle.nova_command.specs.declared.command.Command.TheVariants.{Solo, Check}
 use Rattle.nova_command.specs.declared.fault.CommandFault.{CommandFault}
 use Rattle.nova_command.specs.declared.fault.CommandFault.TheVariants as command
-use Rattle.nova_io.specs.Fetched.{Gave, FetchFailed, Nothing}
+use Rattle.nova_io.specs.Fetched.{Nothing}
 use Rattle.nova_top.specs.Exit.{of_command}
-use Rattle.nova_top.specs.Main.{Fetches, name_of}
+use Rattle.nova_top.specs.Fetches.{Fetches, FetchesOf, CameBefore}
+use Rattle.nova_top.specs.Names.{most_of_order, most_of_scenario}
+use Rattle.nova_top.specs.Outside.{Depots}
 use Rattle.nova_top.specs.declared.exit.Exit.{Exit}
+use Rattle.nova_top.specs.declared.exit.Exit.TheVariants.{Done, Memory}
 
-pub unread : {D : Type 0} (gave : Gave D) (failed : FetchFailed D) (read : Option Command) (depot : D) (fault : CommandFault) (exit : Exit) →
-    exit ≡ of_command fault → Answers read (Err fault) → IfSome read (λ command. Fetches gave failed (name_of command) depot depot exit)
-unread gave failed None depot fault exit is h = tt
-unread gave failed (Some read) depot command.Usage exit is h = absurd (cc)
-unread gave failed (Some read) depot command.Memory exit is h =
-    subst (λ (e : Exit). Fetches gave failed (name_of read) depot depot e) (sym is) ([], (omega arith), inl Nothing)
+none_of : {D : Type 0} (d : Depots D) (name : List ℕ) (depot : D) → FetchesOf d most_of_scenario name Memory depot depot
+none_of d name depot = record { bytes = []; few = omega arith; came = inl Nothing; others = λ other. inr refl }
+
+none_for : {D : Type 0} (d : Depots D) (read : Command) (depot : D) → Fetches d read Memory depot depot
+none_for d (Solo name None most) depot = none_of d name depot
+none_for d (Solo name (Some order) most) depot = inl (none_of d name depot)
+none_for d (Check name) depot = none_of d name depot
+
+pub unread : {D : Type 0} (d : Depots D) (read : Option Command) (depot : D) (fault : CommandFault) (exit : Exit) →
+    exit ≡ of_command fault → Answers read (Err fault) → IfSome read (λ command. Fetches d command exit depot depot)
+unread d None depot fault exit is h = tt
+unread d (Some read) depot command.Usage exit is h = absurd (cc)
+unread d (Some read) depot command.Memory exit is h = subst (λ (e : Exit). Fetches d read e depot depot) (sym is) (none_for d read depot)
+
+-- the fetches before an answer that is not ReadFault are as good before another
+moved : {D : Type 0} (d : Depots D) (most : ℕ) (name : List ℕ) (exit : Exit) (old new : D) →
+    ((bytes : List ℕ) → CameBefore Done d name old bytes new → CameBefore exit d name old bytes new) → FetchesOf d most name Done old new → FetchesOf d most name exit old new
+moved d most name exit old new as_well f = record { bytes = f.bytes; few = f.few; came = as_well f.bytes f.came; others = f.others }
+
+pub as_well : {D : Type 0} (d : Depots D) (command : Command) (exit : Exit) (old new : D) →
+    ((name bytes : List ℕ) (a b : D) → CameBefore Done d name a bytes b → CameBefore exit d name a bytes b) → Fetches d command Done old new → Fetches d command exit old new
+as_well d (Solo name None most) exit old new same f = moved d most_of_scenario name exit old new (λ bytes. same name bytes old new) f
+as_well d (Check name) exit old new same f = moved d most_of_scenario name exit old new (λ bytes. same name bytes old new) f
+as_well d (Solo name (Some order) most) exit old new same (inl f) = inl (moved d most_of_scenario name exit old new (λ bytes. same name bytes old new) f)
+as_well d (Solo name (Some order) most) exit old new same (inr f) = inr (record {
+  from = f.from;
+  between = f.between;
+  came = f.came;
+  others = f.others;
+  order = moved d most_of_order order exit f.between new (λ bytes. same order bytes f.between new) f.order;
+})

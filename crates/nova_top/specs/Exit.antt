@@ -6,17 +6,23 @@ use Rattle.nova_command.specs.declared.fault.CommandFault.{CommandFault}
 use Rattle.nova_command.specs.declared.fault.CommandFault.TheVariants as command
 use Rattle.nova_io.specs.declared.faults.FetchFault.{FetchFault}
 use Rattle.nova_io.specs.declared.faults.FetchFault.TheVariants as fetch
+use Rattle.nova_order.specs.declared.fault.OrderFault.{OrderFault as OrderTextFault}
+use Rattle.nova_order.specs.declared.fault.OrderFault.TheVariants as order
 use Rattle.nova_scenario.specs.declared.fault.ScenarioFault.{ScenarioFault}
 use Rattle.nova_scenario.specs.declared.fault.ScenarioFault.TheVariants as text
 use Rattle.nova_top.specs.declared.exit.Exit.{Exit}
-use Rattle.nova_top.specs.declared.exit.Exit.TheVariants.{Done, Usage, ReadFault, Scenario, WriteFault, Limit, Memory}
+use Rattle.nova_top.specs.declared.exit.Exit.TheVariants.{Done, Usage, ReadFault, Scenario, OrderFault, WriteFault, Limit, Memory}
+use Rattle.nova_top.specs.declared.exit.OrderWhy.TheVariants.{BadLine, BadCpu, ZeroCount, NotMerged, TooMany, Idle, TooLong as OrderTooLong}
 use Rattle.nova_top.specs.declared.exit.ScenarioWhy.TheVariants.{TooLong, Text}
+use Rattle.nova_run.specs.declared.fault.RunFault.{RunFault}
+use Rattle.nova_run.specs.declared.fault.RunFault.TheVariants as turn
 
 abbrev pub status_of : Exit → ℕ
 status_of Done = 0
 status_of Usage = 2
 status_of ReadFault = 3
 status_of (Scenario line why) = 4
+status_of (OrderFault line why) = 5
 status_of WriteFault = 6
 status_of Limit = 7
 status_of Memory = 8
@@ -30,11 +36,30 @@ abbrev pub of_command : CommandFault → Exit
 of_command command.Usage = Usage
 of_command command.Memory = Memory
 
-abbrev pub of_fetch : FetchFault → Exit
-of_fetch fetch.Failed = ReadFault
-of_fetch fetch.TooLong = Scenario 0 TooLong
-of_fetch fetch.Memory = Memory
+-- the scenario did not come
+abbrev pub of_scenario_fetch : FetchFault → Exit
+of_scenario_fetch fetch.Failed = ReadFault
+of_scenario_fetch fetch.TooLong = Scenario 0 TooLong
+of_scenario_fetch fetch.Memory = Memory
 
 abbrev pub of_scenario : ScenarioFault → Exit
 of_scenario (text.At line why) = Scenario line (Text why)
 of_scenario text.Memory = Memory
+
+-- the order did not come
+abbrev pub of_order_fetch : FetchFault → Exit
+of_order_fetch fetch.Failed = ReadFault
+of_order_fetch fetch.TooLong = OrderFault 0 OrderTooLong
+of_order_fetch fetch.Memory = Memory
+
+abbrev pub of_order : OrderTextFault → Exit
+of_order (order.BadLine line) = OrderFault line BadLine
+of_order (order.BadCpu line) = OrderFault line BadCpu
+of_order (order.ZeroCount line) = OrderFault line ZeroCount
+of_order (order.NotMerged line) = OrderFault line NotMerged
+of_order (order.TooMany line) = OrderFault line TooMany
+of_order order.Memory = Memory
+
+abbrev pub of_run : RunFault → Exit
+of_run (turn.OrderIdle line) = OrderFault line Idle
+of_run turn.Memory = Memory

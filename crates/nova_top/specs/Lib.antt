@@ -1,5 +1,11 @@
-pub mod Rounds
 pub mod Exit
-pub mod Outcome
-pub mod Prepared
+pub mod Outside
+pub mod Names
+pub mod Orders
+pub mod Runs
+pub mod Made
+pub mod Causes
+pub mod Fetches
+pub mod Servable
 pub mod Main
+pub mod Prepared

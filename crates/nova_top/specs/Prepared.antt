@@ -1,30 +1,75 @@
--- A text that was made before the first byte goes out.
-use Rattle.std.specs.Prelude.{◌≡◌, ℕ, List, Result, Ok, Err}
+-- What is made before the first byte goes out.
+use Rattle.std.specs.Prelude.{◌≡◌, ℕ, ◌<◌, ◌≤◌, List, length, Result, Ok, Err}
+use Rattle.std.specs.List.{AllByRecursion}
 use Rattle.nova_command.specs.declared.command.Command.{Command}
 use Rattle.nova_model.specs.State.{KernelState}
 use Rattle.nova_model.specs.Choice.{is_quiet}
 use Rattle.nova_model.specs.Runs.{run, trace}
+use Rattle.nova_model.specs.Runs.{IsFreeOfIdle}
+use Rattle.nova_order.specs.Blocks.{BlockList}
 use Rattle.nova_report.specs.Report.{report}
-use Rattle.nova_scenario.specs.Scenario.{scenario}
-use Rattle.nova_top.specs.Outcome.{IsMade}
+use Rattle.nova_scenario.specs.declared.scenario.Scenario.{Scenario as ScenarioText}
+use Rattle.nova_top.specs.Causes.{IsReadFault, IsScenarioFault, IsOrderFault, ScenarioRefused, TextRefused}
+use Rattle.nova_top.specs.Made.{IsMade, ScenarioCame}
+use Rattle.nova_top.specs.Orders.{OrderCame}
+use Rattle.nova_top.specs.Outside.{Depots, HasFailed}
+use Rattle.nova_run.specs.Finished.{IsIdleLine}
 use Rattle.nova_top.specs.declared.exit.Exit.{Exit}
-use Rattle.nova_top.specs.declared.exit.Exit.TheVariants.{Done, Usage, ReadFault, Scenario, WriteFault, Limit, Memory}
-use Rattle.nova_top.specs.declared.exit.ScenarioWhy.TheVariants.{TooLong, Text}
+use Rattle.nova_top.specs.declared.exit.Exit.TheVariants.{Done, Usage, ReadFault, Scenario, OrderFault, WriteFault, Limit, Memory}
+use Rattle.nova_top.specs.declared.exit.OrderWhy.TheVariants.{Idle}
 use Rattle.nova_top.specs.declared.outcome.Outcome.{Outcome}
 
--- the report of an order of turns, and whether they end quiet
-pub record IsReportOf (k : KernelState) (order : List ℕ) (made : Outcome) : Type 0 where
+-- the end that an error makes, where any other is as good as Done
+abbrev pub exit_of : {T : Type 0} → Result T Exit → Exit
+exit_of (Ok made) = Done
+exit_of (Err exit) = exit
+
+-- a scenario that was read, or why it wasn't
+abbrev pub IsScenarioRead : {D : Type 0} → Depots D → List ℕ → D → D → Result ScenarioText Exit → Type 0
+IsScenarioRead d name old new (Ok from) = ScenarioCame d name old from new
+IsScenarioRead d name old new (Err ReadFault) = HasFailed d name old new
+IsScenarioRead d name old new (Err (Scenario line why)) = ScenarioRefused d name line why old new
+IsScenarioRead d name old new (Err Memory) = Unit {0}
+IsScenarioRead d name old new (Err Done) = ⊥
+IsScenarioRead d name old new (Err Usage) = ⊥
+IsScenarioRead d name old new (Err (OrderFault line why)) = ⊥
+IsScenarioRead d name old new (Err WriteFault) = ⊥
+IsScenarioRead d name old new (Err Limit) = ⊥
+
+-- an order that was read, or why it wasn't
+abbrev pub IsOrderReadBy : {D : Type 0} → Depots D → List ℕ → ℕ → ℕ → D → D → Result BlockList Exit → Type 0
+IsOrderReadBy d name cpus most old new (Ok order) = OrderCame d name cpus most old order.blocks new
+IsOrderReadBy d name cpus most old new (Err ReadFault) = HasFailed d name old new
+IsOrderReadBy d name cpus most old new (Err (OrderFault line why)) = TextRefused d name cpus most line why old new
+IsOrderReadBy d name cpus most old new (Err Memory) = Unit {0}
+IsOrderReadBy d name cpus most old new (Err Done) = ⊥
+IsOrderReadBy d name cpus most old new (Err Usage) = ⊥
+IsOrderReadBy d name cpus most old new (Err (Scenario line why)) = ⊥
+IsOrderReadBy d name cpus most old new (Err WriteFault) = ⊥
+IsOrderReadBy d name cpus most old new (Err Limit) = ⊥
+
+-- the report of an order of turns from a state, and whether they end quiet
+pub record IsReportOf (k : KernelState) (order : List ℕ) (most : ℕ) (made : Outcome) : Type 0 where
+  pub no_idle : IsFreeOfIdle k order
   pub text : made.text.items ≡ report (run k order) (trace k order)
   pub quiet : made.is_complete ≡ is_quiet (run k order)
+  pub within : length order ≤ most
+  pub processors : AllByRecursion (λ cpu. cpu < k.cpus) order
 
--- what a command makes of bytes, or why it makes nothing
-abbrev pub IsPrepared : Command → List ℕ → Result Outcome Exit → Type 0
-IsPrepared command bytes (Ok made) = IsMade command bytes made.is_complete made.text.items
-IsPrepared command bytes (Err (Scenario line (Text why))) = scenario bytes ≡ Err (record { line = line; why = why })
-IsPrepared command bytes (Err (Scenario line TooLong)) = ⊥
-IsPrepared command bytes (Err Memory) = Unit {0}
-IsPrepared command bytes (Err Done) = ⊥
-IsPrepared command bytes (Err Usage) = ⊥
-IsPrepared command bytes (Err ReadFault) = ⊥
-IsPrepared command bytes (Err WriteFault) = ⊥
-IsPrepared command bytes (Err Limit) = ⊥
+-- an order that was read is not run only for an idle turn, or for want of memory
+abbrev pub IsIdleFault : KernelState → BlockList → Exit → Type 0
+IsIdleFault k order (OrderFault line Idle) = IsIdleLine k order.blocks line
+IsIdleFault k order Memory = Unit {0}
+IsIdleFault k order _ = ⊥
+
+-- what a command makes, or why it makes nothing
+abbrev pub IsPrepared : {D : Type 0} → Depots D → Command → D → D → Result Outcome Exit → Type 0
+IsPrepared d command old new (Ok made) = IsMade d command old new made.is_complete made.text.items
+IsPrepared d command old new (Err ReadFault) = IsReadFault d command old new
+IsPrepared d command old new (Err (Scenario line why)) = IsScenarioFault d command line why old new
+IsPrepared d command old new (Err (OrderFault line why)) = IsOrderFault d command line why old new
+IsPrepared d command old new (Err Memory) = Unit {0}
+IsPrepared d command old new (Err Done) = ⊥
+IsPrepared d command old new (Err Usage) = ⊥
+IsPrepared d command old new (Err WriteFault) = ⊥
+IsPrepared d command old new (Err Limit) = ⊥

@@ -1,8 +1,10 @@
 ghost use Rattle.std.specs.Prelude.{◌≡◌};
-ghost use Rattle.nova_top.specs.Exit.{status_of, of_words};
+ghost use Rattle.nova_top.specs.Exit.{status_of, of_words, of_scenario_fetch, of_order_fetch};
 
 use nova_command::CommandFault;
 use nova_io::FetchFault;
+use nova_order::OrderFault;
+use nova_run::RunFault;
 use nova_scenario::{ScenarioFault, Why};
 use std::alloc::AllocError;
 use std::io::ErrorKind;
@@ -20,6 +22,38 @@ pub enum ScenarioWhy {
     Text(Why),
 }
 
+/// Why an order is refused.
+#[derive(Clone, Copy, Debug, PartialEq, Eq, Error)]
+pub enum OrderWhy {
+    /// The line is not of the form `cpu count`, has a number of 2^64 or more, or has no line feed at its end.
+    #[error("BadLine")]
+    BadLine,
+
+    /// There is no such processor.
+    #[error("BadCpu")]
+    BadCpu,
+
+    /// The line says no turns.
+    #[error("ZeroCount")]
+    ZeroCount,
+
+    /// The line before names the same processor.
+    #[error("NotMerged")]
+    NotMerged,
+
+    /// With this line there are more turns than the limit.
+    #[error("TooMany")]
+    TooMany,
+
+    /// The processor is idle in one of the line's turns.
+    #[error("Idle")]
+    Idle,
+
+    /// The order is longer than 64 MiB.
+    #[error("TooLong")]
+    TooLong,
+}
+
 /// How a call of the program ends.
 #[derive(Clone, Copy, Debug, PartialEq, Eq, Error)]
 pub enum Exit {
@@ -31,7 +65,7 @@ pub enum Exit {
     #[error("usage: nova run|solo|check|bench NAME [ORDER] [--limit N]")]
     Usage,
 
-    /// The scenario could not be fetched. Nothing is written.
+    /// The scenario could not be fetched, or the order. Nothing is written.
     #[error("read fault")]
     ReadFault,
 
@@ -39,11 +73,15 @@ pub enum Exit {
     #[error("scenario line {line}: {why}")]
     Scenario { line: u64, why: ScenarioWhy },
 
+    /// The order is refused: the first line at fault, from 1, or 0 where it is too long. Nothing is written.
+    #[error("order line {line}: {why}")]
+    OrderFault { line: u64, why: OrderWhy },
+
     /// The text could not be written whole. What is written is the beginning of it.
     #[error("write fault")]
     WriteFault,
 
-    /// The run took all its turns and is not quiet. Its report is written.
+    /// The run is not quiet at its end. Its report is written.
     #[error("not quiet")]
     Limit,
 
@@ -63,6 +101,34 @@ impl Exit {
         }
     }
 
+    /// How a call ends whose scenario did not come.
+    pub(crate) fn of_scenario_fetch(fault: FetchFault) -> Exit
+        ensures { result ≡ of_scenario_fetch fault }
+    {
+        match fault {
+            FetchFault::Failed => Exit::ReadFault,
+            FetchFault::TooLong => Exit::Scenario {
+                line: 0,
+                why: ScenarioWhy::TooLong,
+            },
+            FetchFault::Memory => Exit::Memory,
+        }
+    }
+
+    /// How a call ends whose order did not come.
+    pub(crate) fn of_order_fetch(fault: FetchFault) -> Exit
+        ensures { result ≡ of_order_fetch fault }
+    {
+        match fault {
+            FetchFault::Failed => Exit::ReadFault,
+            FetchFault::TooLong => Exit::OrderFault {
+                line: 0,
+                why: OrderWhy::TooLong,
+            },
+            FetchFault::Memory => Exit::Memory,
+        }
+    }
+
     /// The status that the program ends with.
     pub fn status(self) -> u8
         ensures { result ≡ status_of self }
@@ -72,6 +138,7 @@ impl Exit {
             Exit::Usage => 2,
             Exit::ReadFault => 3,
             Exit::Scenario { .. } => 4,
+            Exit::OrderFault { .. } => 5,
             Exit::WriteFault => 6,
             Exit::Limit => 7,
             Exit::Memory => 8,
@@ -102,23 +169,6 @@ impl From<CommandFault> for Exit {
     }
 }
 
-impl From<FetchFault> for Exit {
-    ghost use Rattle.nova_top.specs.Exit.{of_fetch};
-
-    ghost from_gives = { λ fault exit. exit ≡ of_fetch fault };
-
-    fn from(fault: FetchFault) -> Exit {
-        match fault {
-            FetchFault::Failed => Exit::ReadFault,
-            FetchFault::TooLong => Exit::Scenario {
-                line: 0,
-                why: ScenarioWhy::TooLong,
-            },
-            FetchFault::Memory => Exit::Memory,
-        }
-    }
-}
-
 impl From<ScenarioFault> for Exit {
     ghost use Rattle.nova_top.specs.Exit.{of_scenario};
 
@@ -131,6 +181,40 @@ impl From<ScenarioFault> for Exit {
                 why: ScenarioWhy::Text(why),
             },
             ScenarioFault::Memory => Exit::Memory,
+        }
+    }
+}
+
+impl From<OrderFault> for Exit {
+    ghost use Rattle.nova_top.specs.Exit.{of_order};
+
+    ghost from_gives = { λ fault exit. exit ≡ of_order fault };
+
+    fn from(fault: OrderFault) -> Exit {
+        let (line, why) = match fault {
+            OrderFault::BadLine(line) => (line, OrderWhy::BadLine),
+            OrderFault::BadCpu(line) => (line, OrderWhy::BadCpu),
+            OrderFault::ZeroCount(line) => (line, OrderWhy::ZeroCount),
+            OrderFault::NotMerged(line) => (line, OrderWhy::NotMerged),
+            OrderFault::TooMany(line) => (line, OrderWhy::TooMany),
+            OrderFault::Memory => return Exit::Memory,
+        };
+        Exit::OrderFault { line, why }
+    }
+}
+
+impl From<RunFault> for Exit {
+    ghost use Rattle.nova_top.specs.Exit.{of_run};
+
+    ghost from_gives = { λ fault exit. exit ≡ of_run fault };
+
+    fn from(fault: RunFault) -> Exit {
+        match fault {
+            RunFault::OrderIdle(line) => Exit::OrderFault {
+                line,
+                why: OrderWhy::Idle,
+            },
+            RunFault::Memory => Exit::Memory,
         }
     }
 }

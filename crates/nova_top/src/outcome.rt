@@ -1,57 +1,35 @@
-ghost use Rattle.std.specs.Prelude.{◌^◌, ◌+◌, ◌≤◌, IfOk};
-ghost use Rattle.nova_command.specs.Command.{HasLimit};
+ghost use Rattle.std.specs.Prelude.{◌≡◌, ◌^◌, ◌+◌, ◌≤◌, IfOk, IfErr, IsTrue, codes, length, true, false};
+ghost use Rattle.nova_boot.specs.Boot.{scenario_of};
+ghost use Rattle.nova_command.specs.Limit.{IsLimit};
+ghost use Rattle.nova_model.specs.Boot.{boot};
+ghost use Rattle.nova_model.specs.Choice.{is_quiet};
 ghost use Rattle.nova_model.specs.Runs.{rounds};
+ghost use Rattle.nova_order.specs.Blocks.{turns, is_within};
+ghost use Rattle.nova_report.specs.Report.{report};
 ghost use Rattle.nova_scenario.specs.Sound.{IsSound};
-ghost use Rattle.nova_top.specs.Outcome.{IsSolo, IsChecked, IsDone};
-ghost use Rattle.nova_top.specs.Prepared.{IsPrepared, IsReportOf};
+ghost use Rattle.nova_top.specs.Prepared.{IsReportOf, IsIdleFault};
+ghost use Rattle.nova_top.specs.declared.exit.Exit.TheVariants.{Memory};
 
 use crate::exit::Exit;
-use crate::rounds::round_robin;
 use nova_boot::boot;
-use nova_command::Command;
-use nova_forest::delegations_stay_a_forest;
-use nova_kernel::Kernel;
 use nova_laws::round_robin_runs_out;
+use nova_order::Order;
 use nova_report::report;
-use nova_scenario::{Scenario, read};
+use nova_run::{Finished, round_robin, run_order};
+use nova_scenario::Scenario;
 use std::alloc::{AllocError, Global};
 
-/// What a command makes of a scenario: the text that it writes, and whether it is complete, as a run is
-/// that ends quiet.
+/// What a command makes: the text that it writes, and whether it is complete, as a run is that ends
+/// quiet.
 #[derive(Drop)]
 pub struct Outcome {
     pub is_complete: bool,
     pub text: Vec<u8>,
 }
 
-/// Runs a kernel by round robin for at most `most` turns, and makes the report.
-fn ran(alloc: Global, mut kernel: Kernel, most: u64) -> Result<Outcome, AllocError>
-    requires room { most ≤ kernel.room }
-    requires turns { kernel.state.turns + most ≤ 2 ^ 31 }
-    ensures { IfOk result (λ o. IsReportOf kernel.state (rounds kernel.state most) o) }
-{
-    let trace = round_robin(alloc, &mut kernel, most)?;
-    let text = report(alloc, &kernel, &trace)?;
-    let is_complete = kernel.quiet();
-    Ok(Outcome { is_complete, text })
-}
-
-/// Boots a scenario, and runs it for at most `limit` turns.
-fn solo(alloc: Global, scenario: &Scenario, limit: u32) -> Result<Outcome, AllocError>
-    requires sound { IsSound scenario.now }
-    requires limit { limit ≤ 10000000 }
-    ensures { IfOk result (λ o. IsSolo limit scenario.now o.is_complete o.text.items) }
-{
-    round_robin_runs_out();
-    delegations_stay_a_forest();
-    let most = u64::from(limit);
-    let kernel = boot(alloc, scenario, most)?;
-    ran(alloc, kernel, most)
-}
-
 /// Says that a scenario is valid.
-fn checked(alloc: Global) -> Result<Outcome, AllocError>
-    ensures { IfOk result (λ o. IsChecked o.is_complete o.text.items) }
+pub fn valid(alloc: Global) -> Result<Outcome, AllocError>
+    ensures { IfOk result (λ made. (made.is_complete ≡ true) × (made.text.items ≡ codes "ok\n")) }
 {
     let text = Vec::from_slice(alloc, b"ok\n")?;
     Ok(Outcome {
@@ -60,23 +38,46 @@ fn checked(alloc: Global) -> Result<Outcome, AllocError>
     })
 }
 
-/// What a command makes of a scenario.
-fn performed(alloc: Global, command: &Command, scenario: &Scenario) -> Result<Outcome, AllocError>
-    requires sound { IsSound scenario.now }
-    requires limit { HasLimit command.now }
-    ensures { IfOk result (λ o. IsDone command.now scenario.now o.is_complete o.text.items) }
+/// The report of a finished run.
+fn reported(alloc: Global, finished: &Finished) -> Result<Outcome, AllocError>
+    ensures text { IfOk result (λ made. made.text.items ≡ report finished.now.kernel.state finished.now.trace.items) }
+    ensures quiet { IfOk result (λ made. made.is_complete ≡ is_quiet finished.now.kernel.state) }
 {
-    match command {
-        Command::Solo { limit, .. } => solo(alloc, scenario, *limit),
-        Command::Check { .. } => checked(alloc),
-    }
+    let text = report(alloc, &finished.kernel, &finished.trace)?;
+    let is_complete = finished.kernel.quiet();
+    Ok(Outcome { is_complete, text })
 }
 
-/// What a command makes of the bytes of a scenario, or the end that their fault makes.
-pub fn prepare(alloc: Global, command: &Command, bytes: &[u8]) -> Result<Outcome, Exit>
-    requires { HasLimit command.now }
-    ensures { IsPrepared command.now bytes.now result }
+/// Boots a scenario and runs it by round robin for at most `limit` turns.
+pub fn run_rounds(alloc: Global, scenario: &Scenario, limit: u32) -> Result<Outcome, Exit>
+    requires sound { IsSound scenario.now }
+    requires limit { IsLimit limit }
+    ensures report { IfOk result (IsReportOf (boot (scenario_of scenario.now)) (rounds (boot (scenario_of scenario.now)) limit) limit) }
+    ensures spent { IfOk result (λ made. made.is_complete ≡ false → length (rounds (boot (scenario_of scenario.now)) limit) ≡ limit) }
+    ensures memory { IfErr result (λ exit. exit ≡ Memory) }
 {
-    let scenario = read(alloc, bytes)?;
-    Ok(performed(alloc, command, &scenario)?)
+    round_robin_runs_out();
+    let most = u64::from(limit);
+    let kernel = boot(alloc, scenario, most)?;
+    let finished = round_robin(alloc, kernel, most)?;
+    Ok(reported(alloc, &finished)?)
+}
+
+/// Boots a scenario and runs it over an order of at most `limit` turns.
+pub fn run_in_order(
+    alloc: Global,
+    scenario: &Scenario,
+    order: &Order,
+    limit: u32,
+) -> Result<Outcome, Exit>
+    requires sound { IsSound scenario.now }
+    requires limit { IsLimit limit }
+    requires within { IsTrue (is_within scenario.now.cpus limit order.now.blocks) }
+    ensures report { IfOk result (IsReportOf (boot (scenario_of scenario.now)) (turns order.now.blocks) limit) }
+    ensures idle { IfErr result (IsIdleFault (boot (scenario_of scenario.now)) order.now) }
+{
+    let most = u64::from(limit);
+    let kernel = boot(alloc, scenario, most)?;
+    let finished = run_order(alloc, kernel, order, most)?;
+    Ok(reported(alloc, &finished)?)
 }

@@ -1,4 +1,5 @@
 use Rattle.nova_laws.proofs.Best.{choice_idle, choice_best}
+use Rattle.nova_laws.proofs.Stamps.{only_best}
 use Rattle.nova_laws.proofs.choice.the_best_is_chosen.Goals as goal
 
 pub returns-clause-idle : goal.returns-clause-idle
@@ -6,3 +7,6 @@ returns-clause-idle c = choice_idle
 
 pub returns-clause-best : goal.returns-clause-best
 returns-clause-best c = choice_best
+
+pub returns-clause-only : goal.returns-clause-only
+returns-clause-only c = only_best

@@ -1,8 +1,15 @@
 use Rattle.std.proofs.Common.{sym, subst}
-use Rattle.nova_kernel.specs.Parts.{IsCounted}
+use Rattle.nova_model.specs.Boot.{bare}
+use Rattle.nova_kernel.specs.Parts.{IsCounted, shown}
+use Rattle.nova_kernel.specs.Schedules.{root_schedule}
 use Rattle.nova_kernel.proofs.Booted.{IsCounted_bare}
+use Rattle.nova_kernel.proofs.Moves.{queued_same}
+use Rattle.nova_kernel.proofs.Started.{queued_bare}
 use Rattle.nova_kernel.proofs.kernel.Kernel.new.Goals as goal
 
 pub invariant_of-result : goal.invariant_of-result
-invariant_of-result c =
-    subst IsCounted (sym c.in_ok-parts.ensures.shown) (IsCounted_bare c.args.cpus c.args.ram c.args.consoles c.args.root c.requires.consoles)
+invariant_of-result c = (
+  subst IsCounted (sym c.in_ok-parts.ensures.shown) (IsCounted_bare c.args.cpus c.args.ram c.args.consoles c.args.root c.requires.consoles),
+  queued_same (bare c.args.cpus c.args.ram c.args.consoles c.args.root) (shown c.in_ok-parts.parts) (root_schedule c.args.cpus c.args.root)
+      c.in_ok-parts.parts.queues.all (queued_bare c.args.cpus c.args.ram c.args.consoles c.args.root) c.in_ok-parts.ensures.shown c.in_ok-parts.ensures.queues,
+)

@@ -1,0 +1,117 @@
+-- How the queues of scheduling contexts stand to the state: each scheduling context waits as its object says, with its budget, and is marked
+-- runnable where its turns lead to an execution context that acts.
+use Rattle.std.specs.Prelude.{ℕ, ◌≡◌, ◌<◌, ◌≤◌, ◌==◌, ◌&&◌, Bool, true, false, not, List, [], ◌∷◌, length, map, max, slice_get, Option, Some, None, is_some, option_map, if◌then◌else◌}
+use Rattle.nova_objects.specs.declared.object.Object.{Object}
+use Rattle.nova_objects.specs.declared.object.Object.TheVariants.{Ec, Sc}
+use Rattle.nova_model.specs.Deeds.{changed}
+use Rattle.nova_model.specs.Edges.{acts, chase, cpu_in}
+use Rattle.nova_model.specs.State.{Contexts, KernelState, budget_at, context, with_ec}
+use Rattle.nova_model.specs.declared.budget.Budget.{Budget}
+use Rattle.nova_model.specs.declared.deed.Deed.{Deed}
+use Rattle.nova_model.specs.declared.deed.Deed.TheVariants.{Raises, Dies, Makes, Opens, Ends}
+use Rattle.nova_model.specs.declared.new_object.NewObject.{NewObject}
+use Rattle.nova_model.specs.declared.new_object.NewObject.TheVariants as new
+use Rattle.nova_model.specs.declared.root.Root.{Root}
+use Rattle.nova_ec.specs.Tables.{actor_in}
+use Rattle.nova_sched.specs.Queues.{Schedule, added, marked, padded, queued_at}
+use Rattle.nova_sched.specs.declared.queued.Queued.{Queued}
+
+-- the budgets of scheduling contexts, in a table of so many numbers
+unfoldable pub budgets_of : Schedule → ℕ → List (Option Budget)
+budgets_of s count = padded count (map (option_map (λ e. e.budget)) s.entries)
+
+-- the turns that an execution context is given lead to one that acts
+abbrev pub leads : Contexts → ℕ → Bool
+leads cs ec = acts cs (chase cs ec)
+
+-- who acts in the turns of a scheduling context
+abbrev pub actor_of : Contexts → Option Object → Option ℕ
+actor_of cs (Some (Sc ec cpu priority quantum)) = actor_in cs ec
+actor_of cs other = None
+
+-- how a scheduling context waits
+abbrev pub wanted_with : Contexts → Option Object → Option Budget → Option Queued
+wanted_with cs (Some (Sc ec cpu priority quantum)) (Some b) =
+    Some (record { cpu = cpu; priority = priority; quantum = quantum; is_runnable = leads cs ec; budget = b })
+wanted_with cs object budget = None
+
+abbrev pub wanted : KernelState → ℕ → Option Queued
+wanted k sc = wanted_with k.contexts (slice_get k.objects sc) (budget_at k sc)
+
+-- an execution context is of the processor that its object names, one of so many, and a scheduling context of that of its execution context
+abbrev pub IsAtHome : ℕ → Contexts → ℕ → Option Object → Type 0
+IsAtHome cpus cs number (Some (Ec pd cpu kind event)) = (cpu < cpus) × (cpu_in cs number ≡ Some cpu)
+IsAtHome cpus cs number (Some (Sc ec cpu priority quantum)) = (cpu < cpus) × (cpu_in cs ec ≡ Some cpu)
+IsAtHome cpus cs number other = Unit {0}
+
+-- a new object is to be so
+abbrev pub HasHome : ℕ → Contexts → NewObject → Type 0
+HasHome cpus cs (new.Ec pd cpu kind sp event) = cpu < cpus
+HasHome cpus cs (new.Sc ec cpu priority quantum) = (cpu < cpus) × (cpu_in cs ec ≡ Some cpu)
+HasHome cpus cs other = Unit {0}
+
+-- the processor of an execution context's object
+abbrev pub processor_at : Option Object → Option ℕ
+processor_at (Some (Ec pd cpu kind event)) = Some cpu
+processor_at other = None
+
+-- a new object is to be of a processor that is there, a scheduling context of that of its execution context
+abbrev pub IsPlacedIn : KernelState → NewObject → Type 0
+IsPlacedIn k (new.Ec pd cpu kind sp event) = cpu < k.cpus
+IsPlacedIn k (new.Sc ec cpu priority quantum) = processor_at (slice_get k.objects ec) ≡ Some cpu
+IsPlacedIn k other = Unit {0}
+
+abbrev pub IsPlacedBy : KernelState → Deed → Type 0
+IsPlacedBy k (Makes call target new) = IsPlacedIn k new
+IsPlacedBy k other = Unit {0}
+
+-- without the marks of one processor, where it is to be marked anew
+abbrev pub but_for : Option ℕ → Option Queued → Option Queued
+but_for None o = o
+but_for (Some cpu) None = None
+but_for (Some cpu) (Some e) = Some (record e { is_runnable = not (e.cpu == cpu) && e.is_runnable })
+
+-- the queues hold each scheduling context as it is, but for the marks of that processor
+pub record AreQueuedBut (stale : Option ℕ) (k : KernelState) (s : Schedule) : Type 0 where
+  pub cpus : k.cpus ≤ s.cpus
+  pub numbers : length s.entries ≤ length k.objects
+  pub stamp : s.next_stamp ≡ k.next_stamp
+  pub entries : (sc : ℕ) → but_for stale (queued_at s sc) ≡ but_for stale (wanted k sc)
+  pub homes : (number : ℕ) → IsAtHome s.cpus k.contexts number (slice_get k.objects number)
+
+abbrev pub AreQueued : KernelState → Schedule → Type 0
+AreQueued k s = AreQueuedBut None k s
+
+-- WHAT CHANGES
+
+-- a new scheduling context of this number is added, and marked
+abbrev pub joined : Contexts → Schedule → ℕ → NewObject → Schedule
+joined cs s number (new.Sc ec cpu priority quantum) = marked (added s number cpu priority quantum) number (leads cs ec)
+joined cs s number other = s
+
+abbrev pub schedule_after : KernelState → ℕ → Schedule → Deed → Schedule
+schedule_after k ec s (Makes call target new) = joined (with_ec k.contexts ec (changed (context k ec) (Makes call target new))) s (length k.objects) new
+schedule_after k ec s other = s
+
+-- an execution context that does this is in another state then, so that others may find turns or lose them
+abbrev pub is_moving : Deed → Bool
+is_moving (Raises reason q0 q1) = true
+is_moving (Dies reason q0) = true
+is_moving (Opens target domain) = true
+is_moving (Ends item children) = true
+is_moving other = false
+
+-- so that the marks of its processor are old then
+abbrev pub stale_by : ℕ → Deed → Option ℕ
+stale_by cpu d = if is_moving d then Some cpu else None
+
+-- scheduling contexts are marked one after another
+abbrev pub remarked : List Object → Contexts → List ℕ → Schedule → Schedule
+remarked objects cs [] s = s
+remarked objects cs (sc ∷ scs) s = remarked objects cs scs (marked s sc (is_some (actor_of cs (slice_get objects sc))))
+
+-- AT BOOT
+
+-- the root's scheduling context alone; a machine without processors has a queue for it too
+unfoldable pub root_schedule : ℕ → Root → Schedule
+root_schedule cpus root = marked (added (record { entries = []; next_stamp = 0; cpus = max cpus 1 }) 2 0 root.priority root.quantum) 2 true

@@ -1,0 +1,198 @@
+-- What a turn does to objects, budgets, the next stamp and the counts of turns: what its deed adds, and then the charge.
+use Rattle.std.proofs.Common.{◌≡◌, ℕ, ◌+◌, List, [], ◌∷◌, ◌++◌, refl, sym, ap, ap₂, ◌∙◌, subst}
+use Rattle.std.specs.List.{list_any}
+use Rattle.std.specs.Prelude.{Bool, true, false, ◌≤◌, true, false, option_map, slice_get, slice_index, slice_set, Option, Some, None}
+use Rattle.rv_model.specs.Step.{Once, Raised, Went}
+use Rattle.nova_objects.specs.declared.object.Object.{Object}
+use Rattle.nova_objects.specs.declared.object.Object.TheVariants.{Sc}
+use Rattle.nova_model.specs.Boot.{Image, Scenario, bare, boot, with_image, with_images}
+use Rattle.nova_model.specs.Capabilities.{is_schedulable}
+use Rattle.nova_model.specs.Choice.{Candidate, choice}
+use Rattle.nova_model.specs.Creation.{budget_of, object_of, stamp_past}
+use Rattle.nova_model.specs.Deeds.{deed, done, instruction, recalled, stepped, with_context}
+use Rattle.nova_model.specs.Hypercalls.{schedules}
+use Rattle.nova_model.specs.Runs.{after, run}
+use Rattle.nova_model.specs.State.{KernelState, budget_at, entry, pd_of}
+use Rattle.nova_model.specs.Turn.{budget_after, charged, counted, is_spent, paid, paid_by, quantum_in, stamp_after, state_after, turn, turn_by}
+use Rattle.nova_model.specs.declared.budget.Budget.{Budget}
+use Rattle.nova_model.specs.declared.context.EcState.{EcState}
+use Rattle.nova_model.specs.declared.deed.Deed.{Deed}
+use Rattle.nova_model.specs.declared.deed.Deed.TheVariants.{Rests, Steps, Makes, Opens, Recalls}
+use Rattle.nova_model.specs.declared.new_object.NewObject.{NewObject}
+use Rattle.nova_model.specs.declared.new_object.NewObject.TheVariants as new
+use Rattle.nova_forest.specs.Made.{IsBoundBy}
+use Rattle.nova_forest.proofs.Growth.{IsAllowed, deed_allowed}
+use Rattle.nova_laws.proofs.Candidates.{HasSchedule, schedule_of, the_chosen}
+use Rattle.nova_laws.proofs.Refused.{turn_chosen}
+use Rattle.nova_laws.proofs.Setting.{entry_kept, get_kept}
+
+-- A DEED
+
+-- it leaves them, or makes one object
+pub data Adds (old new : KernelState) (ec : ℕ) : Type 0 where
+  AddsNone : new.objects ≡ old.objects → new.budgets ≡ old.budgets → new.next_stamp ≡ old.next_stamp → Adds old new ec
+  AddsOne : (made : NewObject) → IsBoundBy old (pd_of old ec) (object_of made) → new.objects ≡ old.objects ++ object_of made ∷ [] →
+      new.budgets ≡ old.budgets ++ budget_of old.next_stamp made ∷ [] → new.next_stamp ≡ stamp_past old.next_stamp made → Adds old new ec
+
+stepped_adds : (k : KernelState) (ec : ℕ) (o : Once) → Adds k (stepped k ec o) ec
+stepped_adds k ec (Raised reason q0 q1) = AddsNone refl refl refl
+stepped_adds k ec (Went regs store) = AddsNone refl refl refl
+
+recalled_adds : (k : KernelState) (ec other : ℕ) (x : EcState) (o : Option EcState) → Adds k (recalled (with_context k ec x) other o) ec
+recalled_adds k ec other x None = AddsNone refl refl refl
+recalled_adds k ec other x (Some y) = AddsNone refl refl refl
+
+done_adds : (k : KernelState) (ec : ℕ) (d : Deed) → IsAllowed k ec d → Adds k (done k ec d) ec
+done_adds k ec Rests allowed = AddsNone refl refl refl
+done_adds k ec Steps allowed = stepped_adds k ec (instruction k ec)
+done_adds k ec (Makes call target made) asked = AddsOne made asked.bound refl refl refl
+done_adds k ec (Opens target number) allowed = AddsOne new.Pd tt refl refl refl
+done_adds k ec (Recalls other) allowed = recalled_adds k ec other _ _
+done_adds k ec other allowed = AddsNone refl refl refl
+
+-- it leaves the counts of turns
+pub record KeepsCounts (old new : KernelState) : Type 0 where
+  pub processors : new.stirs.processors ≡ old.stirs.processors
+  pub turns : new.turns ≡ old.turns
+
+stepped_counts : (k : KernelState) (ec : ℕ) (o : Once) → KeepsCounts k (stepped k ec o)
+stepped_counts k ec (Raised reason q0 q1) = record { processors = refl; turns = refl }
+stepped_counts k ec (Went regs store) = record { processors = refl; turns = refl }
+
+recalled_counts : (k : KernelState) (ec other : ℕ) (x : EcState) (o : Option EcState) → KeepsCounts k (recalled (with_context k ec x) other o)
+recalled_counts k ec other x None = record { processors = refl; turns = refl }
+recalled_counts k ec other x (Some y) = record { processors = refl; turns = refl }
+
+done_counts : (k : KernelState) (ec : ℕ) (d : Deed) → KeepsCounts k (done k ec d)
+done_counts k ec Rests = record { processors = refl; turns = refl }
+done_counts k ec Steps = stepped_counts k ec (instruction k ec)
+done_counts k ec (Recalls other) = recalled_counts k ec other _ _
+done_counts k ec other = record { processors = refl; turns = refl }
+
+-- what is there stays
+pub still_budget : (k s : KernelState) (ec n : ℕ) (b : Budget) → Adds k s ec → budget_at k n ≡ Some b → budget_at s n ≡ Some b
+still_budget k s ec n b (AddsNone objects budgets next) is = ap (λ (bs : List (Option Budget)). entry (slice_get bs n)) budgets ∙ is
+still_budget k s ec n b (AddsOne made bound objects budgets next) is =
+    ap (λ (bs : List (Option Budget)). entry (slice_get bs n)) budgets ∙ entry_kept k.budgets (budget_of k.next_stamp made) n b is
+
+still_object : (k s : KernelState) (ec n : ℕ) (o : Object) → Adds k s ec → slice_get k.objects n ≡ Some o → slice_get s.objects n ≡ Some o
+still_object k s ec n o (AddsNone objects budgets next) is = ap (λ (os : List Object). slice_get os n) objects ∙ is
+still_object k s ec n o (AddsOne made bound objects budgets next) is =
+    ap (λ (os : List Object). slice_get os n) objects ∙ get_kept k.objects (object_of made) n o is
+
+-- A TURN
+
+-- the turn of the one who is chosen: `between` is the state when its deed is done
+pub record IsTurn (k new : KernelState) (cpu : ℕ) (c : Candidate) : Type 0 where
+  pub its : HasSchedule k cpu c
+  pub between : KernelState
+  pub adds : Adds k between c.actor
+  pub object : slice_get between.objects c.sc ≡ Some (Sc its.ec cpu its.priority its.quantum)
+  pub there : budget_at between c.sc ≡ Some its.budget
+  pub objects : new.objects ≡ between.objects
+  pub budgets : new.budgets ≡ slice_set between.budgets c.sc (Some (budget_after (is_spent its.budget) its.quantum between.next_stamp its.budget))
+  pub next : new.next_stamp ≡ stamp_after (is_spent its.budget) between.next_stamp
+  pub processors : new.stirs.processors ≡ slice_set k.stirs.processors cpu (slice_index k.stirs.processors cpu + 1)
+  pub turns : new.turns ≡ k.turns + 1
+
+pub spent_ticks : (t : Bool) (quantum stamp : ℕ) (b : Budget) → (budget_after t quantum stamp b).ticks ≡ b.ticks + 1
+spent_ticks true quantum stamp b = refl
+spent_ticks false quantum stamp b = refl
+
+charge_is : (k : KernelState) (cpu sc quantum : ℕ) (b : Budget) → budget_at k sc ≡ Some b → quantum_in (slice_get k.objects sc) ≡ quantum →
+    charged k cpu sc ≡ counted (paid k sc quantum b) cpu
+unfolding charged
+charge_is k cpu sc quantum b is whole = ap₂ (λ (o : Option Budget) (q : ℕ). counted (paid_by k sc q o) cpu) is whole
+
+pub turn_is : (k : KernelState) (cpu : ℕ) (c : Candidate) → choice k cpu ≡ Some c → IsTurn k (after k cpu) cpu c
+turn_is k cpu c chosen =
+    let its = schedule_of k cpu c (the_chosen k cpu c chosen) in
+    let s = done k c.actor (deed k c.actor) in
+    let adds = done_adds k c.actor (deed k c.actor) (deed_allowed k c.actor) in
+    let counts = done_counts k c.actor (deed k c.actor) in
+    let object = still_object k s c.actor c.sc (Sc its.ec cpu its.priority its.quantum) adds its.object in
+    let there = still_budget k s c.actor c.sc its.budget adds its.there in
+    let whole = ap quantum_in object in
+    subst (λ (new : KernelState). IsTurn k new cpu c) (sym (turn_chosen k cpu c chosen ∙ charge_is s cpu c.sc its.quantum its.budget there whole))
+    (record {
+      its = its;
+      between = s;
+      adds = adds;
+      object = object;
+      there = there;
+      objects = refl;
+      budgets = refl;
+      next = refl;
+      processors = ap (λ (l : List ℕ). slice_set l cpu (slice_index l cpu + 1)) counts.processors;
+      turns = ap (λ (n : ℕ). n + 1) counts.turns;
+    })
+
+-- what a turn of a processor comes to, by its choice
+pub data Comes (k new : KernelState) (cpu : ℕ) : Type 0 where
+  Idles : choice k cpu ≡ None → new ≡ k → Comes k new cpu
+  Takes : (c : Candidate) → choice k cpu ≡ Some c → IsTurn k new cpu c → Comes k new cpu
+
+idle_is : (k : KernelState) (cpu : ℕ) → choice k cpu ≡ None → after k cpu ≡ k
+unfolding turn
+idle_is k cpu is = ap (λ (o : Option Candidate). state_after k (turn_by k cpu o)) is
+
+pub comes : (k : KernelState) (cpu : ℕ) → Comes k (after k cpu) cpu
+comes k cpu = by_choice (choice k cpu) refl
+  where
+    by_choice : (o : Option Candidate) → choice k cpu ≡ o → Comes k (after k cpu) cpu
+    by_choice None is = Idles is (idle_is k cpu is)
+    by_choice (Some c) is = Takes c is (turn_is k cpu c is)
+
+-- WHAT TURNS KEEP
+
+-- what an object that is made refers to
+abbrev pub IsNew : List Object → NewObject → Type 0
+IsNew os (new.Sc ec cpu priority quantum) = (option_map is_schedulable (slice_get os ec) ≡ Some true) × (list_any (schedules ec) os ≡ false) × (1 ≤ quantum)
+IsNew os other = Unit {0}
+
+bound_new : (k : KernelState) (domain : ℕ) (made : NewObject) → IsBoundBy k domain (object_of made) → IsNew k.objects made
+bound_new k domain new.Pd bound = tt
+bound_new k domain (new.Ec pd cpu kind sp event) bound = tt
+bound_new k domain (new.Sc ec cpu priority quantum) bound = (bound.bound.leads, bound.alone, bound.turns)
+bound_new k domain (new.Pt ec mtd ip) bound = tt
+bound_new k domain (new.Sm count) bound = tt
+
+-- what holds of objects, budgets and the next stamp, and is kept where an object is made and where a scheduling context is charged
+pub record Lasts (P : List Object → List (Option Budget) → ℕ → Type 0) : Type 0 where
+  pub more : (os : List Object) (bs : List (Option Budget)) (next : ℕ) (made : NewObject) → IsNew os made → P os bs next →
+      P (os ++ object_of made ∷ []) (bs ++ budget_of next made ∷ []) (stamp_past next made)
+  pub pays : (os : List Object) (bs : List (Option Budget)) (next sc ec cpu priority quantum : ℕ) (b : Budget) →
+      slice_get os sc ≡ Some (Sc ec cpu priority quantum) → entry (slice_get bs sc) ≡ Some b → P os bs next →
+      P os (slice_set bs sc (Some (budget_after (is_spent b) quantum next b))) (stamp_after (is_spent b) next)
+
+abbrev pub Holds : (List Object → List (Option Budget) → ℕ → Type 0) → KernelState → Type 0
+Holds P k = P k.objects k.budgets k.next_stamp
+
+adds_holds : (P : List Object → List (Option Budget) → ℕ → Type 0) → Lasts P → (k s : KernelState) (ec : ℕ) → Adds k s ec → Holds P k → Holds P s
+adds_holds P lasts k s ec (AddsNone objects budgets next) h = rw (objects, budgets, next) h
+adds_holds P lasts k s ec (AddsOne made bound objects budgets next) h =
+    rw (objects, budgets, next) (lasts.more k.objects k.budgets k.next_stamp made (bound_new k (pd_of k ec) made bound) h)
+
+after_holds : (P : List Object → List (Option Budget) → ℕ → Type 0) → Lasts P → (k : KernelState) (cpu : ℕ) → Holds P k → Holds P (after k cpu)
+after_holds P lasts k cpu h = by_turn (after k cpu) (comes k cpu)
+  where
+    by_turn : (s : KernelState) → Comes k s cpu → Holds P s
+    by_turn s (Idles idle is) = rw is h
+    by_turn s (Takes c chosen t) =
+        let b = t.between in
+        let held = adds_holds P lasts k b c.actor t.adds h in
+        rw (t.objects, t.budgets, t.next)
+        (lasts.pays b.objects b.budgets b.next_stamp c.sc t.its.ec cpu t.its.priority t.its.quantum t.its.budget t.object t.there held)
+
+run_holds : (P : List Object → List (Option Budget) → ℕ → Type 0) → Lasts P → (k : KernelState) (turns : List ℕ) → Holds P k → Holds P (run k turns)
+run_holds P lasts k [] h = h
+run_holds P lasts k (cpu ∷ turns) h = run_holds P lasts (after k cpu) turns (after_holds P lasts k cpu h)
+
+images_hold : (P : List Object → List (Option Budget) → ℕ → Type 0) (k : KernelState) (images : List Image) → Holds P k → Holds P (with_images k images)
+images_hold P k [] h = h
+images_hold P k (image ∷ images) h = images_hold P (with_image k image) images h
+
+-- along every list of turns, where it holds of the root's objects and its budget
+pub boot_run_holds : (P : List Object → List (Option Budget) → ℕ → Type 0) → Lasts P → (s : Scenario) (turns : List ℕ) →
+    Holds P (bare s.cpus s.ram s.consoles s.root) → Holds P (run (boot s) turns)
+boot_run_holds P lasts s turns h = run_holds P lasts (boot s) turns (images_hold P (bare s.cpus s.ram s.consoles s.root) s.images h)

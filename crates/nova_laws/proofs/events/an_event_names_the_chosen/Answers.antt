@@ -1,0 +1,8 @@
+use Rattle.nova_laws.proofs.Naming.{event_names, none_chosen}
+use Rattle.nova_laws.proofs.events.an_event_names_the_chosen.Goals as goal
+
+pub returns-clause-names : goal.returns-clause-names
+returns-clause-names c = event_names
+
+pub returns-clause-idle : goal.returns-clause-idle
+returns-clause-idle c = none_chosen

@@ -1,0 +1,8 @@
+use Rattle.nova_laws.proofs.Paid.{turn_paid, new_whole}
+use Rattle.nova_laws.proofs.scheduling.the_chosen_pays.Goals as goal
+
+pub returns-clause-pays : goal.returns-clause-pays
+returns-clause-pays c = turn_paid
+
+pub returns-clause-begins : goal.returns-clause-begins
+returns-clause-begins c = new_whole

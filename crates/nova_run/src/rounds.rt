@@ -1,0 +1,54 @@
+ghost use Rattle.std.specs.Prelude.{◌≡◌, ◌+◌, ◌^◌, ◌<◌, ◌≤◌, IfOk, IfErr, OnOk};
+ghost use Rattle.nova_model.specs.Runs.{rounds, pass};
+ghost use Rattle.nova_run.specs.declared.fault.RunFault.TheVariants.{Memory};
+ghost use Rattle.nova_run.specs.Finished.{IsFinished};
+ghost use Rattle.nova_run.specs.UnderWay.{IsReady, Passed, left};
+
+use crate::fault::RunFault;
+use crate::finished::Finished;
+use nova_kernel::Kernel;
+use std::alloc::{AllocError, Global};
+
+/// A turn of a processor that is not idle, where there may be one more.
+fn turn_within(run: &mut Finished, cpu: u32) -> Result<(), AllocError>
+    requires ready { IsReady run.old }
+    requires cpu { cpu < run.old.kernel.state.cpus }
+    ensures { OnOk result (Passed run.old (pass run.old.kernel.state cpu 1 (left run.old)) run.new) }
+{
+    if (run.trace.len() as u64) < run.limit {
+        run.turn(cpu)?;
+    }
+    Ok(())
+}
+
+/// One pass over the processors in rising number, one turn each where it is not idle, until there are
+/// as many turns as there may be.
+fn pass(run: &mut Finished) -> Result<(), AllocError>
+    requires ready { IsReady run.old }
+    ensures { OnOk result (Passed run.old (pass run.old.kernel.state 0 run.old.kernel.state.cpus (left run.old)) run.new) }
+{
+    for cpu in 0..run.kernel.cpus() {
+        turn_within(run, cpu)?;
+    }
+    Ok(())
+}
+
+/// Runs a kernel by passes over its processors in rising number, one turn each where it is not idle,
+/// until a pass takes no turn or `limit` turns were taken. The kernel has room in its log for as many.
+/// The only error is `Memory`, where memory is refused.
+pub fn round_robin(alloc: Global, kernel: Kernel, limit: u64) -> Result<Finished, RunFault>
+    requires room { limit ≤ kernel.room }
+    requires turns { kernel.state.turns + limit ≤ 2 ^ 31 }
+    ensures finished { IfOk result (IsFinished kernel.state (rounds kernel.state limit) limit) }
+    ensures memory { IfErr result (λ fault. fault ≡ Memory) }
+{
+    let mut run = Finished::begin(alloc, kernel, limit, limit)?;
+    for _pass in 0..limit {
+        let before = run.trace.len();
+        pass(&mut run)?;
+        if run.trace.len() == before {
+            return Ok(run);
+        }
+    }
+    Ok(run)
+}

@@ -1,0 +1,227 @@
+ghost use Rattle.std.specs.Prelude.{◌≡◌, ℕ, ◌+◌, ◌^◌, ◌<◌, ◌≤◌, ◌-◌, [], length, is_some, replicate, vec_len, vec_capacity, IsSome, IfSome, IfOk, OnOk, Some};
+ghost use Rattle.nova_sched.specs.Queues.{HasRoom, queued_at, choose, members, padded, added, marked, charged};
+ghost use Rattle.nova_sched.specs.Lists.{unroomed};
+
+use crate::charge::{is_spent, pay};
+use crate::choice::foremost;
+use crate::queue::Queue;
+use crate::queued::Queued;
+use nova_model::Budget;
+use std::alloc::{AllocError, Global};
+use std::marker::Model;
+
+/// The scheduling contexts of a machine, in a queue for each processor.
+#[derive(Drop)]
+pub struct Queues {
+    entries: Vec<Option<Queued>>,
+    queues: Vec<Queue>,
+    reserved: usize,
+    next_stamp: u64,
+    alloc: Global,
+}
+
+impl Model for Queues {
+    ghost use Rattle.std.specs.Prelude.{◌≤◌, length, map, vec_capacity};
+    ghost use Rattle.nova_sched.specs.Queues.{QueuesState};
+    ghost use Rattle.nova_sched.specs.Lists.{AreQueues};
+
+    ghost Value = { QueuesState };
+
+    ghost view = { λ q. record {
+      all = record { entries = q.entries.items; next_stamp = q.next_stamp; cpus = length q.queues.items };
+      numbers = q.reserved;
+      rooms = map (λ x. x.spare) q.queues.items;
+    } };
+
+    ghost invariant = { λ q. AreQueues q.queues.items q.entries.items × (q.reserved ≤ vec_capacity q.entries) };
+}
+
+/// Empty queues, one for each processor. It refuses for want of memory alone.
+fn empty_queues(alloc: Global, cpus: u32) -> Result<Vec<Queue>, AllocError>
+    ensures { IfOk result (λ v. v.items ≡ replicate cpus (record { members = []; spare = 0 })) }
+{
+    let mut queues = Vec::new(alloc);
+    for _ in 0..cpus {
+        queues.push(Queue::new(alloc))?;
+    }
+    Ok(queues)
+}
+
+/// Puts nothing at each number before `n` that the table hasn't reached, in room that was made.
+fn pad(entries: &mut Vec<Option<Queued>>, n: usize)
+    requires { n ≤ vec_capacity entries.old }
+    ensures padded { entries.new.items ≡ padded n entries.old.items }
+    ensures capacity { vec_capacity entries.new ≡ vec_capacity entries.old }
+{
+    for _ in entries.len()..n {
+        entries.push_reserved(None);
+    }
+}
+
+/// The queues once more, with the same members. It refuses for want of memory alone.
+fn copies(alloc: Global, queues: &[Queue]) -> Result<Vec<Queue>, AllocError>
+    ensures { IfOk result (λ v. v.items ≡ unroomed queues.now) }
+{
+    let mut copies = Vec::new(alloc);
+    for queue in queues {
+        copies.push(queue.copy(alloc)?)?;
+    }
+    Ok(copies)
+}
+
+impl Queues {
+    /// No scheduling contexts, on so many processors; the first stamp is 0. It refuses for want of
+    /// memory alone.
+    pub fn new(alloc: Global, cpus: u32) -> Result<Queues, AllocError>
+        ensures { IfOk result (λ q. q.all ≡ record { entries = []; next_stamp = 0; cpus = cpus }) }
+    {
+        Ok(Queues {
+            entries: Vec::new(alloc),
+            queues: empty_queues(alloc, cpus)?,
+            reserved: 0,
+            next_stamp: 0,
+            alloc,
+        })
+    }
+
+    /// Makes room for a scheduling context of a number and of a processor that is there. Room that was made before stays. It refuses
+    /// for want of memory alone, and then nothing has changed but room.
+    pub fn reserve(&mut self, sc: u32, cpu: u32) -> Result<(), AllocError>
+        requires cpu { cpu < self.old.all.cpus }
+        ensures kept { self.new.all ≡ self.old.all }
+        ensures room { OnOk result (HasRoom self.new sc cpu) }
+        ensures keeps { (number processor : ℕ) → HasRoom self.old number processor → HasRoom self.new number processor }
+    {
+        let numbers = sc as usize + 1;
+        self.entries
+            .reserve(numbers.saturating_sub(self.entries.len()))?;
+        self.reserved = self.reserved.max(numbers);
+        self.queues[cpu as usize].reserve()
+    }
+
+    /// Adds a scheduling context in room that was made, with a full quantum and the next stamp. Its
+    /// number is greater than those of all before. It isn't runnable until that is said.
+    pub fn add(&mut self, sc: u32, cpu: u32, priority: u8, quantum: u32)
+        requires number { length self.old.all.entries ≤ sc }
+        requires cpu { cpu < self.old.all.cpus }
+        requires room { HasRoom self.old sc cpu }
+        requires stamp { self.old.all.next_stamp < 2 ^ 64 - 1 }
+        ensures { self.new.all ≡ added self.old.all sc cpu priority quantum }
+    {
+        pad(&mut self.entries, sc as usize);
+        self.entries.push_reserved(Some(Queued {
+            cpu,
+            priority,
+            quantum,
+            is_runnable: false,
+            budget: Budget {
+                left: quantum,
+                stamp: self.next_stamp,
+                ticks: 0,
+            },
+        }));
+        self.queues[cpu as usize].add(sc);
+        self.next_stamp += 1;
+    }
+
+    /// Whether a scheduling context of the number is there.
+    pub fn contains(&self, sc: u32) -> bool
+        ensures { result ≡ is_some (queued_at self.now.all sc) }
+    {
+        matches!(self.entries.get(sc as usize), Some(Some(_)))
+    }
+
+    /// The scheduling context that has the processor's next turn: of those that are runnable the one
+    /// of greatest priority, then of least stamp. None exactly where none is runnable.
+    pub fn choose(&self, cpu: u32) -> Option<u32>
+        ensures choice { result ≡ choose self.now.all cpu }
+        ensures there { IfSome result (λ sc. IsSome (queued_at self.now.all sc)) }
+    {
+        Some(foremost(&self.entries, self.members(cpu))?.sc)
+    }
+
+    /// The scheduling contexts of a processor by rising number; none of a processor that isn't there.
+    pub fn members(&self, cpu: u32) -> &[u32]
+        ensures { result.now ≡ members self.now.all cpu }
+    {
+        match self.queues.get(cpu as usize) {
+            Some(queue) => queue.members(),
+            None => &[],
+        }
+    }
+
+    /// The scheduling context of a number that has one.
+    fn entry(&self, sc: u32) -> &Queued
+        requires { IsSome (queued_at self.now.all sc) }
+        ensures { queued_at self.now.all sc ≡ Some result.now }
+    {
+        let Some(entry) = &self.entries[sc as usize] else {
+            unreachable!();
+        };
+        entry
+    }
+
+    /// Whether the turns of a scheduling context lead to an execution context that acts.
+    pub fn set_runnable(&mut self, sc: u32, is_runnable: bool)
+        requires { IsSome (queued_at self.old.all sc) }
+        ensures marked { self.new.all ≡ marked self.old.all sc is_runnable }
+        ensures numbers { self.new.numbers ≡ self.old.numbers }
+        ensures rooms { self.new.rooms ≡ self.old.rooms }
+    {
+        let Some(entry) = &mut self.entries[sc as usize] else {
+            unreachable!();
+        };
+        entry.is_runnable = is_runnable;
+    }
+
+    /// A turn is charged to a scheduling context: one tick more, one turn less of what is left of its
+    /// quantum. At 0 the quantum begins anew, with the next stamp.
+    pub fn charge(&mut self, sc: u32)
+        requires there { IsSome (queued_at self.old.all sc) }
+        requires ticks { IfSome (queued_at self.old.all sc) (λ e. e.budget.ticks < 2 ^ 64 - 1) }
+        requires stamp { self.old.all.next_stamp < 2 ^ 64 - 1 }
+        ensures charged { self.new.all ≡ charged self.old.all sc }
+        ensures numbers { self.new.numbers ≡ self.old.numbers }
+        ensures rooms { self.new.rooms ≡ self.old.rooms }
+    {
+        let Some(payer) = &mut self.entries[sc as usize] else {
+            unreachable!();
+        };
+        let renews = is_spent(&payer.budget);
+        pay(payer, self.next_stamp);
+        if renews {
+            self.next_stamp += 1;
+        }
+    }
+
+    /// The turns that a scheduling context paid for.
+    pub fn ticks(&self, sc: u32) -> u64
+        requires { IsSome (queued_at self.now.all sc) }
+        ensures { IfSome (queued_at self.now.all sc) (λ e. result ≡ e.budget.ticks) }
+    {
+        self.entry(sc).budget.ticks
+    }
+
+    /// The turns that are left of a scheduling context's quantum.
+    pub fn left(&self, sc: u32) -> u32
+        requires { IsSome (queued_at self.now.all sc) }
+        ensures { IfSome (queued_at self.now.all sc) (λ e. result ≡ e.budget.left) }
+    {
+        self.entry(sc).budget.left
+    }
+
+    /// The same scheduling contexts once more. It refuses for want of memory alone.
+    pub fn copy(&self) -> Result<Queues, AllocError>
+        ensures { IfOk result (λ q. q.all ≡ self.now.all) }
+    {
+        let entries = Vec::from_slice(self.alloc, &self.entries)?;
+        let queues = copies(self.alloc, &self.queues)?;
+        Ok(Queues {
+            reserved: entries.len(),
+            entries,
+            queues,
+            next_stamp: self.next_stamp,
+            alloc: self.alloc,
+        })
+    }
+}

@@ -1,0 +1,9 @@
+pub mod Tables
+pub mod Changes
+pub mod Queued
+pub mod Sound
+pub mod Waiting
+pub mod Chains
+pub mod Steps
+pub mod Calls
+pub mod Rooms

@@ -1,0 +1,41 @@
+-- How a queue is kept: the first and the last that wait, how many they are, and by number of an execution context who waits after it.
+use Rattle.std.specs.Prelude.{◌≡◌, ◌<◌, ◌≤◌, ◌-◌, ◌^◌, ℕ, zero, suc, true, List, [], ◌∷◌, map, length, slice_get, slice_index, Option, Some, None}
+use Rattle.nova_model.specs.State.{Semaphore, entry}
+use Rattle.nova_sem.specs.Semaphores.{Semaphores, waits}
+use Rattle.nova_sem.specs.Sound.{AreSound}
+use Rattle.nova_sem.specs.declared.counter.Counter.{Counter}
+
+-- so many execution contexts from one on, each followed by the one that it is linked to
+abbrev pub linked : List ℕ → ℕ → ℕ → List ℕ
+linked links ec zero = []
+linked links ec (suc n) = ec ∷ linked links (slice_index links ec) n
+
+-- the one to which so many links lead
+abbrev pub led_to : List ℕ → ℕ → ℕ → ℕ
+led_to links ec zero = ec
+led_to links ec (suc n) = led_to links (slice_index links ec) n
+
+-- a counter with the queue that its links show
+abbrev pub shown : List ℕ → Counter → Semaphore
+shown links c = record { count = c.count; waiting = linked links c.first c.waiting }
+
+abbrev pub shown_in : List ℕ → Option Counter → Option Semaphore
+shown_in links None = None
+shown_in links (Some c) = Some (shown links c)
+
+abbrev pub all_shown : List ℕ → List (Option Counter) → Semaphores
+all_shown links counters = map (shown_in links) counters
+
+-- the counter of a number
+abbrev pub counter_at : List (Option Counter) → ℕ → Option Counter
+counter_at counters sm = entry (slice_get counters sm)
+
+-- of a queue that isn't empty the links lead from the first to the last
+abbrev pub IsEnded : List ℕ → Counter → Type 0
+IsEnded links c = (n : ℕ) → c.waiting ≡ suc n → c.last ≡ led_to links c.first n
+
+pub record AreLinked (links : List ℕ) (counters : List (Option Counter)) : Type 0 where
+  pub ended : (sm : ℕ) (c : Counter) → counter_at counters sm ≡ Some c → IsEnded links c
+  pub within : (sm ec : ℕ) → waits (all_shown links counters) sm ec ≡ true → ec < length links
+  pub few : length links ≤ 2 ^ 32 - 1
+  pub sound : AreSound (all_shown links counters)

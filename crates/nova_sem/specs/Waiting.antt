@@ -1,0 +1,26 @@
+-- Who waits where, after each change.
+use Rattle.std.specs.Prelude.{◌≡◌, ◌≤◌, ℕ, true, [], length, Some, IsSome}
+use Rattle.std.specs.declared.result.Result.TheVariants.{Ok}
+use Rattle.nova_sem.specs.Semaphores.{Semaphores, semaphore_at, semaphore, waits, woken, answer_of, upped, downed, added}
+use Rattle.nova_sem.specs.Sound.{AreSound, IsFree}
+use Rattle.nova_sem.specs.declared.answers.Down.TheVariants.{Done, Blocked}
+
+-- everyone waits where it did
+abbrev pub AllWaitAsBefore : Semaphores → Semaphores → Type 0
+AllWaitAsBefore all after = (sm ec : ℕ) → waits after sm ec ≡ waits all sm ec
+
+-- everyone but one
+abbrev pub OthersWaitAsBefore : Semaphores → ℕ → Semaphores → Type 0
+OthersWaitAsBefore all ec after = (sm other : ℕ) → ¬ (other ≡ ec) → waits after sm other ≡ waits all sm other
+
+-- Who is woken waits nowhere. Who blocks waits there. Nobody else comes or goes.
+pub record OnlyTheWokenGoes : Type 0 where
+  pub free : (all : Semaphores) (sm ec : ℕ) → AreSound all → woken (semaphore all sm) ≡ Ok (Some ec) → IsFree (upped all sm) ec
+  pub up : (all : Semaphores) (sm ec : ℕ) → woken (semaphore all sm) ≡ Ok (Some ec) → OthersWaitAsBefore all ec (upped all sm)
+  pub nobody : (all : Semaphores) (sm : ℕ) → (semaphore all sm).waiting ≡ [] → AllWaitAsBefore all (upped all sm)
+
+pub record OnlyTheBlockedComes : Type 0 where
+  pub blocked : (all : Semaphores) (sm ec : ℕ) → IsSome (semaphore_at all sm) → answer_of (semaphore all sm) ≡ Blocked → waits (downed all sm ec) sm ec ≡ true
+  pub down : (all : Semaphores) (sm ec : ℕ) → OthersWaitAsBefore all ec (downed all sm ec)
+  pub done : (all : Semaphores) (sm ec : ℕ) → answer_of (semaphore all sm) ≡ Done → AllWaitAsBefore all (downed all sm ec)
+  pub add : (all : Semaphores) (sm count : ℕ) → length all ≤ sm → AllWaitAsBefore all (added all sm count)

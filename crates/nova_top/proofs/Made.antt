@@ -1,0 +1,162 @@
+-- From what was read to what a command makes of it, or why it makes nothing.
+use Rattle.std.proofs.Common.{◌≡◌, ℕ, List, length, inr, refl, sym, subst}
+use Rattle.std.specs.Prelude.{false, Some, None, Result, Ok, Err, IfOk, IfErr}
+use Rattle.nova_model.specs.State.{KernelState}
+use Rattle.nova_model.specs.Boot.{Scenario, boot}
+use Rattle.nova_model.specs.Forest.{IsForest}
+use Rattle.nova_model.specs.Runs.{run, rounds}
+use Rattle.nova_boot.specs.Boot.{scenario_of}
+use Rattle.nova_command.specs.declared.command.Command.TheVariants.{Solo}
+use Rattle.nova_io.specs.Faults.{NeverFalls}
+use Rattle.nova_order.specs.Blocks.{turns, BlockList}
+use Rattle.nova_scenario.specs.declared.scenario.Scenario.{Scenario as ScenarioText}
+use Rattle.nova_top.specs.Causes.{OrderRefused, TextRefused}
+use Rattle.nova_top.specs.Made.{ScenarioCame}
+use Rattle.nova_top.specs.Orders.{OrderCame}
+use Rattle.nova_top.specs.Outside.{Depots}
+use Rattle.nova_top.specs.Prepared.{IsOrderReadBy, IsReportOf, IsIdleFault, IsPrepared}
+use Rattle.nova_top.specs.declared.exit.Exit.{Exit}
+use Rattle.nova_top.specs.declared.exit.Exit.TheVariants as exit
+use Rattle.nova_top.specs.declared.exit.OrderWhy.{OrderWhy}
+use Rattle.nova_top.specs.declared.exit.OrderWhy.TheVariants as cause
+use Rattle.nova_top.specs.declared.outcome.Outcome.{Outcome}
+use Rattle.nova_top.proofs.Counts.{rose_in_all}
+use Rattle.nova_top.proofs.Reports.{boot_cpus}
+
+module _ {D : Type 0} (d : Depots D) where
+  -- AN ORDER THAT WAS NOT READ, OR HAS AN IDLE TURN
+
+  refused_text : (name : List ℕ) (k : KernelState) (cpus most line : ℕ) (w : OrderWhy) (old new : D) → k.cpus ≡ cpus →
+      TextRefused d name cpus most line w old new → OrderRefused d name k most line w old new
+  refused_text name k cpus most line cause.BadLine old new same h = subst (λ n. TextRefused d name n most line cause.BadLine old new) (sym same) h
+  refused_text name k cpus most line cause.BadCpu old new same h = subst (λ n. TextRefused d name n most line cause.BadCpu old new) (sym same) h
+  refused_text name k cpus most line cause.ZeroCount old new same h = subst (λ n. TextRefused d name n most line cause.ZeroCount old new) (sym same) h
+  refused_text name k cpus most line cause.NotMerged old new same h = subst (λ n. TextRefused d name n most line cause.NotMerged old new) (sym same) h
+  refused_text name k cpus most line cause.TooMany old new same h = subst (λ n. TextRefused d name n most line cause.TooMany old new) (sym same) h
+  refused_text name k cpus most line cause.TooLong old new same h = h
+  refused_text name k cpus most line cause.Idle old new same h = absurd h
+
+  unread_order : (name order : List ℕ) (from : ScenarioText) (most : ℕ) (old between new : D) (e : Exit) → ScenarioCame d name old from between →
+      NeverFalls (d.fetch_faults old) (d.fetch_faults between) → NeverFalls (d.fetch_faults between) (d.fetch_faults new) →
+      IsOrderReadBy d order from.cpus most between new (Err e) → IsPrepared d (Solo name (Some order) most) old new (Err e)
+  unread_order name order from most old between new exit.ReadFault came kept kept_too h = inr (record {
+    from = from;
+    between = between;
+    came = came;
+    failed = h;
+    in_all = rose_in_all (d.fetch_faults old order) (d.fetch_faults between order) (d.fetch_faults new order) (kept order) (kept_too order) h;
+  })
+  unread_order name order from most old between new (exit.OrderFault line w) came kept kept_too h = record {
+    from = from;
+    between = between;
+    came = came;
+    refused = refused_text order (boot (scenario_of from)) from.cpus most line w between new (boot_cpus (scenario_of from)) h;
+  }
+  unread_order name order from most old between new exit.Memory came kept kept_too h = tt
+  unread_order name order from most old between new exit.Done came kept kept_too h = h
+  unread_order name order from most old between new exit.Usage came kept kept_too h = h
+  unread_order name order from most old between new (exit.Scenario line w) came kept kept_too h = absurd h
+  unread_order name order from most old between new exit.WriteFault came kept kept_too h = h
+  unread_order name order from most old between new exit.Limit came kept kept_too h = h
+
+  came_at : (name : List ℕ) (cpus most : ℕ) (k : KernelState) (old new : D) (list : BlockList) → k.cpus ≡ cpus →
+      OrderCame d name cpus most old list.blocks new → OrderCame d name k.cpus most old list.blocks new
+  came_at name cpus most k old new list same came = subst (λ n. OrderCame d name n most old list.blocks new) (sym same) came
+
+  idle_order : (name order : List ℕ) (from : ScenarioText) (most : ℕ) (old between new : D) (list : BlockList) (e : Exit) → ScenarioCame d name old from between →
+      OrderCame d order from.cpus most between list.blocks new → IsIdleFault (boot (scenario_of from)) list e →
+      IsPrepared d (Solo name (Some order) most) old new (Err e)
+  idle_order name order from most old between new list (exit.OrderFault line cause.Idle) came came_too h = record {
+    from = from;
+    between = between;
+    came = came;
+    refused = (list.blocks, came_at order from.cpus most (boot (scenario_of from)) between new list (boot_cpus (scenario_of from)) came_too, h);
+  }
+  idle_order name order from most old between new list exit.Memory came came_too h = tt
+  idle_order name order from most old between new list (exit.OrderFault line cause.BadLine) came came_too h = absurd h
+  idle_order name order from most old between new list (exit.OrderFault line cause.BadCpu) came came_too h = absurd h
+  idle_order name order from most old between new list (exit.OrderFault line cause.ZeroCount) came came_too h = absurd h
+  idle_order name order from most old between new list (exit.OrderFault line cause.NotMerged) came came_too h = absurd h
+  idle_order name order from most old between new list (exit.OrderFault line cause.TooMany) came came_too h = absurd h
+  idle_order name order from most old between new list (exit.OrderFault line cause.TooLong) came came_too h = absurd h
+  idle_order name order from most old between new list exit.ReadFault came came_too h = absurd h
+  idle_order name order from most old between new list exit.Done came came_too h = absurd h
+  idle_order name order from most old between new list exit.Usage came came_too h = absurd h
+  idle_order name order from most old between new list (exit.Scenario line w) came came_too h = absurd h
+  idle_order name order from most old between new list exit.WriteFault came came_too h = absurd h
+  idle_order name order from most old between new list exit.Limit came came_too h = absurd h
+
+  -- WHAT IS MADE
+
+  made_rounds : (name : List ℕ) (most : ℕ) (old new : D) (from : ScenarioText) (made : Outcome) → ScenarioCame d name old from new →
+      IsReportOf (boot (scenario_of from)) (rounds (boot (scenario_of from)) most) most made →
+      (made.is_complete ≡ false → length (rounds (boot (scenario_of from)) most) ≡ most) →
+      ((s : Scenario) (order : List ℕ) → IsForest (run (boot s) order).delegations) → IsPrepared d (Solo name None most) old new (Ok made)
+  made_rounds name most old new from made came reported spent forest = record {
+    from = from;
+    between = new;
+    came = came;
+    done = record {
+      order = rounds (boot (scenario_of from)) most;
+      of_command = (refl, refl);
+      no_idle = reported.no_idle;
+      reported = reported.text;
+      quiet = reported.quiet;
+      spent = spent;
+      within = reported.within;
+      processors = reported.processors;
+      forests = λ before after whole. forest (scenario_of from) before;
+    };
+  }
+
+  made_by_order : (name order : List ℕ) (most : ℕ) (old between new : D) (from : ScenarioText) (list : BlockList) (made : Outcome) → ScenarioCame d name old from between →
+      OrderCame d order from.cpus most between list.blocks new → IsReportOf (boot (scenario_of from)) (turns list.blocks) most made →
+      ((s : Scenario) (turns : List ℕ) → IsForest (run (boot s) turns).delegations) → IsPrepared d (Solo name (Some order) most) old new (Ok made)
+  made_by_order name order most old between new from list made came came_too reported forest = record {
+    from = from;
+    between = between;
+    came = came;
+    done = record {
+      order = turns list.blocks;
+      of_command = record {
+        blocks = list.blocks;
+        came = came_at order from.cpus most (boot (scenario_of from)) between new list (boot_cpus (scenario_of from)) came_too;
+        all = refl;
+      };
+      no_idle = reported.no_idle;
+      reported = reported.text;
+      quiet = reported.quiet;
+      spent = λ open_. tt;
+      within = reported.within;
+      processors = reported.processors;
+      forests = λ before after whole. forest (scenario_of from) before;
+    };
+  }
+
+  -- ANY ANSWER
+
+  pub unread_by : (name order : List ℕ) (from : ScenarioText) (most : ℕ) (old between new : D) (e : Exit) (r : Result Outcome Exit) → r ≡ Err e →
+      ScenarioCame d name old from between → NeverFalls (d.fetch_faults old) (d.fetch_faults between) →
+      NeverFalls (d.fetch_faults between) (d.fetch_faults new) → IsOrderReadBy d order from.cpus most between new (Err e) →
+      IsPrepared d (Solo name (Some order) most) old new r
+  unread_by name order from most old between new e r is came kept kept_too h =
+      subst (λ (x : Result Outcome Exit). IsPrepared d (Solo name (Some order) most) old new x) (sym is)
+      (unread_order name order from most old between new e came kept kept_too h)
+
+  pub rounds_by : (name : List ℕ) (most : ℕ) (old new : D) (from : ScenarioText) (r : Result Outcome Exit) → ScenarioCame d name old from new →
+      IfOk r (λ made. IsReportOf (boot (scenario_of from)) (rounds (boot (scenario_of from)) most) most made) →
+      IfOk r (λ made. made.is_complete ≡ false → length (rounds (boot (scenario_of from)) most) ≡ most) →
+      IfErr r (λ e. e ≡ exit.Memory) → ((s : Scenario) (order : List ℕ) → IsForest (run (boot s) order).delegations) →
+      IsPrepared d (Solo name None most) old new r
+  rounds_by name most old new from (Ok made) came reported spent memory forest = made_rounds name most old new from made came reported spent forest
+  rounds_by name most old new from (Err e) came reported spent memory forest =
+      subst (λ (x : Exit). IsPrepared d (Solo name None most) old new (Err x)) (sym memory) tt
+
+  pub order_by : (name order : List ℕ) (most : ℕ) (old between new : D) (from : ScenarioText) (list : BlockList) (r : Result Outcome Exit) →
+      ScenarioCame d name old from between → OrderCame d order from.cpus most between list.blocks new →
+      IfOk r (λ made. IsReportOf (boot (scenario_of from)) (turns list.blocks) most made) → IfErr r (IsIdleFault (boot (scenario_of from)) list) →
+      ((s : Scenario) (order : List ℕ) → IsForest (run (boot s) order).delegations) → IsPrepared d (Solo name (Some order) most) old new r
+  order_by name order most old between new from list (Ok made) came came_too reported idle forest =
+      made_by_order name order most old between new from list made came came_too reported forest
+  order_by name order most old between new from list (Err e) came came_too reported idle forest =
+      idle_order name order from most old between new list e came came_too idle

@@ -1,0 +1,47 @@
+-- The fetches of a call: of which names, and which counts of failed fetches may change.
+use Rattle.std.specs.Prelude.{◌≡◌, ◌⊎◌, ℕ, ◌+◌, ◌≤◌, List, [], ◌∷◌, length, Some, None}
+use Rattle.nova_command.specs.declared.command.Command.{Command}
+use Rattle.nova_command.specs.declared.command.Command.TheVariants.{Solo, Check}
+use Rattle.nova_io.specs.Faults.{IsShared, OthersStay}
+use Rattle.nova_io.specs.Fetched.{Came, CameWhole, CameInPart}
+use Rattle.nova_scenario.specs.declared.scenario.Scenario.{Scenario}
+use Rattle.nova_top.specs.Made.{ScenarioCame}
+use Rattle.nova_top.specs.Names.{most_of_order, most_of_scenario}
+use Rattle.nova_top.specs.Outside.{Depots}
+use Rattle.nova_top.specs.declared.exit.Exit.{Exit}
+use Rattle.nova_top.specs.declared.exit.Exit.TheVariants.{ReadFault}
+
+-- bytes that came by fetches of a name, each from the place after the bytes before it. Before ReadFault the last of them failed.
+abbrev pub CameBefore : {D : Type 0} → Exit → Depots D → List ℕ → D → List ℕ → D → Type 0
+CameBefore ReadFault d name old bytes new = CameInPart d.gave d.fetch_failed name old bytes new
+CameBefore _ d name old bytes new = Came d.gave name old bytes new ⊎ CameWhole d.gave name old bytes new
+
+-- fetches of one name alone: no byte comes after the first one too many, and no other name's count changes
+pub record FetchesOf {D : Type 0} (d : Depots D) (most : ℕ) (name : List ℕ) (exit : Exit) (old new : D) : Type 0 where
+  pub bytes : List ℕ
+  pub few : length bytes ≤ most + 1
+  pub came : CameBefore exit d name old bytes new
+  pub others : OthersStay d.fetch_faults name old new
+
+-- the scenario came, and after it the order was fetched
+pub record FetchesBoth {D : Type 0} (d : Depots D) (scenario_name order_name : List ℕ) (exit : Exit) (old new : D) : Type 0 where
+  pub from : Scenario
+  pub between : D
+  pub came : ScenarioCame d scenario_name old from between
+  pub others : OthersStay d.fetch_faults scenario_name old between
+  pub order : FetchesOf d most_of_order order_name exit between new
+
+-- the fetches of a command: of its scenario, and after a valid one of the order that it names
+abbrev pub Fetches : {D : Type 0} → Depots D → Command → Exit → D → D → Type 0
+Fetches d (Solo name None most) exit old new = FetchesOf d most_of_scenario name exit old new
+Fetches d (Solo name (Some order) most) exit old new = FetchesOf d most_of_scenario name exit old new ⊎ FetchesBoth d name order exit old new
+Fetches d (Check name) exit old new = FetchesOf d most_of_scenario name exit old new
+
+-- one number is always told for a name and for one of these
+abbrev pub IsSharedByAny : {D : Type 0} → (D → List ℕ → ℕ) → List (List ℕ) → List ℕ → Type 0
+IsSharedByAny counts [] other = ⊥
+IsSharedByAny counts (name ∷ names) other = IsShared counts name other ⊎ IsSharedByAny counts names other
+
+-- the count of every name stayed but of these, and of those for which the number of one of these is told
+abbrev pub AllOthersStay : {D : Type 0} → (D → List ℕ → ℕ) → List (List ℕ) → D → D → Type 0
+AllOthersStay counts names old new = (other : List ℕ) → IsSharedByAny counts names other ⊎ (counts new other ≡ counts old other)

@@ -1,0 +1,41 @@
+-- The order of turns that a command runs.
+use Rattle.std.specs.Prelude.{◌≡◌, ℕ, List, length, Some, None, Ok}
+use Rattle.nova_model.specs.State.{KernelState}
+use Rattle.nova_model.specs.Runs.{rounds}
+use Rattle.nova_command.specs.declared.command.Command.{Command}
+use Rattle.nova_command.specs.declared.command.Command.TheVariants.{Solo, Check}
+use Rattle.nova_order.specs.Blocks.{turns}
+use Rattle.nova_order.specs.Read.{order_of}
+use Rattle.nova_order.specs.declared.block.Block.{Block}
+use Rattle.nova_top.specs.Names.{most_of_order}
+use Rattle.nova_top.specs.Outside.{Depots, FileCame}
+
+-- an order was read: a file came, and its bytes are the text of these blocks, of processors that are there and of at most so many turns
+pub record OrderCame {D : Type 0} (d : Depots D) (name : List ℕ) (cpus most : ℕ) (old : D) (blocks : List Block) (new : D) : Type 0 where
+  pub bytes : List ℕ
+  pub came : FileCame d most_of_order name old bytes new
+  pub reads : order_of bytes cpus most ≡ Ok blocks
+
+-- and these are its turns
+pub record IsOrderRead {D : Type 0} (d : Depots D) (name : List ℕ) (cpus most : ℕ) (old new : D) (order : List ℕ) : Type 0 where
+  pub blocks : List Block
+  pub came : OrderCame d name cpus most old blocks new
+  pub all : order ≡ turns blocks
+
+-- the order that a command runs from a state, and what the depot has to do with it: nothing, where it is round robin of at most so many
+-- turns; or it is the order that was read
+abbrev pub IsOrderOf : {D : Type 0} → Depots D → Command → KernelState → D → D → List ℕ → Type 0
+IsOrderOf d (Solo scenario None most) k old new order = (order ≡ rounds k most) × (new ≡ old)
+IsOrderOf d (Solo scenario (Some name) most) k old new order = IsOrderRead d name k.cpus most old new order
+IsOrderOf d (Check scenario) k old new order = ⊥
+
+-- how many turns it may have at most
+abbrev pub most_turns : Command → ℕ
+most_turns (Solo scenario order most) = most
+most_turns (Check scenario) = 0
+
+-- where the run does not end quiet: an order that no file gave has all the turns that it may have
+abbrev pub IsSpent : Command → List ℕ → Type 0
+IsSpent (Solo scenario None most) order = length order ≡ most
+IsSpent (Solo scenario (Some name) most) order = Unit {0}
+IsSpent (Check scenario) order = Unit {0}

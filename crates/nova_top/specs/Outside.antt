@@ -1,0 +1,43 @@
+-- What is told of the depot and of the sink that a call is handed, and how a file comes.
+use Rattle.std.specs.Prelude.{◌≡◌, ℕ, ◌+◌, ◌<◌, ◌≤◌, List, length, Option, Some, IfSome}
+use Rattle.std.specs.FinMap.{get}
+use Rattle.nova_io.specs.Faults.{Rose}
+use Rattle.nova_io.specs.Fetched.{Gave, FetchFailed, Came, CameWhole}
+use Rattle.nova_io.specs.Files.{Files, bytes_of}
+
+-- of a depot: its files, what a fetch gave, that one failed, and how many fetches of each name failed
+pub record Depots (D : Type 0) : Type 1 where
+  pub files : D → Option Files
+  pub gave : Gave D
+  pub fetch_failed : FetchFailed D
+  pub fetch_faults : D → List ℕ → ℕ
+
+abbrev pub depots : {D : Type 0} → (D → Option Files) → Gave D → FetchFailed D → (D → List ℕ → ℕ) → Depots D
+depots files gave fetch_failed fetch_faults = record { files = files; gave = gave; fetch_failed = fetch_failed; fetch_faults = fetch_faults }
+
+-- of a sink: the bytes that it took, and how many writes failed
+pub record Sinks (O : Type 0) : Type 0 where
+  pub written : O → Option (List ℕ)
+  pub faults : O → ℕ
+
+abbrev pub sinks : {O : Type 0} → (O → Option (List ℕ)) → (O → ℕ) → Sinks O
+sinks written faults = record { written = written; faults = faults }
+
+-- fetches of a name failed: their count rose
+abbrev pub HasFailed : {D : Type 0} → Depots D → List ℕ → D → D → Type 0
+HasFailed d name old new = Rose (d.fetch_faults old name) (d.fetch_faults new name)
+
+-- a file came: these bytes, no more than so many, came whole by the fetches of its name, and where the depot tells its files they are
+-- those of the name
+pub record FileCame {D : Type 0} (d : Depots D) (most : ℕ) (name : List ℕ) (old : D) (bytes : List ℕ) (new : D) : Type 0 where
+  pub whole : CameWhole d.gave name old bytes new
+  pub fits : length bytes ≤ most
+  pub held : IfSome (d.files old) (λ files. get files name ≡ Some bytes)
+  pub same : d.files new ≡ d.files old
+
+-- of a file more than so many bytes came, and where the depot tells its files the name has more
+pub record TooManyCame {D : Type 0} (d : Depots D) (most : ℕ) (name : List ℕ) (old new : D) : Type 0 where
+  pub bytes : List ℕ
+  pub came : Came d.gave name old bytes new
+  pub number : length bytes ≡ most + 1
+  pub held : IfSome (d.files old) (λ files. most < length (bytes_of files name))

@@ -1,0 +1,32 @@
+-- What a command makes of a scenario: a text, and whether the command is complete.
+use Rattle.std.specs.Prelude.{◌≡◌, ℕ, ◌<◌, ◌≤◌, Bool, true, false, List, ◌++◌, length, codes}
+use Rattle.std.specs.List.{AllByRecursion}
+use Rattle.nova_model.specs.State.{KernelState}
+use Rattle.nova_model.specs.Choice.{is_quiet}
+use Rattle.nova_model.specs.Forest.{IsForest}
+use Rattle.nova_model.specs.Runs.{run, trace}
+use Rattle.nova_model.specs.Runs.{IsFreeOfIdle}
+use Rattle.nova_command.specs.declared.command.Command.{Command}
+use Rattle.nova_command.specs.declared.command.Command.TheVariants.{Solo, Check}
+use Rattle.nova_report.specs.Report.{report}
+use Rattle.nova_top.specs.Orders.{IsOrderOf, IsSpent, most_turns}
+use Rattle.nova_top.specs.Outside.{Depots}
+
+-- a run of a command from a state: there is an order of turns, which is the command's; none of its turns is idle; and the text is the
+-- report of the run over it with its trace. The run is complete exactly where it ends quiet. The order has no more turns than the command
+-- allows, and each is of a processor that is there. After each part of it, from the first turn on, delegations are a sound forest.
+pub record IsRun {D : Type 0} (d : Depots D) (command : Command) (k : KernelState) (old new : D) (complete : Bool) (text : List ℕ) : Type 0 where
+  pub order : List ℕ
+  pub of_command : IsOrderOf d command k old new order
+  pub no_idle : IsFreeOfIdle k order
+  pub reported : text ≡ report (run k order) (trace k order)
+  pub quiet : complete ≡ is_quiet (run k order)
+  pub spent : complete ≡ false → IsSpent command order
+  pub within : length order ≤ most_turns command
+  pub processors : AllByRecursion (λ cpu. cpu < k.cpus) order
+  pub forests : (before after : List ℕ) → before ++ after ≡ order → IsForest (run k before).delegations
+
+-- what a command makes of the boot state: check says that the scenario is valid, and any other command runs it
+abbrev pub IsDone : {D : Type 0} → Depots D → Command → KernelState → D → D → Bool → List ℕ → Type 0
+IsDone d (Solo scenario order most) k old new complete text = IsRun d (Solo scenario order most) k old new complete text
+IsDone d (Check scenario) k old new complete text = (complete ≡ true) × (text ≡ codes "ok\n") × (new ≡ old)

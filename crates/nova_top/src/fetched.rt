@@ -1,0 +1,59 @@
+ghost use Rattle.std.specs.Prelude.{◌≡◌, IfOk, IsTrue};
+ghost use Rattle.nova_io.specs.Faults.{NeverFalls, Stay};
+ghost use Rattle.nova_order.specs.Blocks.{is_within};
+ghost use Rattle.nova_scenario.specs.Sound.{IsSound};
+ghost use Rattle.nova_top.specs.Fetches.{FetchesOf};
+ghost use Rattle.nova_top.specs.Names.{most_of_scenario, most_of_order};
+ghost use Rattle.nova_top.specs.Outside.{depots};
+ghost use Rattle.nova_top.specs.Prepared.{IsScenarioRead, IsOrderReadBy, exit_of};
+
+use crate::exit::Exit;
+use nova_command::Name;
+use nova_io::{Depot, fetch_all};
+use nova_order::Order;
+use nova_scenario::{Scenario, read};
+use std::alloc::Global;
+
+/// The most bytes of a scenario.
+const MOST_OF_SCENARIO: u64 = 16 * 1024 * 1024;
+
+/// The most bytes of an order.
+const MOST_OF_ORDER: u64 = 64 * 1024 * 1024;
+
+/// Fetches a scenario and reads it.
+pub fn fetch_scenario<D: Depot>(alloc: Global, depot: &mut D, name: &Name) -> Result<Scenario, Exit>
+    ensures read { IsScenarioRead (depots D.files D.gave D.fetch_failed D.fetch_faults) name.now depot.old depot.new result }
+    ensures sound { IfOk result IsSound }
+    ensures fetches { FetchesOf (depots D.files D.gave D.fetch_failed D.fetch_faults) most_of_scenario name.now (exit_of result) depot.old depot.new }
+    ensures counts { NeverFalls (D.fetch_faults depot.old) (D.fetch_faults depot.new) }
+    ensures appends { Stay (D.append_faults depot.old) (D.append_faults depot.new) }
+    ensures files { D.files depot.new ≡ D.files depot.old }
+{
+    let bytes = match fetch_all(alloc, depot, name.as_str(), MOST_OF_SCENARIO) {
+        Ok(bytes) => bytes,
+        Err(fault) => return Err(Exit::of_scenario_fetch(fault)),
+    };
+    Ok(read(alloc, &bytes)?)
+}
+
+/// Fetches an order of processors below `cpus` and of at most `most` turns, and reads it.
+pub fn fetch_order<D: Depot>(
+    alloc: Global,
+    depot: &mut D,
+    name: &Name,
+    cpus: u32,
+    most: u64,
+) -> Result<Order, Exit>
+    ensures read { IsOrderReadBy (depots D.files D.gave D.fetch_failed D.fetch_faults) name.now cpus most depot.old depot.new result }
+    ensures within { IfOk result (λ order. IsTrue (is_within cpus most order.blocks)) }
+    ensures fetches { FetchesOf (depots D.files D.gave D.fetch_failed D.fetch_faults) most_of_order name.now (exit_of result) depot.old depot.new }
+    ensures counts { NeverFalls (D.fetch_faults depot.old) (D.fetch_faults depot.new) }
+    ensures appends { Stay (D.append_faults depot.old) (D.append_faults depot.new) }
+    ensures files { D.files depot.new ≡ D.files depot.old }
+{
+    let bytes = match fetch_all(alloc, depot, name.as_str(), MOST_OF_ORDER) {
+        Ok(bytes) => bytes,
+        Err(fault) => return Err(Exit::of_order_fetch(fault)),
+    };
+    Ok(Order::read(alloc, &bytes, cpus, most)?)
+}

@@ -1,0 +1,6 @@
+pub mod Ruled
+pub mod Copies
+pub mod Groups
+pub mod Exits
+pub mod CopyLaws
+pub mod ExitLaws

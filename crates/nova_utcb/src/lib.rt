@@ -1,0 +1,12 @@
+//! The message words of a thread: counts, windows, data and items, and the message of an exit.
+#![tactic(auto)]
+
+mod counts;
+mod exit;
+pub mod laws;
+#[cfg(test)]
+mod tests;
+mod utcb;
+
+pub use counts::BadCounts;
+pub use utcb::Utcb;

@@ -1,0 +1,109 @@
+"""Draws pictures of a run from its report.
+
+python3 tools/picture run REPORT [--order FILE] [--from TURN] [--to TURN] [--fold N] [--page] [--output FILE]
+python3 tools/picture delegations REPORT [--from TURN] [--to TURN] [--fold N] [--page] [--output FILE]
+"""
+
+from __future__ import annotations
+
+import argparse
+import gc
+import sys
+from collections.abc import Callable
+from pathlib import Path
+from typing import TypeVar
+
+from drawing import page, svg
+from order import read_order
+from report import Fault, Report, read_report
+from run_picture import draw_run
+from scene import Scene
+from timeline import Window
+from tree_picture import draw_delegations
+
+# What is drawn without being cut short: turns without an event, and ranges that nothing was given from.
+TURNS, RANGES = 12, 40
+
+
+Read = TypeVar("Read")
+
+
+class Refused(Exception):
+    """What was asked for cannot be drawn; the text says why."""
+
+
+def parser() -> argparse.ArgumentParser:
+    """The words that the program takes."""
+    top = argparse.ArgumentParser(prog="picture", description="Draws a picture of a run from its report.")
+    pictures = top.add_subparsers(dest="picture", required=True, metavar="PICTURE")
+    run = pictures.add_parser("run", help="what happened in each turn, with a lane for each execution context")
+    run.add_argument("--order", type=Path, metavar="FILE", help="the order of turns of the run: the turns of each processor are shown")
+    run.add_argument("--fold", type=int, default=TURNS, metavar="N", help=f"draw more than N turns without an event short ({TURNS})")
+    trees = pictures.add_parser("delegations", help="which capability range was given from which")
+    trees.add_argument("--fold", type=int, default=RANGES, metavar="N", help=f"cut lists of more than N ranges ({RANGES})")
+    for picture in (run, trees):
+        picture.add_argument("report", type=Path, metavar="REPORT", help="the report of the run")
+        picture.add_argument("--from", dest="first", type=int, metavar="TURN", help="the first turn to draw (1)")
+        picture.add_argument("--to", dest="last", type=int, metavar="TURN", help="the last turn to draw (that of the run)")
+        picture.add_argument("--page", action="store_true", help="write a page of HTML that shows a mark's line, not an SVG")
+        picture.add_argument("--output", type=Path, metavar="FILE", help="where to write (standard output)")
+    return top
+
+
+def read_text(path: Path) -> str:
+    """The text of a file. Bytes that are not ASCII are kept as they are, for the readers to refuse."""
+    try:
+        return path.read_bytes().decode("ascii", errors="surrogateescape")
+    except OSError as error:
+        raise Refused(f"{path}: {error.strerror}") from error
+
+
+def window_of(report: Report, words: argparse.Namespace) -> Window:
+    """The turns that were asked for. All those of the run may be none."""
+    first = 1 if words.first is None else words.first
+    last = report.turns if words.last is None else min(words.last, report.turns)
+    if (words.first is not None or words.last is not None) and not 1 <= first <= last:
+        raise Refused(f"there are no turns from {first} to {last}")
+    return Window(first, last)
+
+
+def draw(words: argparse.Namespace) -> Scene:
+    """The picture that the words ask for."""
+    report = faultless(words.report, lambda: read_report(read_text(words.report)))
+    window = window_of(report, words)
+    if words.picture == "delegations":
+        return draw_delegations(words.report.stem, report, window, words.fold)
+    order = None
+    if words.order is not None:
+        order = faultless(words.order, lambda: read_order(read_text(words.order), report))
+    return draw_run(words.report.stem, report, order, window, words.fold)
+
+
+def faultless(path: Path, read: Callable[[], Read]) -> Read:
+    """What `read` gives, with the file's name in a fault."""
+    try:
+        return read()
+    except Fault as fault:
+        raise Refused(f"{path}: {fault}") from fault
+
+
+def main(arguments: list[str]) -> int:
+    """Draws one picture. The status is 1, and nothing is written, where a file can't be read or is not of its form."""
+    words = parser().parse_args(arguments)
+    try:
+        scene = draw(words)
+        text = (page(scene) if words.page else svg(scene)).encode("utf-8", "replace")
+        if words.output is None:
+            sys.stdout.buffer.write(text)
+        else:
+            words.output.write_bytes(text)
+    except (Refused, OSError) as error:
+        print(f"picture: {error}", file=sys.stderr)
+        return 1
+    return 0
+
+
+if __name__ == "__main__":
+    # All that is made is kept to the end, so looking for what can be freed would only take time.
+    gc.disable()
+    sys.exit(main(sys.argv[1:]))

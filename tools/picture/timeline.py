@@ -1,0 +1,101 @@
+"""Where each turn lies on a picture whose time goes from top to bottom, and which stretches without events are folded."""
+
+from __future__ import annotations
+
+from bisect import bisect_left
+from collections.abc import Iterable, Iterator
+from dataclasses import dataclass
+from enum import Enum
+
+
+class Stretch(Enum):
+    """What a part of the time axis is."""
+
+    EVENT = "one turn with an event"
+    PLAIN = "turns without an event, drawn to scale"
+    FOLD = "turns without an event, drawn short"
+
+
+ROW = 20.0
+TURN = 4.0
+FOLD = 26.0
+
+
+@dataclass(frozen=True, slots=True)
+class Part:
+    """Turns `first` to `last`, from `top` to `bottom`."""
+
+    stretch: Stretch
+    first: int
+    last: int
+    top: float
+    bottom: float
+
+    @property
+    def turns(self) -> int:
+        return self.last - self.first + 1
+
+    @property
+    def middle(self) -> float:
+        return (self.top + self.bottom) / 2
+
+    def end_of(self, turn: int) -> float:
+        """Where a turn of the part ends."""
+        return self.top + (self.bottom - self.top) * (turn - self.first + 1) / self.turns
+
+
+@dataclass(frozen=True, slots=True)
+class Window:
+    """The turns that are drawn, both ends included."""
+
+    first: int
+    last: int
+
+    def has(self, turn: int) -> bool:
+        return self.first <= turn <= self.last
+
+
+class Timeline:
+    """The parts of a window, one after another."""
+
+    def __init__(self, places: Iterable[int], window: Window, fold: int, top: float) -> None:
+        self.window = window
+        self.parts = list(_parts(places, window, fold, top))
+        self.lasts = [part.last for part in self.parts]
+        self.top = top
+        self.bottom = self.parts[-1].bottom if self.parts else top
+
+    def part_of(self, turn: int) -> Part:
+        """The part in which a turn of the window lies."""
+        return self.parts[bisect_left(self.lasts, turn)]
+
+    def end_of(self, turn: int) -> float:
+        """Where a turn ends; for one outside the window the nearer end of the picture."""
+        if turn < self.window.first or not self.parts:
+            return self.top
+        if turn >= self.window.last:
+            return self.bottom
+        return self.part_of(turn).end_of(turn)
+
+    def change_at(self, turn: int) -> float:
+        """Where what changes in a turn is drawn: the middle of its row, where the event's mark is."""
+        if self.window.has(turn):
+            part = self.part_of(turn)
+            if part.stretch is Stretch.EVENT:
+                return part.middle
+        return self.end_of(turn)
+
+
+def _parts(places: Iterable[int], window: Window, fold: int, top: float) -> Iterator[Part]:
+    at = window.first
+    for place in (*(place for place in places if window.has(place)), window.last + 1):
+        if at < place:
+            gap = place - at
+            short = gap > fold
+            bottom = top + (FOLD if short else gap * TURN)
+            yield Part(Stretch.FOLD if short else Stretch.PLAIN, at, place - 1, top, bottom)
+            top = bottom
+        if place <= window.last:
+            yield Part(Stretch.EVENT, place, place, top, top + ROW)
+            top += ROW
+        at = place + 1
