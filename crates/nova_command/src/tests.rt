@@ -12,23 +12,18 @@ fn asked(alloc: Global, line: &str) -> Result<String, AllocError> {
         Ok(
             Command::Solo {
                 scenario,
-                order: None,
+                order,
                 limit,
             },
         ) => {
             let name = scenario.as_str();
-            format!(in alloc; "run {name} for {limit}")
-        }
-        Ok(
-            Command::Solo {
-                scenario,
-                order: Some(order),
-                limit,
-            },
-        ) => {
-            let name = scenario.as_str();
-            let order = order.as_str();
-            format!(in alloc; "run {name} by {order} for {limit}")
+            match order {
+                None => format!(in alloc; "run {name} for {limit}"),
+                Some(order) => {
+                    let order = order.as_str();
+                    format!(in alloc; "run {name} by {order} for {limit}")
+                }
+            }
         }
         Ok(Command::Check { scenario }) => {
             let name = scenario.into_string();
