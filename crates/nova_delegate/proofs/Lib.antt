@@ -2,3 +2,8 @@ pub mod Least
 pub mod Sources
 pub mod Holdings
 pub mod Children
+pub mod Upward
+pub mod Seen
+pub mod Firsts
+pub mod Alike
+pub mod Answering

@@ -12,7 +12,7 @@ use nova_range::{Kind, Range, Rights, clamp, read_word};
 const PAGE: u32 = 4096;
 
 /// What a range word reads as; nothing where it doesn't read or is null.
-fn read(word: u32) -> Option<(Range, Rights)>
+pub(crate) fn read(word: u32) -> Option<(Range, Rights)>
     ensures exact { result ≡ read_as (meaning_of word) }
     ensures sound { HasWord result }
 {
@@ -23,7 +23,7 @@ fn read(word: u32) -> Option<(Range, Rights)>
 }
 
 /// Whether two kinds are the same.
-fn is_same_kind(a: Kind, b: Kind) -> bool
+pub(crate) fn is_same_kind(a: Kind, b: Kind) -> bool
     ensures { result ≡ is_same_kind a b }
 {
     match (a, b) {

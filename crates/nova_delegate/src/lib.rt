@@ -1,12 +1,17 @@
-//! Delegations: an item of a message is cut to the receiver's window, and is then given derivation by
-//! derivation, one part a call.
+//! Items of messages. A delegation is cut to the receiver's window, and is then given derivation by
+//! derivation, one part a call; a translation is answered at once.
 #![tactic(auto)]
 
 pub mod jobs;
+pub mod laws;
 pub mod parts;
 #[cfg(test)]
 mod tests;
+#[cfg(test)]
+mod translation_tests;
+pub mod translations;
 
 pub use jobs::job;
 pub use nova_model::{Job, Reason, Skip};
 pub use parts::{PartDone, next_part, part};
+pub use translations::translate;

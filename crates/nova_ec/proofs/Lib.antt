@@ -1,6 +1,9 @@
 pub mod Walks
 pub mod Tables
+pub mod Callers
 pub mod Ends
 pub mod Untouched
 pub mod Donors
 pub mod Steps
+pub mod Acting
+pub mod Changes

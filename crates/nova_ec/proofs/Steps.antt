@@ -11,16 +11,17 @@ use Rattle.nova_model.specs.declared.context.EcState.{EcState}
 use Rattle.nova_ec.specs.Tables.{EcTable, StepsIn, Steps, with_items}
 use Rattle.nova_ec.proofs.Tables.{ec_in-set_same, ec_of-there}
 
--- an instruction leaves the number, the processor, and what the execution context is about to do
+-- an instruction leaves the number, the processor, what the execution context is about to do, and its caller
 pub record IsSteady (x x' : EcState) : Type 0 where
   pub id : x'.id ≡ x.id
   pub cpu : x'.cpu ≡ x.cpu
   pub state : x'.state ≡ x.state
+  pub caller : x'.caller ≡ x.caller
 
 pub steady : {S : Type 0} (stored : Store → S → S) (o : Once) (x x' : EcState) (s s' : S) (outcome : Outcome) → StepsIn stored o x s outcome x' s' → IsSteady x x'
-steady stored (Raised reason q0 q1) x x' s s' outcome h = record { id = ap (λ (y : EcState). y.id) h.1; cpu = ap (λ (y : EcState). y.cpu) h.1; state = ap (λ (y : EcState). y.state) h.1 }
-steady stored (Went regs None) x x' s s' outcome h = record { id = ap (λ (y : EcState). y.id) h.1; cpu = ap (λ (y : EcState). y.cpu) h.1; state = ap (λ (y : EcState). y.state) h.1 }
-steady stored (Went regs (Some store)) x x' s s' outcome h = record { id = ap (λ (y : EcState). y.id) h.1; cpu = ap (λ (y : EcState). y.cpu) h.1; state = ap (λ (y : EcState). y.state) h.1 }
+steady stored (Raised reason q0 q1) x x' s s' outcome h = record { id = ap (λ (y : EcState). y.id) h.1; cpu = ap (λ (y : EcState). y.cpu) h.1; state = ap (λ (y : EcState). y.state) h.1; caller = ap (λ (y : EcState). y.caller) h.1 }
+steady stored (Went regs None) x x' s s' outcome h = record { id = ap (λ (y : EcState). y.id) h.1; cpu = ap (λ (y : EcState). y.cpu) h.1; state = ap (λ (y : EcState). y.state) h.1; caller = ap (λ (y : EcState). y.caller) h.1 }
+steady stored (Went regs (Some store)) x x' s s' outcome h = record { id = ap (λ (y : EcState). y.id) h.1; cpu = ap (λ (y : EcState). y.cpu) h.1; state = ap (λ (y : EcState). y.state) h.1; caller = ap (λ (y : EcState). y.caller) h.1 }
 
 -- a table with an entry put where it is stays the same
 set-same : {T : Type 0} → (xs : List T) (i : ℕ) (x : T) → slice_get xs i ≡ Some x → slice_set xs i x ≡ xs

@@ -27,12 +27,16 @@ there_below [] e x h = absurd cc
 there_below (c ∷ cs) zero x h = omega arith
 there_below (c ∷ cs) (suc e) x h = omega (arith, there_below cs e x h)
 
-cpu_below : (cs : Contexts) (e cpu : ℕ) → cpu_in cs e ≡ Some cpu → e < length cs
-cpu_below cs e cpu h = by_place (ec_in cs e) refl h
+-- one that has a processor is there
+pub there_by_cpu : (cs : Contexts) (e cpu : ℕ) → cpu_in cs e ≡ Some cpu → (x : EcState) × (ec_in cs e ≡ Some x)
+there_by_cpu cs e cpu h = by_place (ec_in cs e) refl h
   where
-    by_place : (o : Option EcState) → ec_in cs e ≡ o → option_map (λ (x : EcState). x.cpu) o ≡ Some cpu → e < length cs
+    by_place : (o : Option EcState) → ec_in cs e ≡ o → option_map (λ (x : EcState). x.cpu) o ≡ Some cpu → (x : EcState) × (ec_in cs e ≡ Some x)
     by_place None is k = absurd cc
-    by_place (Some x) is k = there_below cs e x is
+    by_place (Some x) is k = (x, is)
+
+cpu_below : (cs : Contexts) (e cpu : ℕ) → cpu_in cs e ≡ Some cpu → e < length cs
+cpu_below cs e cpu h = let is = there_by_cpu cs e cpu h in there_below cs e is.0 is.1
 
 -- an edge leaves one that is there
 pub edge_there : (cs : Contexts) (e h : ℕ) → edge cs e ≡ Some h → (x : EcState) × (ec_in cs e ≡ Some x)
@@ -57,7 +61,7 @@ no_way cs sound e h below none k way =
 
 -- one changes
 
-edge-set_other : (cs : Contexts) (e : ℕ) (y : EcState) → AreButFor e (edge cs) (edge (slice_set cs e (Some y)))
+pub edge-set_other : (cs : Contexts) (e : ℕ) (y : EcState) → AreButFor e (edge cs) (edge (slice_set cs e (Some y)))
 edge-set_other cs e y f other = ap (λ (o : Option EcState). option_and_then edge_of (option_map (λ (z : EcState). z.state) o)) (ec_in-set_other cs e f (Some y) other)
 
 edge-set_same : (cs : Contexts) (e : ℕ) (x y : EcState) → ec_in cs e ≡ Some x → edge (slice_set cs e (Some y)) e ≡ edge_of y.state

@@ -9,7 +9,7 @@ use Rattle.nova_model.specs.declared.context.EcState.{EcState}
 use Rattle.nova_model.specs.declared.context.State.{State}
 use Rattle.nova_ec.specs.Tables.{actor_in}
 use Rattle.nova_ec.specs.Ways.{TurnsStay, JoiningMovesNone, OthersStay}
-use Rattle.nova_ec.proofs.Tables.{ec_in-set_other, ec_in-more, there_below, chase_ends}
+use Rattle.nova_ec.proofs.Tables.{ec_in-set_other, ec_in-more, there_below, there_by_cpu, chase_ends}
 use Rattle.nova_ec.proofs.Ends.{chases_end, found_more}
 
 -- the same states in both at all places of a set that no edge leaves
@@ -88,13 +88,6 @@ IsThere cs x = (y : EcState) × (ec_in cs x ≡ Some y)
 there_from : (cs : Contexts) (x : ℕ) (o : Option EcState) → ec_in cs x ≡ o → IsSome o → IsThere cs x
 there_from cs x None is some = absurd cc
 there_from cs x (Some y) is some = (y, is)
-
-there_by_cpu : (cs : Contexts) (x cpu : ℕ) → cpu_in cs x ≡ Some cpu → IsThere cs x
-there_by_cpu cs x cpu is = by_place (ec_in cs x) refl is
-  where
-    by_place : (o : Option EcState) → ec_in cs x ≡ o → option_map (λ (y : EcState). y.cpu) o ≡ Some cpu → IsThere cs x
-    by_place None at is = absurd cc
-    by_place (Some y) at is = (y, at)
 
 same_with_more : (cs : Contexts) (o : Option EcState) → AreEdges cs → AreSame cs (cs ++ o ∷ []) (IsThere cs)
 same_with_more cs o sound = record {

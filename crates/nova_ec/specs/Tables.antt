@@ -1,11 +1,12 @@
 -- The table of execution contexts, by number.
-use Rattle.std.specs.Prelude.{ℕ, ◌≡◌, ◌⊎◌, Option, Some, None, IfSome, if◌then◌else◌}
+use Rattle.std.specs.Prelude.{ℕ, ⊤, ◌≡◌, ◌⊎◌, Option, Some, None, IfSome, if◌then◌else◌}
 use Rattle.rv_core.specs.declared.outcome.Outcome.{Outcome}
 use Rattle.rv_core.specs.declared.outcome.Outcome.TheVariants.{Next, Raise}
 use Rattle.rv_model.specs.Step.{Once, Raised, Went, Store}
 use Rattle.nova_model.specs.State.{Contexts, ec_in, ec_of, with_ec}
-use Rattle.nova_model.specs.Edges.{acts, chase, edge_of, MayWait}
+use Rattle.nova_model.specs.Edges.{acts, chase, cpu_in, edge_of, MayWait, MayServe}
 use Rattle.nova_model.specs.declared.context.EcState.{EcState}
+use Rattle.nova_model.specs.declared.context.Mark.{Mark}
 
 -- an entry for each number, which holds an execution context or nothing, and for how many more there is room
 pub record EcTable : Type 0 where
@@ -26,9 +27,17 @@ IsNumbered n o = IfSome o (λ x. x.id ≡ n)
 abbrev pub AreNumbered : Contexts → Type 0
 AreNumbered cs = (n : ℕ) → IsNumbered n (ec_in cs n)
 
--- one that is there may become another of its number and processor, in the same state or waiting for one that it may wait for
+-- one that is there may become another of its number and processor, in the same state or waiting for one that it may wait for, and
+-- with the same caller or one that it may serve
 abbrev pub MayBecome : Contexts → ℕ → EcState → Type 0
-MayBecome cs e y = (x : EcState) × (ec_in cs e ≡ Some x) × (y.cpu ≡ x.cpu) × ((y.state ≡ x.state) ⊎ MayWait cs e (edge_of y.state)) × (y.id ≡ x.id)
+MayBecome cs e y =
+    (x : EcState) × (ec_in cs e ≡ Some x) × (y.cpu ≡ x.cpu) × ((y.state ≡ x.state) ⊎ MayWait cs e (edge_of y.state)) × (y.id ≡ x.id)
+    × ((y.caller ≡ x.caller) ⊎ MayServe cs e y.caller)
+
+-- the caller of one on this processor, where it has one, is there and on it too
+abbrev pub IsServing : Contexts → ℕ → Option (ℕ × Mark) → Type 0
+IsServing cs cpu None = ⊤
+IsServing cs cpu (Some (c, mark)) = cpu_in cs c ≡ Some cpu
 
 -- an execution context and the state of a bus, the outcome of one instruction of it, and both after it: a raise leaves both as they were
 abbrev pub StepsIn : {S : Type 0} → (Store → S → S) → Once → EcState → S → Outcome → EcState → S → Type 0

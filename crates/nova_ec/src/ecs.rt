@@ -1,12 +1,16 @@
-ghost use Rattle.std.specs.Prelude.{false, true, ◌≡◌, ◌+◌, ◌-◌, ◌<◌, ◌≤◌, [], ◌∷◌, ◌++◌, length, max, IsOk, IsSome, IfOk, IfSome, OnOk, OnErr, option_and_then, option_map, Some, None};
+ghost use Rattle.std.specs.Prelude.{false, true, ◌≡◌, ◌+◌, ◌-◌, ◌<◌, ◌≤◌, [], ◌∷◌, ◌++◌, length, max, IsOk, IsSome, IfOk, IfSome, OnOk, OnErr, option_and_then, option_map, if◌then◌else◌, Some, None};
 ghost use Rattle.rv_model.specs.Step.{one};
 ghost use Rattle.rv_core.specs.Steps.{space_of};
 ghost use Rattle.nova_model.specs.State.{ec_in, ec_of, with_ec};
-ghost use Rattle.nova_model.specs.Edges.{state_in, edge_of, edge, acts_by, acts, stays, met, chase, circle, MayWait, AreEdges};
-ghost use Rattle.nova_ec.specs.Tables.{Steps, StepsIn, MayBecome, with_items, actor_in};
+ghost use Rattle.nova_model.specs.Edges.{state_in, edge_of, edge, acts_by, acts, stays, met, chase, circle, MayWait, MayServe, AreEdges, AreCallers};
+ghost use Rattle.nova_model.specs.Deeds.{answered_registers, answered, parked, entered, serving};
+ghost use Rattle.nova_ec.specs.Tables.{Steps, StepsIn, MayBecome, IsServing, with_items, actor_in};
 ghost use Rattle.nova_model.specs.declared.context.EcState.{EcState};
+ghost use Rattle.nova_model.specs.declared.context.Mark.TheVariants.{Call};
+ghost use Rattle.nova_model.specs.declared.context.State.TheVariants.{Granting, Ready};
 
-use nova_model::{EcState, State};
+use nova_model::{EcState, Mark, State};
+use nova_range::Status;
 use rv_core::bus::Bus;
 use rv_core::outcome::Outcome;
 use rv_core::{Regs, hart};
@@ -15,7 +19,7 @@ use std::marker::Model;
 
 /// The table of execution contexts, by number: an entry holds the execution context of its number or
 /// nothing. Edges, from one that waits to the handler that it waits for, join execution contexts of one processor, and
-/// never form a circle.
+/// never form a circle. A caller is there, and of one processor with the one that serves it.
 #[derive(Drop)]
 pub struct Ecs {
     items: Vec<Option<EcState>>,
@@ -24,14 +28,14 @@ pub struct Ecs {
 
 impl Model for Ecs {
     ghost use Rattle.std.specs.Prelude.{◌+◌, ◌≤◌, vec_len, vec_capacity};
-    ghost use Rattle.nova_model.specs.Edges.{AreEdges};
+    ghost use Rattle.nova_model.specs.Edges.{AreEdges, AreCallers};
     ghost use Rattle.nova_ec.specs.Tables.{EcTable, AreNumbered};
 
     ghost Value = { EcTable };
 
     ghost view = { λ t. record { items = t.items.items; spare = t.spare } };
 
-    ghost invariant = { λ t. AreEdges t.items.items × (vec_len t.items + t.spare ≤ vec_capacity t.items) × AreNumbered t.items.items };
+    ghost invariant = { λ t. AreEdges t.items.items × (vec_len t.items + t.spare ≤ vec_capacity t.items) × AreNumbered t.items.items × AreCallers t.items.items };
 }
 
 /// The handler that an execution context in this state waits for.
@@ -47,6 +51,7 @@ pub fn edge_of(state: State) -> Option<u32>
         | State::Parked
         | State::Exiting(..)
         | State::Granting(_)
+        | State::Replying
         | State::Dead => None,
     }
 }
@@ -56,12 +61,49 @@ fn acts_by(state: State, handler: Option<State>) -> bool
     ensures { result ≡ acts_by state handler }
 {
     match state {
-        State::Fresh | State::Ready | State::Exiting(..) | State::Granting(_) => true,
+        State::Fresh | State::Ready | State::Exiting(..) | State::Granting(_) | State::Replying =>
+            true,
         State::Parked | State::Dead => false,
         State::Calling(_) => matches!(handler, Some(State::Dead)),
         State::Helping(_) | State::Sending(..) => {
             matches!(handler, Some(State::Parked | State::Dead))
         }
+    }
+}
+
+/// The registers after a hypercall: the status in x10, a value in x11, and pc after the instruction.
+fn answered_registers(mut regs: Regs, status: Status, value: Option<u32>) -> Regs
+    ensures { result ≡ answered_registers regs status value }
+{
+    regs.set(10, status.code());
+    if let Some(value) = value {
+        regs.set(11, value);
+    }
+    let next = regs.pc().wrapping_add(4);
+    regs.set_pc(next);
+    regs
+}
+
+/// The registers of a handler at the beginning of a call: its portal's identifier in x10, and pc at the
+/// portal's instruction pointer.
+fn entered(mut regs: Regs, ip: u32, identifier: u32) -> Regs
+    ensures { result ≡ entered regs ip identifier }
+{
+    regs.set(10, identifier);
+    regs.set_pc(ip);
+    regs
+}
+
+/// What a handler is about to do at the beginning of a call: it takes the items first, where there are
+/// any.
+fn entry_state(items: bool) -> State
+    ensures state { result ≡ (if items then Granting None else Ready) }
+    ensures edge { edge_of result ≡ None }
+{
+    if items {
+        State::Granting(None)
+    } else {
+        State::Ready
     }
 }
 
@@ -107,10 +149,11 @@ impl Ecs {
     }
 
     /// Adds the entry of the next number in reserved room: the execution context of that number, which
-    /// waits for no other, or nothing.
+    /// waits for no other, and whose caller, where it has one, is there and of its processor; or nothing.
     pub fn add(&mut self, ec: Option<EcState>)
         requires room { 0 < self.old.spare }
         requires number { IfSome ec (λ x. x.id ≡ length self.old.items) }
+        requires caller { IfSome ec (λ x. IsServing self.old.items x.cpu x.caller) }
         requires edge { option_and_then edge_of (option_map (λ (x : EcState). x.state) ec) ≡ None }
         ensures { self.new ≡ record { items = self.old.items ++ ec ∷ []; spare = self.old.spare - 1 } }
     {
@@ -194,6 +237,13 @@ impl Ecs {
         let _spare = self.spare;
     }
 
+    /// Callers are there, and of one processor with those who serve them.
+    pub fn keeps_callers(&self)
+        ensures { AreCallers self.now.items }
+    {
+        let _spare = self.spare;
+    }
+
     /// The end of a chase, and whether the execution context there acts.
     fn end_of_chase(&self, ec: u32) -> (u32, bool)
         ensures end { result.0 ≡ chase self.now.items ec }
@@ -265,6 +315,55 @@ impl Ecs {
     {
         let mut context = *self.context(ec);
         context.recall = recall;
+        self.put(ec, context);
+    }
+
+    /// The caller that an execution context serves from now on: one that is there and of its processor, or
+    /// none.
+    pub fn set_caller(&mut self, ec: u32, caller: Option<(u32, Mark)>)
+        requires there { IsSome (ec_in self.old.items ec) }
+        requires caller { MayServe self.old.items ec caller }
+        ensures { self.new ≡ with_items self.old (with_ec self.old.items ec (record (ec_of self.old.items ec) { caller = caller })) }
+    {
+        let mut context = *self.context(ec);
+        context.caller = caller;
+        self.put(ec, context);
+    }
+
+    /// The hypercall of an execution context ends with a status, and perhaps a value: its next is the
+    /// instruction after it.
+    pub fn answer(&mut self, ec: u32, status: Status, value: Option<u32>)
+        requires { IsSome (ec_in self.old.items ec) }
+        ensures { self.new ≡ with_items self.old (with_ec self.old.items ec (answered (ec_of self.old.items ec) status value)) }
+    {
+        let mut context = *self.context(ec);
+        context.state = State::Ready;
+        context.regs = answered_registers(context.regs, status, value);
+        self.put(ec, context);
+    }
+
+    /// A handler waits for a call, and serves no caller.
+    pub fn park(&mut self, ec: u32)
+        requires { IsSome (ec_in self.old.items ec) }
+        ensures { self.new ≡ with_items self.old (with_ec self.old.items ec (parked (ec_of self.old.items ec))) }
+    {
+        let mut context = *self.context(ec);
+        context.state = State::Parked;
+        context.caller = None;
+        self.put(ec, context);
+    }
+
+    /// A handler begins the call of a caller of its processor: at an instruction pointer, with a portal's
+    /// identifier in x10. Where the call has items it takes them first.
+    pub fn serve(&mut self, ec: u32, caller: u32, ip: u32, identifier: u32, items: bool)
+        requires there { IsSome (ec_in self.old.items ec) }
+        requires caller { MayServe self.old.items ec (Some (caller, Call)) }
+        ensures { self.new ≡ with_items self.old (with_ec self.old.items ec (serving (ec_of self.old.items ec) caller ip identifier items)) }
+    {
+        let mut context = *self.context(ec);
+        context.state = entry_state(items);
+        context.regs = entered(context.regs, ip, identifier);
+        context.caller = Some((caller, Mark::Call));
         self.put(ec, context);
     }
 

@@ -1,4 +1,5 @@
 ghost use Rattle.nova_ec.specs.Ways.{ChasesEnd, ChasesGoOn, CirclesAreWays, OnlyDonorsChange, UnmovedKeepsChases, SameStateKeepsChases, JoiningMovesNone, OthersStay, SameActs};
+ghost use Rattle.nova_ec.specs.Changes.{ChangesKeep, DeedsKeep, ServingKeeps, ParkingKeeps, AnsweringKeeps, SendingKeeps, CompletingKeeps, NewWays, ActingKeepsChases, DeedsKeepChases, OthersStayTwice};
 
 /// Each chase ends: in the first on its way with which turns stay.
 #[tactic(auto, using(crate::proofs::Ends::chases_end))]
@@ -34,4 +35,37 @@ pub fn turns_stay()
     ensures others { OthersStay }
     ensures state { SameStateKeepsChases }
     ensures acts { SameActs }
+{}
+
+/// Edges, callers and numbers stay sound, and processors stay, where an execution context becomes
+/// another that it may become: by each deed, where a new edge is one that it may have; where it serves
+/// a caller that it may serve; where it is parked; where its call ends.
+pub fn changes_keep()
+    ensures changes { ChangesKeep }
+    ensures deeds { DeedsKeep }
+    ensures serving { ServingKeeps }
+    ensures parking { ParkingKeeps }
+    ensures answering { AnsweringKeeps }
+{}
+
+/// So they do where a call is sent, and where a reply completes.
+pub fn calls_keep()
+    ensures sending { SendingKeeps }
+    ensures completing { CompletingKeeps }
+{}
+
+/// Where an execution context changes, a new way along edges is an old one or passes it.
+pub fn new_ways()
+    ensures { NewWays }
+{}
+
+/// An execution context that acts before and after it changes moves no turns, wherever its edge leads.
+pub fn acting_keeps_chases()
+    ensures acting { ActingKeepsChases }
+    ensures deeds { DeedsKeepChases }
+{}
+
+/// Where two of one processor change, turns on other processors stay.
+pub fn others_stay_twice()
+    ensures { OthersStayTwice }
 {}

@@ -64,12 +64,15 @@ job_ranges word second window giver receiver j is =
     item_holds AreRanges (read_as (meaning_of word)) (read_as (meaning_of window)) (hotspot_in second) giver receiver j
     (λ s w sent taken. clamped_ranges s w (hotspot_in second) giver receiver (read_range word s sent) (read_range window w taken)) is
 
--- who gives, and who is given to
-pub record IsBetween (from to : ℕ) (j : Job) : Type 0 where
+-- who gives, who is given to, and what the word reads as, with its rights
+pub record IsBetween (word from to : ℕ) (j : Job) : Type 0 where
   pub giver : j.giver ≡ from
   pub receiver : j.receiver ≡ to
+  pub sent : Range × Rights
+  pub reads : read_as (meaning_of word) ≡ Some sent
+  pub rights : j.rights ≡ sent.1
 
-pub job_between_them : (word second window giver receiver : ℕ) (j : Job) → job_of word second window giver receiver ≡ Ok j → IsBetween giver receiver j
+pub job_between_them : (word second window giver receiver : ℕ) (j : Job) → job_of word second window giver receiver ≡ Ok j → IsBetween word giver receiver j
 job_between_them word second window giver receiver j is =
-    item_holds (IsBetween giver receiver) (read_as (meaning_of word)) (read_as (meaning_of window)) (hotspot_in second) giver receiver j
-    (λ s w sent taken. record { giver = refl; receiver = refl }) is
+    item_holds (IsBetween word giver receiver) (read_as (meaning_of word)) (read_as (meaning_of window)) (hotspot_in second) giver receiver j
+    (λ s w sent taken. record { giver = refl; receiver = refl; sent = s; reads = sent; rights = refl }) is

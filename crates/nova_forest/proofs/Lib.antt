@@ -5,6 +5,7 @@ pub mod Transfers
 pub mod Jobs
 pub mod Walk
 pub mod Selectors
+pub mod Allowed
 pub mod Growth
 pub mod Boots
 pub mod Changes

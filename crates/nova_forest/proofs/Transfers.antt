@@ -3,7 +3,7 @@ use Rattle.std.proofs.Common.{◌≡◌, ℕ, ◌<◌, ◌≤◌, ◌+◌, ◌-�
 use Rattle.std.specs.Prelude.{Bool, true, false, ◌⊎◌, ◌==◌, ◌&&◌, nat_lt, nat_le, min, max, bit_and, filter, Some, Ok, Err, if◌then◌else◌}
 use Rattle.std.specs.List.{AllByRecursion, list_all}
 use Rattle.std.proofs.lemmas.Bool.{and_parts, eqb-true, eq-eqb, ltb-true, leb-true, cases_lt}
-use Rattle.std.proofs.lemmas.Nat.{and_assoc, pow_pos}
+use Rattle.std.proofs.lemmas.Nat.{and_assoc, and_comm, pow_pos}
 use Rattle.std.proofs.Math.Nat.{zero-mod}
 use Rattle.std.specs.Int.Bits.{and_self}
 use Rattle.nova_range.specs.declared.range.Kind.{Kind}
@@ -116,6 +116,10 @@ child_aligned j id d over aligned kind = record { base = over.base; target = by_
 -- a right of both is one of the first
 pub child_rights : (a b : Rights) (right : ℕ) → allows (common_rights a b) right ≡ true → allows a right ≡ true
 child_rights a b right h = eq-eqb (bit_and a.0 right) right (both_allows a.0 b.0 right (eqb-true (bit_and (bit_and a.0 b.0) right) right h))
+
+-- and one of the second
+pub sent_rights : (a b : Rights) (right : ℕ) → allows (common_rights a b) right ≡ true → allows b right ≡ true
+sent_rights a b right h = child_rights b a right (ap (λ (n : ℕ). bit_and n right == right) (and_comm b.0 a.0) ∙ h)
 
 child_within : (j : Job) (id : ℕ) (d : Derivation) → IsOverlap j d → d.kind ≡ j.kind → d.id < id → IsWithin (child_of j id d) d
 child_within j id d over kind older = record {

@@ -1,7 +1,7 @@
 -- The one walk over deciding: what holds of each deed that looks alone at a state, of what the rows of the table of hypercalls give, and of
--- the parts of what is given, holds of the deed of every execution context.
-use Rattle.std.proofs.Common.{◌≡◌, ℕ, refl}
-use Rattle.std.specs.Prelude.{Bool, true, false, Option, Some, None, option_map, Result, Ok, Err, if◌then◌else◌}
+-- the parts and ends of items, holds of the deed of every execution context.
+use Rattle.std.proofs.Common.{◌≡◌, ℕ, ap, refl}
+use Rattle.std.specs.Prelude.{Bool, true, false, ◌==◌, Option, Some, None, option_map, Result, Ok, Err, if◌then◌else◌}
 use Rattle.rv_model.specs.Registers.{Registers, reg}
 use Rattle.rv_model.specs.Step.{Once, Raised, Went}
 use Rattle.nova_calls.specs.Hypercalls.{call_of}
@@ -9,16 +9,21 @@ use Rattle.nova_calls.specs.declared.call.Call.{Call}
 use Rattle.nova_range.specs.Ranges.{end_of}
 use Rattle.nova_range.specs.declared.status.Status.{Status}
 use Rattle.nova_range.specs.declared.status.Status.TheVariants.{BadHyp}
-use Rattle.nova_model.specs.Deeds.{startup, recall, signalled, stepping, ready, is_busy, first_job, parted, part_deed, granting, deed_in, deed, instruction}
+use Rattle.nova_model.specs.Deeds.{startup, recall, signalled, stepping, ready, deed_in, deed, instruction}
 use Rattle.nova_model.specs.Delegations.{range_of}
+use Rattle.nova_model.specs.Deliveries.{is_busy, delivery, flag, finished, range_given, parted, part_deed, delegated, answered_by, delivered, delivers}
 use Rattle.nova_model.specs.Hypercalls.{and_then, row, is_built, or_refuses, hypercall}
 use Rattle.nova_model.specs.State.{KernelState, context, pd_of, transfer}
-use Rattle.nova_model.specs.Transfers.{next_source, child_of, judged, part_of}
+use Rattle.nova_model.specs.Transfers.{job_of, next_source, child_of, judged, part_of}
+use Rattle.nova_model.specs.Translations.{translated}
 use Rattle.nova_model.specs.declared.context.State.{State}
-use Rattle.nova_model.specs.declared.context.State.TheVariants.{Fresh, Ready, Parked, Calling, Helping, Exiting, Sending, Granting, Dead}
+use Rattle.nova_model.specs.declared.context.State.TheVariants.{Fresh, Ready, Parked, Calling, Helping, Exiting, Sending, Granting, Replying, Dead}
 use Rattle.nova_model.specs.declared.deed.Deed.{Deed}
-use Rattle.nova_model.specs.declared.deed.Deed.TheVariants.{Rests, Steps, Raises, Dies, Refuses, Gives, Skips, Ends}
+use Rattle.nova_model.specs.declared.deed.Deed.TheVariants.{Rests, Steps, Raises, Dies, Refuses, Gives, Skips, Aborts}
 use Rattle.nova_model.specs.declared.delegation.Derivation.{Derivation}
+use Rattle.nova_model.specs.declared.transfer.Delivery.{Delivery}
+use Rattle.nova_model.specs.declared.transfer.ItemEnd.{ItemEnd}
+use Rattle.nova_model.specs.declared.transfer.ItemEnd.TheVariants.{Given, Skipped, Translated}
 use Rattle.nova_model.specs.declared.transfer.Job.{Job}
 use Rattle.nova_model.specs.declared.transfer.Reason.{Reason}
 use Rattle.nova_model.specs.declared.transfer.Skip.{Skip}
@@ -28,91 +33,176 @@ abbrev pub IfDone : {A : Type 0} → (A → Type 0) → Result A Status → Type
 IfDone P (Ok x) = P x
 IfDone P (Err status) = Unit {0}
 
--- what holds of each deed of an execution context of protection domain `domain`, with these registers, that does something of its own
-pub record Holds (P : Deed → Type 0) (k : KernelState) (domain : ℕ) (r : Registers) : Type 0 where
+-- the states in which a hypercall is made, and those in which items are given
+abbrev pub is_asking : State → Bool
+is_asking Ready = true
+is_asking (Helping handler) = true
+is_asking other = false
+
+abbrev pub is_giving : State → Bool
+is_giving (Granting new) = true
+is_giving Replying = true
+is_giving other = false
+
+-- ONE THAT GIVES NO ITEMS
+
+-- what holds of each deed of an execution context that does something of its own
+pub record Holds (P : Deed → Type 0) (k : KernelState) (ec : ℕ) : Type 0 where
   pub steps : P Steps
   pub raises : (reason q0 q1 : ℕ) → P (Raises reason q0 q1)
   pub dies : (reason q0 : ℕ) → P (Dies reason q0)
   pub refuses : (call : ℕ) (status : Status) → P (Refuses call status)
-  pub rows : (c : Call) → call_of r ≡ Ok c → IfDone P (row k domain c)
+  pub aborts : (handler : ℕ) → (context k ec).state ≡ Calling handler → P (Aborts handler)
+  pub rows : is_asking (context k ec).state ≡ true → (c : Call) → call_of (context k ec).regs ≡ Ok c → IfDone P (row k ec (pd_of k ec) c)
 
-hypercall_holds : (P : Deed → Type 0) (k : KernelState) (domain : ℕ) (r : Registers) → Holds P k domain r → P (hypercall k domain r)
-hypercall_holds P k domain r h = by_test (is_built (reg r 17))
+pub hypercall_holds : (P : Deed → Type 0) (k : KernelState) (ec domain : ℕ) (r : Registers) → ((call : ℕ) (status : Status) → P (Refuses call status)) →
+    ((c : Call) → call_of r ≡ Ok c → IfDone P (row k ec domain c)) → P (hypercall k ec domain r)
+hypercall_holds P k ec domain r refuses rows = by_test (is_built (reg r 17))
   where
     by_deed : (d : Result Deed Status) → IfDone P d → P (or_refuses (reg r 17) d)
     by_deed (Ok d) holds = holds
-    by_deed (Err status) holds = h.refuses (reg r 17) status
+    by_deed (Err status) holds = refuses (reg r 17) status
 
-    by_call : (c : Result Call Status) → call_of r ≡ c → P (or_refuses (reg r 17) (and_then c (row k domain)))
-    by_call (Ok c) is = by_deed (row k domain c) (h.rows c is)
-    by_call (Err status) is = h.refuses (reg r 17) status
+    by_call : (c : Result Call Status) → call_of r ≡ c → P (or_refuses (reg r 17) (and_then c (row k ec domain)))
+    by_call (Ok c) is = by_deed (row k ec domain c) (rows c is)
+    by_call (Err status) is = refuses (reg r 17) status
 
-    by_test : (t : Bool) → P (or_refuses (reg r 17) (if t then and_then (call_of r) (row k domain) else Err BadHyp))
+    by_test : (t : Bool) → P (or_refuses (reg r 17) (if t then and_then (call_of r) (row k ec domain) else Err BadHyp))
     by_test true = by_call (call_of r) refl
-    by_test false = h.refuses (reg r 17) BadHyp
+    by_test false = refuses (reg r 17) BadHyp
 
-signalled_holds : (P : Deed → Type 0) (k : KernelState) (ec reason q0 q1 : ℕ) (test : Bool) → Holds P k (pd_of k ec) (context k ec).regs → P (signalled k ec reason q0 q1 test)
-signalled_holds P k ec reason q0 q1 true h = hypercall_holds P k (pd_of k ec) (context k ec).regs h
-signalled_holds P k ec reason q0 q1 false h = h.raises reason q0 q1
-
-stepping_holds : (P : Deed → Type 0) (k : KernelState) (ec : ℕ) (o : Once) → Holds P k (pd_of k ec) (context k ec).regs → P (stepping k ec o)
-stepping_holds P k ec (Raised reason q0 q1) h = signalled_holds P k ec reason q0 q1 _ h
-stepping_holds P k ec (Went regs store) h = h.steps
+-- of one that makes a hypercall
+pub asking_holds : (P : Deed → Type 0) (k : KernelState) (ec : ℕ) → is_asking (context k ec).state ≡ true → Holds P k ec →
+    P (hypercall k ec (pd_of k ec) (context k ec).regs)
+asking_holds P k ec asks h = hypercall_holds P k ec (pd_of k ec) (context k ec).regs h.refuses (h.rows asks)
 
 -- of one that is about to do an instruction
-pub ready_holds : (P : Deed → Type 0) (k : KernelState) (ec : ℕ) (test : Bool) → Holds P k (pd_of k ec) (context k ec).regs → P (ready k ec test)
-ready_holds P k ec true h = h.raises recall 0 0
-ready_holds P k ec false h = stepping_holds P k ec (instruction k ec) h
+pub ready_holds : (P : Deed → Type 0) (k : KernelState) (ec : ℕ) (test : Bool) → is_asking (context k ec).state ≡ true → Holds P k ec → P (ready k ec test)
+ready_holds P k ec true asks h = h.raises recall 0 0
+ready_holds P k ec false asks h = by_instruction (instruction k ec)
+  where
+    by_signal : (reason q0 q1 : ℕ) (test : Bool) → P (signalled k ec reason q0 q1 test)
+    by_signal reason q0 q1 true = asking_holds P k ec asks h
+    by_signal reason q0 q1 false = h.raises reason q0 q1
 
--- where an execution context goes on with what it gives
+    by_instruction : (o : Once) → P (stepping k ec o)
+    by_instruction (Raised reason q0 q1) = by_signal reason q0 q1 _
+    by_instruction (Went regs store) = h.steps
+
+-- ONE THAT GIVES ITEMS
+
+-- where it goes on with its present item
 abbrev pub resumed : KernelState → ℕ → Job → Job
 resumed k ec j = record j { cursor = (transfer k ec).cursor }
 
--- a part that it gives to domain `new`: of this derivation this child
-pub record IsGiving (k : KernelState) (ec new : ℕ) (d x : Derivation) : Type 0 where
+-- what the present item reads as, where it is a delegation
+abbrev pub job_in : Delivery → Result Job Skip
+job_in v = job_of v.range_word v.second_word v.delegations v.giver v.receiver
+
+-- its present item is a delegation
+pub record IsDelegating (k : KernelState) (ec : ℕ) (v : Delivery) : Type 0 where
+  pub present : delivery k ec (context k ec).state ≡ Some v
+  pub delegates : (flag v == 1) ≡ true
+
+-- a part that it gives: of this derivation this child
+pub record IsGiving (k : KernelState) (ec : ℕ) (d x : Derivation) : Type 0 where
+  pub item : Delivery
+  pub of_item : IsDelegating k ec item
   pub job : Job
-  pub reads : first_job k ec new ≡ Ok job
+  pub reads : job_in item ≡ Ok job
   pub next : next_source k.delegations.list (resumed k ec job) ≡ Some d
   pub good : judged (is_busy k) k.delegations.list (child_of (resumed k ec job) k.delegations.next d) ≡ Ok x
 
--- what holds of each deed of an execution context that gives to domain `new`
-pub record Grants (P : Deed → Type 0) (k : KernelState) (ec new : ℕ) : Type 0 where
-  pub gives : (d x : Derivation) → IsGiving k ec new d x → P (Gives x (end_of (range_of d)))
-  pub skips : (reason : Reason) (place cursor : ℕ) → P (Skips reason place cursor)
-  pub ends : P (Ends (transfer k ec).item (transfer k ec).children)
+-- a part that it skips: of this derivation, for this reason
+pub record IsSkipping (k : KernelState) (ec : ℕ) (d : Derivation) (reason : Reason) : Type 0 where
+  pub item : Delivery
+  pub of_item : IsDelegating k ec item
+  pub job : Job
+  pub reads : job_in item ≡ Ok job
+  pub next : next_source k.delegations.list (resumed k ec job) ≡ Some d
+  pub bad : judged (is_busy k) k.delegations.list (child_of (resumed k ec job) k.delegations.next d) ≡ Err reason
 
-pub granting_holds : (P : Deed → Type 0) (k : KernelState) (ec new : ℕ) → Grants P k ec new → P (granting k (transfer k ec) (first_job k ec new))
-granting_holds P k ec new g = by_job (first_job k ec new) refl
+-- how an item ends, with its answer: nothing is left, or it is skipped as a whole, or it was translated
+abbrev pub EndsAs : KernelState → ℕ → Delivery → ItemEnd → ℕ → Type 0
+EndsAs k ec v (Given children) answer =
+    (children ≡ (transfer k ec).children) × ((job : Job) × (job_in v ≡ Ok job) × (answer ≡ range_given (resumed k ec job) children))
+EndsAs k ec v (Skipped skip) answer = (job_in v ≡ Err skip) × (answer ≡ 0)
+EndsAs k ec v (Translated word) answer =
+    (word ≡ translated k.delegations.list v.range_word v.translations v.giver v.receiver) × (answer ≡ word)
+
+-- what holds of each deed of an execution context that gives items
+pub record Delivers (P : Deed → Type 0) (k : KernelState) (ec : ℕ) : Type 0 where
+  pub gives : (d x : Derivation) → IsGiving k ec d x → P (Gives x (end_of (range_of d)))
+  pub skips : (d : Derivation) (reason : Reason) (place : ℕ) → IsSkipping k ec d reason → P (Skips reason place (end_of (range_of d)))
+  pub finishes : (v : Delivery) (end : ItemEnd) (answer : ℕ) → delivery k ec (context k ec).state ≡ Some v → EndsAs k ec v end answer →
+      P (finished v (transfer k ec).item end answer)
+
+-- of a delegation
+delegated_holds : (P : Deed → Type 0) (k : KernelState) (ec : ℕ) (v : Delivery) → IsDelegating k ec v → Delivers P k ec → P (delegated k v (transfer k ec) (job_in v))
+delegated_holds P k ec v of_item h = by_job (job_in v) refl
   where
-    by_verdict : (j : Job) → first_job k ec new ≡ Ok j → (d : Derivation) → next_source k.delegations.list (resumed k ec j) ≡ Some d → (v : Result Derivation Reason) →
-        judged (is_busy k) k.delegations.list (child_of (resumed k ec j) k.delegations.next d) ≡ v → P (parted (resumed k ec j) d v)
-    by_verdict j reads d next (Ok x) good = g.gives d x (record { job = j; reads = reads; next = next; good = good })
-    by_verdict j reads d next (Err reason) good = g.skips reason _ _
+    by_verdict : (j : Job) → job_in v ≡ Ok j → (d : Derivation) → next_source k.delegations.list (resumed k ec j) ≡ Some d → (r : Result Derivation Reason) →
+        judged (is_busy k) k.delegations.list (child_of (resumed k ec j) k.delegations.next d) ≡ r → P (parted (resumed k ec j) d r)
+    by_verdict j reads d next (Ok x) good = h.gives d x (record { item = v; of_item = of_item; job = j; reads = reads; next = next; good = good })
+    by_verdict j reads d next (Err reason) bad =
+        h.skips d reason _ (record { item = v; of_item = of_item; job = j; reads = reads; next = next; bad = bad })
 
-    by_source : (j : Job) → first_job k ec new ≡ Ok j → (o : Option Derivation) → next_source k.delegations.list (resumed k ec j) ≡ o →
-        P (part_deed (transfer k ec) (resumed k ec j) (option_map (part_of (is_busy k) k.delegations (resumed k ec j)) o))
-    by_source j reads None next = g.ends
+    by_source : (j : Job) → job_in v ≡ Ok j → (o : Option Derivation) → next_source k.delegations.list (resumed k ec j) ≡ o →
+        P (part_deed v (transfer k ec) (resumed k ec j) (option_map (part_of (is_busy k) k.delegations (resumed k ec j)) o))
+    by_source j reads None next = h.finishes v (Given (transfer k ec).children) _ of_item.present (refl, (j, reads, refl))
     by_source j reads (Some d) next = by_verdict j reads d next (judged (is_busy k) k.delegations.list (child_of (resumed k ec j) k.delegations.next d)) refl
 
-    by_job : (r : Result Job Skip) → first_job k ec new ≡ r → P (granting k (transfer k ec) r)
-    by_job (Err skip) reads = g.ends
+    by_job : (r : Result Job Skip) → job_in v ≡ r → P (delegated k v (transfer k ec) r)
+    by_job (Err skip) reads = h.finishes v (Skipped skip) 0 of_item.present (reads, refl)
     by_job (Ok j) reads = by_source j reads (next_source k.delegations.list (resumed k ec j)) refl
 
--- of each
-deed_in_holds : (P : Deed → Type 0) (k : KernelState) (ec : ℕ) (s : State) → (context k ec).state ≡ s → P Rests → Holds P k (pd_of k ec) (context k ec).regs →
-    ((new : ℕ) → (context k ec).state ≡ Granting (Some new) → Grants P k ec new) → P (deed_in k ec s)
-deed_in_holds P k ec Fresh is rests h grants = h.raises startup 0 0
-deed_in_holds P k ec Ready is rests h grants = ready_holds P k ec (context k ec).recall h
-deed_in_holds P k ec (Exiting reason q0 q1) is rests h grants = h.dies reason q0
-deed_in_holds P k ec Parked is rests h grants = rests
-deed_in_holds P k ec Dead is rests h grants = rests
-deed_in_holds P k ec (Granting (Some new)) is rests h grants = granting_holds P k ec new (grants new is)
-deed_in_holds P k ec (Granting None) is rests h grants = rests
-deed_in_holds P k ec (Calling handler) is rests h grants = rests
-deed_in_holds P k ec (Helping handler) is rests h grants = rests
-deed_in_holds P k ec (Sending reason q0 q1 handler) is rests h grants = rests
+-- of any item
+pub delivered_holds : (P : Deed → Type 0) (k : KernelState) (ec : ℕ) (v : Delivery) → delivery k ec (context k ec).state ≡ Some v → Delivers P k ec →
+    P (delivered k v (transfer k ec))
+delivered_holds P k ec v present h = by_flag (flag v == 1) refl
+  where
+    by_flag : (t : Bool) → (flag v == 1) ≡ t → P (if t then delegated k v (transfer k ec) (job_in v)
+        else answered_by v (transfer k ec) (translated k.delegations.list v.range_word v.translations v.giver v.receiver))
+    by_flag true is = delegated_holds P k ec v (record { present = present; delegates = is }) h
+    by_flag false is = h.finishes v (Translated _) _ present (refl, refl)
 
-pub deed_holds : (P : Deed → Type 0) (k : KernelState) (ec : ℕ) → P Rests → Holds P k (pd_of k ec) (context k ec).regs →
-    ((new : ℕ) → (context k ec).state ≡ Granting (Some new) → Grants P k ec new) → P (deed k ec)
+-- one without items rests
+pub delivers_holds : (P : Deed → Type 0) (k : KernelState) (ec : ℕ) (o : Option Delivery) → delivery k ec (context k ec).state ≡ o → P Rests → Delivers P k ec →
+    P (delivers k (transfer k ec) o)
+delivers_holds P k ec None present rests h = rests
+delivers_holds P k ec (Some v) present rests h = delivered_holds P k ec v present h
+
+-- EACH
+
+-- of one that gives no items, and of one that gives some
+pub own_holds : (P : Deed → Type 0) (k : KernelState) (ec : ℕ) → is_giving (context k ec).state ≡ false → P Rests → Holds P k ec → P (deed k ec)
 unfolding deed
-deed_holds P k ec rests h grants = deed_in_holds P k ec (context k ec).state refl rests h grants
+own_holds P k ec not_giving rests h = by_state (context k ec).state refl not_giving
+  where
+    by_state : (s : State) → (context k ec).state ≡ s → is_giving s ≡ false → P (deed_in k ec s)
+    by_state Fresh is none = h.raises startup 0 0
+    by_state Ready is none = ready_holds P k ec (context k ec).recall (ap is_asking is) h
+    by_state (Exiting reason q0 q1) is none = h.dies reason q0
+    by_state Parked is none = rests
+    by_state Dead is none = rests
+    by_state (Granting new) is none = absurd (cc)
+    by_state Replying is none = absurd (cc)
+    by_state (Calling handler) is none = h.aborts handler is
+    by_state (Helping handler) is none = asking_holds P k ec (ap is_asking is) h
+    by_state (Sending reason q0 q1 handler) is none = rests
+
+pub giving_holds : (P : Deed → Type 0) (k : KernelState) (ec : ℕ) → is_giving (context k ec).state ≡ true → P Rests → Delivers P k ec → P (deed k ec)
+unfolding deed
+giving_holds P k ec giving rests h = by_state (context k ec).state refl giving
+  where
+    by_state : (s : State) → (context k ec).state ≡ s → is_giving s ≡ true → P (deed_in k ec s)
+    by_state (Granting new) is some = delivers_holds P k ec (delivery k ec (Granting new)) (ap (delivery k ec) is) rests h
+    by_state Replying is some = delivers_holds P k ec (delivery k ec Replying) (ap (delivery k ec) is) rests h
+    by_state other is some = absurd (cc)
+
+pub deed_holds : (P : Deed → Type 0) (k : KernelState) (ec : ℕ) → P Rests → Holds P k ec → Delivers P k ec → P (deed k ec)
+deed_holds P k ec rests h g = by_test (is_giving (context k ec).state) refl
+  where
+    by_test : (t : Bool) → is_giving (context k ec).state ≡ t → P (deed k ec)
+    by_test false is = own_holds P k ec is rests h
+    by_test true is = giving_holds P k ec is rests g

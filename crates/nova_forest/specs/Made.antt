@@ -2,16 +2,21 @@
 use Rattle.std.specs.Prelude.{◌≡◌, ℕ, ◌<◌, ◌≤◌, ◌^◌, ◌==◌, Bool, Contains, true, false, [], ◌∷◌, ◌++◌, length, option_map, slice_get, Option, Some, None}
 use Rattle.nova_objects.specs.declared.object.Object.{Object}
 use Rattle.nova_objects.specs.declared.object.Object.TheVariants.{Pd, Ec, Sc, Pt}
+use Rattle.nova_range.specs.RangeWords.{meaning_of}
 use Rattle.nova_range.specs.Ranges.{IsRange}
 use Rattle.nova_range.specs.declared.range.Kind.TheVariants.{Obj}
+use Rattle.nova_range.specs.declared.range.Range.{Range}
+use Rattle.nova_range.specs.declared.rights.Rights.{Rights}
 use Rattle.nova_model.specs.Capabilities.{bind_portal_right, bind_scheduling_right, create_right, is_held, is_local, is_schedulable, rights_to}
 use Rattle.nova_model.specs.Delegations.{allows, range_of, is_held_in, added}
+use Rattle.nova_model.specs.Deliveries.{delivery}
 use Rattle.nova_model.specs.Forest.{IsForest, IsFitting}
 use Rattle.nova_model.specs.Hypercalls.{is_scheduled}
 use Rattle.nova_model.specs.State.{KernelState, context, pd_of, processor_of}
 use Rattle.nova_model.specs.Choice.{Candidate}
-use Rattle.nova_model.specs.declared.context.State.TheVariants.{Granting}
+use Rattle.nova_model.specs.Transfers.{read_as}
 use Rattle.nova_model.specs.declared.delegation.Derivation.{Derivation}
+use Rattle.nova_model.specs.declared.transfer.Delivery.{Delivery}
 
 -- a protection domain holds a capability to a protection domain, with the right to make objects in that one
 pub record MayCreate (k : KernelState) (domain : ℕ) : Type 0 where
@@ -71,20 +76,26 @@ pub record IsFirstCapability (k : KernelState) (maker : ℕ) (object : Object) (
   pub bound : IsBoundBy k d.pd object
   pub newest : IsForest k.delegations → (a : Derivation) → Contains k.delegations.list a → a.id < d.id
 
--- a child that is given: of a derivation of the giver's domain, to the domain that the giver's state names, of the next id and of the same
--- kind, with at least one right and none that the derivation does not have, at places that the receiver's domain did not hold. Where
--- delegations are a sound forest these places are a range, and the child fits: its targets are among those of the derivation. And each id of
--- theirs is less than the child's.
-pub record IsGivenChild (k : KernelState) (giver : ℕ) (child : Derivation) : Type 0 where
+-- a child that is given, by the present item of one that acts, which gives a first range as a creator, takes the items of its caller's message or
+-- gives those of its reply: of a derivation of the item's giver, to the item's receiver, of the next id and of the same kind, with at least
+-- one right and none that the derivation or the item does not have, at places that the receiver did not hold. Where delegations are a sound
+-- forest these places are a range, and the child fits: its targets are among those of the derivation. And each id of theirs is less than
+-- the child's.
+pub record IsGivenChild (k : KernelState) (actor : ℕ) (child : Derivation) : Type 0 where
+  pub item : Delivery
+  pub present : delivery k actor (context k actor).state ≡ Some item
   pub source : Derivation
   pub there : Contains k.delegations.list source
-  pub held : source.pd ≡ pd_of k giver
-  pub receiver : (context k giver).state ≡ Granting (Some child.pd)
+  pub held : source.pd ≡ item.giver
+  pub receiver : child.pd ≡ item.receiver
   pub id : child.id ≡ k.delegations.next
   pub parent : child.parent ≡ Some source.id
   pub kind : child.kind ≡ source.kind
   pub some_right : (child.rights.0 == 0) ≡ false
   pub rights : (right : ℕ) → allows child.rights right ≡ true → allows source.rights right ≡ true
+  pub sent : Range × Rights
+  pub reads : read_as (meaning_of item.range_word) ≡ Some sent
+  pub sent_rights : (right : ℕ) → allows child.rights right ≡ true → allows sent.1 right ≡ true
   pub free : is_held_in k.delegations.list child.pd (range_of child) ≡ false
   pub range : IsForest k.delegations → IsRange (range_of child)
   pub fits : IsForest k.delegations → IsFitting k.delegations child
@@ -104,9 +115,9 @@ pub record IsGrown (old : KernelState) (maker : ℕ) (new : KernelState) : Type 
   pub delegations : new.delegations ≡ added old.delegations capability
 
 -- or one child is given, and no object is made
-pub record HasGiven (old : KernelState) (giver : ℕ) (new : KernelState) : Type 0 where
+pub record HasGiven (old : KernelState) (actor : ℕ) (new : KernelState) : Type 0 where
   pub child : Derivation
-  pub given : IsGivenChild old giver child
+  pub given : IsGivenChild old actor child
   pub objects : new.objects ≡ old.objects
   pub delegations : new.delegations ≡ added old.delegations child
 

@@ -27,10 +27,12 @@ pub fn delegations_stay_a_forest()
 /// and without a parent; that domain holds the right to make objects in a protection domain, and an
 /// execution context is made in that one. A scheduling context is of an execution context that is no
 /// local thread and has none yet, on its processor, with a quantum of at least 1; a portal is to a local
-/// thread; and for each of both that domain holds the right to bind it. The child's parent is a
-/// derivation of that domain, and the child goes to the domain that the execution context's state names,
-/// at places that were free there. What joins has the next id, which where delegations are a sound
-/// forest is above all before.
+/// thread; and for each of both that domain holds the right to bind it. A child is given by the present
+/// item of the execution context that acts: a creator gives its new domain a first range, a handler takes
+/// an item of its caller's message, or it gives its caller one of its reply. The child's parent is a
+/// derivation of the item's giver, and the child goes to the item's receiver, at places that were free
+/// there, with rights that both its parent and the item have. What joins has the next id, which where
+/// delegations are a sound forest is above all before.
 pub fn a_turn_makes_at_most_one_object()
     ensures { (k : KernelState) (cpu : ℕ) → GrowsBy k (choice k cpu) (after k cpu) }
 {}

@@ -5,15 +5,12 @@ use Rattle.std.proofs.lemmas.List.{map-append}
 use Rattle.nova_objects.specs.declared.object.Object.{Object}
 use Rattle.nova_objects.specs.declared.object.EcKind.{EcKind}
 use Rattle.nova_objects.specs.declared.object.EcKind.TheVariants.{Local, Global, Vcpu}
-use Rattle.nova_model.specs.Creation.{first_state, context_of, words_of, idle_semaphore}
+use Rattle.nova_model.specs.Creation.{first_state, context_of, idle_semaphore}
 use Rattle.nova_model.specs.Edges.{edge_of}
 use Rattle.nova_model.specs.declared.context.EcState.{EcState}
 use Rattle.nova_model.specs.declared.new_object.NewObject.{NewObject}
 use Rattle.nova_model.specs.declared.new_object.NewObject.TheVariants as new
 use Rattle.nova_kernel.specs.Birth.{guest_of}
-
-pub messages-added : (objects : List Object) (o : Object) → map words_of (objects ++ o ∷ []) ≡ map words_of objects ++ words_of o ∷ []
-messages-added objects o = map-append words_of objects (o ∷ [])
 
 pub guests-added : (objects : List Object) (o : Object) → map guest_of (objects ++ o ∷ []) ≡ map guest_of objects ++ guest_of o ∷ []
 guests-added objects o = map-append guest_of objects (o ∷ [])
@@ -35,4 +32,4 @@ made_alone number (new.Sc ec cpu priority quantum) = refl
 made_alone number (new.Pt ec mtd ip) = refl
 made_alone number (new.Sm count) = refl
 
-pub ruleset added = (made_alone, messages-added, guests-added, semaphores-added)
+pub ruleset added = (made_alone, guests-added, semaphores-added)

@@ -13,7 +13,7 @@ use Rattle.nova_model.specs.Memory.{Memory, written, written_in}
 use Rattle.nova_model.specs.Boot.{laid}
 use Rattle.nova_frames.specs.Store.{FrameStore}
 use Rattle.std.proofs.lemmas.List.{length-set}
-use Rattle.nova_kernel.specs.Parts.{IsCounted, IsGivenWithin, IsPaidWithin}
+use Rattle.nova_kernel.specs.Parts.{IsAtItem, IsCounted, IsGivenWithin, IsPaidWithin}
 use Rattle.nova_forest.proofs.Boots.{bare_forest}
 
 -- an object is no page
@@ -53,6 +53,12 @@ children-bare cpus ram consoles root (suc zero) = omega arith
 children-bare cpus ram consoles root (suc (suc zero)) = omega arith
 children-bare cpus ram consoles root (suc (suc (suc n))) = omega arith
 
+items-bare : (cpus ram consoles : ℕ) (root : Root) (ec : ℕ) → IsAtItem (transfer_at (bare cpus ram consoles root) ec)
+items-bare cpus ram consoles root zero = tt
+items-bare cpus ram consoles root (suc zero) = omega arith
+items-bare cpus ram consoles root (suc (suc zero)) = tt
+items-bare cpus ram consoles root (suc (suc (suc n))) = tt
+
 pub IsCounted_bare : (cpus ram consoles : ℕ) (root : Root) → consoles ≤ 16 → IsCounted (bare cpus ram consoles root)
 IsCounted_bare cpus ram consoles root few = record {
   charged = record {
@@ -63,8 +69,9 @@ IsCounted_bare cpus ram consoles root few = record {
     stirs = zeros cpus;
   };
   numbered = record { objects = omega arith; derivations = omega arith };
-  tables = record { contexts = refl; transfers = refl; budgets = refl; identifiers = refl; semaphores = refl };
+  tables = record { contexts = refl; messages = refl; transfers = refl; budgets = refl; identifiers = refl; semaphores = refl };
   children = children-bare cpus ram consoles root;
+  items = items-bare cpus ram consoles root;
   forest = bare_forest cpus ram consoles root;
 }
 

@@ -6,7 +6,7 @@ use Rattle.nova_model.specs.Forest.{IsForest}
 use Rattle.nova_model.specs.State.{KernelState, budget_at, transfer_at, entry}
 use Rattle.nova_model.specs.Turn.{charged, is_spent, budget_after, stamp_after, quantum_in, counted, paid_by}
 use Rattle.nova_model.specs.declared.budget.Budget.{Budget}
-use Rattle.nova_kernel.specs.Parts.{AreTables, IsCharged, IsToBeCharged, IsCounted, IsGivenWithin, IsNumbered, IsPaidWithin, KeepsCounts}
+use Rattle.nova_kernel.specs.Parts.{AreTables, IsAtItem, IsCharged, IsToBeCharged, IsCounted, IsGivenWithin, IsNumbered, IsPaidWithin, KeepsCounts}
 
 pub IsCharged-kept : (old new : KernelState) → KeepsCounts old new → IsCharged old → IsToBeCharged new
 IsCharged-kept old new kept charged = record {
@@ -79,9 +79,9 @@ IsNumbered-paid k cpu sc quantum None n = record { objects = n.objects; derivati
 IsNumbered-paid k cpu sc quantum (Some b) n = record { objects = n.objects; derivations = n.derivations }
 
 AreTables-paid : (k : KernelState) (cpu sc quantum : ℕ) (o : Option Budget) → AreTables k → AreTables (counted (paid_by k sc quantum o) cpu)
-AreTables-paid k cpu sc quantum None t = record { contexts = t.contexts; transfers = t.transfers; budgets = t.budgets; identifiers = t.identifiers; semaphores = t.semaphores }
+AreTables-paid k cpu sc quantum None t = record { contexts = t.contexts; messages = t.messages; transfers = t.transfers; budgets = t.budgets; identifiers = t.identifiers; semaphores = t.semaphores }
 AreTables-paid k cpu sc quantum (Some b) t =
-    record { contexts = t.contexts; transfers = t.transfers; budgets = length-set k.budgets sc _ ∙ t.budgets; identifiers = t.identifiers; semaphores = t.semaphores }
+    record { contexts = t.contexts; messages = t.messages; transfers = t.transfers; budgets = length-set k.budgets sc _ ∙ t.budgets; identifiers = t.identifiers; semaphores = t.semaphores }
 
 turns-paid : (k : KernelState) (cpu sc quantum : ℕ) (o : Option Budget) → (counted (paid_by k sc quantum o) cpu).turns ≡ k.turns + 1
 turns-paid k cpu sc quantum None = refl
@@ -101,6 +101,11 @@ children-paid : (k : KernelState) (cpu sc quantum turns : ℕ) (o : Option Budge
 children-paid k cpu sc quantum turns None h = h
 children-paid k cpu sc quantum turns (Some b) h = h
 
+items-paid : (k : KernelState) (cpu sc quantum : ℕ) (o : Option Budget) → ((ec : ℕ) → IsAtItem (transfer_at k ec)) → (ec : ℕ) →
+    IsAtItem (transfer_at (counted (paid_by k sc quantum o) cpu) ec)
+items-paid k cpu sc quantum None h = h
+items-paid k cpu sc quantum (Some b) h = h
+
 -- an act and its charge keep the bounds
 pub IsCounted-charged : (old k : KernelState) (cpu sc : ℕ) → KeepsCounts old k → IsForest k.delegations → old.turns < 2 ^ 31 → IsCounted old → IsCounted (charged k cpu sc)
 unfolding charged
@@ -114,5 +119,6 @@ IsCounted-charged old k cpu sc kept forest few c =
       tables = AreTables-paid k cpu sc quantum o (kept.tables c.tables);
       children = subst (λ (n : ℕ). (ec : ℕ) → IsGivenWithin n (transfer_at (counted (paid_by k sc quantum o) cpu) ec)) (sym (turns-paid k cpu sc quantum o))
           (children-paid k cpu sc quantum (k.turns + 1) o (children-kept old k kept c.children));
+      items = items-paid k cpu sc quantum o (λ ec. kept.items ec (c.items ec));
       forest = subst IsForest (sym (delegations-paid k cpu sc quantum o)) forest;
     }

@@ -4,10 +4,12 @@ pub mod Chosen
 pub mod Waits
 pub mod Joins
 pub mod Moves
+pub mod Served
 pub mod Marks
 pub mod Charges
 pub mod Named
 pub mod Started
+pub mod Reached
 pub mod Steps
 pub mod Keeps
 pub mod Counts
@@ -19,3 +21,4 @@ pub mod Added
 pub mod Below
 pub mod Rooted
 pub mod Granted
+pub mod Told

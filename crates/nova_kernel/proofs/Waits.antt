@@ -1,15 +1,17 @@
 -- What a deed leaves of the queues: the marks of one processor alone may be old, and those of none where the deed moves nobody.
-use Rattle.std.proofs.Common.{◌≡◌, ℕ, ◌==◌, List, refl, ap, ap₂, sym, ◌∙◌, arith, IsSome}
-use Rattle.std.specs.Prelude.{Bool, true, false, Option, Some, None, option_map, slice_get}
+use Rattle.std.proofs.Common.{◌≡◌, ℕ, ◌==◌, List, length, refl, ap, ap₂, sym, ◌∙◌, arith, IsSome}
+use Rattle.std.proofs.lemmas.List.{length-set}
+use Rattle.std.specs.List.{find}
+use Rattle.std.specs.Prelude.{◌≢◌, Bool, true, false, Option, Some, None, option_map, slice_get}
 use Rattle.nova_model.specs.Deeds.{with_context}
-use Rattle.nova_model.specs.Edges.{AreEdges, cpu_in}
+use Rattle.nova_model.specs.Edges.{AreEdges, cpu_in, edge, met_within, stays}
 use Rattle.nova_model.specs.State.{Contexts, KernelState, budget_at, context, context_at, context_in, ec_in, ec_of, entry, with_ec}
 use Rattle.nova_model.specs.declared.budget.Budget.{Budget}
 use Rattle.nova_model.specs.declared.context.EcState.{EcState}
 use Rattle.nova_objects.specs.declared.object.Object.{Object}
 use Rattle.nova_objects.specs.declared.object.Object.TheVariants.{Pd, Ec, Sc, Pt, Sm}
 use Rattle.nova_ec.proofs.Tables.{ec_in-set_other, ec_in-set_same}
-use Rattle.nova_ec.proofs.Untouched.{others_stay_at, same_acts}
+use Rattle.nova_ec.proofs.Untouched.{others_stay_at, same_acts, turns_stay}
 use Rattle.nova_ec.proofs.Donors.{same_state_keeps_chases}
 use Rattle.nova_sched.specs.Queues.{Schedule}
 use Rattle.nova_sched.specs.declared.queued.Queued.{Queued}
@@ -120,11 +122,62 @@ kept_moved cs e x y sound there cpu = record {
 leads_self : (cs : Contexts) → LeadsBut None cs cs
 leads_self cs = record { same = λ ec home at fresh. refl; homes = λ ec home at. at }
 
-pub leads_twice : (cs ds es : Contexts) → LeadsBut None cs ds → LeadsBut None ds es → LeadsBut None cs es
-leads_twice cs ds es first second = record {
-  same = λ ec home at fresh. second.same ec home (first.homes ec home at) refl ∙ first.same ec home at refl;
+pub leads_twice : (stale : Option ℕ) (cs ds es : Contexts) → LeadsBut stale cs ds → LeadsBut stale ds es → LeadsBut stale cs es
+leads_twice stale cs ds es first second = record {
+  same = λ ec home at fresh. second.same ec home (first.homes ec home at) fresh ∙ first.same ec home at fresh;
   homes = λ ec home at. second.homes ec home (first.homes ec home at);
 }
+
+-- where no mark is old, none of one processor is
+pub leads_any : (stale : Option ℕ) (cs ds : Contexts) → LeadsBut None cs ds → LeadsBut stale cs ds
+leads_any stale cs ds kept = record { same = λ ec home at fresh. kept.same ec home at refl; homes = kept.homes }
+
+-- TWO EXECUTION CONTEXTS OF ONE PROCESSOR CHANGE
+
+-- one that is there on a processor other than this
+abbrev IsApart : Contexts → ℕ → ℕ → Type 0
+IsApart cs home x = (cpu : ℕ) × (cpu_in cs x ≡ Some cpu) × ((cpu == home) ≡ false)
+
+-- no edge leaves those of the other processors, so turns there stay where nothing of them changes
+kept_apart : (cs ds : Contexts) (home : ℕ) → AreEdges cs → length ds ≡ length cs → ((x : ℕ) → IsApart cs home x → ec_in ds x ≡ ec_in cs x) →
+    ((x cpu : ℕ) → cpu_in cs x ≡ Some cpu → cpu_in ds x ≡ Some cpu) → LeadsBut (Some home) cs ds
+kept_apart cs ds home sound long same homes = record {
+  same = λ ec cpu at fresh. same_acts cs ds ec
+      (turns_stay cs ds (IsApart cs home) ec sound (record {
+        states = λ x apart. ap (option_map (λ (z : EcState). z.state)) (same x apart);
+        closed = λ x h apart leads. (apart.0, sound.one_processor x h leads ∙ apart.1, apart.2);
+      }) (cpu, at, fresh) (ap (λ (n : ℕ). find (stays cs) (met_within n (edge cs) (Some ec))) long));
+  homes = homes;
+}
+
+pub there_by_cpu : (cs : Contexts) (x cpu : ℕ) → cpu_in cs x ≡ Some cpu → IsSome (ec_in cs x)
+there_by_cpu cs x cpu is = by_place (ec_in cs x) is
+  where
+    by_place : (o : Option EcState) → option_map (λ (y : EcState). y.cpu) o ≡ Some cpu → IsSome o
+    by_place None h = absurd cc
+    by_place (Some y) h = refl
+
+-- whoever is apart from a processor is none of it
+not_there : (cs : Contexts) (home e x : ℕ) → cpu_in cs e ≡ Some home → IsApart cs home x → x ≢ e
+not_there cs home e x at apart same =
+    let cpu : apart.0 ≡ home = (let both : Some apart.0 ≡ Some home = sym apart.1 ∙ ap (cpu_in cs) same ∙ at in cc) in
+    absurd (let other = apart.2 in grind (arith, cpu, other))
+
+cpu_of : (cs : Contexts) (e : ℕ) → IsSome (ec_in cs e) → cpu_in cs e ≡ Some (ec_of cs e).cpu
+cpu_of cs e there = ap (option_map (λ (z : EcState). z.cpu)) (there_at cs e there)
+
+pub kept_twice : (cs : Contexts) (e h : ℕ) (x : EcState) (f : EcState → EcState) → AreEdges cs → IsSome (ec_in cs e) → x.cpu ≡ (ec_of cs e).cpu →
+    ((z : EcState) → (f z).cpu ≡ z.cpu) → cpu_in cs h ≡ cpu_in cs e → LeadsBut (Some (ec_of cs e).cpu) cs (with_ec (with_ec cs e x) h (f (ec_of (with_ec cs e x) h)))
+kept_twice cs e h x f sound there cpu keeps near =
+    let home = (ec_of cs e).cpu in
+    let mid = with_ec cs e x in
+    let y = f (ec_of mid h) in
+    let at : cpu_in cs e ≡ Some home = cpu_of cs e there in
+    let first : (n c : ℕ) → cpu_in cs n ≡ Some c → cpu_in mid n ≡ Some c = λ n c is. cpu_set cs e n c (ec_of cs e) x (there_at cs e there) cpu is in
+    let its : ec_in mid h ≡ Some (ec_of mid h) = there_at mid h (there_by_cpu mid h home (first h home (near ∙ at))) in
+    kept_apart cs (with_ec mid h y) home sound (length-set mid h (Some y) ∙ length-set cs e (Some x))
+    (λ n apart. ec_in-set_other mid h n (Some y) (not_there cs home h n (near ∙ at) apart) ∙ ec_in-set_other cs e n (Some x) (not_there cs home e n at apart))
+    (λ n c is. cpu_set mid h n c (ec_of mid h) y its (keeps (ec_of mid h)) (first n c is))
 
 -- the state with that execution context
 pub steady : (k : KernelState) (ec : ℕ) (y : EcState) → IsSome (context_at k ec) → y.cpu ≡ (context k ec).cpu → y.state ≡ (context k ec).state →

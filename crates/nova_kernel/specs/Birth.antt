@@ -2,12 +2,8 @@
 -- the kernel's and goes from here.
 use Rattle.std.specs.Prelude.{ℕ, List, map, option_map, Option, None}
 use Rattle.nova_objects.specs.declared.object.Object.{Object}
-use Rattle.nova_model.specs.Creation.{words_of, idle_semaphore}
+use Rattle.nova_model.specs.Creation.{idle_semaphore}
 use Rattle.nova_model.specs.State.{Semaphore}
-
--- message words
-abbrev pub messages_at_birth : List Object → List (Option (List ℕ))
-messages_at_birth objects = map words_of objects
 
 -- semaphores with these counters: nobody waits
 abbrev pub semaphores_at_birth : List (Option ℕ) → List (Option Semaphore)

@@ -12,6 +12,7 @@ pub use Rattle.nova_model.specs.Runs
 pub use Rattle.nova_model.specs.Boot
 pub mod Views
 pub mod Birth
+pub mod Messages
 pub mod Parts
 pub mod ObjectTypes
 pub mod Acts

@@ -11,7 +11,7 @@ use Rattle.nova_model.specs.declared.new_object.NewObject.TheVariants.{Sc}
 use Rattle.nova_nodes.specs.NodesStates.{room}
 use Rattle.nova_sched.specs.Queues.{QueuesState, Schedule}
 use Rattle.nova_sched.specs.Queues as queues
-use Rattle.nova_kernel.specs.Birth.{messages_at_birth, semaphores_at_birth, guests_at_birth}
+use Rattle.nova_kernel.specs.Birth.{semaphores_at_birth, guests_at_birth}
 use Rattle.nova_kernel.specs.Schedules.{budgets_of}
 use Rattle.nova_kernel.specs.declared.parts.Parts.{Parts}
 
@@ -21,7 +21,7 @@ shown p = record {
   delegations = p.reach.nodes.delegations;
   objects = p.objects.items;
   contexts = p.contexts.items;
-  messages = messages_at_birth p.objects.items;
+  messages = p.reach.messages.items;
   transfers = p.transfers.items;
   budgets = budgets_of p.queues.all (length p.objects.items);
   identifiers = p.identifiers.items;
@@ -39,6 +39,7 @@ pub record HasRoom (pd : ℕ) (p : Parts) : Type 0 where
   pub objects : 0 < p.objects.spare
   pub derivations : 0 < room p.reach.nodes pd
   pub contexts : 0 < p.contexts.spare
+  pub messages : 0 < p.reach.messages.spare
   pub transfers : vec_len p.transfers < vec_capacity p.transfers
   pub identifiers : vec_len p.identifiers < vec_capacity p.identifiers
   pub counts : vec_len p.counts < vec_capacity p.counts
@@ -62,6 +63,7 @@ HasRoomFor pd other p = Unit {0}
 -- tables by number: an entry for each object
 pub record AreTables (k : KernelState) : Type 0 where
   pub contexts : length k.contexts ≡ length k.objects
+  pub messages : length k.messages ≡ length k.objects
   pub transfers : length k.transfers ≡ length k.objects
   pub budgets : length k.budgets ≡ length k.objects
   pub identifiers : length k.identifiers ≡ length k.objects
@@ -81,6 +83,11 @@ IsPaidWithin turns None = 0 ≤ turns
 abbrev pub IsGivenWithin : ℕ → Option Transfer → Type 0
 IsGivenWithin turns (Some t) = t.children ≤ turns
 IsGivenWithin turns None = 0 ≤ turns
+
+-- the present item of an execution context is one that a message may have
+abbrev pub IsAtItem : Option Transfer → Type 0
+IsAtItem (Some t) = t.item < 62
+IsAtItem None = Unit {0}
 
 -- what turns are charged to is bounded by the turns that were taken, and stamps by a number
 pub record IsChargedWithin (most : ℕ) (k : KernelState) : Type 0 where
@@ -104,6 +111,7 @@ pub record IsCounted (k : KernelState) : Type 0 where
   pub numbered : IsNumbered k.turns k
   pub tables : AreTables k
   pub children : (ec : ℕ) → IsGivenWithin k.turns (transfer_at k ec)
+  pub items : (ec : ℕ) → IsAtItem (transfer_at k ec)
   pub forest : IsForest k.delegations
 
 -- an act leaves each execution context and each scheduling context there, and lets none pay; it gives at most one number to an object and to
@@ -113,6 +121,7 @@ pub record KeepsCounts (old new : KernelState) : Type 0 where
   pub budgets : (sc : ℕ) → IsSome (budget_at old sc) → IsSome (budget_at new sc)
   pub ticks : (sc turns : ℕ) → IsPaidWithin turns (budget_at old sc) → IsPaidWithin turns (budget_at new sc)
   pub transfers : (ec turns : ℕ) → IsGivenWithin turns (transfer_at old ec) → IsGivenWithin (turns + 1) (transfer_at new ec)
+  pub items : (ec : ℕ) → IsAtItem (transfer_at old ec) → IsAtItem (transfer_at new ec)
   pub next_stamp : new.next_stamp ≤ old.next_stamp + 1
   pub turns : new.turns ≡ old.turns
   pub cpus : new.cpus ≡ old.cpus

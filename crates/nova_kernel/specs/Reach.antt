@@ -1,28 +1,36 @@
 -- What the kernel's memory shows to the instruction that runs, and what always holds of its delegations.
-use Rattle.std.specs.Prelude.{◌≡◌, true, false, ◌-◌, ℕ, ◌+◌, ◌^◌, ◌≤◌, Bool, List, length, Option, Some}
+use Rattle.std.specs.Prelude.{◌≡◌, true, false, ◌-◌, ℕ, ◌+◌, ◌^◌, ◌≤◌, Bool, List, length, slice_get, if◌then◌else◌, Option, Some, None}
 use Rattle.std.specs.List.{AllByRecursion, find}
 use Rattle.rv_model.specs.Step.{Store}
 use Rattle.nova_range.specs.declared.range.Kind.TheVariants.{Mem, Obj}
 use Rattle.nova_range.specs.declared.range.Range.{Range}
 use Rattle.nova_model.specs.Memory.{Memory}
 use Rattle.nova_model.specs.Delegations.{covers, is_memory}
-use Rattle.nova_model.specs.AddressSpaces.{AddressSpace, space, space_through, after_store}
+use Rattle.nova_model.specs.AddressSpaces.{AddressSpace, space, space_through, after_store, words_after_store}
+use Rattle.nova_model.specs.State.{entry, message_in}
 use Rattle.nova_model.specs.declared.delegation.Derivation.{Derivation}
 use Rattle.nova_nodes.specs.NodesStates.{NodesState}
+use Rattle.nova_kernel.specs.Messages.{MessageTable}
 
--- the derivations, the memory, the protection domain of the execution context that acts, whether it is a thread, how many consoles there
--- are, and how many more bytes the log takes
+-- the derivations, the memory, the message words of all, the execution context that acts, its protection domain, whether it is a thread, how many
+-- consoles there are, and how many more bytes the log takes
 pub record ReachState : Type 0 where
   pub nodes : NodesState
   pub memory : Memory
+  pub messages : MessageTable
+  pub ec : ℕ
   pub pd : ℕ
   pub is_thread : Bool
   pub consoles : ℕ
   pub room : ℕ
 
+-- the message words of the execution context that acts, where it is a thread
+abbrev pub own_of : ReachState → Option (List ℕ)
+own_of s = if s.is_thread then Some (message_in (entry (slice_get s.messages.items s.ec))) else None
+
 -- what the execution context that acts finds
 abbrev pub reached : ReachState → AddressSpace
-reached s = space_through s.nodes.delegations.list s.memory s.pd s.is_thread
+reached s = space_through s.nodes.delegations.list s.memory s.pd (own_of s)
 
 abbrev pub fetched : ReachState → ℕ → Option ℕ
 fetched s = (space (reached s)).fetch
@@ -51,6 +59,7 @@ pub record IsFound (list : List Derivation) (d : Derivation) : Type 0 where
 abbrev pub stored : Store → ReachState → ReachState
 stored store s = record s {
   memory = after_store (reached s) store s.memory;
+  messages = record s.messages { items = words_after_store (reached s) s.ec store s.messages.items };
   room = s.room + length s.memory.log - length (after_store (reached s) store s.memory).log;
 }
 

@@ -8,10 +8,11 @@ use Rattle.nova_model.specs.Edges.{acts, chase, cpu_in}
 use Rattle.nova_model.specs.State.{Contexts, KernelState, budget_at, context, with_ec}
 use Rattle.nova_model.specs.declared.budget.Budget.{Budget}
 use Rattle.nova_model.specs.declared.deed.Deed.{Deed}
-use Rattle.nova_model.specs.declared.deed.Deed.TheVariants.{Raises, Dies, Makes, Opens, Ends}
+use Rattle.nova_model.specs.declared.deed.Deed.TheVariants.{Rests, Steps, Makes, Gives, Skips, Finishes}
 use Rattle.nova_model.specs.declared.new_object.NewObject.{NewObject}
 use Rattle.nova_model.specs.declared.new_object.NewObject.TheVariants as new
 use Rattle.nova_model.specs.declared.root.Root.{Root}
+use Rattle.nova_model.specs.declared.transfer.Sequel.TheVariants.{Item}
 use Rattle.nova_ec.specs.Tables.{actor_in}
 use Rattle.nova_sched.specs.Queues.{Schedule, added, marked, padded, queued_at}
 use Rattle.nova_sched.specs.declared.queued.Queued.{Queued}
@@ -61,10 +62,6 @@ IsPlacedIn k (new.Ec pd cpu kind sp event) = cpu < k.cpus
 IsPlacedIn k (new.Sc ec cpu priority quantum) = processor_at (slice_get k.objects ec) ≡ Some cpu
 IsPlacedIn k other = Unit {0}
 
-abbrev pub IsPlacedBy : KernelState → Deed → Type 0
-IsPlacedBy k (Makes call target new) = IsPlacedIn k new
-IsPlacedBy k other = Unit {0}
-
 -- without the marks of one processor, where it is to be marked anew
 abbrev pub but_for : Option ℕ → Option Queued → Option Queued
 but_for None o = o
@@ -93,13 +90,15 @@ abbrev pub schedule_after : KernelState → ℕ → Schedule → Deed → Schedu
 schedule_after k ec s (Makes call target new) = joined (with_ec k.contexts ec (changed (context k ec) (Makes call target new))) s (length k.objects) new
 schedule_after k ec s other = s
 
--- an execution context that does this is in another state then, so that others may find turns or lose them
+-- An execution context that does this may be in another state then, and another one with it, so that others may find turns or lose them: a
+-- hypercall may be made anew by one that helps. It stays as it is where it rests, goes on, or gives a part of an item or one of several.
 abbrev pub is_moving : Deed → Bool
-is_moving (Raises reason q0 q1) = true
-is_moving (Dies reason q0) = true
-is_moving (Opens target domain) = true
-is_moving (Ends item children) = true
-is_moving other = false
+is_moving Rests = false
+is_moving Steps = false
+is_moving (Gives child cursor) = false
+is_moving (Skips reason place cursor) = false
+is_moving (Finishes item end words Item) = false
+is_moving other = true
 
 -- so that the marks of its processor are old then
 abbrev pub stale_by : ℕ → Deed → Option ℕ

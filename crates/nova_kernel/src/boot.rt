@@ -1,13 +1,14 @@
 ghost use Rattle.std.specs.Prelude.{true, ◌<◌, ◌≡◌, ◌+◌, ◌^◌, ◌≤◌, [], ◌∷◌, length, map, replicate, IfOk, OnOk, None, Some};
 ghost use Rattle.std.specs.List.{range_with_len};
 ghost use Rattle.nova_model.specs.Boot.{bare, root_objects, root_context, root_registers, ram_derivation, console_derivation, root_derivations};
-ghost use Rattle.nova_model.specs.State.{no_transfer};
+ghost use Rattle.nova_model.specs.State.{no_transfer, no_words};
 ghost use Rattle.nova_nodes.specs.NodesStates.{room};
 ghost use Rattle.nova_kernel.specs.Parts.{shown};
 ghost use Rattle.nova_kernel.specs.Schedules.{root_schedule};
 ghost use Rattle.nova_kernel.specs.Reach.{page_range, selector_range};
 
 use crate::creation::NO_TRANSFER;
+use crate::messages::Messages;
 use crate::parts::Parts;
 use crate::reach::Reach;
 use bitflags::Flags;
@@ -18,6 +19,7 @@ use nova_nodes::{ListIndex, Nodes};
 use nova_objects::Objects;
 use nova_range::{Range, Target};
 use nova_sched::Queues;
+use nova_utcb::Utcb;
 use rv_core::Regs;
 use std::alloc::{AllocError, Global};
 
@@ -95,6 +97,18 @@ fn root_transfers(alloc: Global) -> Result<Vec<Option<Transfer>>, AllocError>
     transfers.push(Some(NO_TRANSFER))?;
     transfers.push(None)?;
     Ok(transfers)
+}
+
+/// The message words of the root's thread, which are all 0.
+fn root_messages(alloc: Global) -> Result<Messages, AllocError>
+    ensures { IfOk result (λ m. m.items ≡ None ∷ Some no_words ∷ None ∷ []) }
+{
+    let mut messages = Messages::new(alloc);
+    messages.reserve(3)?;
+    messages.add(None);
+    messages.add(Some(Utcb::new()));
+    messages.add(None);
+    Ok(messages)
 }
 
 /// A table of what none of the root's objects has: portals' identifiers, or semaphores' counters.
@@ -243,21 +257,25 @@ impl Parts {
 }
 
 impl Reach {
-    /// Frames of zeros, and what the root holds.
+    /// Frames of zeros, what the root holds, and the message words of its thread.
     fn new(alloc: Global, ram: u8, consoles: u32, log_room: u64) -> Result<Reach, AllocError>
         requires ram { ram ≤ 14 }
         requires consoles { consoles ≤ 16 }
         ensures delegations { IfOk result (λ r. r.nodes.delegations ≡ record { list = root_derivations ram consoles; next = consoles + 4 }) }
         ensures memory { IfOk result (λ r. r.memory ≡ record { ram = replicate (2 ^ ram) (replicate 4096 0); log = [] }) }
+        ensures messages { IfOk result (λ r. r.messages.items ≡ None ∷ Some no_words ∷ None ∷ []) }
         ensures consoles { IfOk result (λ r. r.consoles ≡ consoles) }
         ensures room { IfOk result (λ r. r.room ≡ log_room) }
     {
         let frames = Frames::new(alloc, ram, consoles, log_room)?;
         let nodes = root_nodes(alloc, ram, consoles)?;
+        let messages = root_messages(alloc)?;
         Ok(Reach {
             frames,
             nodes,
+            messages,
             last: None,
+            ec: 1,
             pd: 0,
             is_thread: true,
         })

@@ -1,6 +1,6 @@
 ghost use Rattle.std.specs.Prelude.{◌≡◌, ◌^◌, ◌-◌, ◌<◌, ◌≤◌, length, true, false, OnOk, OnErr};
 ghost use Rattle.nova_model.specs.Capabilities.{is_held, rights_to, target_of};
-ghost use Rattle.nova_model.specs.Creation.{first_state, new_context, object_of, context_of, transfer_of, identifier_of, count_of, root_capability, with_object};
+ghost use Rattle.nova_model.specs.Creation.{first_state, new_context, object_of, context_of, transfer_of, identifier_of, count_of, root_capability, with_object, words_of};
 ghost use Rattle.nova_model.specs.Deeds.{is_making};
 ghost use Rattle.nova_sched.specs.Queues.{HasRoom as HasRoomIn};
 ghost use Rattle.nova_kernel.specs.Parts.{shown, AreTables, FitsQueues, HasQueue, HasRoom, HasRoomFor, IsNumbered};
@@ -10,6 +10,7 @@ use crate::parts::Parts;
 use crate::queues::enqueue;
 use nova_model::{Deed, EcKind, EcState, NewObject, Object, Rights, State, Transfer};
 use nova_range::Target;
+use nova_utcb::Utcb;
 use rv_core::Regs;
 use std::alloc::AllocError;
 
@@ -104,6 +105,19 @@ fn transfer_of(object: Object) -> Option<Transfer>
     }
 }
 
+/// The message words of a thread that is made, which are all 0; any other object has none.
+fn words_of(object: Object) -> Option<Utcb>
+    ensures { result ≡ words_of object }
+{
+    match object {
+        Object::Ec {
+            kind: EcKind::Local | EcKind::Global,
+            ..
+        } => Some(Utcb::new()),
+        _ => None,
+    }
+}
+
 /// The identifier of a portal that is made.
 fn identifier_of(new: NewObject) -> Option<u32>
     ensures { result ≡ identifier_of new }
@@ -135,6 +149,7 @@ impl Parts {
     {
         self.objects.reserve(1)?;
         self.reach.reserve(domain)?;
+        self.reach.reserve_message()?;
         self.contexts.reserve(1)?;
         self.transfers.reserve(1)?;
         self.identifiers.reserve(1)?;
@@ -218,6 +233,7 @@ impl Parts {
         self.reach.add_capability(pd, selector, rights, number);
         self.objects.add(object);
         self.contexts.add(context);
+        self.reach.add_message(words_of(object));
         self.transfers.push_reserved(transfer_of(object));
         self.identifiers.push_reserved(identifier_of(new));
         self.counts.push_reserved(count_of(new));

@@ -1,8 +1,8 @@
-ghost use Rattle.std.specs.Prelude.{◌≡◌, ◌^◌, ◌<◌, IfOk};
+ghost use Rattle.std.specs.Prelude.{◌≡◌, ◌^◌, ◌<◌, ℕ, IfOk, IsSome};
 ghost use Rattle.rv_model.specs.Registers.{reg};
 ghost use Rattle.nova_calls.specs.SoundCalls.{IsSoundCall};
 ghost use Rattle.nova_model.specs.Hypercalls.{is_built, is_virtual, maker, create_pd, create_ec, schedules, is_scheduled, create_sc, create_pt, create_sm, looked_up, ticks_in, row, asked, or_refuses, hypercall};
-ghost use Rattle.nova_model.specs.State.{budget_at};
+ghost use Rattle.nova_model.specs.State.{budget_at, context_at, context, pd_of};
 ghost use Rattle.nova_kernel.specs.Parts.{shown, IsCharged, IsCounted};
 ghost use Rattle.nova_kernel.specs.Acts.{IsAsked};
 
@@ -41,7 +41,9 @@ fn is_built(number: u32) -> bool
 {
     matches!(
         number,
-        numbers::CREATE_PD
+        numbers::CALL
+            | numbers::REPLY
+            | numbers::CREATE_PD
             | numbers::CREATE_EC
             | numbers::CREATE_SC
             | numbers::CREATE_PT
@@ -93,7 +95,7 @@ impl Parts {
         requires counted { IsCounted (shown self.now) }
         requires target { site.target < 2 ^ 20 }
         ensures row { result ≡ create_pd (shown self.now) site.domain site.target site.pd_selector first }
-        ensures fits { IfOk result (IsAsked (shown self.now)) }
+        ensures fits { (ec : ℕ) → IfOk result (IsAsked (shown self.now) ec) }
     {
         self.maker(site)?;
         Ok(match first {
@@ -120,7 +122,7 @@ impl Parts {
     ) -> Result<Deed, Status>
         requires { site.target < 2 ^ 20 }
         ensures row { result ≡ create_ec (shown self.now) site.domain site.target site.pd_selector cpu kind sp event }
-        ensures fits { IfOk result (IsAsked (shown self.now)) }
+        ensures fits { (ec : ℕ) → IfOk result (IsAsked (shown self.now) ec) }
     {
         if is_virtual(kind) {
             return Err(Status::BadPar);
@@ -165,7 +167,7 @@ impl Parts {
     ) -> Result<Deed, Status>
         requires { site.target < 2 ^ 20 }
         ensures row { result ≡ create_sc (shown self.now) site.domain site.target site.pd_selector ec_selector quantum priority }
-        ensures fits { IfOk result (IsAsked (shown self.now)) }
+        ensures fits { (ec : ℕ) → IfOk result (IsAsked (shown self.now) ec) }
     {
         self.maker(site)?;
         let ec = self.named(
@@ -193,7 +195,7 @@ impl Parts {
     fn create_pt(&self, site: Site, ec_selector: u32, mtd: u32, ip: u32) -> Result<Deed, Status>
         requires { site.target < 2 ^ 20 }
         ensures row { result ≡ create_pt (shown self.now) site.domain site.target site.pd_selector ec_selector mtd ip }
-        ensures fits { IfOk result (IsAsked (shown self.now)) }
+        ensures fits { (ec : ℕ) → IfOk result (IsAsked (shown self.now) ec) }
     {
         self.maker(site)?;
         let ec = self.named(site.domain, ObjectType::Local, Rights::BIND_PT, ec_selector)?;
@@ -208,7 +210,7 @@ impl Parts {
     fn create_sm(&self, site: Site, count: u32) -> Result<Deed, Status>
         requires { site.target < 2 ^ 20 }
         ensures row { result ≡ create_sm (shown self.now) site.domain site.target site.pd_selector count }
-        ensures fits { IfOk result (IsAsked (shown self.now)) }
+        ensures fits { (ec : ℕ) → IfOk result (IsAsked (shown self.now) ec) }
     {
         self.maker(site)?;
         Ok(Deed::Makes {
@@ -241,13 +243,16 @@ impl Parts {
     }
 
     /// The rows of the table of hypercalls. One that isn't built yet is `BadHyp`.
-    fn row(&self, domain: u32, call: Call) -> Result<Deed, Status>
+    fn row(&self, ec: u32, domain: u32, call: Call) -> Result<Deed, Status>
+        requires there { IsSome (context_at (shown self.now) ec) }
         requires counted { IsCounted (shown self.now) }
         requires sound { IsSoundCall call }
-        ensures row { result ≡ row (shown self.now) domain call }
-        ensures fits { IfOk result (IsAsked (shown self.now)) }
+        ensures row { result ≡ row (shown self.now) ec domain call }
+        ensures fits { IfOk result (IsAsked (shown self.now) ec) }
     {
         match call {
+            Call::Call { portal, flag } => self.call(ec, domain, portal, flag),
+            Call::Reply => self.reply(ec),
             Call::CreatePd { target, pd, first } => {
                 self.create_pd(Site::new(domain, target, pd), first)
             }
@@ -262,17 +267,17 @@ impl Parts {
             Call::CreateSc {
                 target,
                 pd,
-                ec,
+                ec: whose,
                 quantum,
                 priority,
-            } => self.create_sc(Site::new(domain, target, pd), ec, quantum, priority),
+            } => self.create_sc(Site::new(domain, target, pd), whose, quantum, priority),
             Call::CreatePt {
                 target,
                 pd,
-                ec,
+                ec: handler,
                 mtd,
                 ip,
-            } => self.create_pt(Site::new(domain, target, pd), ec, mtd.bits(), ip),
+            } => self.create_pt(Site::new(domain, target, pd), handler, mtd.bits(), ip),
             Call::CreateSm { target, pd, count } => {
                 self.create_sm(Site::new(domain, target, pd), count)
             }
@@ -280,8 +285,8 @@ impl Parts {
                 call: numbers::LOOKUP,
                 value: self.looked_up(domain, range),
             }),
-            Call::EcCtrl { ec } => {
-                let ec = self.named(domain, ObjectType::Ec, Rights::CONTROL, ec)?;
+            Call::EcCtrl { ec: whose } => {
+                let ec = self.named(domain, ObjectType::Ec, Rights::CONTROL, whose)?;
                 Ok(Deed::Recalls { ec })
             }
             Call::ScCtrl { sc } => {
@@ -300,26 +305,29 @@ impl Parts {
     }
 
     /// What the hypercall of a number asks for, in a protection domain.
-    fn asked(&self, domain: u32, number: u32, regs: &Regs) -> Result<Deed, Status>
+    fn asked(&self, ec: u32, domain: u32, number: u32, regs: &Regs) -> Result<Deed, Status>
+        requires there { IsSome (context_at (shown self.now) ec) }
         requires counted { IsCounted (shown self.now) }
         requires number { number ≡ reg regs.now 17 }
-        ensures asked { result ≡ asked (shown self.now) domain regs.now }
-        ensures fits { IfOk result (IsAsked (shown self.now)) }
+        ensures asked { result ≡ asked (shown self.now) ec domain regs.now }
+        ensures fits { IfOk result (IsAsked (shown self.now) ec) }
     {
         if !is_built(number) {
             return Err(Status::BadHyp);
         }
-        self.row(domain, read_call(regs)?)
+        self.row(ec, domain, read_call(regs)?)
     }
 
-    /// The deed of a hypercall: a refusal is one too.
-    pub fn hypercall(&self, domain: u32, regs: &Regs) -> Deed
-        requires { IsCounted (shown self.now) }
-        ensures deed { result ≡ hypercall (shown self.now) domain regs.now }
-        ensures fits { IsAsked (shown self.now) result }
+    /// The deed of the hypercall that an execution context's registers ask for: a refusal is one too.
+    pub fn hypercall(&self, ec: u32) -> Deed
+        requires there { IsSome (context_at (shown self.now) ec) }
+        requires counted { IsCounted (shown self.now) }
+        ensures deed { result ≡ hypercall (shown self.now) ec (pd_of (shown self.now) ec) (context (shown self.now) ec).regs }
+        ensures fits { IsAsked (shown self.now) ec result }
     {
+        let regs = &self.contexts.context(ec).regs;
         let number = regs.get(17);
-        match self.asked(domain, number, regs) {
+        match self.asked(ec, self.pd(ec), number, regs) {
             Ok(deed) => deed,
             Err(status) => Deed::Refuses {
                 call: number,

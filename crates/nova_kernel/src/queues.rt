@@ -6,7 +6,7 @@ ghost use Rattle.nova_kernel.specs.Schedules.{AreQueued, AreQueuedBut, joined, i
 use crate::choice::actor_of;
 use crate::parts::Parts;
 use nova_ec::Ecs;
-use nova_model::{Deed, NewObject};
+use nova_model::{Deed, NewObject, Sequel};
 use nova_objects::Objects;
 use nova_sched::Queues;
 
@@ -42,14 +42,21 @@ fn mark_all(queues: &mut Queues, objects: &Objects, contexts: &Ecs, cpu: u32)
     }
 }
 
-/// Whether an execution context that does this is in another state then, so that turns that others are
-/// given may find it or lose it.
+/// Whether an execution context that does this may be in another state then, so that turns that others
+/// are given may find it or lose it.
 pub fn is_moving(deed: Deed) -> bool
     ensures { result ≡ is_moving deed }
 {
-    matches!(
+    !matches!(
         deed,
-        Deed::Raises { .. } | Deed::Dies { .. } | Deed::Opens { .. } | Deed::Ends { .. }
+        Deed::Rests
+            | Deed::Steps
+            | Deed::Gives { .. }
+            | Deed::Skips { .. }
+            | Deed::Finishes {
+                after: Sequel::Item,
+                ..
+            }
     )
 }
 

@@ -1,35 +1,46 @@
-ghost use Rattle.std.specs.Prelude.{true, false, ℕ, ◌≡◌, ◌≤◌, ◌+◌, ◌-◌, ◌*◌, ◌/◌, ◌%◌, ◌^◌, ◌<◌, length, is_some, None, Some, IfSome, OnOk, OnErr, IfOk};
+ghost use Rattle.std.specs.Prelude.{true, false, ℕ, ◌≡◌, ◌≤◌, ◌+◌, ◌-◌, ◌*◌, ◌/◌, ◌%◌, ◌^◌, ◌<◌, [], ◌∷◌, ◌++◌, length, max, slice_get, slice_set, is_some, None, Some, IfSome, OnOk, OnErr, IfOk};
 ghost use Rattle.std.specs.List.{find};
-ghost use Rattle.nova_model.specs.AddressSpaces.{frame_for};
+ghost use Rattle.std.specs.Bool.{OnTrue, OnFalse};
+ghost use Rattle.nova_utcb.specs.Pages.{IsWidth};
+ghost use Rattle.nova_model.specs.AddressSpaces.{frame_for, words_at};
+ghost use Rattle.nova_model.specs.State.{entry, message_in};
 ghost use Rattle.nova_model.specs.Boot.{laid};
-ghost use Rattle.nova_model.specs.Delegations.{added, covers, derived, from_id, page_in, reach, with_id};
+ghost use Rattle.nova_model.specs.Delegations.{added, covers, derived, from_id, page_in, reach, read_right, with_id, write_right};
 ghost use Rattle.nova_range.specs.Rights.{IsRights};
 ghost use Rattle.nova_model.specs.Forest.{IsForest};
 ghost use Rattle.nova_model.specs.Transfers.{next_part, given, moved};
 ghost use Rattle.nova_nodes.specs.NodesStates.{IsPlaced, room};
 ghost use Rattle.nova_delegate.specs.Parts.{HasChild, IsUnderWay, MakesChild, done_of};
-ghost use Rattle.nova_kernel.specs.Reach.{never, reached, selector_range};
+ghost use Rattle.nova_kernel.specs.Reach.{never, loaded, reached, selector_range, stored, takes};
 
+use crate::messages::Messages;
 use bitflags::Flags;
 use nova_delegate::{PartDone, part};
 use nova_frames::Frames;
 use nova_model::{Derivation, Job, Kind, Page, Rights};
 use nova_nodes::{ListIndex, NoGuard, Nodes};
 use nova_range::Range;
+use nova_utcb::Utcb;
 use rv_core::bus::Bus;
 use std::alloc::AllocError;
 use std::marker::Model;
 
-/// The page of a thread that is its own, for its message words: no delegation leads there.
+/// The page of a thread that is its own, which begins with its message words: no delegation leads there.
 const OWN_PAGE: u32 = 0xfffff;
 
+/// How many bytes the message words of a thread have.
+const MESSAGE_SIZE: u32 = 512;
+
 /// What an instruction reaches: the frames, through the derivations of the protection domain of the
-/// execution context that acts. The derivation of the last page that was looked up is looked at first.
+/// execution context that acts, and the message words of one that is a thread. The derivation of the last
+/// page that was looked up is looked at first.
 #[derive(Drop)]
 pub struct Reach {
     pub frames: Frames,
     pub nodes: Nodes<ListIndex>,
+    pub messages: Messages,
     pub last: Option<Derivation>,
+    pub ec: u32,
     pub pd: u32,
     pub is_thread: bool,
 }
@@ -43,6 +54,8 @@ impl Model for Reach {
     ghost view = { λ r. record {
       nodes = r.nodes;
       memory = r.frames.memory;
+      messages = r.messages;
+      ec = r.ec;
       pd = r.pd;
       is_thread = r.is_thread;
       consoles = r.frames.consoles;
@@ -76,10 +89,11 @@ fn page_in(derivation: &Derivation, page: u32) -> Page
 }
 
 impl Reach {
-    /// The execution context that acts changes: its protection domain, and whether it is a thread.
-    pub fn enter(&mut self, pd: u32, is_thread: bool)
-        ensures { self.new ≡ record self.old { pd = pd; is_thread = is_thread } }
+    /// The execution context that acts changes, with its protection domain, and whether it is a thread.
+    pub fn enter(&mut self, ec: u32, pd: u32, is_thread: bool)
+        ensures { self.new ≡ record self.old { ec = ec; pd = pd; is_thread = is_thread } }
     {
+        self.ec = ec;
         self.pd = pd;
         self.is_thread = is_thread;
     }
@@ -97,13 +111,16 @@ impl Reach {
     pub fn copy(&self) -> Result<Reach, AllocError>
         ensures delegations { IfOk result (λ r. r.nodes.delegations ≡ self.now.nodes.delegations) }
         ensures memory { IfOk result (λ r. r.memory ≡ self.now.memory) }
+        ensures messages { IfOk result (λ r. r.messages.items ≡ self.now.messages.items) }
         ensures consoles { IfOk result (λ r. r.consoles ≡ self.now.consoles) }
         ensures log { IfOk result (λ r. r.room ≡ 0) }
     {
         Ok(Reach {
             frames: self.frames.copy()?,
             nodes: self.nodes.copy()?,
+            messages: self.messages.copy()?,
             last: self.last,
+            ec: self.ec,
             pd: self.pd,
             is_thread: self.is_thread,
         })
@@ -115,6 +132,7 @@ impl Reach {
         ensures room { OnOk result (0 < room self.new.nodes pd) }
         ensures delegations { self.new.nodes.delegations ≡ self.old.nodes.delegations }
         ensures memory { self.new.memory ≡ self.old.memory }
+        ensures messages { self.new.messages ≡ self.old.messages }
         ensures consoles { self.new.consoles ≡ self.old.consoles }
         ensures log { self.new.room ≡ self.old.room }
     {
@@ -126,6 +144,7 @@ impl Reach {
         ensures room { (other : ℕ) → room self.old.nodes other ≤ room self.new.nodes other }
         ensures delegations { self.new.nodes.delegations ≡ self.old.nodes.delegations }
         ensures memory { self.new.memory ≡ self.old.memory }
+        ensures messages { self.new.messages ≡ self.old.messages }
         ensures consoles { self.new.consoles ≡ self.old.consoles }
         ensures log { self.new.room ≡ self.old.room }
     {
@@ -142,6 +161,7 @@ impl Reach {
         requires object { object < 2 ^ 32 - 1 }
         ensures delegations { self.new.nodes.delegations ≡ added self.old.nodes.delegations (derived self.old.nodes.delegations.next None pd (selector_range selector) rights object) }
         ensures memory { self.new.memory ≡ self.old.memory }
+        ensures messages { self.new.messages ≡ self.old.messages }
         ensures consoles { self.new.consoles ≡ self.old.consoles }
         ensures log { self.new.room ≡ self.old.room }
     {
@@ -151,6 +171,38 @@ impl Reach {
             order: 0,
         };
         self.nodes.root(pd, place, rights, object);
+    }
+
+    /// Makes room for the message words of one more object. It refuses for want of memory alone, and then
+    /// nothing has changed.
+    pub fn reserve_message(&mut self) -> Result<(), AllocError>
+        ensures room { OnOk result (self.new ≡ record self.old { messages = record self.old.messages { spare = max self.old.messages.spare 1 } }) }
+        ensures refused { OnErr result (self.new ≡ self.old) }
+    {
+        self.messages.reserve(1)
+    }
+
+    /// Adds the message words of the next object in the room that was made: those of a thread, or nothing.
+    pub fn add_message(&mut self, words: Option<Utcb>)
+        requires { 0 < self.old.messages.spare }
+        ensures { self.new ≡ record self.old { messages = record { items = self.old.messages.items ++ words ∷ []; spare = self.old.messages.spare - 1 } } }
+    {
+        self.messages.add(words);
+    }
+
+    /// The message words of an execution context; they are all 0 where it has none.
+    pub fn message(&self, ec: u32) -> Utcb
+        ensures { result ≡ message_in (entry (slice_get self.now.messages.items ec)) }
+    {
+        self.messages.get(ec)
+    }
+
+    /// An execution context finds other message words.
+    pub fn set_message(&mut self, ec: u32, words: &Utcb)
+        requires { ec < length self.old.messages.items }
+        ensures { self.new ≡ record self.old { messages = record self.old.messages { items = slice_set self.old.messages.items ec (Some words.now) } } }
+    {
+        self.messages.set(ec, words);
     }
 
     /// The derivation that covers a place of a protection domain, or nothing.
@@ -188,6 +240,7 @@ impl Reach {
         ensures refused { OnErr result (self.new.nodes.delegations ≡ self.old.nodes.delegations) }
         ensures wanted { OnErr result (MakesChild (next_part never self.old.nodes.delegations job.old)) }
         ensures memory { self.new.memory ≡ self.old.memory }
+        ensures messages { self.new.messages ≡ self.old.messages }
         ensures consoles { self.new.consoles ≡ self.old.consoles }
         ensures log { self.new.room ≡ self.old.room }
     {
@@ -248,6 +301,43 @@ impl Reach {
             None
         }
     }
+
+    /// Whether an address is among the message words of the thread that acts.
+    fn is_own(&self, address: u32) -> bool
+        ensures { result ≡ is_some (words_at (reached self.now) address) }
+    {
+        self.is_thread && address / 4096 == OWN_PAGE && address % 4096 < MESSAGE_SIZE
+    }
+
+    /// A load that finds no frame: message words, or nothing.
+    fn load_own(&self, address: u32, width: u32) -> Option<u32>
+        requires frame { frame_for (reached self.now) read_right address ≡ None }
+        requires width { IsWidth width }
+        requires aligned { address % width ≡ 0 }
+        ensures number { result ≡ loaded self.now address width }
+        ensures fits { IfSome result (λ n. n < 2 ^ (8 * width)) }
+    {
+        if !self.is_own(address) {
+            return None;
+        }
+        Some(self.messages.load(self.ec, address % 4096, width))
+    }
+
+    /// A store that finds no frame: to message words, or refused.
+    fn store_own(&mut self, address: u32, width: u32, value: u32) -> bool
+        requires frame { frame_for (reached self.old) write_right address ≡ None }
+        requires width { IsWidth width }
+        requires aligned { address % width ≡ 0 }
+        ensures gives { result ≡ takes self.old address width }
+        ensures taken { OnTrue result (self.new ≡ stored (record { address = address; width = width; value = value }) self.old) }
+        ensures refused { OnFalse result (self.new ≡ self.old) }
+    {
+        if !self.is_own(address) {
+            return false;
+        }
+        self.messages.store(self.ec, address % 4096, width, value);
+        true
+    }
 }
 
 impl Bus for Reach {
@@ -274,13 +364,15 @@ impl Bus for Reach {
     }
 
     fn load(&mut self, addr: u32, width: u32) -> Option<u32> {
-        let frame = self.frame_for(Rights::READ, addr)?;
+        let Some(frame) = self.frame_for(Rights::READ, addr) else {
+            return self.load_own(addr, width);
+        };
         Some(self.frames.load(frame, addr % 4096, width))
     }
 
     fn store(&mut self, addr: u32, width: u32, value: u32) -> bool {
         let Some(frame) = self.frame_for(Rights::WRITE, addr) else {
-            return false;
+            return self.store_own(addr, width, value);
         };
         self.frames.store(frame, addr % 4096, width, value);
         true

@@ -137,3 +137,46 @@ fn a_copy_is_the_same(rt: HostRuntime) {
     assert_eq!(rt; copy.left(2), Some(10));
     assert_eq!(rt; copy.choose(0), Some(2));
 }
+
+/// The state of the root thread.
+fn root_state(kernel: &Kernel) -> Option<State> {
+    Some(kernel.ec(1)?.state)
+}
+
+#[test]
+fn a_thread_has_message_words_of_its_own(rt: HostRuntime) {
+    let words = [
+        0xffff_f2b7, // lui x5, 0xfffff
+        0x1234_5337, // lui x6, 0x12345
+        0x6783_0313, // addi x6, x6, 0x678
+        0x0062_a823, // sw x6, 16(x5)
+        0x0052_88a3, // sb x5, 17(x5): 0
+        0x0102_a503, // lw x10, 16(x5)
+        0x0122_d583, // lhu x11, 18(x5)
+        0x0002_8067, // jalr x0, 0(x5): nothing is fetched there
+    ];
+    let mut kernel = booted(rt.alloc(), &words).expect(&rt, "ample memory");
+    let all = answers(rt.alloc(), &mut kernel, 9).expect(&rt, "ample memory");
+    assert!(rt; all.is_empty());
+    let Some(root) = kernel.ec(1) else {
+        panic!(rt; "the root is there");
+    };
+    assert_eq!(rt; root.regs.get(10), 0x1234_0078);
+    assert_eq!(rt; root.regs.get(11), 0x1234);
+    let state = root_state(&kernel);
+    assert!(rt; matches!(state, Some(State::Exiting(2, 0xffff_f000, 0))));
+}
+
+#[test]
+fn nothing_lies_behind_message_words(rt: HostRuntime) {
+    let words = [
+        0xffff_f2b7, // lui x5, 0xfffff
+        0x1fc2_a603, // lw x12, 508(x5): the last one
+        0x2002_a603, // lw x12, 512(x5)
+    ];
+    let mut kernel = booted(rt.alloc(), &words).expect(&rt, "ample memory");
+    let all = answers(rt.alloc(), &mut kernel, 3).expect(&rt, "ample memory");
+    assert!(rt; all.is_empty());
+    let state = root_state(&kernel);
+    assert!(rt; matches!(state, Some(State::Exiting(3, 0xffff_f200, 4))));
+}

@@ -8,7 +8,7 @@ use Rattle.rv_model.specs.Step.{environment_call}
 use Rattle.rv_model.specs.Registers.{Registers, reg}
 use Rattle.nova_calls.specs.Hypercalls.{call_of, create_sc_row, is_selector, read_row, rows}
 use Rattle.nova_calls.specs.declared.call.Call.{Call}
-use Rattle.nova_calls.specs.declared.call.Call.TheVariants as call
+use Rattle.nova_calls.specs.declared.call.Call.TheVariants as asks
 use Rattle.nova_calls.specs.declared.numbers.TheConstants.{CREATE_EC, CREATE_SC, CREATE_PT, CREATE_SM, SC_CTRL}
 use Rattle.nova_calls.proofs.Numbered.{read_numbered}
 use Rattle.nova_objects.specs.declared.object.EcKind.{EcKind}
@@ -32,7 +32,7 @@ use Rattle.nova_model.specs.declared.new_object.NewObject.TheVariants as new
 use Rattle.nova_forest.proofs.Walk.{IfDone, deed_holds}
 use Rattle.nova_laws.specs.Asked.{AsksSchedule, HoldsAt, IsCalling, IsHeldAt}
 use Rattle.nova_laws.proofs.Holding.{IsNamedAt, free_from, from_free, named_at, named_is}
-use Rattle.nova_laws.proofs.Rows.{named_holds, unless_holds}
+use Rattle.nova_laws.proofs.Rows.{call_holds, named_holds, reply_holds, unless_holds}
 
 -- WITHOUT A SCHEDULING CONTEXT
 
@@ -114,14 +114,14 @@ record IsRead (r : Registers) (target pd its quantum priority : ℕ) : Type 0 wh
   turns : 1 ≤ quantum
   places : (target < 2 ^ 20) × (pd < 2 ^ 20) × (its < 2 ^ 20)
 
-row_read : (r : Registers) (target pd its quantum priority : ℕ) → reg r 17 ≡ CREATE_SC → create_sc_row r ≡ Some (call.CreateSc target pd its quantum priority) →
+row_read : (r : Registers) (target pd its quantum priority : ℕ) → reg r 17 ≡ CREATE_SC → create_sc_row r ≡ Some (asks.CreateSc target pd its quantum priority) →
     IsRead r target pd its quantum priority
 row_read r target pd its quantum priority number is =
     by_test (is_selector (reg r 10) && is_selector (reg r 11) && is_selector (reg r 12) && nat_le 1 (reg r 13 / 2 ^ 8)) refl is
   where
     by_test : (t : Bool) → (is_selector (reg r 10) && is_selector (reg r 11) && is_selector (reg r 12) && nat_le 1 (reg r 13 / 2 ^ 8)) ≡ t →
-        (if t then Some (call.CreateSc (reg r 10) (reg r 11) (reg r 12) (reg r 13 / 2 ^ 8) (reg r 13 % 2 ^ 8)) else None)
-        ≡ Some (call.CreateSc target pd its quantum priority) → IsRead r target pd its quantum priority
+        (if t then Some (asks.CreateSc (reg r 10) (reg r 11) (reg r 12) (reg r 13 / 2 ^ 8) (reg r 13 % 2 ^ 8)) else None)
+        ≡ Some (asks.CreateSc target pd its quantum priority) → IsRead r target pd its quantum priority
     by_test true fits same =
         let a : reg r 10 ≡ target = cc in
         let b : reg r 11 ≡ pd = cc in
@@ -144,15 +144,15 @@ read_some : (o : Option Call) (c : Call) → read_row (Some o) ≡ Ok c → o �
 read_some (Some x) c is = cc
 read_some None c is = absurd (cc)
 
-call_read : (r : Registers) (target pd its quantum priority : ℕ) → call_of r ≡ Ok (call.CreateSc target pd its quantum priority) → IsRead r target pd its quantum priority
+call_read : (r : Registers) (target pd its quantum priority : ℕ) → call_of r ≡ Ok (asks.CreateSc target pd its quantum priority) → IsRead r target pd its quantum priority
 unfolding call_of
 call_read r target pd its quantum priority is =
-    let number : reg r 17 ≡ CREATE_SC = sym (read_numbered r (call.CreateSc target pd its quantum priority) is) in
+    let number : reg r 17 ≡ CREATE_SC = sym (read_numbered r (asks.CreateSc target pd its quantum priority) is) in
     row_read r target pd its quantum priority number
-    (read_some (create_sc_row r) (call.CreateSc target pd its quantum priority) (sym (ap (λ (n : ℕ). read_row (slice_get (rows r) n)) number) ∙ is))
+    (read_some (create_sc_row r) (asks.CreateSc target pd its quantum priority) (sym (ap (λ (n : ℕ). read_row (slice_get (rows r) n)) number) ∙ is))
 
 row_fits : (r : Registers) → reg r 10 < 2 ^ 20 → reg r 11 < 2 ^ 20 → reg r 12 < 2 ^ 20 → 1 ≤ reg r 13 / 2 ^ 8 →
-    create_sc_row r ≡ Some (call.CreateSc (reg r 10) (reg r 11) (reg r 12) (reg r 13 / 2 ^ 8) (reg r 13 % 2 ^ 8))
+    create_sc_row r ≡ Some (asks.CreateSc (reg r 10) (reg r 11) (reg r 12) (reg r 13 / 2 ^ 8) (reg r 13 % 2 ^ 8))
 row_fits r target pd its turns =
     let a : nat_lt (reg r 10) (2 ^ 20) ≡ true = grind (arith, nat_tests) in
     let b : nat_lt (reg r 11) (2 ^ 20) ≡ true = grind (arith, nat_tests) in
@@ -250,27 +250,36 @@ portal_asked : (k : KernelState) (domain : ℕ) (r : Registers) (target mtd ip :
 portal_asked k domain r target mtd ip (Ok h) = tt
 portal_asked k domain r target mtd ip (Err status) = tt
 
-row_asked : (k : KernelState) (domain : ℕ) (r : Registers) (c : Call) → call_of r ≡ Ok c → IfDone (AsAsked k domain r) (row k domain c)
-row_asked k domain r (call.CreatePd target pd first) is =
+row_asked : (k : KernelState) (ec domain : ℕ) (r : Registers) (c : Call) → call_of r ≡ Ok c → IfDone (AsAsked k domain r) (row k ec domain c)
+row_asked k ec domain r (asks.Call portal flag) is = call_holds (AsAsked k domain r) k ec domain portal flag (λ pt sends. tt) (λ pt helps. tt)
+row_asked k ec domain r asks.Reply is = reply_holds (AsAsked k domain r) k ec (λ caller replies. tt)
+row_asked k ec domain r (asks.CreatePd target pd first) is =
     named_holds (AsAsked k domain r) (maker k domain target pd) (λ owner. new_domain k target first) (λ owner. opens_asked k domain r target first)
-row_asked k domain r (call.CreateEc target pd cpu kind sp event) is = unless_holds (AsAsked k domain r) (is_virtual kind) BadPar _
+row_asked k ec domain r (asks.CreateEc target pd cpu kind sp event) is = unless_holds (AsAsked k domain r) (is_virtual kind) BadPar _
     (makes_each (AsAsked k domain r) k domain CREATE_EC target pd _ (λ owner m. context_asked k domain r target owner cpu kind sp event (not (nat_lt cpu k.cpus))))
-row_asked k domain r (call.CreateSc target pd its quantum priority) is =
+row_asked k ec domain r (asks.CreateSc target pd its quantum priority) is =
     makes_each (AsAsked k domain r) k domain CREATE_SC target pd _
     (λ owner m. schedule_asked k domain r target pd its quantum priority owner (call_read r target pd its quantum priority is) (maker_is k domain target pd owner m))
-row_asked k domain r (call.CreatePt target pd handler mtd ip) is =
+row_asked k ec domain r (asks.CreatePt target pd handler mtd ip) is =
     makes_each (AsAsked k domain r) k domain CREATE_PT target pd _ (λ owner m. portal_asked k domain r target mtd.0 ip (named k domain is_local bind_portal_right handler))
-row_asked k domain r (call.CreateSm target pd count) is = makes_each (AsAsked k domain r) k domain CREATE_SM target pd (λ o. Ok (new.Sm count)) (λ owner m. tt)
-row_asked k domain r (call.EcCtrl other) is = named_holds (AsAsked k domain r) (named k domain is_ec control_right other) (λ n. Recalls n) (λ n. tt)
-row_asked k domain r (call.ScCtrl sc) is = named_holds (AsAsked k domain r) (named k domain is_sc control_right sc) (λ n. Tells SC_CTRL (ticks_in (budget_at k n))) (λ n. tt)
-row_asked k domain r (call.PtCtrl pt identifier) is = named_holds (AsAsked k domain r) (named k domain is_pt control_right pt) (λ n. Names n identifier) (λ n. tt)
-row_asked k domain r other is = tt
+row_asked k ec domain r (asks.CreateSm target pd count) is = makes_each (AsAsked k domain r) k domain CREATE_SM target pd (λ o. Ok (new.Sm count)) (λ owner m. tt)
+row_asked k ec domain r (asks.EcCtrl other) is = named_holds (AsAsked k domain r) (named k domain is_ec control_right other) (λ n. Recalls n) (λ n. tt)
+row_asked k ec domain r (asks.ScCtrl sc) is = named_holds (AsAsked k domain r) (named k domain is_sc control_right sc) (λ n. Tells SC_CTRL (ticks_in (budget_at k n))) (λ n. tt)
+row_asked k ec domain r (asks.PtCtrl pt identifier) is = named_holds (AsAsked k domain r) (named k domain is_pt control_right pt) (λ n. Names n identifier) (λ n. tt)
+row_asked k ec domain r other is = tt
 
 deed_asked : (k : KernelState) (ec : ℕ) → AsAsked k (pd_of k ec) (context k ec).regs (deed k ec)
 deed_asked k ec =
     deed_holds (AsAsked k (pd_of k ec) (context k ec).regs) k ec tt
-    (record { steps = tt; raises = λ reason q0 q1. tt; dies = λ reason q0. tt; refuses = λ number status. tt; rows = row_asked k (pd_of k ec) (context k ec).regs })
-    (λ pd state. record { gives = λ d x g. tt; skips = λ reason place cursor. tt; ends = tt })
+    (record {
+      steps = tt;
+      raises = λ reason q0 q1. tt;
+      dies = λ reason q0. tt;
+      refuses = λ number status. tt;
+      aborts = λ handler is. tt;
+      rows = λ asks c is. row_asked k ec (pd_of k ec) (context k ec).regs c is;
+    })
+    (record { gives = λ d x g. tt; skips = λ d reason place is. tt; finishes = λ v end answer present is. tt })
 
 pub made_as_asked : (k : KernelState) (caller number target ec cpu priority quantum : ℕ) → deed k caller ≡ Makes number target (new.Sc ec cpu priority quantum) →
     (number ≡ CREATE_SC) × AsksSchedule k (pd_of k caller) (context k caller).regs target ec cpu priority quantum
@@ -302,15 +311,16 @@ created k domain target pd its quantum priority owner ec creator free binder alo
         subst (λ (x : ℕ). and_then (unless (is_scheduled k x) BadCap (Ok (new.Sc x (processor_of k x) priority quantum))) (λ m. Ok (Makes CREATE_SC target m))
         ≡ Ok (Makes CREATE_SC target (new.Sc ec (processor_of k ec) priority quantum))) (sym same) (by_alone (is_scheduled k ec) alone)
 
-asked_is : (k : KernelState) (domain : ℕ) (r : Registers) (c : Call) (d : Deed) → reg r 17 ≡ CREATE_SC → call_of r ≡ Ok c → row k domain c ≡ Ok d → hypercall k domain r ≡ d
-asked_is k domain r c d number read gives =
+asked_is : (k : KernelState) (caller domain : ℕ) (r : Registers) (c : Call) (d : Deed) → reg r 17 ≡ CREATE_SC → call_of r ≡ Ok c → row k caller domain c ≡ Ok d →
+    hypercall k caller domain r ≡ d
+asked_is k caller domain r c d number read gives =
     ap (or_refuses (reg r 17)) (
-    ap (λ (n : ℕ). if is_built n then and_then (call_of r) (row k domain) else Err BadHyp) number
-    ∙ ap (λ (o : Result Call Status). and_then o (row k domain)) read ∙ gives)
+    ap (λ (n : ℕ). if is_built n then and_then (call_of r) (row k caller domain) else Err BadHyp) number
+    ∙ ap (λ (o : Result Call Status). and_then o (row k caller domain)) read ∙ gives)
 
-pub asked_is_made : (k : KernelState) (domain : ℕ) (r : Registers) (target ec cpu priority quantum : ℕ) → IsForest k.delegations →
-    AsksSchedule k domain r target ec cpu priority quantum → hypercall k domain r ≡ Makes CREATE_SC target (new.Sc ec cpu priority quantum)
-asked_is_made k domain r target ec cpu priority quantum forest a =
+pub asked_is_made : (k : KernelState) (caller domain : ℕ) (r : Registers) (target ec cpu priority quantum : ℕ) → IsForest k.delegations →
+    AsksSchedule k domain r target ec cpu priority quantum → hypercall k caller domain r ≡ Makes CREATE_SC target (new.Sc ec cpu priority quantum)
+asked_is_made k caller domain r target ec cpu priority quantum forest a =
     let word = a.word in
     let level = a.level in
     let turns = a.turns in
@@ -323,7 +333,7 @@ asked_is_made k domain r target ec cpu priority quantum forest a =
     (from_free k domain (reg r 10) (subst (λ (s : ℕ). (d : Derivation) → IsHeldAt k domain s d → ⊥) (sym a.place) a.free))
     (named_is k domain is_schedulable bind_scheduling_right (reg r 12) ec (Ec a.pd cpu a.kind a.event) forest a.binder a.object (schedulable_is a.pd cpu a.event a.kind a.schedulable))
     (none_scheduled k.objects ec a.alone) in
-    asked_is k domain r (call.CreateSc (reg r 10) (reg r 11) (reg r 12) (reg r 13 / 2 ^ 8) (reg r 13 % 2 ^ 8)) _ a.call (read_call r _ a.call read) makes
+    asked_is k caller domain r (asks.CreateSc (reg r 10) (reg r 11) (reg r 12) (reg r 13 / 2 ^ 8) (reg r 13 % 2 ^ 8)) _ a.call (read_call r _ a.call read) makes
     ∙ ap (λ (t : ℕ). Makes CREATE_SC t (new.Sc ec (processor_of k ec) (reg r 13 % 2 ^ 8) (reg r 13 / 2 ^ 8))) a.place
     ∙ ap (λ (c : ℕ). Makes CREATE_SC target (new.Sc ec c (reg r 13 % 2 ^ 8) (reg r 13 / 2 ^ 8))) here
     ∙ ap (λ (x : ℕ). Makes CREATE_SC target (new.Sc ec cpu x (reg r 13 / 2 ^ 8))) p
@@ -337,4 +347,4 @@ calling_makes k caller target ec cpu priority quantum forest calling a =
     ∙ ap (ready k caller) calling.recall
     ∙ ap (stepping k caller) calling.raises
     ∙ ap (signalled k caller environment_call calling.q0 calling.q1) calling.thread
-    ∙ asked_is_made k (pd_of k caller) (context k caller).regs target ec cpu priority quantum forest a
+    ∙ asked_is_made k caller (pd_of k caller) (context k caller).regs target ec cpu priority quantum forest a

@@ -1,9 +1,13 @@
--- What the charge of a turn leaves.
+-- What the charge of a turn leaves, and what the end of an item leaves.
 use Rattle.std.proofs.Common.{◌≡◌, ℕ, ◌+◌, refl}
 use Rattle.std.specs.Prelude.{◌≢◌, slice_get, Option, Some, None}
+use Rattle.nova_model.specs.Deeds.{followed, told}
 use Rattle.nova_model.specs.State.{KernelState, budget_at}
 use Rattle.nova_model.specs.Turn.{budget_after, charged, counted, is_spent, paid_by, quantum_in}
 use Rattle.nova_model.specs.declared.budget.Budget.{Budget}
+use Rattle.nova_model.specs.declared.transfer.ItemWords.{ItemWords}
+use Rattle.nova_model.specs.declared.transfer.Sequel.{Sequel}
+use Rattle.nova_model.specs.declared.transfer.Sequel.TheVariants as sequel
 use Rattle.nova_laws.proofs.Setting.{entry_other, get_other}
 
 pub record IsCharged (old new : KernelState) (cpu sc : ℕ) : Type 0 where
@@ -59,3 +63,18 @@ paid_leaves k cpu sc quantum (Some b) = record {
 pub charge_leaves : (k : KernelState) (cpu sc : ℕ) → IsCharged k (charged k cpu sc) cpu sc
 unfolding charged
 charge_leaves k cpu sc = paid_leaves k cpu sc (quantum_in (slice_get k.objects sc)) (budget_at k sc)
+
+-- the end of an item changes execution contexts and message words alone
+abbrev pub ended : KernelState → ℕ → Option ItemWords → Sequel → KernelState
+ended k item words follows = followed (told k item words) follows
+
+pub ended_is : (k : KernelState) (item : ℕ) (words : Option ItemWords) (follows : Sequel) →
+    ended k item words follows ≡ record k { contexts = (ended k item words follows).contexts; messages = (ended k item words follows).messages }
+ended_is k item None sequel.Item = refl
+ended_is k item None sequel.Opened = refl
+ended_is k item None sequel.Taken = refl
+ended_is k item None (sequel.Replied caller) = refl
+ended_is k item (Some w) sequel.Item = refl
+ended_is k item (Some w) sequel.Opened = refl
+ended_is k item (Some w) sequel.Taken = refl
+ended_is k item (Some w) (sequel.Replied caller) = refl

@@ -1,31 +1,41 @@
--- Who is chosen acts, and what acts without an edge does something.
-use Rattle.std.proofs.Common.{◌≡◌, ℕ, ◌+◌, List, [], ◌∷◌, refl, ap}
-use Rattle.std.specs.Prelude.{Bool, true, false, ◌&&◌, ◌==◌, ◌≢◌, cond, Option, Some, None, IfSome, option_map, option_and_then, if◌then◌else◌, Ok}
+-- Who is chosen acts, and what acts does something.
+use Rattle.std.proofs.Common.{◌≡◌, ℕ, ◌+◌, List, [], ◌∷◌, refl, ap, ◌∙◌, sym, subst}
+use Rattle.std.specs.Prelude.{Bool, true, false, not, ◌&&◌, ◌==◌, ◌≢◌, cond, Option, Some, None, IfSome, IsSome, option_map, option_and_then, if◌then◌else◌, Result, Ok, Err}
 use Rattle.std.specs.List.{AllByRecursion, find}
 use Rattle.nova_calls.specs.declared.call.Call.{Call}
 use Rattle.nova_calls.specs.declared.call.Call.TheVariants as call
 use Rattle.nova_calls.specs.declared.numbers.TheConstants.{CREATE_EC, CREATE_SC, CREATE_PT, CREATE_SM, SC_CTRL}
 use Rattle.nova_objects.specs.declared.object.Object.{Object}
 use Rattle.nova_objects.specs.declared.object.Object.TheVariants.{Sc}
+use Rattle.nova_range.specs.declared.range.Range.{Range}
+use Rattle.nova_range.specs.declared.rights.Rights.{Rights}
+use Rattle.nova_range.specs.declared.status.Status.{Status}
 use Rattle.nova_range.specs.declared.status.Status.TheVariants.{BadPar}
-use Rattle.nova_model.specs.Capabilities.{is_ec, is_sc, is_pt, named, control_right}
-use Rattle.nova_model.specs.Choice.{actor, candidate_with, candidate_of, candidates_from, candidates, choice, in_front}
+use Rattle.nova_utcb.specs.Messages.{has_counts}
+use Rattle.nova_model.specs.Calls.{admitted}
+use Rattle.nova_model.specs.Capabilities.{call_right, control_right, is_ec, is_sc, is_pt, named}
+use Rattle.nova_model.specs.Choice.{Candidate, actor, candidate_with, candidate_of, candidates_from, candidates, choice, in_front}
 use Rattle.nova_model.specs.Deeds.{deed, deed_in}
+use Rattle.nova_model.specs.Deliveries.{delivered, delivers, delivery, delivery_between, first_delivery, given_to, taken_from}
 use Rattle.nova_model.specs.Edges.{acts, acts_as, acts_by, edge_of, state_in}
-use Rattle.nova_model.specs.Hypercalls.{new_domain, maker, row, is_virtual, ticks_in}
-use Rattle.nova_model.specs.State.{KernelState, budget_at, context, context_in, ec_in, pd_of}
+use Rattle.nova_model.specs.Hypercalls.{and_then, called, handler_of, is_virtual, maker, new_domain, replied, row, ticks_in}
+use Rattle.nova_model.specs.State.{KernelState, budget_at, context, context_in, ec_in, is_local_thread, message, pd_of, transfer}
+use Rattle.nova_model.specs.declared.admit.Admit.{Admit}
+use Rattle.nova_model.specs.declared.admit.Admit.TheVariants as admit
 use Rattle.nova_model.specs.declared.budget.Budget.{Budget}
-use Rattle.nova_model.specs.Choice.{Candidate}
 use Rattle.nova_model.specs.declared.context.EcState.{EcState}
+use Rattle.nova_model.specs.declared.context.Mark.{Mark}
+use Rattle.nova_model.specs.declared.context.Mark.TheVariants as came
 use Rattle.nova_model.specs.declared.context.State.{State}
-use Rattle.nova_model.specs.declared.context.State.TheVariants.{Fresh, Ready, Parked, Calling, Helping, Exiting, Sending, Granting, Dead}
+use Rattle.nova_model.specs.declared.context.State.TheVariants.{Fresh, Ready, Parked, Calling, Helping, Exiting, Sending, Granting, Replying, Dead}
 use Rattle.nova_model.specs.declared.deed.Deed.{Deed}
 use Rattle.nova_model.specs.declared.deed.Deed.TheVariants.{Rests, Recalls, Tells, Names}
 use Rattle.nova_model.specs.declared.new_object.NewObject.TheVariants.{Sm}
-use Rattle.nova_range.specs.declared.range.Range.{Range}
-use Rattle.nova_range.specs.declared.rights.Rights.{Rights}
+use Rattle.nova_model.specs.declared.transfer.Delivery.{Delivery}
+use Rattle.nova_model.specs.declared.transfer.Sequel.TheVariants as sequel
+use Rattle.nova_laws.specs.Links.{IsWell, is_giving, is_sending}
 use Rattle.nova_laws.proofs.Rows.{makes_hold, named_holds, unless_holds}
-use Rattle.nova_forest.proofs.Walk.{IfDone, granting_holds, ready_holds}
+use Rattle.nova_forest.proofs.Walk.{Holds, IfDone, asking_holds, delivered_holds, is_asking, ready_holds}
 
 -- WHO IS CHOSEN ACTS
 
@@ -79,59 +89,95 @@ opens_does : (k : KernelState) (target : ℕ) (first : Option (Range × Rights))
 opens_does k target None = refl
 opens_does k target (Some range) = refl
 
-row_does : (k : KernelState) (domain : ℕ) (c : Call) → IfDone Does (row k domain c)
-row_does k domain (call.CreatePd target pd first) = named_holds Does (maker k domain target pd) (λ owner. new_domain k target first) (λ owner. opens_does k target first)
-row_does k domain (call.CreateEc target pd cpu kind sp event) = unless_holds Does (is_virtual kind) BadPar _ (makes_hold Does CREATE_EC target (λ made. refl) k domain pd _)
-row_does k domain (call.CreateSc target pd ec quantum priority) = makes_hold Does CREATE_SC target (λ made. refl) k domain pd _
-row_does k domain (call.CreatePt target pd ec mtd ip) = makes_hold Does CREATE_PT target (λ made. refl) k domain pd _
-row_does k domain (call.CreateSm target pd count) = makes_hold Does CREATE_SM target (λ made. refl) k domain pd (λ o. Ok (Sm count))
-row_does k domain (call.Lookup range) = refl
-row_does k domain (call.EcCtrl ec) = named_holds Does (named k domain is_ec control_right ec) (λ n. Recalls n) (λ n. refl)
-row_does k domain (call.ScCtrl sc) = named_holds Does (named k domain is_sc control_right sc) (λ n. Tells SC_CTRL (ticks_in (budget_at k n))) (λ n. refl)
-row_does k domain (call.PtCtrl pt identifier) = named_holds Does (named k domain is_pt control_right pt) (λ n. Names n identifier) (λ n. refl)
-row_does k domain other = tt
+called_does : (k : KernelState) (ec : ℕ) (flag : Bool) (r : Result ℕ Status) →
+    IfDone Does (and_then r (λ pt. called k ec pt (admitted k.contexts ec (handler_of k pt) flag)))
+called_does k ec flag (Err status) = tt
+called_does k ec flag (Ok pt) = by_admit (admitted k.contexts ec (handler_of k pt) flag)
+  where
+    by_admit : (a : Admit) → IfDone Does (called k ec pt a)
+    by_admit (admit.Refused status) = tt
+    by_admit admit.Help = refl
+    by_admit admit.Send = refl
 
--- it takes the items of a call
-abbrev pub is_taking : State → Bool
-is_taking (Granting None) = true
-is_taking other = false
+replied_does : (k : KernelState) (ec : ℕ) (o : Option (ℕ × Mark)) → IfDone Does (replied k ec o)
+replied_does k ec (Some (caller, came.Call)) = refl
+replied_does k ec (Some (caller, came.Exit)) = tt
+replied_does k ec None = tt
 
--- it has no edge, and takes no items: no call leads to either yet
-abbrev pub IsAlone : State → Type 0
-IsAlone s = (edge_of s ≡ None) × (is_taking s ≡ false)
+row_does : (k : KernelState) (ec domain : ℕ) (c : Call) → IfDone Does (row k ec domain c)
+row_does k ec domain (call.Call portal flag) =
+    unless_holds Does (not (has_counts (message k ec))) BadPar _ (called_does k ec flag (named k domain is_pt call_right portal))
+row_does k ec domain call.Reply =
+    unless_holds Does (not (is_local_thread k ec)) BadPar _ (unless_holds Does (not (has_counts (message k ec))) BadPar _ (replied_does k ec (context k ec).caller))
+row_does k ec domain (call.CreatePd target pd first) = named_holds Does (maker k domain target pd) (λ owner. new_domain k target first) (λ owner. opens_does k target first)
+row_does k ec domain (call.CreateEc target pd cpu kind sp event) = unless_holds Does (is_virtual kind) BadPar _ (makes_hold Does CREATE_EC target (λ made. refl) k domain pd _)
+row_does k ec domain (call.CreateSc target pd whose quantum priority) = makes_hold Does CREATE_SC target (λ made. refl) k domain pd _
+row_does k ec domain (call.CreatePt target pd handler mtd ip) = makes_hold Does CREATE_PT target (λ made. refl) k domain pd _
+row_does k ec domain (call.CreateSm target pd count) = makes_hold Does CREATE_SM target (λ made. refl) k domain pd (λ o. Ok (Sm count))
+row_does k ec domain (call.Lookup range) = refl
+row_does k ec domain (call.EcCtrl whose) = named_holds Does (named k domain is_ec control_right whose) (λ n. Recalls n) (λ n. refl)
+row_does k ec domain (call.ScCtrl sc) = named_holds Does (named k domain is_sc control_right sc) (λ n. Tells SC_CTRL (ticks_in (budget_at k n))) (λ n. refl)
+row_does k ec domain (call.PtCtrl pt identifier) = named_holds Does (named k domain is_pt control_right pt) (λ n. Names n identifier) (λ n. refl)
+row_does k ec domain other = tt
 
-abbrev pub Alone : Option EcState → Type 0
-Alone None = Unit {0}
-Alone (Some x) = IsAlone x.state
+own_does : (k : KernelState) (ec : ℕ) → Holds Does k ec
+own_does k ec = record {
+  steps = refl;
+  raises = λ reason q0 q1. refl;
+  dies = λ reason q0. refl;
+  refuses = λ number status. refl;
+  aborts = λ handler is. refl;
+  rows = λ asks c read. row_does k ec (pd_of k ec) c;
+}
 
-state_does : (k : KernelState) (ec : ℕ) (s : State) → acts_by s (option_and_then (state_in k.contexts) (edge_of s)) ≡ true → IsAlone s → Does (deed_in k ec s)
-state_does k ec Fresh acts alone = refl
-state_does k ec Ready acts alone = ready_holds Does k ec (context k ec).recall
-    (record { steps = refl; raises = λ reason q0 q1. refl; dies = λ reason q0. refl; refuses = λ number status. refl; rows = λ c read. row_does k (pd_of k ec) c })
-state_does k ec Parked acts alone = absurd (cc)
-state_does k ec (Calling h) acts alone = let free = alone.0 in absurd (cc)
-state_does k ec (Helping h) acts alone = let free = alone.0 in absurd (cc)
-state_does k ec (Exiting reason q0 q1) acts alone = refl
-state_does k ec (Sending reason q0 q1 h) acts alone = let free = alone.0 in absurd (cc)
-state_does k ec (Granting None) acts alone = let free = alone.1 in absurd (cc)
-state_does k ec (Granting (Some new)) acts alone = granting_holds Does k ec new (record { gives = λ d x g. refl; skips = λ reason place cursor. refl; ends = refl })
-state_does k ec Dead acts alone = absurd (cc)
+item_does : (k : KernelState) (ec : ℕ) (v : Delivery) → delivery k ec (context k ec).state ≡ Some v → Does (delivered k v (transfer k ec))
+item_does k ec v is =
+    delivered_holds Does k ec v is (record { gives = λ d x g. refl; skips = λ d reason place g. refl; finishes = λ v end answer is ends. refl })
 
-entry_does : (k : KernelState) (ec : ℕ) (o : Option EcState) → acts_as k.contexts (option_map (λ x. x.state) o) ≡ true → Alone o → Does (deed_in k ec (context_in o).state)
-entry_does k ec None acts free = absurd (cc)
-entry_does k ec (Some x) acts free = state_does k ec x.state acts free
+taking_does : (k : KernelState) (ec : ℕ) (o : Option (ℕ × Mark)) → (context k ec).state ≡ Granting None → (context k ec).caller ≡ o → IsSome o →
+    Does (delivers k (transfer k ec) (taken_from k ec (transfer k ec).item o))
+taking_does k ec None is keeps some = absurd (cc)
+taking_does k ec (Some (caller, mark)) is keeps some =
+    item_does k ec (delivery_between k caller ec (transfer k ec).item sequel.Taken) (ap (delivery k ec) is ∙ ap (taken_from k ec (transfer k ec).item) keeps)
 
-deed_does : (k : KernelState) (ec : ℕ) → acts k.contexts ec ≡ true → Alone (ec_in k.contexts ec) → Does (deed k ec)
+replying_does : (k : KernelState) (ec : ℕ) (o : Option (ℕ × Mark)) → (context k ec).state ≡ Replying → (context k ec).caller ≡ o → IsSome o →
+    Does (delivers k (transfer k ec) (given_to k ec (transfer k ec).item o))
+replying_does k ec None is keeps some = absurd (cc)
+replying_does k ec (Some (caller, mark)) is keeps some =
+    item_does k ec (delivery_between k ec caller (transfer k ec).item (sequel.Replied caller)) (ap (delivery k ec) is ∙ ap (given_to k ec (transfer k ec).item) keeps)
+
+state_does : (k : KernelState) (ec : ℕ) (s : State) → (context k ec).state ≡ s → acts_by s (option_and_then (state_in k.contexts) (edge_of s)) ≡ true →
+    (is_giving (Some s) ≡ true → IsSome (context k ec).caller) → is_sending (Some s) ≡ false → Does (deed_in k ec s)
+state_does k ec Fresh is acts giving sends = refl
+state_does k ec Ready is acts giving sends = ready_holds Does k ec (context k ec).recall (ap is_asking is) (own_does k ec)
+state_does k ec Parked is acts giving sends = absurd (cc)
+state_does k ec (Calling h) is acts giving sends = refl
+state_does k ec (Helping h) is acts giving sends = asking_holds Does k ec (ap is_asking is) (own_does k ec)
+state_does k ec (Exiting reason q0 q1) is acts giving sends = refl
+state_does k ec (Sending reason q0 q1 h) is acts giving sends = absurd (cc)
+state_does k ec (Granting None) is acts giving sends = taking_does k ec (context k ec).caller is refl (giving refl)
+state_does k ec (Granting (Some new)) is acts giving sends = item_does k ec (first_delivery k ec new) (ap (delivery k ec) is)
+state_does k ec Replying is acts giving sends = replying_does k ec (context k ec).caller is refl (giving refl)
+state_does k ec Dead is acts giving sends = absurd (cc)
+
+deed_does : (k : KernelState) (ec : ℕ) (is_local : Bool) → acts k.contexts ec ≡ true → IsWell is_local (ec_in k.contexts ec) → Does (deed k ec)
 unfolding deed
-deed_does k ec acts free = entry_does k ec (ec_in k.contexts ec) acts free
+deed_does k ec is_local does well = by_entry (ec_in k.contexts ec) refl does well
+  where
+    by_entry : (o : Option EcState) → ec_in k.contexts ec ≡ o → acts_as k.contexts (option_map (λ (x : EcState). x.state) o) ≡ true → IsWell is_local o →
+        Does (deed_in k ec (context_in o).state)
+    by_entry None at able its = absurd (cc)
+    by_entry (Some x) at able its =
+        let same : context k ec ≡ x = ap context_in at in
+        state_does k ec x.state (ap (λ (y : EcState). y.state) same) able (λ gives. subst (λ (y : EcState). IsSome y.caller) (sym same) (its.giving gives)) its.sends
 
 something : (d : Deed) → Does d → d ≢ Rests
 something d does is = let rests = ap is_rest is in absurd (cc)
 
--- who is chosen does something, where all are alone
-pub chosen_does : (k : KernelState) (cpu : ℕ) → ((e : ℕ) → Alone (ec_in k.contexts e)) → IfSome (choice k cpu) (λ c. deed k c.actor ≢ Rests)
-chosen_does k cpu free = by_choice (choice k cpu) (choice_acts k cpu)
+-- who is chosen does something
+pub chosen_does : (k : KernelState) (cpu : ℕ) (is_local : ℕ → Bool) → ((e : ℕ) → IsWell (is_local e) (ec_in k.contexts e)) → IfSome (choice k cpu) (λ c. deed k c.actor ≢ Rests)
+chosen_does k cpu is_local well = by_choice (choice k cpu) (choice_acts k cpu)
   where
     by_choice : (o : Option Candidate) → IfSome o (Acts k) → IfSome o (λ c. deed k c.actor ≢ Rests)
     by_choice None h = tt
-    by_choice (Some c) h = something (deed k c.actor) (deed_does k c.actor h (free c.actor))
+    by_choice (Some c) h = something (deed k c.actor) (deed_does k c.actor (is_local c.actor) h (well c.actor))

@@ -1,132 +1,46 @@
--- Children that creators count: what holds at any time, and what keeps it.
-use Rattle.std.proofs.Common.{◌≡◌, ℕ, zero, suc, ◌+◌, ◌<◌, ◌≤◌, List, [], ◌∷◌, ◌++◌, length, filter, refl, ap, ◌∙◌, sym, inl, inr, arith}
-use Rattle.std.specs.Prelude.{◌≢◌, ◌⊎◌, ◌==◌, ◌&&◌, Bool, true, false, is_some, slice_get, slice_set, if◌then◌else◌, Option, Some, None, option_map}
-use Rattle.std.specs.List.{AllByRecursion}
-use Rattle.nova_objects.specs.declared.object.EcKind.TheVariants.{Local, Global, Vcpu}
-use Rattle.nova_model.specs.Creation.{context_of}
-use Rattle.nova_model.specs.Deeds.{recalled}
-use Rattle.nova_model.specs.Runs.{after}
-use Rattle.nova_model.specs.State.{KernelState, Contexts, ec_in, entry, no_transfer, transfer_in, with_ec}
+-- The children that a present item made are counted: what each deed makes of the count, the charge, and the fold over turns.
+use Rattle.std.proofs.Common.{◌≡◌, ℕ, zero, suc, List, [], ◌∷◌, ◌++◌, refl, ap, ◌∙◌, sym, subst, arith}
+use Rattle.std.specs.Prelude.{◌≢◌, ◌==◌, Bool, true, false, is_some, if◌then◌else◌, slice_get, slice_set, Option, Some, None, IfSome, IsSome, option_map}
+use Rattle.rv_model.specs.Step.{Once, Raised, Went}
+use Rattle.nova_model.specs.Boot.{Scenario, Image, boot, bare, with_image, with_images}
+use Rattle.nova_model.specs.Choice.{Candidate, choice, in_front}
+use Rattle.nova_model.specs.Creation.{object_of, transfer_of}
+use Rattle.nova_model.specs.Deeds.{changed, deed, done, gave, instruction, item_sign, reason_number, recalled, sign_of, skipped, stepped, transfer_after, with_context}
+use Rattle.nova_model.specs.Deliveries.{delivery, taken_from, given_to}
+use Rattle.nova_model.specs.Runs.{after, run, trace}
+use Rattle.nova_model.specs.State.{KernelState, context, context_in, context_at, ec_in, entry, no_transfer, transfer, transfer_in}
+use Rattle.nova_model.specs.Turn.{charged, event_of, state_after, turn, turn_by}
 use Rattle.nova_model.specs.declared.context.EcState.{EcState}
+use Rattle.nova_model.specs.declared.context.Mark.{Mark}
 use Rattle.nova_model.specs.declared.context.State.{State}
-use Rattle.nova_model.specs.declared.context.State.TheVariants.{Fresh, Ready, Parked, Calling, Helping, Exiting, Sending, Granting, Dead}
-use Rattle.nova_model.specs.declared.delegation.Derivation.{Derivation}
-use Rattle.nova_model.specs.declared.new_object.NewObject.{NewObject}
-use Rattle.nova_model.specs.declared.new_object.NewObject.TheVariants as new
+use Rattle.nova_model.specs.declared.context.State.TheVariants.{Granting, Replying}
+use Rattle.nova_model.specs.declared.deed.Deed.{Deed}
+use Rattle.nova_model.specs.declared.deed.Deed.TheVariants.{Rests, Steps, Makes, Recalls, Opens, Gives, Skips, Finishes, Calls, Replies}
+use Rattle.nova_model.specs.declared.event.Event.{Event}
+use Rattle.nova_model.specs.declared.event.EventKind.TheVariants.{Skip}
+use Rattle.nova_model.specs.declared.transfer.ItemEnd.{ItemEnd}
+use Rattle.nova_model.specs.declared.transfer.ItemWords.{ItemWords}
+use Rattle.nova_model.specs.declared.transfer.ItemEnd.TheVariants.{Given, Skipped, Translated}
+use Rattle.nova_model.specs.declared.transfer.Reason.{Reason}
+use Rattle.nova_model.specs.declared.transfer.Reason.TheVariants as reason
+use Rattle.nova_model.specs.declared.transfer.Sequel.{Sequel}
+use Rattle.nova_model.specs.declared.transfer.Sequel.TheVariants as sequel
+use Rattle.nova_model.specs.declared.transfer.Skip.TheVariants as skip
 use Rattle.nova_model.specs.declared.transfer.Transfer.{Transfer}
-use Rattle.nova_laws.specs.Giving.{is_given_to, is_giving}
-use Rattle.nova_laws.proofs.Giving.{more_at, set_at}
-
--- HOW MANY WERE GIVEN
-
-abbrev pub count : ℕ → List Derivation → ℕ
-count domain list = length (filter (is_given_to domain) list)
-
-count_other : (domain : ℕ) (list : List Derivation) (x : Derivation) → is_given_to domain x ≡ false → count domain (list ++ x ∷ []) ≡ count domain list
-count_other domain [] x other = rw other refl
-count_other domain (y ∷ list) x other = by_test (is_given_to domain y) (count_other domain list x other)
-  where
-    by_test : (t : Bool) → length (filter (is_given_to domain) (list ++ x ∷ [])) ≡ length (filter (is_given_to domain) list) →
-        length (if t then y ∷ filter (is_given_to domain) (list ++ x ∷ []) else filter (is_given_to domain) (list ++ x ∷ []))
-        ≡ length (if t then y ∷ filter (is_given_to domain) list else filter (is_given_to domain) list)
-    by_test true h = ap suc h
-    by_test false h = h
-
-count_more : (domain : ℕ) (list : List Derivation) (x : Derivation) → is_given_to domain x ≡ true → count domain (list ++ x ∷ []) ≡ count domain list + 1
-count_more domain [] x its = rw its refl
-count_more domain (y ∷ list) x its = by_test (is_given_to domain y) (count_more domain list x its)
-  where
-    by_test : (t : Bool) → length (filter (is_given_to domain) (list ++ x ∷ [])) ≡ length (filter (is_given_to domain) list) + 1 →
-        length (if t then y ∷ filter (is_given_to domain) (list ++ x ∷ []) else filter (is_given_to domain) (list ++ x ∷ []))
-        ≡ length (if t then y ∷ filter (is_given_to domain) list else filter (is_given_to domain) list) + 1
-    by_test true h = omega (arith, h)
-    by_test false h = h
-
--- what was given went to a protection domain below n
-abbrev pub GoesBelow : ℕ → Derivation → Type 0
-GoesBelow n d = is_some d.parent ≡ true → d.pd < n
-
-not_given : (n : ℕ) (d : Derivation) (parent : Bool) → is_some d.parent ≡ parent → GoesBelow n d → is_given_to n d ≡ false
-not_given n d true is h = let below = h is in grind (arith, below)
-not_given n d false is h = rw is (by_test (d.pd == n))
-  where
-    by_test : (t : Bool) → (t && false) ≡ false
-    by_test true = refl
-    by_test false = refl
-
-count_none : (n : ℕ) (list : List Derivation) → AllByRecursion (GoesBelow n) list → count n list ≡ 0
-count_none n [] h = refl
-count_none n (d ∷ list) h =
-    ap (λ (t : Bool). length (if t then d ∷ filter (is_given_to n) list else filter (is_given_to n) list)) (not_given n d (is_some d.parent) refl h.0)
-    ∙ count_none n list h.1
-
-below_more : (n m : ℕ) (list : List Derivation) → n ≤ m → AllByRecursion (GoesBelow n) list → AllByRecursion (GoesBelow m) list
-below_more n m [] le h = tt
-below_more n m (d ∷ list) le h = ((λ is. let below = h.0 is in omega (arith, below, le)), below_more n m list le h.1)
-
-below_joins : (n : ℕ) (list : List Derivation) (x : Derivation) → GoesBelow n x → AllByRecursion (GoesBelow n) list → AllByRecursion (GoesBelow n) (list ++ x ∷ [])
-below_joins n [] x last h = (last, tt)
-below_joins n (d ∷ list) x last h = (h.0, below_joins n list x last h.1)
-
-pub length_more : {T : Type 0} (xs : List T) (x : T) → length (xs ++ x ∷ []) ≡ length xs + 1
-length_more [] x = refl
-length_more (y ∷ xs) x = let more = length_more xs x in omega (arith, more)
-
--- WHO GIVES TO WHOM
-
-abbrev pub receiver_in : State → Option ℕ
-receiver_in (Granting new) = new
-receiver_in other = None
-
-abbrev pub receiver : Option EcState → Option ℕ
-receiver None = None
-receiver (Some x) = receiver_in x.state
-
-pub none_given : (s : State) → is_giving s ≡ false → receiver_in s ≡ None
-none_given Fresh rests = refl
-none_given Ready rests = refl
-none_given Parked rests = refl
-none_given (Calling handler) rests = refl
-none_given (Helping handler) rests = refl
-none_given (Exiting reason q0 q1) rests = refl
-none_given (Sending reason q0 q1 handler) rests = refl
-none_given (Granting new) rests = absurd (cc)
-none_given Dead rests = refl
-
--- whoever gives after something gave before
-abbrev pub IsLess : Contexts → Contexts → Type 0
-IsLess after before = (e domain : ℕ) → receiver (ec_in after e) ≡ Some domain → receiver (ec_in before e) ≡ Some domain
-
-pub less_set : (cs : Contexts) (ec : ℕ) (x : EcState) → is_giving x.state ≡ false → IsLess (with_ec cs ec x) cs
-less_set cs ec x rests e domain =
-    set_at (λ o. receiver o ≡ Some domain → receiver (ec_in cs e) ≡ Some domain) cs ec e x (λ is. is)
-    (λ same is. let none = none_given x.state rests in absurd (cc))
-
-pub less_more : (cs : Contexts) (o : Option EcState) → receiver o ≡ None → IsLess (cs ++ o ∷ []) cs
-less_more cs o none e domain =
-    more_at (λ y. receiver y ≡ Some domain → receiver (ec_in cs e) ≡ Some domain) cs o e (λ is. is) (λ old is. absurd (cc))
-
-pub less_recalled : (k : KernelState) (other : ℕ) (o : Option EcState) → ec_in k.contexts other ≡ o → IsLess (recalled k other o).contexts k.contexts
-less_recalled k other None is e domain = λ h. h
-less_recalled k other (Some x) is e domain =
-    set_at (λ o. receiver o ≡ Some domain → receiver (ec_in k.contexts e) ≡ Some domain) k.contexts other e (record x { recall = true }) (λ h. h)
-    (λ same h. ap (λ (n : ℕ). receiver (ec_in k.contexts n)) same ∙ ap receiver is ∙ h)
-
-pub new_none : (n : ℕ) (made : NewObject) → receiver (context_of n made) ≡ None
-new_none n new.Pd = refl
-new_none n (new.Ec pd cpu Local sp event) = refl
-new_none n (new.Ec pd cpu Global sp event) = refl
-new_none n (new.Ec pd cpu Vcpu sp event) = refl
-new_none n (new.Sc ec cpu priority quantum) = refl
-new_none n (new.Pt ec mtd ip) = refl
-new_none n (new.Sm count) = refl
+use Rattle.nova_laws.specs.Giving.{counted_after, counted_by}
+use Rattle.nova_laws.proofs.Charges.{charge_leaves}
+use Rattle.nova_laws.proofs.Chosen.{Acts, choice_acts}
+use Rattle.nova_laws.proofs.Fitting.{Fits, after_fits, boot_fits, entry_acts, gives_there}
+use Rattle.nova_laws.proofs.Giving.{IsFor, IsForEntry, Sound, after_for, boot_for, entry_rests, more_at, new_transfer, set_at}
+use Rattle.nova_laws.proofs.Opening.{Wants, deed_wants}
+use Rattle.nova_laws.proofs.Awaiting.{Serves, after_serves, boot_serves}
 
 -- HOW FAR THEY ARE
 
 abbrev pub at : List (Option Transfer) → ℕ → Transfer
 at ts e = transfer_in (entry (slice_get ts e))
 
-pub at_more : (ts : List (Option Transfer)) (t : Option Transfer) (e : ℕ) → transfer_in t ≡ no_transfer → at (ts ++ t ∷ []) e ≡ at ts e
+at_more : (ts : List (Option Transfer)) (t : Option Transfer) (e : ℕ) → transfer_in t ≡ no_transfer → at (ts ++ t ∷ []) e ≡ at ts e
 at_more ts t e none = more_at (λ y. transfer_in y ≡ at ts e) ts t e refl (λ old. none ∙ old)
 
 pub at_other : (ts : List (Option Transfer)) (ec e : ℕ) (t : Transfer) → e ≢ ec → at (slice_set ts ec (Some t)) e ≡ at ts e
@@ -137,121 +51,183 @@ at_itself [] ec t there = absurd (cc)
 at_itself (x ∷ ts) zero t there = refl
 at_itself (x ∷ ts) (suc ec) t there = at_itself ts ec t there
 
-pub record IsSameCount (t u : Transfer) : Type 0 where
-  pub item : t.item ≡ u.item
-  pub children : t.children ≡ u.children
+-- A DEED LEAVES ALL OTHERS
 
-pub same_count : (t u : Transfer) → t ≡ u → IsSameCount t u
-same_count t u same = record { item = ap (λ (x : Transfer). x.item) same; children = ap (λ (x : Transfer). x.children) same }
+stepped_at : (k : KernelState) (ec e : ℕ) (o : Once) → at (stepped k ec o).transfers e ≡ at k.transfers e
+stepped_at k ec e (Raised reason q0 q1) = refl
+stepped_at k ec e (Went regs store) = refl
 
--- WHAT HOLDS AT ANY TIME
+recalled_at : (k : KernelState) (other e : ℕ) (o : Option EcState) → at (recalled k other o).transfers e ≡ at k.transfers e
+recalled_at k other e None = refl
+recalled_at k other e (Some x) = refl
 
--- whoever gives is alone in giving to this protection domain, and counts what it was given; and what is given goes to one that is there
-pub record Counts (cs : Contexts) (ts : List (Option Transfer)) (list : List Derivation) (n : ℕ) : Type 0 where
-  pub item : (e domain : ℕ) → receiver (ec_in cs e) ≡ Some domain → (at ts e).item ≡ 0
-  pub children : (e domain : ℕ) → receiver (ec_in cs e) ≡ Some domain → (at ts e).children ≡ count domain list
-  pub alone : (e f domain : ℕ) → receiver (ec_in cs e) ≡ Some domain → receiver (ec_in cs f) ≡ Some domain → e ≡ f
-  pub there : (e domain : ℕ) → receiver (ec_in cs e) ≡ Some domain → domain < n
-  pub below : AllByRecursion (GoesBelow n) list
+pub finished_at : (k : KernelState) (ec item : ℕ) (end : ItemEnd) (words : Option ItemWords) (after : Sequel) →
+    (done k ec (Finishes item end words after)).transfers ≡ slice_set k.transfers ec (Some (transfer_after item after))
+finished_at k ec item end None sequel.Item = refl
+finished_at k ec item end None sequel.Opened = refl
+finished_at k ec item end None sequel.Taken = refl
+finished_at k ec item end None (sequel.Replied caller) = refl
+finished_at k ec item end (Some words) sequel.Item = refl
+finished_at k ec item end (Some words) sequel.Opened = refl
+finished_at k ec item end (Some words) sequel.Taken = refl
+finished_at k ec item end (Some words) (sequel.Replied caller) = refl
 
-abbrev pub AreCounted : KernelState → Type 0
-AreCounted k = Counts k.contexts k.transfers k.delegations.list (length k.objects)
+-- one that is neither a part nor an end leaves each
+abbrev pub is_of_item : Deed → Bool
+is_of_item (Gives child cursor) = true
+is_of_item (Skips reason place cursor) = true
+is_of_item (Finishes item end words after) = true
+is_of_item other = false
 
--- fewer give, and those that do are as far as before
-pub fewer : (cs ds : Contexts) (ts us : List (Option Transfer)) (list : List Derivation) (n : ℕ) → IsLess ds cs →
-    ((e domain : ℕ) → receiver (ec_in ds e) ≡ Some domain → IsSameCount (at us e) (at ts e)) → Counts cs ts list n → Counts ds us list n
-fewer cs ds ts us list n less far h = record {
-  item = λ e domain is. (far e domain is).item ∙ h.item e domain (less e domain is);
-  children = λ e domain is. (far e domain is).children ∙ h.children e domain (less e domain is);
-  alone = λ e f domain is its. h.alone e f domain (less e domain is) (less f domain its);
-  there = λ e domain is. h.there e domain (less e domain is);
-  below = h.below;
-}
+pub leaves : (k : KernelState) (ec e : ℕ) (d : Deed) → is_of_item d ≡ false → at (done k ec d).transfers e ≡ at k.transfers e
+leaves k ec e Steps apart = stepped_at k ec e (instruction k ec)
+leaves k ec e (Makes call target made) apart = at_more k.transfers (transfer_of (object_of made)) e (new_transfer (object_of made))
+leaves k ec e (Opens target domain) apart = at_more k.transfers None e refl
+leaves k ec e (Recalls other) apart = recalled_at (with_context k ec (changed (context k ec) (Recalls other))) other e _
+leaves k ec e (Replies caller true) apart = refl
+leaves k ec e (Replies caller false) apart = refl
+leaves k ec e (Gives child cursor) apart = absurd (cc)
+leaves k ec e (Skips reason place cursor) apart = absurd (cc)
+leaves k ec e (Finishes item end words after) apart = absurd (cc)
+leaves k ec e other apart = refl
 
--- the capability of a new object joins
-pub rooted : (cs : Contexts) (ts : List (Option Transfer)) (list : List Derivation) (n : ℕ) (x : Derivation) → x.parent ≡ None → Counts cs ts list n → Counts cs ts (list ++ x ∷ []) n
-rooted cs ts list n x root h = record {
-  item = h.item;
-  children = λ e domain is. h.children e domain is ∙ sym (count_other domain list x (by_test (x.pd == domain)));
-  alone = h.alone;
-  there = h.there;
-  below = below_joins n list x (λ is. let none = ap is_some root in absurd (cc)) h.below;
-}
+pub others_stay : (k : KernelState) (ec e : ℕ) (d : Deed) → e ≢ ec → at (done k ec d).transfers e ≡ at k.transfers e
+others_stay k ec e (Gives child cursor) other = at_other k.transfers ec e _ other
+others_stay k ec e (Skips reason place cursor) other = at_other k.transfers ec e _ other
+others_stay k ec e (Finishes item end words after) other =
+    ap (λ (ts : List (Option Transfer)). at ts e) (finished_at k ec item end words after) ∙ at_other k.transfers ec e _ other
+others_stay k ec e Rests other = refl
+others_stay k ec e Steps other = leaves k ec e Steps refl
+others_stay k ec e (Makes call target made) other = leaves k ec e (Makes call target made) refl
+others_stay k ec e (Opens target domain) other = leaves k ec e (Opens target domain) refl
+others_stay k ec e (Recalls whose) other = leaves k ec e (Recalls whose) refl
+others_stay k ec e (Replies caller items) other = leaves k ec e (Replies caller items) refl
+others_stay k ec e d other = refl
+
+-- AND COUNTS ITS OWN
+
+ends_none : (item : ℕ) (after : Sequel) → (transfer_after item after).children ≡ 0
+ends_none item sequel.Item = refl
+ends_none item sequel.Opened = refl
+ends_none item sequel.Taken = refl
+ends_none item (sequel.Replied caller) = refl
+
+end_counts : (item count : ℕ) (end : ItemEnd) → counted_by (item_sign item end).0 (item_sign item end).1 count ≡ 0
+end_counts item count (Given children) = refl
+end_counts item count (Skipped skip.Empty) = refl
+end_counts item count (Skipped skip.Window) = refl
+end_counts item count (Translated word) = refl
+
+skip_counts : (count : ℕ) (r : Reason) → counted_by Skip (reason_number r) count ≡ count
+skip_counts count reason.Rights = refl
+skip_counts count reason.Taken = refl
+skip_counts count reason.Busy = refl
+
+-- one without an item to give is at the beginning
+none_to_give : (k : KernelState) (ec : ℕ) → delivery k ec (context k ec).state ≡ None → Sound k → transfer k ec ≡ no_transfer
+none_to_give k ec none h = by_entry (ec_in k.contexts ec) refl (h ec)
   where
-    by_test : (t : Bool) → (t && is_some x.parent) ≡ false
-    by_test true = ap is_some root
-    by_test false = refl
+    by_caller : (c : Option (ℕ × Mark)) → IsSome c → given_to k ec (transfer k ec).item c ≡ None → ⊥
+    by_caller None some is = absurd (cc)
+    by_caller (Some (caller, mark)) some is = absurd (cc)
 
--- one more object is there
-pub wider : (cs : Contexts) (ts : List (Option Transfer)) (list : List Derivation) (n : ℕ) → Counts cs ts list n → Counts cs ts list (n + 1)
-wider cs ts list n h = record {
-  item = h.item;
-  children = h.children;
-  alone = h.alone;
-  there = λ e domain is. let below = h.there e domain is in omega (arith, below);
-  below = below_more n (n + 1) list (omega arith) h.below;
-}
+    by_taker : (c : Option (ℕ × Mark)) → IsSome c → taken_from k ec (transfer k ec).item c ≡ None → ⊥
+    by_taker None some is = absurd (cc)
+    by_taker (Some (caller, mark)) some is = absurd (cc)
 
--- one more gives, to a protection domain that is new
-pub one_more : (cs ds : Contexts) (ts : List (Option Transfer)) (list : List Derivation) (n ec : ℕ) →
-    ((e domain : ℕ) → receiver (ec_in ds e) ≡ Some domain → (receiver (ec_in cs e) ≡ Some domain) ⊎ ((e ≡ ec) × (domain ≡ n))) → at ts ec ≡ no_transfer →
-    Counts cs ts list n → Counts ds ts list (n + 1)
-one_more cs ds ts list n ec gives begins h = record {
-  item = λ e domain is. item_by e domain (gives e domain is);
-  children = λ e domain is. children_by e domain (gives e domain is);
-  alone = λ e f domain is its. alone_by e f domain (gives e domain is) (gives f domain its);
-  there = λ e domain is. there_by e domain (gives e domain is);
-  below = below_more n (n + 1) list (omega arith) h.below;
-}
+    by_entry : (o : Option EcState) → ec_in k.contexts ec ≡ o → IsForEntry k.objects o (transfer k ec) → transfer k ec ≡ no_transfer
+    by_entry None is for = for
+    by_entry (Some x) is for = by_state x.state refl for (sym (ap (delivery k ec) (ap (λ (y : Option EcState). (context_in y).state) is)) ∙ none)
+      where
+        by_state : (s : State) → x.state ≡ s → IsFor k.objects s x.regs x.caller (transfer k ec) → delivery k ec s ≡ None → transfer k ec ≡ no_transfer
+        by_state (Granting (Some domain)) at for nothing = absurd (cc)
+        by_state (Granting None) at for nothing =
+            absurd (by_taker x.caller for (ap (taken_from k ec (transfer k ec).item) (sym (ap (λ (y : Option EcState). (context_in y).caller) is)) ∙ nothing))
+        by_state Replying at for nothing =
+            absurd (by_caller x.caller for (ap (given_to k ec (transfer k ec).item) (sym (ap (λ (y : Option EcState). (context_in y).caller) is)) ∙ nothing))
+        by_state other at for nothing = for
+
+quiet_counts : (k : KernelState) (ec : ℕ) (d : Deed) → is_of_item d ≡ false → transfer k ec ≡ no_transfer → (at (done k ec d).transfers ec).children ≡ 0
+quiet_counts k ec d apart none = ap (λ (t : Transfer). t.children) (leaves k ec ec d apart ∙ none)
+
+own_counts : (k : KernelState) (ec : ℕ) (d : Deed) → Wants k ec d → option_map is_some (slice_get k.transfers ec) ≡ Some true → Sound k →
+    (at (done k ec d).transfers ec).children ≡ counted_by (sign_of d).0 (sign_of d).1 (transfer k ec).children
+own_counts k ec (Gives child cursor) wants there h = ap (λ (t : Transfer). t.children) (at_itself k.transfers ec (gave (transfer k ec) cursor) there)
+own_counts k ec (Skips reason place cursor) wants there h =
+    ap (λ (t : Transfer). t.children) (at_itself k.transfers ec (skipped (transfer k ec) cursor) there) ∙ sym (skip_counts (transfer k ec).children reason)
+own_counts k ec (Finishes item end words after) wants there h =
+    ap (λ (ts : List (Option Transfer)). (at ts ec).children) (finished_at k ec item end words after)
+    ∙ ap (λ (t : Transfer). t.children) (at_itself k.transfers ec (transfer_after item after) there)
+    ∙ ends_none item after ∙ sym (end_counts item (transfer k ec).children end)
+own_counts k ec Rests wants there h = ap (λ (t : Transfer). t.children) (none_to_give k ec wants h)
+own_counts k ec (Opens target domain) wants there h =
+    quiet_counts k ec (Opens target domain) refl (entry_rests k.objects (ec_in k.contexts ec) (transfer k ec) wants.0 (h ec))
+own_counts k ec (Calls handler ip identifier items) wants there h =
+    quiet_counts k ec (Calls handler ip identifier items) refl (entry_rests k.objects (ec_in k.contexts ec) (transfer k ec) wants.0 (h ec))
+own_counts k ec (Replies caller true) wants there h =
+    quiet_counts k ec (Replies caller true) refl (entry_rests k.objects (ec_in k.contexts ec) (transfer k ec) wants.0 (h ec))
+own_counts k ec (Replies caller false) wants there h =
+    quiet_counts k ec (Replies caller false) refl (entry_rests k.objects (ec_in k.contexts ec) (transfer k ec) wants.0 (h ec))
+own_counts k ec d wants there h = quiet_counts k ec d refl (entry_rests k.objects (ec_in k.contexts ec) (transfer k ec) wants (h ec))
+
+-- TURNS
+
+record Stands (k : KernelState) : Type 0 where
+  fits : Fits k
+  serves : Serves k.contexts
+  sound : Sound k
+
+after_stands : (k : KernelState) (cpu : ℕ) → Stands k → Stands (after k cpu)
+after_stands k cpu h = record { fits = after_fits k cpu h.fits; serves = after_serves k cpu h.serves; sound = after_for k cpu h.serves h.sound }
+
+done_counts : (k : KernelState) (a e : ℕ) (d : Deed) → Wants k a d → is_some (context_at k a) ≡ true → Stands k →
+    (at (done k a d).transfers e).children ≡ (if a == e then counted_by (sign_of d).0 (sign_of d).1 (transfer k e).children else (transfer k e).children)
+done_counts k a e d wants there h = by_test (a == e) refl
   where
-    item_by : (e domain : ℕ) → (receiver (ec_in cs e) ≡ Some domain) ⊎ ((e ≡ ec) × (domain ≡ n)) → (at ts e).item ≡ 0
-    item_by e domain (inl old) = h.item e domain old
-    item_by e domain (inr now) = ap (λ (m : ℕ). (at ts m).item) now.0 ∙ ap (λ (t : Transfer). t.item) begins
+    by_test : (t : Bool) → (a == e) ≡ t →
+        (at (done k a d).transfers e).children ≡ (if t then counted_by (sign_of d).0 (sign_of d).1 (transfer k e).children else (transfer k e).children)
+    by_test true is =
+        let same : a ≡ e = grind (arith, is) in
+        subst (λ (n : ℕ). (at (done k a d).transfers n).children ≡ counted_by (sign_of d).0 (sign_of d).1 (transfer k n).children) same
+        (own_counts k a d wants (gives_there k a there h.fits) h.sound)
+    by_test false is = ap (λ (t : Transfer). t.children) (others_stay k a e d (λ same. absurd (grind (arith, is, same))))
 
-    children_by : (e domain : ℕ) → (receiver (ec_in cs e) ≡ Some domain) ⊎ ((e ≡ ec) × (domain ≡ n)) → (at ts e).children ≡ count domain list
-    children_by e domain (inl old) = h.children e domain old
-    children_by e domain (inr now) =
-        ap (λ (m : ℕ). (at ts m).children) now.0 ∙ ap (λ (t : Transfer). t.children) begins ∙ sym (count_none n list h.below) ∙ ap (λ (m : ℕ). count m list) (sym now.1)
+chosen_counts : (k : KernelState) (cpu e : ℕ) (c : Candidate) (rest : List Event) → Acts k c → Stands k →
+    counted_after e (transfer k e).children (event_of cpu c (deed k c.actor) ∷ rest)
+    ≡ counted_after e (transfer (charged (done k c.actor (deed k c.actor)) cpu c.sc) e).children rest
+chosen_counts k cpu e c rest acts h =
+    let there = entry_acts k.contexts (ec_in k.contexts c.actor) acts in
+    let s = done k c.actor (deed k c.actor) in
+    ap (λ (n : ℕ). counted_after e n rest)
+    (sym (ap (λ (ts : List (Option Transfer)). (at ts e).children) (charge_leaves s cpu c.sc).transfers ∙ done_counts k c.actor e (deed k c.actor) (deed_wants k c.actor) there h))
 
-    alone_by : (e f domain : ℕ) → (receiver (ec_in cs e) ≡ Some domain) ⊎ ((e ≡ ec) × (domain ≡ n)) → (receiver (ec_in cs f) ≡ Some domain) ⊎ ((f ≡ ec) × (domain ≡ n)) → e ≡ f
-    alone_by e f domain (inl old) (inl its) = h.alone e f domain old its
-    alone_by e f domain (inl old) (inr now) = let below = h.there e domain old in let is = now.1 in absurd (omega (arith, below, is))
-    alone_by e f domain (inr now) (inl its) = let below = h.there f domain its in let is = now.1 in absurd (omega (arith, below, is))
-    alone_by e f domain (inr now) (inr its) = now.0 ∙ sym its.0
-
-    there_by : (e domain : ℕ) → (receiver (ec_in cs e) ≡ Some domain) ⊎ ((e ≡ ec) × (domain ≡ n)) → domain < n + 1
-    there_by e domain (inl old) = let below = h.there e domain old in omega (arith, below)
-    there_by e domain (inr now) = let is = now.1 in omega (arith, is)
-
--- a child is given and counted
-pub given : (cs : Contexts) (ts us : List (Option Transfer)) (list : List Derivation) (n ec : ℕ) (x : Derivation) → receiver (ec_in cs ec) ≡ Some x.pd → is_some x.parent ≡ true →
-    ((e : ℕ) → e ≢ ec → at us e ≡ at ts e) → (at us ec).item ≡ (at ts ec).item → (at us ec).children ≡ (at ts ec).children + 1 → Counts cs ts list n → Counts cs us (list ++ x ∷ []) n
-given cs ts us list n ec x its parent others item children h = record {
-  item = λ e domain is. item_by e domain is (e == ec) refl;
-  children = λ e domain is. children_by e domain is (e == ec) refl;
-  alone = h.alone;
-  there = h.there;
-  below = below_joins n list x (λ is. h.there ec x.pd its) h.below;
-}
+turn_counts : (k : KernelState) (cpu e : ℕ) (rest : List Event) → Stands k →
+    counted_after e (transfer k e).children (in_front (option_map (λ s. s.event) (turn k cpu)) rest) ≡ counted_after e (transfer (after k cpu) e).children rest
+unfolding turn
+turn_counts k cpu e rest h = by_choice (choice k cpu) (choice_acts k cpu)
   where
-    item_by : (e domain : ℕ) → receiver (ec_in cs e) ≡ Some domain → (t : Bool) → (e == ec) ≡ t → (at us e).item ≡ 0
-    item_by e domain is true here =
-        let same : e ≡ ec = grind (arith, here) in ap (λ (m : ℕ). (at us m).item) same ∙ item ∙ ap (λ (m : ℕ). (at ts m).item) (sym same) ∙ h.item e domain is
-    item_by e domain is false here = ap (λ (t : Transfer). t.item) (others e (λ same. absurd (grind (arith, here, same)))) ∙ h.item e domain is
+    by_choice : (o : Option Candidate) → IfSome o (Acts k) →
+        counted_after e (transfer k e).children (in_front (option_map (λ s. s.event) (turn_by k cpu o)) rest)
+        ≡ counted_after e (transfer (state_after k (turn_by k cpu o)) e).children rest
+    by_choice None acts = refl
+    by_choice (Some c) acts = chosen_counts k cpu e c rest acts h
 
-    itself : (domain : ℕ) → x.pd ≡ domain → is_given_to domain x ≡ true
-    itself domain same = let eq : (x.pd == domain) ≡ true = grind (arith, same) in rw (eq, parent) refl
+run_counts : (k : KernelState) (turns : List ℕ) (e : ℕ) → Stands k → (transfer (run k turns) e).children ≡ counted_after e (transfer k e).children (trace k turns)
+run_counts k [] e h = refl
+run_counts k (cpu ∷ turns) e h = run_counts (after k cpu) turns e (after_stands k cpu h) ∙ sym (turn_counts k cpu e (trace (after k cpu) turns) h)
 
-    another : (domain : ℕ) → x.pd ≢ domain → is_given_to domain x ≡ false
-    another domain other = let no : (x.pd == domain) ≡ false = grind (arith, other) in ap (λ (t : Bool). t && is_some x.parent) no
+-- none is under way at first
+bare_none : (s : Scenario) (e : ℕ) → transfer (bare s.cpus s.ram s.consoles s.root) e ≡ no_transfer
+bare_none s zero = refl
+bare_none s (suc zero) = refl
+bare_none s (suc (suc zero)) = refl
+bare_none s (suc (suc (suc e))) = refl
 
-    children_by : (e domain : ℕ) → receiver (ec_in cs e) ≡ Some domain → (t : Bool) → (e == ec) ≡ t → (at us e).children ≡ count domain (list ++ x ∷ [])
-    children_by e domain is true here =
-        let same : e ≡ ec = grind (arith, here) in
-        let at_ec : receiver (ec_in cs ec) ≡ Some domain = ap (λ (m : ℕ). receiver (ec_in cs m)) (sym same) ∙ is in
-        let pd : x.pd ≡ domain = cc in
-        ap (λ (m : ℕ). (at us m).children) same ∙ children ∙ ap (λ (m : ℕ). m + 1) (h.children ec domain at_ec) ∙ sym (count_more domain list x (itself domain pd))
-    children_by e domain is false here =
-        let other : e ≢ ec = λ same. absurd (grind (arith, here, same)) in
-        ap (λ (t : Transfer). t.children) (others e other) ∙ h.children e domain is
-        ∙ sym (count_other domain list x (another domain (λ pd. other (h.alone e ec domain is (its ∙ ap Some pd)))))
+images_none : (k : KernelState) (images : List Image) (e : ℕ) → transfer (with_images k images) e ≡ transfer k e
+images_none k [] e = refl
+images_none k (image ∷ images) e = images_none (with_image k image) images e
+
+pub counts_children : (s : Scenario) (turns : List ℕ) (ec : ℕ) → (transfer (run (boot s) turns) ec).children ≡ counted_after ec 0 (trace (boot s) turns)
+counts_children s turns ec =
+    run_counts (boot s) turns ec (record { fits = boot_fits s; serves = boot_serves s; sound = boot_for s })
+    ∙ ap (λ (t : Transfer). counted_after ec t.children (trace (boot s) turns)) (images_none (bare s.cpus s.ram s.consoles s.root) s.images ec ∙ bare_none s ec)

@@ -1,6 +1,6 @@
 -- After each part the cursor is where the part moves it.
 use Rattle.std.proofs.Common.{◌≡◌, ℕ, ◌+◌, List, ap, ◌∙◌, sym, subst, refl, arith}
-use Rattle.std.specs.Prelude.{true, is_some, slice_get, slice_set, option_map, Option, Some, None, IfSome, IsSome}
+use Rattle.std.specs.Prelude.{◌<◌, true, false, is_some, slice_get, slice_set, option_map, Option, Some, None, IfSome, IsSome}
 use Rattle.nova_model.specs.Boot.{Scenario, boot}
 use Rattle.nova_model.specs.Choice.{choice}
 use Rattle.nova_model.specs.Deeds.{deed, done, gave, sign_of, skipped}
@@ -9,12 +9,14 @@ use Rattle.nova_model.specs.State.{KernelState, ec_in, entry, transfer, transfer
 use Rattle.nova_model.specs.Turn.{answer_of, event_of, turn, turn_by}
 use Rattle.nova_model.specs.Choice.{Candidate}
 use Rattle.nova_model.specs.declared.deed.Deed.{Deed}
-use Rattle.nova_model.specs.declared.deed.Deed.TheVariants.{Rests, Steps, Raises, Dies, Refuses, Makes, Recalls, Tells, Names, Opens, Gives, Skips, Ends}
+use Rattle.nova_model.specs.declared.deed.Deed.TheVariants.{Rests, Steps, Raises, Dies, Refuses, Makes, Recalls, Tells, Names, Opens, Gives, Skips, Finishes, Calls, Helps, Replies, Aborts}
 use Rattle.nova_model.specs.declared.delegation.Derivation.{Derivation}
 use Rattle.nova_model.specs.declared.event.Event.{Event}
 use Rattle.nova_model.specs.declared.event.EventKind.TheVariants.{Made, Skip}
 use Rattle.nova_model.specs.declared.event.Turn.TheVariants.{Stepped}
+use Rattle.nova_model.specs.declared.transfer.ItemEnd.TheVariants.{Given, Skipped, Translated}
 use Rattle.nova_model.specs.declared.transfer.Reason.{Reason}
+use Rattle.nova_model.specs.declared.transfer.Skip.TheVariants as skip
 use Rattle.nova_model.specs.declared.transfer.Transfer.{Transfer}
 use Rattle.nova_laws.specs.Giving.{HasMoved, MovesCursor}
 use Rattle.nova_laws.proofs.Charges.{charge_leaves}
@@ -60,7 +62,9 @@ record IsMade (d : Deed) : Type 0 where
 made : (d : Deed) → (sign_of d).0 ≡ Made → IsMade d
 made (Gives child cursor) tells = record { child = child; cursor = cursor; is = refl }
 made (Skips reason place cursor) tells = absurd cc
-made (Ends item children) tells = absurd cc
+made (Finishes item (Given children) words after) tells = absurd cc
+made (Finishes item (Skipped skip) words after) tells = absurd cc
+made (Finishes item (Translated word) words after) tells = absurd cc
 made Rests tells = absurd cc
 made Steps tells = absurd cc
 made (Raises reason q0 q1) tells = absurd cc
@@ -71,6 +75,11 @@ made (Recalls ec) tells = absurd cc
 made (Tells call value) tells = absurd cc
 made (Names pt identifier) tells = absurd cc
 made (Opens target domain) tells = absurd cc
+made (Calls handler ip identifier items) tells = absurd cc
+made (Helps handler) tells = absurd cc
+made (Replies caller true) tells = absurd cc
+made (Replies caller false) tells = absurd cc
+made (Aborts handler) tells = absurd cc
 
 record IsSkipped (d : Deed) : Type 0 where
   reason : Reason
@@ -78,20 +87,29 @@ record IsSkipped (d : Deed) : Type 0 where
   cursor : ℕ
   is : d ≡ Skips reason place cursor
 
-skips : (d : Deed) → (sign_of d).0 ≡ Skip → IsSkipped d
-skips (Skips reason place cursor) tells = record { reason = reason; place = place; cursor = cursor; is = refl }
-skips (Gives child cursor) tells = absurd cc
-skips (Ends item children) tells = absurd cc
-skips Rests tells = absurd cc
-skips Steps tells = absurd cc
-skips (Raises reason q0 q1) tells = absurd cc
-skips (Dies reason q0) tells = absurd cc
-skips (Refuses call status) tells = absurd cc
-skips (Makes call target new) tells = absurd cc
-skips (Recalls ec) tells = absurd cc
-skips (Tells call value) tells = absurd cc
-skips (Names pt identifier) tells = absurd cc
-skips (Opens target domain) tells = absurd cc
+-- a part, and no whole item
+skips : (d : Deed) → (sign_of d).0 ≡ Skip → 2 < (sign_of d).1 → IsSkipped d
+skips (Skips reason place cursor) tells part = record { reason = reason; place = place; cursor = cursor; is = refl }
+skips (Gives child cursor) tells part = absurd cc
+skips (Finishes item (Given children) words after) tells part = absurd cc
+skips (Finishes item (Skipped skip.Empty) words after) tells part = absurd (omega (arith, part))
+skips (Finishes item (Skipped skip.Window) words after) tells part = absurd (omega (arith, part))
+skips (Finishes item (Translated word) words after) tells part = absurd cc
+skips Rests tells part = absurd cc
+skips Steps tells part = absurd cc
+skips (Raises reason q0 q1) tells part = absurd cc
+skips (Dies reason q0) tells part = absurd cc
+skips (Refuses call status) tells part = absurd cc
+skips (Makes call target new) tells part = absurd cc
+skips (Recalls ec) tells part = absurd cc
+skips (Tells call value) tells part = absurd cc
+skips (Names pt identifier) tells part = absurd cc
+skips (Opens target domain) tells part = absurd cc
+skips (Calls handler ip identifier items) tells part = absurd cc
+skips (Helps handler) tells part = absurd cc
+skips (Replies caller true) tells part = absurd cc
+skips (Replies caller false) tells part = absurd cc
+skips (Aborts handler) tells part = absurd cc
 
 -- who is chosen has an entry
 has_entry : (s : Scenario) (turns : List ℕ) (cpu : ℕ) (c : Candidate) → choice (run (boot s) turns) cpu ≡ Some c → IsSome (transfer_at (run (boot s) turns) c.actor)
@@ -130,10 +148,10 @@ chosen_made s turns cpu c chosen tells =
     }
 
 chosen_skips : (s : Scenario) (turns : List ℕ) (cpu : ℕ) (c : Candidate) → choice (run (boot s) turns) cpu ≡ Some c → (sign_of (deed (run (boot s) turns) c.actor)).0 ≡ Skip →
-    MovesCursor (run (boot s) turns) (after (run (boot s) turns) cpu) c.actor 0
-chosen_skips s turns cpu c chosen tells =
+    2 < (sign_of (deed (run (boot s) turns) c.actor)).1 → MovesCursor (run (boot s) turns) (after (run (boot s) turns) cpu) c.actor 0
+chosen_skips s turns cpu c chosen tells part =
     let k = run (boot s) turns in
-    let d = skips (deed k c.actor) tells in record {
+    let d = skips (deed k c.actor) tells part in record {
       place = d.cursor;
       on = skips_move k c.actor d.place d.cursor d.reason d.is;
       moved = moved_after k cpu c d.cursor 0 chosen (skips_set k c.actor d.place d.cursor d.reason d.is (has_entry s turns cpu c chosen));
@@ -152,10 +170,10 @@ made_moves s turns cpu e steps tells = by_choice (choice (run (boot s) turns) cp
         subst (λ (f : Event). MovesCursor (run (boot s) turns) (after (run (boot s) turns) cpu) f.ec 1) same
         (chosen_made s turns cpu c is (ap (λ (f : Event). f.kind) same ∙ tells))
 
-pub skipped_moves : (s : Scenario) (turns : List ℕ) (cpu : ℕ) (e : Event) → answer_of (turn (run (boot s) turns) cpu) ≡ Stepped e → e.kind ≡ Skip →
+pub skipped_moves : (s : Scenario) (turns : List ℕ) (cpu : ℕ) (e : Event) → answer_of (turn (run (boot s) turns) cpu) ≡ Stepped e → e.kind ≡ Skip → 2 < e.a →
     MovesCursor (run (boot s) turns) (after (run (boot s) turns) cpu) e.ec 0
 unfolding turn
-skipped_moves s turns cpu e steps tells = by_choice (choice (run (boot s) turns) cpu) refl steps
+skipped_moves s turns cpu e steps tells part = by_choice (choice (run (boot s) turns) cpu) refl steps
   where
     by_choice : (o : Option Candidate) → choice (run (boot s) turns) cpu ≡ o → answer_of (turn_by (run (boot s) turns) cpu o) ≡ Stepped e →
         MovesCursor (run (boot s) turns) (after (run (boot s) turns) cpu) e.ec 0
@@ -163,4 +181,4 @@ skipped_moves s turns cpu e steps tells = by_choice (choice (run (boot s) turns)
     by_choice (Some c) is h =
         let same : event_of cpu c (deed (run (boot s) turns) c.actor) ≡ e = cc in
         subst (λ (f : Event). MovesCursor (run (boot s) turns) (after (run (boot s) turns) cpu) f.ec 0) same
-        (chosen_skips s turns cpu c is (ap (λ (f : Event). f.kind) same ∙ tells))
+        (chosen_skips s turns cpu c is (ap (λ (f : Event). f.kind) same ∙ tells) (subst (λ (n : ℕ). 2 < n) (sym (ap (λ (f : Event). f.a) same)) part))

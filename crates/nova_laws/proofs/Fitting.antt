@@ -1,324 +1,256 @@
--- Tables fit the objects: as lists, entry by entry. One row a deed, the charge, and the fold over turns.
-use Rattle.std.proofs.Common.{◌≡◌, ℕ, zero, suc, ◌+◌, List, [], ◌∷◌, ◌++◌, length, refl, ap, ◌∙◌, sym, arith}
-use Rattle.std.specs.Prelude.{Bool, true, map, slice_get, slice_set, Option, Some, None, IfSome, is_some, option_map}
-use Rattle.std.specs.List.{AllByRecursion}
+-- Tables fit the objects, and callers stay with those who serve them: one row a deed, the charge, and the fold over turns.
+use Rattle.std.proofs.Common.{◌≡◌, ℕ, List, [], ◌∷◌, ◌++◌, length, refl, ap, ◌∙◌, sym, subst, inl, inr}
+use Rattle.std.specs.Prelude.{◌≢◌, Bool, true, false, slice_get, Option, Some, None, IfSome, is_some, option_map}
 use Rattle.rv_model.specs.Step.{Once, Raised, Went}
+use Rattle.nova_objects.specs.declared.object.EcKind.TheVariants.{Local, Global, Vcpu}
 use Rattle.nova_objects.specs.declared.object.Object.{Object}
-use Rattle.nova_objects.specs.declared.object.Object.TheVariants.{Pd, Ec, Sc, Pt, Sm}
-use Rattle.nova_model.specs.Boot.{Scenario, Image, boot, bare, with_image, with_images}
-use Rattle.nova_model.specs.Capabilities.{is_ec, is_local, is_pt, is_sc}
-use Rattle.nova_model.specs.Choice.{choice}
-use Rattle.nova_model.specs.Creation.{budget_of, context_of, count_of, identifier_of, idle_semaphore, object_of, transfer_of, with_object, words_of}
-use Rattle.nova_model.specs.Deeds.{changed, deed, done, instruction, recalled, stepped, with_context, with_transfer}
-use Rattle.nova_model.specs.Delegations.{Delegations}
-use Rattle.nova_model.specs.declared.transfer.Transfer.{Transfer}
-use Rattle.nova_model.specs.Edges.{acts_as, acts}
-use Rattle.nova_model.specs.Memory.{Memory}
+use Rattle.nova_range.specs.declared.status.Status.TheVariants.{Success}
+use Rattle.nova_model.specs.Boot.{Image, Scenario, bare, boot, root_context, root_objects, with_image, with_images}
+use Rattle.nova_model.specs.Calls.{is_parked}
+use Rattle.nova_model.specs.Choice.{Candidate, choice}
+use Rattle.nova_model.specs.Creation.{context_of, object_of, with_object}
+use Rattle.nova_model.specs.Deeds.{after_item, answered, changed, completed, deed, done, followed, instruction, parked, recalled, serving, stepped, told, with_context}
+use Rattle.nova_model.specs.Edges.{acts, acts_as}
 use Rattle.nova_model.specs.Runs.{after, run}
-use Rattle.nova_model.specs.State.{KernelState, Contexts, budget_at, context, context_at, context_in, ec_in, entry, no_transfer, pd_of}
+use Rattle.nova_model.specs.State.{Contexts, KernelState, budget_at, context, context_at, context_in, ec_in, ec_of, entry, is_local_in, is_local_thread, pd_of}
 use Rattle.nova_model.specs.Turn.{budget_after, charged, counted, is_spent, paid_by, quantum_in, state_after, turn, turn_by}
 use Rattle.nova_model.specs.declared.budget.Budget.{Budget}
-use Rattle.nova_model.specs.Choice.{Candidate}
 use Rattle.nova_model.specs.declared.context.EcState.{EcState}
+use Rattle.nova_model.specs.declared.context.State.{State}
+use Rattle.nova_model.specs.declared.context.State.TheVariants.{Calling, Fresh, Granting, Ready}
 use Rattle.nova_model.specs.declared.deed.Deed.{Deed}
-use Rattle.nova_model.specs.declared.deed.Deed.TheVariants.{Rests, Steps, Raises, Dies, Refuses, Makes, Recalls, Tells, Names, Opens, Gives, Skips, Ends}
+use Rattle.nova_model.specs.declared.deed.Deed.TheVariants.{Rests, Steps, Raises, Dies, Refuses, Makes, Recalls, Tells, Names, Opens, Gives, Skips, Finishes, Calls, Helps, Replies, Aborts}
 use Rattle.nova_model.specs.declared.new_object.NewObject.{NewObject}
 use Rattle.nova_model.specs.declared.new_object.NewObject.TheVariants as new
-use Rattle.nova_laws.specs.Tables.{IsOf, is_sm}
+use Rattle.nova_model.specs.declared.transfer.ItemWords.{ItemWords}
+use Rattle.nova_model.specs.declared.transfer.Sequel.{Sequel}
+use Rattle.nova_model.specs.declared.transfer.Sequel.TheVariants as sequel
+use Rattle.nova_model.specs.declared.root.Root.{Root}
+use Rattle.nova_laws.specs.Links.{AreServed, IsLinked, is_giving, is_sending}
+use Rattle.nova_laws.specs.Tables.{HasTables}
 use Rattle.nova_laws.proofs.Chosen.{Acts, choice_acts}
-use Rattle.nova_laws.proofs.Setting.{get_kept}
-use Rattle.nova_laws.proofs.Referring.{Asks, Refers, cpu_of, deed_asks}
+use Rattle.nova_laws.proofs.Links.{IsNewborn, served_more}
+use Rattle.nova_laws.proofs.Referring.{Asks, Follows, IsCallerOf, TellsIn, deed_asks}
+use Rattle.nova_laws.proofs.Serving.{IsActor, acts_on, actor_of, awaited, replies_on, reached_there, send_reaches, sends_on, stays_on}
+use Rattle.nova_laws.proofs.Setting.{get_last, joined_other, set_length}
+use Rattle.nova_laws.proofs.Tabling.{changed_tag, contexts_length, edited, followed_fits, made_fits, named_fits, passed_fits, recalled_fits, replied_fits, set_there, stepped_fits, told_contexts, told_fits, transfer_there, with_delegations, with_memory, with_transfer_fits}
+use Rattle.nova_laws.proofs.Tags.{map_set}
 
--- LISTS
+-- A DEED AND TABLES
 
-pub get_map : {A B : Type 0} (f : A → B) (xs : List A) (n : ℕ) → slice_get (map f xs) n ≡ option_map f (slice_get xs n)
-get_map f [] n = refl
-get_map f (x ∷ xs) zero = refl
-get_map f (x ∷ xs) (suc n) = get_map f xs n
+abbrev Served : KernelState → Type 0
+Served k = AreServed (is_local_thread k) k.contexts
 
-map_more : {A B : Type 0} (f : A → B) (xs : List A) (x : A) → map f (xs ++ x ∷ []) ≡ map f xs ++ f x ∷ []
-map_more f [] x = refl
-map_more {A} {B} f (y ∷ xs) x = ap (λ (l : List B). f y ∷ l) (map_more f xs x)
+pub caller_there : (k : KernelState) (ec caller : ℕ) → IsActor k.contexts ec → IsCallerOf k ec caller → Served k → is_some (context_at k caller) ≡ true
+caller_there k ec caller actor (mark, keeps) served = ap is_some (awaited (is_local_thread k) k.contexts ec caller mark actor keeps served).there
 
-map_set : {A B : Type 0} (f : A → B) (xs : List A) (n : ℕ) (v : A) → IfSome (slice_get xs n) (λ x. f v ≡ f x) → map f (slice_set xs n v) ≡ map f xs
-map_set f [] n v h = refl
-map_set {A} {B} f (x ∷ xs) zero v h = ap (λ (y : B). y ∷ map f xs) h
-map_set {A} {B} f (x ∷ xs) (suc n) v h = ap (λ (l : List B). f x ∷ l) (map_set f xs n v h)
+told_there : (k : KernelState) (ec : ℕ) (y : EcState) (words : Option ItemWords) → IsActor k.contexts ec → Served k → TellsIn k ec words →
+    IfSome words (λ w. is_some (context_at (with_context k ec y) w.ec) ≡ true)
+told_there k ec y None actor served h = tt
+told_there k ec y (Some w) actor served (inl same) = set_there k.contexts ec y w.ec (rw (same, actor.there) refl)
+told_there k ec y (Some w) actor served (inr calls) = set_there k.contexts ec y w.ec (caller_there k ec w.ec actor calls served)
 
--- NUMBERS AND PROCESSORS OF EXECUTION CONTEXTS
+followed_there : (k : KernelState) (ec : ℕ) (y : EcState) (follows : Sequel) (caller : ℕ) → IsActor k.contexts ec → Served k → Follows k ec follows →
+    follows ≡ sequel.Replied caller → is_some (context_at (with_context k ec y) caller) ≡ true
+followed_there k ec y follows caller actor served h is =
+    set_there k.contexts ec y caller (caller_there k ec caller actor (subst (Follows k ec) is h) served)
 
-abbrev pub tag : Option EcState → Option (ℕ × ℕ)
-tag (Some x) = Some (x.id, x.cpu)
-tag None = None
+-- an execution context changes, and goes on
+edits : (k : KernelState) (ec : ℕ) (d : Deed) → IsActor k.contexts ec → HasTables k → HasTables (with_context k ec (changed (context k ec) d))
+edits k ec d actor h = edited k ec (λ x. changed x d) (changed_tag d) (ap is_some actor.there) h
 
-abbrev pub tag_of : ℕ → Object → Option (ℕ × ℕ)
-tag_of n (Ec pd cpu kind event) = Some (n, cpu)
-tag_of n other = None
+followed_stays : (k : KernelState) (follows : Sequel) (n : ℕ) → is_some (context_at k n) ≡ true → is_some (context_at (followed k follows) n) ≡ true
+followed_stays k sequel.Item n there = there
+followed_stays k sequel.Opened n there = there
+followed_stays k sequel.Taken n there = there
+followed_stays k (sequel.Replied caller) n there = set_there k.contexts caller _ n there
 
-abbrev pub tags_from : ℕ → List Object → List (Option (ℕ × ℕ))
-tags_from n [] = []
-tags_from n (o ∷ os) = tag_of n o ∷ tags_from (n + 1) os
+done_tables : (k : KernelState) (ec : ℕ) (d : Deed) → IsActor k.contexts ec → Asks k ec d → Served k → HasTables k → HasTables (done k ec d)
+done_tables k ec Rests actor asks served h = h
+done_tables k ec Steps actor asks served h = stepped_fits k ec (instruction k ec) (ap is_some actor.there) h
+done_tables k ec (Makes call target made) actor asks served h = made_fits _ (pd_of k ec) target made asks (edits k ec (Makes call target made) actor h)
+done_tables k ec (Recalls other) actor asks served h = recalled_fits _ other _ refl (edits k ec (Recalls other) actor h)
+done_tables k ec (Opens target domain) actor asks served h = made_fits _ (pd_of k ec) target new.Pd tt (edits k ec (Opens target domain) actor h)
+done_tables k ec (Gives child cursor) actor asks served h =
+    with_transfer_fits (record k { delegations = _ }) ec _ (transfer_there k ec (ap is_some actor.there) h) (with_delegations k _ h)
+done_tables k ec (Skips reason place cursor) actor asks served h = with_transfer_fits k ec _ (transfer_there k ec (ap is_some actor.there) h) h
+done_tables k ec (Finishes item end words follows) actor asks served h =
+    let y = after_item (context k ec) follows in
+    let one = with_context k ec y in
+    let kept = edits k ec (Finishes item end words follows) actor h in
+    let two = told_fits one item words (told_there k ec y words actor served asks.0) kept in
+    let there : (caller : ℕ) → follows ≡ sequel.Replied caller → is_some (context_at (told one item words) caller) ≡ true =
+    (λ caller is. rw (told_contexts one item words) (followed_there k ec y follows caller actor served asks.1 is)) in
+    let three = followed_fits (told one item words) follows there two in
+    with_transfer_fits _ ec _ (transfer_there _ ec (followed_stays (told one item words) follows ec (rw (told_contexts one item words) (set_there k.contexts ec y ec (ap is_some actor.there)))) three) three
+done_tables k ec (Names pt identifier) actor asks served h = named_fits _ pt identifier asks (edits k ec (Names pt identifier) actor h)
+done_tables k ec (Calls handler ip identifier items) actor asks served h =
+    let y : EcState = changed (context k ec) (Calls handler ip identifier items) in
+    let one = with_context k ec y in
+    let there = set_there k.contexts ec y handler (reached_there k.contexts ec handler (send_reaches k.contexts ec handler asks.flag asks.admits)) in
+    edited _ handler (λ x. serving x ec ip identifier items) (λ x. refl) there
+    (passed_fits one ec handler there (edits k ec (Calls handler ip identifier items) actor h))
+done_tables k ec (Replies caller items) actor asks served h =
+    let y : EcState = changed (context k ec) (Replies caller items) in
+    replied_fits (with_context k ec y) ec caller items (set_there k.contexts ec y caller (caller_there k ec caller actor (_, asks) served))
+    (edits k ec (Replies caller items) actor h)
+done_tables k ec (Raises reason q0 q1) actor asks served h = edits k ec (Raises reason q0 q1) actor h
+done_tables k ec (Dies reason q0) actor asks served h = edits k ec (Dies reason q0) actor h
+done_tables k ec (Refuses call status) actor asks served h = edits k ec (Refuses call status) actor h
+done_tables k ec (Tells call value) actor asks served h = edits k ec (Tells call value) actor h
+done_tables k ec (Helps handler) actor asks served h = edits k ec (Helps handler) actor h
+done_tables k ec (Aborts handler) actor asks served h = edits k ec (Aborts handler) actor h
 
-tags_more : (n : ℕ) (os : List Object) (o : Object) → tags_from n (os ++ o ∷ []) ≡ tags_from n os ++ tag_of (n + length os) o ∷ []
-tags_more n [] o = let e : n ≡ n + 0 = omega arith in ap (λ (m : ℕ). tag_of m o ∷ []) e
-tags_more n (x ∷ os) o =
-    let e : n + 1 + length os ≡ n + suc (length os) = omega arith in
-    ap (λ (l : List (Option (ℕ × ℕ))). tag_of n x ∷ l) (tags_more (n + 1) os o ∙ ap (λ (m : ℕ). tags_from (n + 1) os ++ tag_of m o ∷ []) e)
+-- A DEED AND CALLERS
 
-pub get_tags : (m : ℕ) (os : List Object) (n : ℕ) → slice_get (tags_from m os) n ≡ option_map (tag_of (m + n)) (slice_get os n)
-get_tags m [] n = refl
-get_tags m (o ∷ os) zero = let e : m ≡ m + 0 = omega arith in ap (λ (i : ℕ). Some (tag_of i o)) e
-get_tags m (o ∷ os) (suc n) = let e : m + 1 + n ≡ m + suc n = omega arith in get_tags (m + 1) os n ∙ ap (λ (i : ℕ). option_map (tag_of i) (slice_get os n)) e
+none_born : (is_local : Bool) → IsNewborn is_local None
+none_born is_local = record {
+  caller = refl;
+  calls = λ h is. cc;
+  well = record {
+    parked = λ is. absurd (cc);
+    serving = λ local there works. absurd (cc);
+    kept = λ c mark keeps. absurd (cc);
+    giving = λ gives. absurd (cc);
+    sends = refl;
+  };
+}
 
--- THE TABLES
+state_same : (s t : State) → Some s ≡ Some t → s ≡ t
+state_same s t same = cc
+
+-- one without a caller, that begins by itself
+alone_born : (x : EcState) (s : State) → x.caller ≡ None → x.state ≡ s → ((h : ℕ) → s ≢ Calling h) → is_parked (Some s) ≡ false → is_giving (Some s) ≡ false →
+    is_sending (Some s) ≡ false → IsNewborn false (Some x)
+alone_born x s none is calls works gives sends = record {
+  caller = none;
+  calls = λ h calling. calls h (sym is ∙ state_same x.state (Calling h) calling);
+  well = record {
+    parked = λ parks. absurd (let not : is_parked (Some x.state) ≡ false = ap (λ (t : State). is_parked (Some t)) is ∙ works in cc);
+    serving = λ local there working. absurd (cc);
+    kept = λ c mark keeps. absurd (cc);
+    giving = λ giving. absurd (let not : is_giving (Some x.state) ≡ false = ap (λ (t : State). is_giving (Some t)) is ∙ gives in cc);
+    sends = ap (λ (t : State). is_sending (Some t)) is ∙ sends;
+  };
+}
+
+born : (n : ℕ) (made : NewObject) → IsNewborn (is_local_in (Some (object_of made))) (context_of n made)
+born n new.Pd = none_born false
+born n (new.Ec pd cpu Local sp event) = record {
+  caller = refl;
+  calls = λ h is. cc;
+  well = record {
+    parked = λ is. (refl, refl);
+    serving = λ local there works. absurd (cc);
+    kept = λ c mark keeps. absurd (cc);
+    giving = λ gives. absurd (cc);
+    sends = refl;
+  };
+}
+born n (new.Ec pd cpu Global sp event) = alone_born _ Fresh refl refl (λ h is. cc) refl refl refl
+born n (new.Ec pd cpu Vcpu sp event) = alone_born _ Fresh refl refl (λ h is. cc) refl refl refl
+born n (new.Sc ec cpu priority quantum) = none_born false
+born n (new.Pt ec mtd ip) = none_born false
+born n (new.Sm count) = none_born false
+
+-- one object more, which nobody serves
+locals_stay : (os : List Object) (o : Object) (h : ℕ) → h ≢ length os → is_local_in (slice_get (os ++ o ∷ []) h) ≡ is_local_in (slice_get os h)
+locals_stay os o h other = ap is_local_in (joined_other os o h other)
+
+more_served : (k : KernelState) (domain target : ℕ) (made : NewObject) → length k.contexts ≡ length k.objects → Served k → Served (with_object k domain target made)
+more_served k domain target made as_many served =
+    let os = k.objects ++ object_of made ∷ [] in
+    let new : IsNewborn (is_local_in (slice_get os (length k.contexts))) (context_of (length k.objects) made) =
+    rw (as_many, get_last k.objects (object_of made)) (born (length k.objects) made) in
+    served_more (is_local_thread k) (λ h. is_local_in (slice_get os h)) k.contexts (context_of (length k.objects) made) served new
+    (λ h other. locals_stay k.objects (object_of made) h (λ same. other (same ∙ sym as_many)))
+
+recalled_served : (k : KernelState) (other : ℕ) (o : Option EcState) → ec_in k.contexts other ≡ o → Served k → Served (recalled k other o)
+recalled_served k other None is served = served
+recalled_served k other (Some x) is served =
+    let same : ec_of k.contexts other ≡ x = ap context_in is in
+    stays_on (is_local_thread k) k.contexts other (record x { recall = true }) (ap is_some is)
+    (ap (λ (y : EcState). y.caller) (sym same)) (ap (λ (y : EcState). y.cpu) (sym same)) (ap (λ (y : EcState). y.state) (sym same)) served
+
+stepped_served : (k : KernelState) (ec : ℕ) (o : Once) → is_some (context_at k ec) ≡ true → Served k → Served (stepped k ec o)
+stepped_served k ec (Raised reason q0 q1) there served = served
+stepped_served k ec (Went regs store) there served = stays_on (is_local_thread k) k.contexts ec _ there refl refl refl served
+
+-- it goes on in a state of its own
+owns : (k : KernelState) (ec : ℕ) (y : EcState) → IsActor k.contexts ec → y.caller ≡ (context k ec).caller → y.cpu ≡ (context k ec).cpu →
+    ((h : ℕ) → y.state ≢ Calling h) → is_parked (Some y.state) ≡ false → is_giving (Some y.state) ≡ false → is_sending (Some y.state) ≡ false →
+    Served k → Served (with_context k ec y)
+owns k ec y actor caller cpu calls works gives sends served =
+    acts_on (is_local_thread k) k.contexts ec y actor caller cpu calls works (λ is. absurd (cc)) sends served
+
+-- what is told changes no context
+tells : (k : KernelState) (item : ℕ) (words : Option ItemWords) → Served k → Served (told k item words)
+tells k item None served = served
+tells k item (Some w) served = served
+
+replied_through : (k : KernelState) (item : ℕ) (words : Option ItemWords) (caller : ℕ) → Served (completed k caller) → Served (completed (told k item words) caller)
+replied_through k item None caller served = served
+replied_through k item (Some w) caller served = served
+
+finished_served : (k : KernelState) (ec item : ℕ) (words : Option ItemWords) (follows : Sequel) → IsActor k.contexts ec → Follows k ec follows → Served k →
+    Served (followed (told (with_context k ec (after_item (context k ec) follows)) item words) follows)
+finished_served k ec item words sequel.Item actor asks served =
+    tells (with_context k ec (context k ec)) item words (stays_on (is_local_thread k) k.contexts ec (context k ec) (ap is_some actor.there) refl refl refl served)
+finished_served k ec item words sequel.Opened actor asks served =
+    let y = answered (context k ec) Success None in
+    tells (with_context k ec y) item words (owns k ec y actor refl refl (λ h is. cc) refl refl refl served)
+finished_served k ec item words sequel.Taken actor asks served =
+    let y : EcState = record (context k ec) { state = Ready } in
+    tells (with_context k ec y) item words (owns k ec y actor refl refl (λ h is. cc) refl refl refl served)
+finished_served k ec item words (sequel.Replied caller) actor (mark, keeps) served =
+    replied_through (with_context k ec (parked (context k ec))) item words caller (replies_on (is_local_thread k) k.contexts ec caller mark actor keeps served)
+
+done_served : (k : KernelState) (ec : ℕ) (d : Deed) → IsActor k.contexts ec → Asks k ec d → HasTables k → Served k → Served (done k ec d)
+done_served k ec Rests actor asks h served = served
+done_served k ec Steps actor asks h served = stepped_served k ec (instruction k ec) (ap is_some actor.there) served
+done_served k ec (Raises reason q0 q1) actor asks h served = owns k ec _ actor refl refl (λ h is. cc) refl refl refl served
+done_served k ec (Dies reason q0) actor asks h served = owns k ec _ actor refl refl (λ h is. cc) refl refl refl served
+done_served k ec (Refuses call status) actor asks h served = owns k ec _ actor refl refl (λ h is. cc) refl refl refl served
+done_served k ec (Makes call target made) actor asks h served =
+    let y = answered (context k ec) Success None in
+    more_served (with_context k ec y) (pd_of k ec) target made (set_length k.contexts ec (Some y) ∙ contexts_length k h) (owns k ec y actor refl refl (λ h is. cc) refl refl refl served)
+done_served k ec (Recalls other) actor asks h served =
+    let y = answered (context k ec) Success None in
+    recalled_served (with_context k ec y) other _ refl (owns k ec y actor refl refl (λ h is. cc) refl refl refl served)
+done_served k ec (Tells call value) actor asks h served = owns k ec _ actor refl refl (λ h is. cc) refl refl refl served
+done_served k ec (Names pt identifier) actor asks h served = owns k ec _ actor refl refl (λ h is. cc) refl refl refl served
+done_served k ec (Opens target domain) actor asks h served =
+    let y : EcState = record (context k ec) { state = Granting (Some domain) } in
+    more_served (with_context k ec y) (pd_of k ec) target new.Pd (set_length k.contexts ec (Some y) ∙ contexts_length k h) (owns k ec y actor refl refl (λ h is. cc) refl refl refl served)
+done_served k ec (Gives child cursor) actor asks h served = served
+done_served k ec (Skips reason place cursor) actor asks h served = served
+done_served k ec (Finishes item end words follows) actor asks h served = finished_served k ec item words follows actor asks.1 served
+done_served k ec (Calls handler ip identifier items) actor asks h served =
+    sends_on (is_local_thread k) k.contexts ec handler ip identifier items actor (send_reaches k.contexts ec handler asks.flag asks.admits) served
+done_served k ec (Helps handler) actor asks h served = owns k ec _ actor refl refl (λ h is. cc) refl refl refl served
+done_served k ec (Replies caller true) actor asks h served =
+    acts_on (is_local_thread k) k.contexts ec _ actor refl refl (λ h is. cc) refl (λ gives. rw asks refl) refl served
+done_served k ec (Replies caller false) actor asks h served = replies_on (is_local_thread k) k.contexts ec caller _ actor asks served
+done_served k ec (Aborts handler) actor asks h served = owns k ec _ actor refl refl (λ h is. cc) refl refl refl served
+
+-- A TURN
 
 pub record Fits (k : KernelState) : Type 0 where
-  pub contexts : map tag k.contexts ≡ tags_from 0 k.objects
-  pub messages : map is_some k.messages ≡ map is_ec k.objects
-  pub transfers : map is_some k.transfers ≡ map is_ec k.objects
-  pub budgets : map is_some k.budgets ≡ map is_sc k.objects
-  pub identifiers : map is_some k.identifiers ≡ map is_pt k.objects
-  pub semaphores : map is_some k.semaphores ≡ map is_sm k.objects
-  pub refer : AllByRecursion (Refers k.objects) k.objects
-
--- an execution context that is there is changed, and keeps its number and its processor
-same_tag : (o : Option (Option EcState)) (f : EcState → EcState) → ((x : EcState) → tag (Some (f x)) ≡ tag (Some x)) → is_some (entry o) ≡ true →
-    IfSome o (λ e. tag (Some (f (context_in (entry o)))) ≡ tag e)
-same_tag None f keeps there = tt
-same_tag (Some None) f keeps there = absurd (cc)
-same_tag (Some (Some x)) f keeps there = keeps x
-
-edited : (k : KernelState) (ec : ℕ) (f : EcState → EcState) → ((x : EcState) → tag (Some (f x)) ≡ tag (Some x)) → is_some (context_at k ec) ≡ true → Fits k →
-    Fits (with_context k ec (f (context k ec)))
-edited k ec f keeps there h = record {
-  contexts = map_set tag k.contexts ec (Some (f (context k ec))) (same_tag (slice_get k.contexts ec) f keeps there) ∙ h.contexts;
-  messages = h.messages;
-  transfers = h.transfers;
-  budgets = h.budgets;
-  identifiers = h.identifiers;
-  semaphores = h.semaphores;
-  refer = h.refer;
-}
-
-changed_tag : (d : Deed) (x : EcState) → tag (Some (changed x d)) ≡ tag (Some x)
-changed_tag Rests x = refl
-changed_tag Steps x = refl
-changed_tag (Raises reason q0 q1) x = refl
-changed_tag (Dies reason q0) x = refl
-changed_tag (Refuses call status) x = refl
-changed_tag (Makes call target made) x = refl
-changed_tag (Recalls ec) x = refl
-changed_tag (Tells call value) x = refl
-changed_tag (Names pt identifier) x = refl
-changed_tag (Opens target domain) x = refl
-changed_tag (Gives child cursor) x = refl
-changed_tag (Skips reason place cursor) x = refl
-changed_tag (Ends item children) x = refl
-
-with_memory : (k : KernelState) (m : Memory) → Fits k → Fits (record k { memory = m })
-with_memory k m h = record {
-  contexts = h.contexts;
-  messages = h.messages;
-  transfers = h.transfers;
-  budgets = h.budgets;
-  identifiers = h.identifiers;
-  semaphores = h.semaphores;
-  refer = h.refer;
-}
-
-stepped_fits : (k : KernelState) (ec : ℕ) (o : Once) → is_some (context_at k ec) ≡ true → Fits k → Fits (stepped k ec o)
-stepped_fits k ec (Raised reason q0 q1) there h = h
-stepped_fits k ec (Went regs store) there h = edited (record k { memory = _ }) ec (λ x. record x { regs = regs }) (λ x. refl) there (with_memory k _ h)
-
-entry_tag : (o : Option (Option EcState)) (y : EcState) → entry o ≡ Some y → IfSome o (λ e. tag (Some y) ≡ tag e)
-entry_tag None y h = tt
-entry_tag (Some e) y h = sym (ap tag h)
-
-recalled_fits : (k : KernelState) (other : ℕ) (o : Option EcState) → ec_in k.contexts other ≡ o → Fits k → Fits (recalled k other o)
-recalled_fits k other None is h = h
-recalled_fits k other (Some y) is h = record {
-  contexts = map_set tag k.contexts other (Some (record y { recall = true })) (entry_tag (slice_get k.contexts other) y is) ∙ h.contexts;
-  messages = h.messages;
-  transfers = h.transfers;
-  budgets = h.budgets;
-  identifiers = h.identifiers;
-  semaphores = h.semaphores;
-  refer = h.refer;
-}
-
--- a portal gets an identifier
-there_by : {T : Type 0} (o : Option (Option T)) (v : T) → option_map is_some o ≡ Some true → IfSome o (λ e. is_some (Some v) ≡ is_some e)
-there_by None v h = tt
-there_by (Some None) v h = absurd (cc)
-there_by (Some (Some x)) v h = refl
-
-named_fits : (k : KernelState) (pt identifier : ℕ) → IsOf k.objects is_pt pt → Fits k → Fits (record k { identifiers = slice_set k.identifiers pt (Some identifier) })
-named_fits k pt identifier is h =
-    let there : option_map is_some (slice_get k.identifiers pt) ≡ Some true =
-    sym (get_map is_some k.identifiers pt) ∙ ap (λ (l : List Bool). slice_get l pt) h.identifiers ∙ get_map is_pt k.objects pt ∙ is in
-    record {
-      contexts = h.contexts;
-      messages = h.messages;
-      transfers = h.transfers;
-      budgets = h.budgets;
-      identifiers = map_set is_some k.identifiers pt (Some identifier) (there_by (slice_get k.identifiers pt) identifier there) ∙ h.identifiers;
-      semaphores = h.semaphores;
-      refer = h.refer;
-    }
-
--- how far one is with its items
-with_delegations : (k : KernelState) (f : Delegations) → Fits k → Fits (record k { delegations = f })
-with_delegations k f h = record {
-  contexts = h.contexts;
-  messages = h.messages;
-  transfers = h.transfers;
-  budgets = h.budgets;
-  identifiers = h.identifiers;
-  semaphores = h.semaphores;
-  refer = h.refer;
-}
-
--- an execution context that is there has an entry in the table of transfers
-tagged : (o : Option (Option EcState)) (object : Option Object) (n : ℕ) → option_map tag o ≡ option_map (tag_of n) object → is_some (entry o) ≡ true → option_map is_ec object ≡ Some true
-tagged None object n h there = absurd (cc)
-tagged (Some None) object n h there = absurd (cc)
-tagged (Some (Some x)) None n h there = absurd (cc)
-tagged (Some (Some x)) (Some Pd) n h there = absurd (cc)
-tagged (Some (Some x)) (Some (Ec pd cpu kind event)) n h there = refl
-tagged (Some (Some x)) (Some (Sc ec cpu priority quantum)) n h there = absurd (cc)
-tagged (Some (Some x)) (Some (Pt ec mtd ip)) n h there = absurd (cc)
-tagged (Some (Some x)) (Some Sm) n h there = absurd (cc)
+  pub tables : HasTables k
+  pub served : AreServed (is_local_thread k) k.contexts
 
 pub gives_there : (k : KernelState) (ec : ℕ) → is_some (context_at k ec) ≡ true → Fits k → option_map is_some (slice_get k.transfers ec) ≡ Some true
-gives_there k ec there h =
-    let same : option_map tag (slice_get k.contexts ec) ≡ option_map (tag_of (0 + ec)) (slice_get k.objects ec) =
-    sym (get_map tag k.contexts ec) ∙ ap (λ (l : List (Option (ℕ × ℕ))). slice_get l ec) h.contexts ∙ get_tags 0 k.objects ec in
-    sym (get_map is_some k.transfers ec) ∙ ap (λ (l : List Bool). slice_get l ec) h.transfers ∙ get_map is_ec k.objects ec
-    ∙ tagged (slice_get k.contexts ec) (slice_get k.objects ec) (0 + ec) same there
+gives_there k ec there h = transfer_there k ec there h.tables
 
-with_transfer_fits : (k : KernelState) (ec : ℕ) (t : Transfer) → option_map is_some (slice_get k.transfers ec) ≡ Some true → Fits k → Fits (with_transfer k ec t)
-with_transfer_fits k ec t there h = record {
-  contexts = h.contexts;
-  messages = h.messages;
-  transfers = map_set is_some k.transfers ec (Some t) (there_by (slice_get k.transfers ec) t there) ∙ h.transfers;
-  budgets = h.budgets;
-  identifiers = h.identifiers;
-  semaphores = h.semaphores;
-  refer = h.refer;
-}
-
--- ONE OBJECT MORE
-
-tag_new : (n : ℕ) (made : NewObject) → tag (context_of n made) ≡ tag_of n (object_of made)
-tag_new n new.Pd = refl
-tag_new n (new.Ec pd cpu kind sp event) = refl
-tag_new n (new.Sc ec cpu priority quantum) = refl
-tag_new n (new.Pt ec mtd ip) = refl
-tag_new n (new.Sm count) = refl
-
-words_new : (o : Object) → is_some (words_of o) ≡ is_ec o
-words_new Pd = refl
-words_new (Ec pd cpu kind event) = refl
-words_new (Sc ec cpu priority quantum) = refl
-words_new (Pt ec mtd ip) = refl
-words_new Sm = refl
-
-transfer_new : (o : Object) → is_some (transfer_of o) ≡ is_ec o
-transfer_new Pd = refl
-transfer_new (Ec pd cpu kind event) = refl
-transfer_new (Sc ec cpu priority quantum) = refl
-transfer_new (Pt ec mtd ip) = refl
-transfer_new Sm = refl
-
-budget_new : (stamp : ℕ) (made : NewObject) → is_some (budget_of stamp made) ≡ is_sc (object_of made)
-budget_new stamp new.Pd = refl
-budget_new stamp (new.Ec pd cpu kind sp event) = refl
-budget_new stamp (new.Sc ec cpu priority quantum) = refl
-budget_new stamp (new.Pt ec mtd ip) = refl
-budget_new stamp (new.Sm count) = refl
-
-identifier_new : (made : NewObject) → is_some (identifier_of made) ≡ is_pt (object_of made)
-identifier_new new.Pd = refl
-identifier_new (new.Ec pd cpu kind sp event) = refl
-identifier_new (new.Sc ec cpu priority quantum) = refl
-identifier_new (new.Pt ec mtd ip) = refl
-identifier_new (new.Sm count) = refl
-
-semaphore_new : (made : NewObject) → is_some (option_map idle_semaphore (count_of made)) ≡ is_sm (object_of made)
-semaphore_new new.Pd = refl
-semaphore_new (new.Ec pd cpu kind sp event) = refl
-semaphore_new (new.Sc ec cpu priority quantum) = refl
-semaphore_new (new.Pt ec mtd ip) = refl
-semaphore_new (new.Sm count) = refl
-
-maps_more : {T : Type 0} (is : Object → Bool) (xs : List (Option T)) (os : List Object) (x : Option T) (o : Object) → map is_some xs ≡ map is os → is_some x ≡ is o →
-    map is_some (xs ++ x ∷ []) ≡ map is (os ++ o ∷ [])
-maps_more is xs os x o h new =
-    map_more is_some xs x ∙ ap (λ (l : List Bool). l ++ is_some x ∷ []) h ∙ ap (λ (b : Bool). map is os ++ b ∷ []) new ∙ sym (map_more is os o)
-
-cpu_more : (os : List Object) (o : Object) (ec cpu : ℕ) (at : Option Object) → slice_get os ec ≡ at → cpu_of at ≡ Some cpu → cpu_of (slice_get (os ++ o ∷ []) ec) ≡ Some cpu
-cpu_more os o ec cpu None is h = absurd (cc)
-cpu_more os o ec cpu (Some x) is h = ap cpu_of (get_kept os o ec x is) ∙ h
-
-kind_more : (os : List Object) (o : Object) (is : Object → Bool) (n : ℕ) (at : Option Object) → slice_get os n ≡ at → option_map is at ≡ Some true → IsOf (os ++ o ∷ []) is n
-kind_more os o is n None at h = absurd (cc)
-kind_more os o is n (Some x) at h = ap (λ (e : Option Object). option_map is e) (get_kept os o n x at) ∙ h
-
-refers_more : (os : List Object) (o x : Object) → Refers os x → Refers (os ++ o ∷ []) x
-refers_more os o Pd h = tt
-refers_more os o (Ec pd cpu kind event) h = get_kept os o pd Pd h
-refers_more os o (Sc ec cpu priority quantum) h = cpu_more os o ec cpu (slice_get os ec) refl h
-refers_more os o (Pt ec mtd ip) h = kind_more os o is_local ec (slice_get os ec) refl h
-refers_more os o Sm h = tt
-
-all_refer : (os : List Object) (o : Object) (xs : List Object) → AllByRecursion (Refers os) xs → Refers os o → AllByRecursion (Refers (os ++ o ∷ [])) (xs ++ o ∷ [])
-all_refer os o [] h last = (refers_more os o o last, tt)
-all_refer os o (x ∷ xs) h last = (refers_more os o x h.0, all_refer os o xs h.1 last)
-
-made_fits : (k : KernelState) (domain target : ℕ) (made : NewObject) → Refers k.objects (object_of made) → Fits k → Fits (with_object k domain target made)
-made_fits k domain target made refers h = record {
-  contexts =
-      let e : length k.objects ≡ 0 + length k.objects = omega arith in
-      map_more tag k.contexts (context_of (length k.objects) made)
-      ∙ ap (λ (l : List (Option (ℕ × ℕ))). l ++ tag (context_of (length k.objects) made) ∷ []) h.contexts
-      ∙ ap (λ (t : Option (ℕ × ℕ)). tags_from 0 k.objects ++ t ∷ []) (tag_new (length k.objects) made ∙ ap (λ (m : ℕ). tag_of m (object_of made)) e)
-      ∙ sym (tags_more 0 k.objects (object_of made));
-  messages = maps_more is_ec k.messages k.objects (words_of (object_of made)) (object_of made) h.messages (words_new (object_of made));
-  transfers = maps_more is_ec k.transfers k.objects (transfer_of (object_of made)) (object_of made) h.transfers (transfer_new (object_of made));
-  budgets = maps_more is_sc k.budgets k.objects (budget_of k.next_stamp made) (object_of made) h.budgets (budget_new k.next_stamp made);
-  identifiers = maps_more is_pt k.identifiers k.objects (identifier_of made) (object_of made) h.identifiers (identifier_new made);
-  semaphores = maps_more is_sm k.semaphores k.objects (option_map idle_semaphore (count_of made)) (object_of made) h.semaphores (semaphore_new made);
-  refer = all_refer k.objects (object_of made) k.objects h.refer refers;
-}
-
--- TURNS
-
-done_fits : (k : KernelState) (ec : ℕ) (d : Deed) → is_some (context_at k ec) ≡ true → Asks k d → Fits k → Fits (done k ec d)
-done_fits k ec Rests there asks h = h
-done_fits k ec Steps there asks h = stepped_fits k ec (instruction k ec) there h
-done_fits k ec (Makes call target made) there asks h =
-    made_fits _ (pd_of k ec) target made asks (edited k ec (λ x. changed x (Makes call target made)) (changed_tag (Makes call target made)) there h)
-done_fits k ec (Recalls other) there asks h =
-    recalled_fits _ other _ refl (edited k ec (λ x. changed x (Recalls other)) (changed_tag (Recalls other)) there h)
-done_fits k ec (Opens target domain) there asks h =
-    made_fits _ (pd_of k ec) target new.Pd tt (edited k ec (λ x. changed x (Opens target domain)) (changed_tag (Opens target domain)) there h)
-done_fits k ec (Gives child cursor) there asks h = with_transfer_fits (record k { delegations = _ }) ec _ (gives_there k ec there h) (with_delegations k _ h)
-done_fits k ec (Skips reason place cursor) there asks h = with_transfer_fits k ec _ (gives_there k ec there h) h
-done_fits k ec (Ends item children) there asks h =
-    with_transfer_fits _ ec no_transfer (gives_there k ec there h) (edited k ec (λ x. changed x (Ends item children)) (changed_tag (Ends item children)) there h)
-done_fits k ec (Names pt identifier) there asks h =
-    named_fits _ pt identifier asks (edited k ec (λ x. changed x (Names pt identifier)) (changed_tag (Names pt identifier)) there h)
-done_fits k ec (Raises reason q0 q1) there asks h = edited k ec (λ x. changed x (Raises reason q0 q1)) (changed_tag (Raises reason q0 q1)) there h
-done_fits k ec (Dies reason q0) there asks h = edited k ec (λ x. changed x (Dies reason q0)) (changed_tag (Dies reason q0)) there h
-done_fits k ec (Refuses call status) there asks h = edited k ec (λ x. changed x (Refuses call status)) (changed_tag (Refuses call status)) there h
-done_fits k ec (Tells call value) there asks h = edited k ec (λ x. changed x (Tells call value)) (changed_tag (Tells call value)) there h
+done_fits : (k : KernelState) (ec : ℕ) (d : Deed) → IsActor k.contexts ec → Asks k ec d → Fits k → Fits (done k ec d)
+done_fits k ec d actor asks h = record { tables = done_tables k ec d actor asks h.served h.tables; served = done_served k ec d actor asks h.tables h.served }
 
 entry_budget : (o : Option (Option Budget)) (b new : Budget) → entry o ≡ Some b → IfSome o (λ e. is_some (Some new) ≡ is_some e)
 entry_budget None b new h = tt
 entry_budget (Some e) b new h = sym (ap is_some h)
 
-paid_fits : (k : KernelState) (cpu sc quantum : ℕ) (o : Option Budget) → budget_at k sc ≡ o → Fits k → Fits (counted (paid_by k sc quantum o) cpu)
-paid_fits k cpu sc quantum None is h = record {
+paid_tables : (k : KernelState) (cpu sc quantum : ℕ) (o : Option Budget) → budget_at k sc ≡ o → HasTables k → HasTables (counted (paid_by k sc quantum o) cpu)
+paid_tables k cpu sc quantum None is h = record {
   contexts = h.contexts;
   messages = h.messages;
   transfers = h.transfers;
@@ -327,7 +259,7 @@ paid_fits k cpu sc quantum None is h = record {
   semaphores = h.semaphores;
   refer = h.refer;
 }
-paid_fits k cpu sc quantum (Some b) is h = record {
+paid_tables k cpu sc quantum (Some b) is h = record {
   contexts = h.contexts;
   messages = h.messages;
   transfers = h.transfers;
@@ -338,9 +270,16 @@ paid_fits k cpu sc quantum (Some b) is h = record {
   refer = h.refer;
 }
 
+paid_served : (k : KernelState) (cpu sc quantum : ℕ) (o : Option Budget) → Served k → Served (counted (paid_by k sc quantum o) cpu)
+paid_served k cpu sc quantum None h = h
+paid_served k cpu sc quantum (Some b) h = h
+
 charged_fits : (k : KernelState) (cpu sc : ℕ) → Fits k → Fits (charged k cpu sc)
 unfolding charged
-charged_fits k cpu sc h = paid_fits k cpu sc (quantum_in (slice_get k.objects sc)) (budget_at k sc) refl h
+charged_fits k cpu sc h = record {
+  tables = paid_tables k cpu sc (quantum_in (slice_get k.objects sc)) (budget_at k sc) refl h.tables;
+  served = paid_served k cpu sc (quantum_in (slice_get k.objects sc)) (budget_at k sc) h.served;
+}
 
 pub entry_acts : (cs : Contexts) (o : Option EcState) → acts_as cs (option_map (λ x. x.state) o) ≡ true → is_some o ≡ true
 entry_acts cs None h = absurd (cc)
@@ -349,8 +288,7 @@ entry_acts cs (Some x) h = refl
 turn_by_fits : (k : KernelState) (cpu : ℕ) (c : Option Candidate) → IfSome c (Acts k) → Fits k → Fits (state_after k (turn_by k cpu c))
 turn_by_fits k cpu None acts h = h
 turn_by_fits k cpu (Some c) acts h =
-    let there : is_some (context_at k c.actor) ≡ true = entry_acts k.contexts (ec_in k.contexts c.actor) acts in
-    charged_fits (done k c.actor (deed k c.actor)) cpu c.sc (done_fits k c.actor (deed k c.actor) there (deed_asks k c.actor) h)
+    charged_fits (done k c.actor (deed k c.actor)) cpu c.sc (done_fits k c.actor (deed k c.actor) (actor_of k.contexts c.actor acts) (deed_asks k c.actor) h)
 
 pub after_fits : (k : KernelState) (cpu : ℕ) → Fits k → Fits (after k cpu)
 unfolding turn
@@ -362,11 +300,24 @@ run_fits k (cpu ∷ turns) h = run_fits (after k cpu) turns (after_fits k cpu h)
 
 images_fit : (k : KernelState) (images : List Image) → Fits k → Fits (with_images k images)
 images_fit k [] h = h
-images_fit k (image ∷ images) h = images_fit (with_image k image) images (with_memory k _ h)
+images_fit k (image ∷ images) h = images_fit (with_image k image) images (record { tables = with_memory k _ h.tables; served = h.served })
+
+no_link : (c h : ℕ) → IsLinked c None h None
+no_link c h = record { known = λ is. absurd (cc); waits = λ mark keeps lives. absurd (cc); cpu = λ mark keeps. refl }
+
+root_served : (root : Root) → AreServed (λ h. is_local_in (slice_get (root_objects root) h)) (None ∷ Some (root_context root) ∷ None ∷ [])
+root_served root =
+    let local : ℕ → Bool = λ h. is_local_in (slice_get (root_objects root) h) in
+    let none : AreServed local [] = record { linked = λ c h. no_link c h; well = λ h. (none_born (local h)).well } in
+    served_more local local (None ∷ Some (root_context root) ∷ []) None
+    (served_more local local (None ∷ []) (Some (root_context root)) (served_more local local [] None none (none_born false) (λ h other. refl)) (alone_born (root_context root) Ready refl refl (λ h is. cc) refl refl refl) (λ h other. refl))
+    (none_born false) (λ h other. refl)
 
 pub boot_fits : (s : Scenario) → Fits (boot s)
-boot_fits s = images_fit (bare s.cpus s.ram s.consoles s.root) s.images
-    (record { contexts = refl; messages = refl; transfers = refl; budgets = refl; identifiers = refl; semaphores = refl; refer = (tt, (refl, (refl, tt))) })
+boot_fits s = images_fit (bare s.cpus s.ram s.consoles s.root) s.images (record {
+  tables = record { contexts = refl; messages = refl; transfers = refl; budgets = refl; identifiers = refl; semaphores = refl; refer = (tt, ((refl, refl), (refl, tt))) };
+  served = root_served s.root;
+})
 
 pub boot_run_fits : (s : Scenario) (turns : List ℕ) → Fits (run (boot s) turns)
 boot_run_fits s turns = run_fits (boot s) turns (boot_fits s)

@@ -1,52 +1,66 @@
 -- What a deed wants of transfers: whose execution context gives or doesn't, and where it opens a protection domain, the range that it was
 -- asked to give.
-use Rattle.std.proofs.Common.{◌≡◌, ℕ, length, refl, ap, sym}
-use Rattle.std.specs.Prelude.{Bool, true, false, ◌&&◌, ◌==◌, nat_le, ◌%◌, ◌/◌, ◌^◌, ◌-◌, if◌then◌else◌, slice_get, Option, Some, None, IsSome, IfSome, option_map, Result, Ok, Err}
+use Rattle.std.proofs.Common.{◌≡◌, ℕ, ◌+◌, length, refl, ap, sym, subst}
+use Rattle.std.specs.Prelude.{Bool, true, false, ◌&&◌, ◌==◌, nat_le, ◌%◌, ◌/◌, ◌^◌, ◌-◌, ◌||◌, not, nat_lt, if◌then◌else◌, slice_get, Option, Some, None, IsSome, IfSome, option_map, Result, Ok, Err}
 use Rattle.std.specs.List.{AllByRecursion}
 use Rattle.rv_model.specs.Registers.{Registers, reg}
-use Rattle.rv_model.specs.Step.{Once, Raised, Went}
 use Rattle.nova_calls.specs.Hypercalls.{action_of, call_of, is_flag, is_selector, kind_of, range_of, read_row, readable, rows}
 use Rattle.nova_calls.specs.declared.call.Call.{Call}
-use Rattle.nova_calls.specs.declared.call.Call.TheVariants as call
+use Rattle.nova_calls.specs.declared.call.Call.TheVariants as asks
 use Rattle.nova_calls.specs.declared.numbers.TheConstants.{CREATE_EC, CREATE_SC, CREATE_PT, CREATE_SM, SC_CTRL}
 use Rattle.nova_range.specs.RangeWords.{meaning_of}
 use Rattle.nova_range.specs.declared.range.Range.{Range}
 use Rattle.nova_range.specs.declared.rights.Rights.{Rights}
-use Rattle.nova_range.specs.declared.status.Status.{Status}
-use Rattle.nova_range.specs.declared.status.Status.TheVariants.{BadHyp, BadPar}
+use Rattle.nova_range.specs.declared.status.Status.TheVariants.{Aborted, BadCpu, BadPar, Timeout}
 use Rattle.nova_range.specs.declared.word.WordFault.{WordFault}
 use Rattle.nova_model.specs.Capabilities.{is_ec, is_sc, is_pt, named, control_right}
-use Rattle.nova_model.specs.Deeds.{deed, deed_in, instruction, ready, signalled, stepping}
-use Rattle.nova_model.specs.Hypercalls.{and_then, hypercall, is_built, is_virtual, maker, new_domain, or_refuses, row, ticks_in}
-use Rattle.nova_model.specs.State.{KernelState, budget_at, context, pd_of}
+use Rattle.nova_model.specs.Calls.{admitted, is_parked, is_same_cpu}
+use Rattle.nova_model.specs.Deeds.{deed, deed_in}
+use Rattle.nova_model.specs.Deliveries.{delivery, delivers, given_to, sequel_of, taken_from}
+use Rattle.nova_model.specs.Edges.{circle, cpu_in, is_dead, state_in}
+use Rattle.nova_model.specs.Hypercalls.{handler_of, is_virtual, maker, new_domain, row, ticks_in}
+use Rattle.nova_model.specs.State.{KernelState, budget_at, context, pd_of, transfer}
 use Rattle.nova_model.specs.Transfers.{read_as}
 use Rattle.nova_model.specs.declared.context.State.{State}
-use Rattle.nova_model.specs.declared.context.State.TheVariants.{Fresh, Ready, Parked, Calling, Helping, Exiting, Sending, Granting, Dead}
+use Rattle.nova_model.specs.declared.context.State.TheVariants.{Parked, Granting, Replying}
+use Rattle.nova_model.specs.declared.admit.Admit.TheVariants.{Refused, Help, Send}
+use Rattle.nova_model.specs.declared.context.Mark.{Mark}
+use Rattle.nova_model.specs.declared.context.Mark.TheVariants as mark
+use Rattle.nova_model.specs.declared.transfer.Delivery.{Delivery}
+use Rattle.nova_model.specs.declared.transfer.Sequel.{Sequel}
+use Rattle.nova_model.specs.declared.transfer.Sequel.TheVariants as sequel
 use Rattle.nova_model.specs.declared.deed.Deed.{Deed}
-use Rattle.nova_model.specs.declared.deed.Deed.TheVariants.{Rests, Recalls, Tells, Names, Opens, Gives, Skips, Ends}
+use Rattle.nova_model.specs.declared.deed.Deed.TheVariants.{Rests, Recalls, Tells, Names, Opens, Gives, Skips, Finishes, Calls, Replies}
 use Rattle.nova_model.specs.declared.new_object.NewObject.TheVariants.{Sm}
-use Rattle.nova_forest.proofs.Walk.{IfDone, granting_holds}
+use Rattle.nova_forest.proofs.Walk.{IfDone, Delivers, delivered_holds, own_holds}
 use Rattle.nova_laws.specs.Giving.{is_giving}
-use Rattle.nova_laws.proofs.Rows.{makes_hold, named_holds, unless_holds}
-use Rattle.nova_laws.proofs.Suited.{all_get}
+use Rattle.nova_laws.proofs.Rows.{call_holds, makes_hold, named_holds, reply_holds, unless_holds}
+use Rattle.nova_laws.proofs.Tabling.{all_get}
 
 -- the word in x12 reads as a range
 abbrev pub HasRange : Registers → Type 0
 HasRange r = IsSome (read_as (meaning_of (reg r 12)))
 
+-- a reply goes to the caller that is served
+abbrev pub GoesTo : KernelState → ℕ → Sequel → Type 0
+GoesTo k ec (sequel.Replied caller) = (mark : Mark) × ((context k ec).caller ≡ Some (caller, mark))
+GoesTo k ec other = Unit {0}
+
 abbrev pub Wants : KernelState → ℕ → Deed → Type 0
-Wants k ec Rests = Unit {0}
+Wants k ec Rests = delivery k ec (context k ec).state ≡ None
 Wants k ec (Opens target domain) = (is_giving (context k ec).state ≡ false) × (domain ≡ length k.objects) × HasRange (context k ec).regs
 Wants k ec (Gives child cursor) = is_giving (context k ec).state ≡ true
 Wants k ec (Skips reason place cursor) = is_giving (context k ec).state ≡ true
-Wants k ec (Ends item children) = Unit {0}
+Wants k ec (Finishes item end words after) = (is_giving (context k ec).state ≡ true) × GoesTo k ec after
+Wants k ec (Calls handler ip identifier items) = (is_giving (context k ec).state ≡ false) × (state_in k.contexts handler ≡ Some Parked)
+Wants k ec (Replies caller items) = (is_giving (context k ec).state ≡ false) × ((context k ec).caller ≡ Some (caller, mark.Call))
 Wants k ec other = is_giving (context k ec).state ≡ false
 
 -- WHAT A CALL WAS READ FROM
 
 -- a call that makes a protection domain and gives a range
 abbrev HasRangeFor : Registers → Call → Type 0
-HasRangeFor r (call.CreatePd target pd (Some range)) = HasRange r
+HasRangeFor r (asks.CreatePd target pd (Some range)) = HasRange r
 HasRangeFor r other = Unit {0}
 
 abbrev Row : Registers → Option Call → Type 0
@@ -61,42 +75,42 @@ row_map r f (Some x) h = h x
 row_map r f None h = tt
 
 create_pd_range : (r : Registers) (target pd : ℕ) (m : Result (Option (Range × Rights)) WordFault) → meaning_of (reg r 12) ≡ m →
-    Row r (option_map (λ first. call.CreatePd target pd first) (readable m))
+    Row r (option_map (λ first. asks.CreatePd target pd first) (readable m))
 create_pd_range r target pd (Ok None) is = tt
 create_pd_range r target pd (Ok (Some range)) is = rw is refl
 create_pd_range r target pd (Err fault) is = tt
 
 rows_range : (r : Registers) → AllByRecursion (Row r) (rows r)
 rows_range r = (
-  row_if r (is_selector (reg r 10) && is_flag (reg r 11)) (Some (call.Call (reg r 10) (reg r 11 == 1))) tt,
+  row_if r (is_selector (reg r 10) && is_flag (reg r 11)) (Some (asks.Call (reg r 10) (reg r 11 == 1))) tt,
   (
     tt,
     (
       row_if r (is_selector (reg r 10) && is_selector (reg r 11)) _ (create_pd_range r (reg r 10) (reg r 11) (meaning_of (reg r 12)) refl),
       (
         row_if r (is_selector (reg r 10) && is_selector (reg r 11) && nat_le (reg r 14) (2 ^ 20 - 9))
-            (option_map (λ kind. call.CreateEc (reg r 10) (reg r 11) (reg r 12 % 2 ^ 8) kind (reg r 13) (reg r 14)) (kind_of (reg r 12 / 2 ^ 8)))
-            (row_map r (λ kind. call.CreateEc (reg r 10) (reg r 11) (reg r 12 % 2 ^ 8) kind (reg r 13) (reg r 14)) (kind_of (reg r 12 / 2 ^ 8)) (λ kind. tt)),
+            (option_map (λ kind. asks.CreateEc (reg r 10) (reg r 11) (reg r 12 % 2 ^ 8) kind (reg r 13) (reg r 14)) (kind_of (reg r 12 / 2 ^ 8)))
+            (row_map r (λ kind. asks.CreateEc (reg r 10) (reg r 11) (reg r 12 % 2 ^ 8) kind (reg r 13) (reg r 14)) (kind_of (reg r 12 / 2 ^ 8)) (λ kind. tt)),
         (
-          row_if r (is_selector (reg r 10) && is_selector (reg r 11) && is_selector (reg r 12) && nat_le 1 (reg r 13 / 2 ^ 8)) (Some (call.CreateSc (reg r 10) (reg r 11) (reg r 12) (reg r 13 / 2 ^ 8) (reg r 13 % 2 ^ 8))) tt,
+          row_if r (is_selector (reg r 10) && is_selector (reg r 11) && is_selector (reg r 12) && nat_le 1 (reg r 13 / 2 ^ 8)) (Some (asks.CreateSc (reg r 10) (reg r 11) (reg r 12) (reg r 13 / 2 ^ 8) (reg r 13 % 2 ^ 8))) tt,
           (
-            row_if r (is_selector (reg r 10) && is_selector (reg r 11) && is_selector (reg r 12) && nat_le (reg r 13) 15 && (reg r 14 % 4 == 0)) (Some (call.CreatePt (reg r 10) (reg r 11) (reg r 12) (record { 0 = reg r 13 }) (reg r 14))) tt,
+            row_if r (is_selector (reg r 10) && is_selector (reg r 11) && is_selector (reg r 12) && nat_le (reg r 13) 15 && (reg r 14 % 4 == 0)) (Some (asks.CreatePt (reg r 10) (reg r 11) (reg r 12) (record { 0 = reg r 13 }) (reg r 14))) tt,
             (
-              row_if r (is_selector (reg r 10) && is_selector (reg r 11)) (Some (call.CreateSm (reg r 10) (reg r 11) (reg r 12))) tt,
+              row_if r (is_selector (reg r 10) && is_selector (reg r 11)) (Some (asks.CreateSm (reg r 10) (reg r 11) (reg r 12))) tt,
               (
-                row_if r (is_flag (reg r 11)) (option_map (λ range. call.Revoke range (reg r 11 == 1)) (range_of (reg r 10)))
-                    (row_map r (λ range. call.Revoke range (reg r 11 == 1)) (range_of (reg r 10)) (λ range. tt)),
+                row_if r (is_flag (reg r 11)) (option_map (λ range. asks.Revoke range (reg r 11 == 1)) (range_of (reg r 10)))
+                    (row_map r (λ range. asks.Revoke range (reg r 11 == 1)) (range_of (reg r 10)) (λ range. tt)),
                 (
-                  row_map r (λ range. call.Lookup range) (range_of (reg r 10)) (λ range. tt),
+                  row_map r (λ range. asks.Lookup range) (range_of (reg r 10)) (λ range. tt),
                   (
-                    row_if r (is_selector (reg r 10)) (Some (call.EcCtrl (reg r 10))) tt,
+                    row_if r (is_selector (reg r 10)) (Some (asks.EcCtrl (reg r 10))) tt,
                     (
-                      row_if r (is_selector (reg r 10)) (Some (call.ScCtrl (reg r 10))) tt,
+                      row_if r (is_selector (reg r 10)) (Some (asks.ScCtrl (reg r 10))) tt,
                       (
-                        row_if r (is_selector (reg r 10)) (Some (call.PtCtrl (reg r 10) (reg r 11))) tt,
+                        row_if r (is_selector (reg r 10)) (Some (asks.PtCtrl (reg r 10) (reg r 11))) tt,
                         (
-                          row_if r (is_selector (reg r 10)) (option_map (λ action. call.SmCtrl (reg r 10) action) (action_of (reg r 11)))
-                              (row_map r (λ action. call.SmCtrl (reg r 10) action) (action_of (reg r 11)) (λ action. tt)),
+                          row_if r (is_selector (reg r 10)) (option_map (λ action. asks.SmCtrl (reg r 10) action) (action_of (reg r 11)))
+                              (row_map r (λ action. asks.SmCtrl (reg r 10) action) (action_of (reg r 11)) (λ action. tt)),
                           tt,
                         ),
                       ),
@@ -128,71 +142,116 @@ new_domain_wants : (k : KernelState) (ec target : ℕ) (first : Option (Range ×
 new_domain_wants k ec target None rests range = rests
 new_domain_wants k ec target (Some first) rests range = (rests, refl, range refl)
 
-first_range : (r : Registers) (target pd : ℕ) (first : Option (Range × Rights)) → HasRangeFor r (call.CreatePd target pd first) → IsSome first → HasRange r
+first_range : (r : Registers) (target pd : ℕ) (first : Option (Range × Rights)) → HasRangeFor r (asks.CreatePd target pd first) → IsSome first → HasRange r
 first_range r target pd None h is = absurd (cc)
 first_range r target pd (Some range) h is = h
 
-row_wants : (k : KernelState) (ec domain : ℕ) (c : Call) → is_giving (context k ec).state ≡ false → HasRangeFor (context k ec).regs c → IfDone (Wants k ec) (row k domain c)
-row_wants k ec domain (call.CreatePd target pd first) rests range =
+-- a call is sent to one that is parked
+admits_parked : (k : KernelState) (ec handler : ℕ) (flag : Bool) → admitted k.contexts ec handler flag ≡ Send → state_in k.contexts handler ≡ Some Parked
+admits_parked k ec handler flag is =
+    by_processor (is_same_cpu (cpu_in k.contexts handler) (cpu_in k.contexts ec)) (is_dead (state_in k.contexts handler) || circle k.contexts handler ec) (state_in k.contexts handler) is
+  where
+    by_state : (o : Option State) → (if is_parked o then Send else if flag then Refused Timeout else Help) ≡ Send → o ≡ Some Parked
+    by_state (Some Parked) h = refl
+    by_state None h = absurd (busy flag h)
+      where
+        busy : (t : Bool) → (if t then Refused Timeout else Help) ≡ Send → ⊥
+        busy true e = absurd (cc)
+        busy false e = absurd (cc)
+    by_state (Some other) h = absurd (busy flag h)
+      where
+        busy : (t : Bool) → (if t then Refused Timeout else Help) ≡ Send → ⊥
+        busy true e = absurd (cc)
+        busy false e = absurd (cc)
+
+    by_processor : (same ended : Bool) (o : Option State) →
+        (if not same then Refused BadCpu else if ended then Refused Aborted else if is_parked o then Send else if flag then Refused Timeout else Help) ≡ Send → o ≡ Some Parked
+    by_processor false ended o h = absurd (cc)
+    by_processor true true o h = absurd (cc)
+    by_processor true false o h = by_state o h
+
+row_wants : (k : KernelState) (ec domain : ℕ) (c : Call) → is_giving (context k ec).state ≡ false → HasRangeFor (context k ec).regs c → IfDone (Wants k ec) (row k ec domain c)
+row_wants k ec domain (asks.Call portal flag) rests range =
+    call_holds (Wants k ec) k ec domain portal flag (λ pt is. (rests, admits_parked k ec (handler_of k pt) flag is.admits)) (λ pt is. rests)
+row_wants k ec domain asks.Reply rests range = reply_holds (Wants k ec) k ec (λ caller is. (rests, is.serves))
+row_wants k ec domain (asks.CreatePd target pd first) rests range =
     named_holds (Wants k ec) (maker k domain target pd) (λ owner. new_domain k target first)
     (λ owner. new_domain_wants k ec target first rests (first_range (context k ec).regs target pd first range))
-row_wants k ec domain (call.CreateEc target pd cpu kind sp event) rests range =
+row_wants k ec domain (asks.CreateEc target pd cpu kind sp event) rests range =
     unless_holds (Wants k ec) (is_virtual kind) BadPar _ (makes_hold (Wants k ec) CREATE_EC target (λ made. rests) k domain pd _)
-row_wants k ec domain (call.CreateSc target pd its quantum priority) rests range = makes_hold (Wants k ec) CREATE_SC target (λ made. rests) k domain pd _
-row_wants k ec domain (call.CreatePt target pd handler mtd ip) rests range = makes_hold (Wants k ec) CREATE_PT target (λ made. rests) k domain pd _
-row_wants k ec domain (call.CreateSm target pd count) rests range = makes_hold (Wants k ec) CREATE_SM target (λ made. rests) k domain pd (λ o. Ok (Sm count))
-row_wants k ec domain (call.Lookup range) rests has = rests
-row_wants k ec domain (call.EcCtrl other) rests range = named_holds (Wants k ec) (named k domain is_ec control_right other) (λ n. Recalls n) (λ n. rests)
-row_wants k ec domain (call.ScCtrl sc) rests range =
+row_wants k ec domain (asks.CreateSc target pd its quantum priority) rests range = makes_hold (Wants k ec) CREATE_SC target (λ made. rests) k domain pd _
+row_wants k ec domain (asks.CreatePt target pd handler mtd ip) rests range = makes_hold (Wants k ec) CREATE_PT target (λ made. rests) k domain pd _
+row_wants k ec domain (asks.CreateSm target pd count) rests range = makes_hold (Wants k ec) CREATE_SM target (λ made. rests) k domain pd (λ o. Ok (Sm count))
+row_wants k ec domain (asks.Lookup range) rests has = rests
+row_wants k ec domain (asks.EcCtrl other) rests range = named_holds (Wants k ec) (named k domain is_ec control_right other) (λ n. Recalls n) (λ n. rests)
+row_wants k ec domain (asks.ScCtrl sc) rests range =
     named_holds (Wants k ec) (named k domain is_sc control_right sc) (λ n. Tells SC_CTRL (ticks_in (budget_at k n))) (λ n. rests)
-row_wants k ec domain (call.PtCtrl pt identifier) rests range =
+row_wants k ec domain (asks.PtCtrl pt identifier) rests range =
     named_holds (Wants k ec) (named k domain is_pt control_right pt) (λ n. Names n identifier) (λ n. rests)
 row_wants k ec domain other rests range = tt
 
--- the walk to a row, with what the call was read from
-hypercall_wants : (k : KernelState) (ec domain : ℕ) → is_giving (context k ec).state ≡ false → Wants k ec (hypercall k domain (context k ec).regs)
-hypercall_wants k ec domain rests = by_test (is_built (reg r 17))
+-- an item ends so
+delivery_goes : (k : KernelState) (ec : ℕ) (s : State) (v : Delivery) → delivery k ec s ≡ Some v → GoesTo k ec v.last
+delivery_goes k ec (Granting (Some new)) v is = let last : sequel.Opened ≡ v.last = cc in subst (GoesTo k ec) last tt
+delivery_goes k ec (Granting None) v is = by_caller (context k ec).caller is
   where
-    r : Registers
-    r = (context k ec).regs
+    by_caller : (o : Option (ℕ × Mark)) → taken_from k ec (transfer k ec).item o ≡ Some v → GoesTo k ec v.last
+    by_caller None e = absurd (cc)
+    by_caller (Some (caller, mark)) e = let last : sequel.Taken ≡ v.last = cc in subst (GoesTo k ec) last tt
+delivery_goes k ec Replying v is = by_caller (context k ec).caller refl is
+  where
+    by_caller : (o : Option (ℕ × Mark)) → (context k ec).caller ≡ o → given_to k ec (transfer k ec).item o ≡ Some v → GoesTo k ec v.last
+    by_caller None at e = absurd (cc)
+    by_caller (Some (caller, mark)) at e = let last : sequel.Replied caller ≡ v.last = cc in subst (GoesTo k ec) last (mark, at)
+delivery_goes k ec other v is = absurd (cc)
 
-    by_deed : (d : Result Deed Status) → IfDone (Wants k ec) d → Wants k ec (or_refuses (reg r 17) d)
-    by_deed (Ok d) wants = wants
-    by_deed (Err status) wants = rests
+sequel_goes : (k : KernelState) (ec item : ℕ) (v : Delivery) → GoesTo k ec v.last → GoesTo k ec (sequel_of v item)
+sequel_goes k ec item v last = by_test (nat_lt (item + 1) v.items)
+  where
+    by_test : (t : Bool) → GoesTo k ec (if t then sequel.Item else v.last)
+    by_test true = tt
+    by_test false = last
 
-    by_call : (c : Result Call Status) → call_of r ≡ c → Wants k ec (or_refuses (reg r 17) (and_then c (row k domain)))
-    by_call (Ok c) is = by_deed (row k domain c) (row_wants k ec domain c rests (call_range r c is))
-    by_call (Err status) is = rests
+gives_wants : (k : KernelState) (ec : ℕ) → is_giving (context k ec).state ≡ true → Delivers (Wants k ec) k ec
+gives_wants k ec gives = record {
+  gives = λ d x g. gives;
+  skips = λ d reason place is. gives;
+  finishes = λ v end answer present is. (gives, sequel_goes k ec (transfer k ec).item v (delivery_goes k ec (context k ec).state v present));
+}
 
-    by_test : (t : Bool) → Wants k ec (or_refuses (reg r 17) (if t then and_then (call_of r) (row k domain) else Err BadHyp))
-    by_test true = by_call (call_of r) refl
-    by_test false = rests
+delivers_wants : (k : KernelState) (ec : ℕ) → is_giving (context k ec).state ≡ true → (o : Option Delivery) → delivery k ec (context k ec).state ≡ o →
+    Wants k ec (delivers k (transfer k ec) o)
+delivers_wants k ec gives None present = present
+delivers_wants k ec gives (Some v) present = delivered_holds (Wants k ec) k ec v present (gives_wants k ec gives)
 
-signalled_wants : (k : KernelState) (ec reason q0 q1 : ℕ) (test : Bool) → is_giving (context k ec).state ≡ false → Wants k ec (signalled k ec reason q0 q1 test)
-signalled_wants k ec reason q0 q1 true rests = hypercall_wants k ec (pd_of k ec) rests
-signalled_wants k ec reason q0 q1 false rests = rests
+-- of each
+none_there : (k : KernelState) (ec : ℕ) (s : State) → is_giving s ≡ false → delivery k ec s ≡ None
+none_there k ec (Granting new) rests = absurd (cc)
+none_there k ec Replying rests = absurd (cc)
+none_there k ec other rests = refl
 
-stepping_wants : (k : KernelState) (ec : ℕ) (o : Once) → is_giving (context k ec).state ≡ false → Wants k ec (stepping k ec o)
-stepping_wants k ec (Raised reason q0 q1) rests = signalled_wants k ec reason q0 q1 _ rests
-stepping_wants k ec (Went regs store) rests = rests
+own_wants : (k : KernelState) (ec : ℕ) → is_giving (context k ec).state ≡ false → Wants k ec (deed k ec)
+own_wants k ec rests = own_holds (Wants k ec) k ec rests (none_there k ec (context k ec).state rests) (record {
+  steps = rests;
+  raises = λ reason q0 q1. rests;
+  dies = λ reason q0. rests;
+  refuses = λ number status. rests;
+  aborts = λ handler is. rests;
+  rows = λ asks c is. row_wants k ec (pd_of k ec) c rests (call_range (context k ec).regs c is);
+})
 
-ready_wants : (k : KernelState) (ec : ℕ) (test : Bool) → is_giving (context k ec).state ≡ false → Wants k ec (ready k ec test)
-ready_wants k ec true rests = rests
-ready_wants k ec false rests = stepping_wants k ec (instruction k ec) rests
-
-deed_in_wants : (k : KernelState) (ec : ℕ) (s : State) → (context k ec).state ≡ s → Wants k ec (deed_in k ec s)
-deed_in_wants k ec Fresh is = ap is_giving is
-deed_in_wants k ec Ready is = ready_wants k ec (context k ec).recall (ap is_giving is)
-deed_in_wants k ec (Exiting reason q0 q1) is = ap is_giving is
-deed_in_wants k ec (Granting (Some new)) is =
-    granting_holds (Wants k ec) k ec new (record { gives = λ d x g. ap is_giving is; skips = λ reason place cursor. ap is_giving is; ends = tt })
-deed_in_wants k ec (Granting None) is = tt
-deed_in_wants k ec Parked is = tt
-deed_in_wants k ec Dead is = tt
-deed_in_wants k ec (Calling handler) is = tt
-deed_in_wants k ec (Helping handler) is = tt
-deed_in_wants k ec (Sending reason q0 q1 handler) is = tt
+giving_wants : (k : KernelState) (ec : ℕ) → is_giving (context k ec).state ≡ true → Wants k ec (deed k ec)
+unfolding deed
+giving_wants k ec gives = by_state (context k ec).state refl gives
+  where
+    by_state : (s : State) → (context k ec).state ≡ s → is_giving s ≡ true → Wants k ec (deed_in k ec s)
+    by_state (Granting new) is some = delivers_wants k ec gives (delivery k ec (Granting new)) (ap (delivery k ec) is)
+    by_state Replying is some = delivers_wants k ec gives (delivery k ec Replying) (ap (delivery k ec) is)
+    by_state other is some = absurd (cc)
 
 pub deed_wants : (k : KernelState) (ec : ℕ) → Wants k ec (deed k ec)
-unfolding deed
-deed_wants k ec = deed_in_wants k ec (context k ec).state refl
+deed_wants k ec = by_test (is_giving (context k ec).state) refl
+  where
+    by_test : (t : Bool) → is_giving (context k ec).state ≡ t → Wants k ec (deed k ec)
+    by_test false is = own_wants k ec is
+    by_test true is = giving_wants k ec is

@@ -9,20 +9,21 @@ use Rattle.nova_model.specs.Boot.{Image, Scenario, bare, boot, with_image, with_
 use Rattle.nova_model.specs.Capabilities.{is_schedulable}
 use Rattle.nova_model.specs.Choice.{Candidate, choice}
 use Rattle.nova_model.specs.Creation.{budget_of, object_of, stamp_past}
-use Rattle.nova_model.specs.Deeds.{deed, done, instruction, recalled, stepped, with_context}
+use Rattle.nova_model.specs.Deeds.{after_item, deed, done, instruction, recalled, stepped, with_context}
 use Rattle.nova_model.specs.Hypercalls.{schedules}
 use Rattle.nova_model.specs.Runs.{after, run}
-use Rattle.nova_model.specs.State.{KernelState, budget_at, entry, pd_of}
+use Rattle.nova_model.specs.State.{KernelState, budget_at, context, entry, pd_of}
 use Rattle.nova_model.specs.Turn.{budget_after, charged, counted, is_spent, paid, paid_by, quantum_in, stamp_after, state_after, turn, turn_by}
 use Rattle.nova_model.specs.declared.budget.Budget.{Budget}
 use Rattle.nova_model.specs.declared.context.EcState.{EcState}
 use Rattle.nova_model.specs.declared.deed.Deed.{Deed}
-use Rattle.nova_model.specs.declared.deed.Deed.TheVariants.{Rests, Steps, Makes, Opens, Recalls}
+use Rattle.nova_model.specs.declared.deed.Deed.TheVariants.{Rests, Steps, Makes, Opens, Recalls, Finishes, Replies}
 use Rattle.nova_model.specs.declared.new_object.NewObject.{NewObject}
 use Rattle.nova_model.specs.declared.new_object.NewObject.TheVariants as new
 use Rattle.nova_forest.specs.Made.{IsBoundBy}
-use Rattle.nova_forest.proofs.Growth.{IsAllowed, deed_allowed}
+use Rattle.nova_forest.proofs.Allowed.{IsAllowed, deed_allowed}
 use Rattle.nova_laws.proofs.Candidates.{HasSchedule, schedule_of, the_chosen}
+use Rattle.nova_laws.proofs.Charges.{ended_is}
 use Rattle.nova_laws.proofs.Refused.{turn_chosen}
 use Rattle.nova_laws.proofs.Setting.{entry_kept, get_kept}
 
@@ -48,6 +49,11 @@ done_adds k ec Steps allowed = stepped_adds k ec (instruction k ec)
 done_adds k ec (Makes call target made) asked = AddsOne made asked.bound refl refl refl
 done_adds k ec (Opens target number) allowed = AddsOne new.Pd tt refl refl refl
 done_adds k ec (Recalls other) allowed = recalled_adds k ec other _ _
+done_adds k ec (Finishes item end words follows) allowed =
+    let is = ended_is (with_context k ec (after_item (context k ec) follows)) item words follows in
+    AddsNone (ap (λ (s : KernelState). s.objects) is) (ap (λ (s : KernelState). s.budgets) is) (ap (λ (s : KernelState). s.next_stamp) is)
+done_adds k ec (Replies caller true) allowed = AddsNone refl refl refl
+done_adds k ec (Replies caller false) allowed = AddsNone refl refl refl
 done_adds k ec other allowed = AddsNone refl refl refl
 
 -- it leaves the counts of turns
@@ -67,6 +73,11 @@ done_counts : (k : KernelState) (ec : ℕ) (d : Deed) → KeepsCounts k (done k 
 done_counts k ec Rests = record { processors = refl; turns = refl }
 done_counts k ec Steps = stepped_counts k ec (instruction k ec)
 done_counts k ec (Recalls other) = recalled_counts k ec other _ _
+done_counts k ec (Finishes item end words follows) =
+    let is = ended_is (with_context k ec (after_item (context k ec) follows)) item words follows in
+    record { processors = ap (λ (s : KernelState). s.stirs.processors) is; turns = ap (λ (s : KernelState). s.turns) is }
+done_counts k ec (Replies caller true) = record { processors = refl; turns = refl }
+done_counts k ec (Replies caller false) = record { processors = refl; turns = refl }
 done_counts k ec other = record { processors = refl; turns = refl }
 
 -- what is there stays

@@ -1,17 +1,18 @@
 -- A turn leaves the number of processors: one row a deed, and the charge.
-use Rattle.std.proofs.Common.{◌≡◌, ℕ, List, [], ◌∷◌, ◌∙◌, refl}
-use Rattle.std.specs.Prelude.{slice_get, Option, Some, None}
+use Rattle.std.proofs.Common.{◌≡◌, ℕ, List, [], ◌∷◌, ◌∙◌, ap, refl}
+use Rattle.std.specs.Prelude.{true, false, slice_get, Option, Some, None}
 use Rattle.rv_model.specs.Step.{Once, Raised, Went}
 use Rattle.nova_model.specs.Choice.{choice}
-use Rattle.nova_model.specs.Deeds.{deed, done, instruction, recalled, stepped, with_context}
+use Rattle.nova_model.specs.Deeds.{after_item, deed, done, instruction, recalled, stepped, with_context}
 use Rattle.nova_model.specs.Runs.{after, run}
-use Rattle.nova_model.specs.State.{KernelState, budget_at}
+use Rattle.nova_model.specs.State.{KernelState, budget_at, context}
 use Rattle.nova_model.specs.Turn.{charged, counted, paid_by, quantum_in, state_after, turn, turn_by}
 use Rattle.nova_model.specs.declared.budget.Budget.{Budget}
 use Rattle.nova_model.specs.Choice.{Candidate}
 use Rattle.nova_model.specs.declared.context.EcState.{EcState}
 use Rattle.nova_model.specs.declared.deed.Deed.{Deed}
-use Rattle.nova_model.specs.declared.deed.Deed.TheVariants.{Rests, Steps, Makes, Recalls, Names, Opens, Gives, Skips, Ends}
+use Rattle.nova_model.specs.declared.deed.Deed.TheVariants.{Rests, Steps, Makes, Recalls, Names, Opens, Gives, Skips, Finishes, Replies}
+use Rattle.nova_laws.proofs.Charges.{ended_is}
 
 stepped_cpus : (k : KernelState) (ec : ℕ) (o : Once) → (stepped k ec o).cpus ≡ k.cpus
 stepped_cpus k ec (Raised reason q0 q1) = refl
@@ -30,7 +31,9 @@ done_cpus k ec (Names pt identifier) = refl
 done_cpus k ec (Opens target domain) = refl
 done_cpus k ec (Gives child cursor) = refl
 done_cpus k ec (Skips reason place cursor) = refl
-done_cpus k ec (Ends item children) = refl
+done_cpus k ec (Finishes item end words follows) = ap (λ (s : KernelState). s.cpus) (ended_is (with_context k ec (after_item (context k ec) follows)) item words follows)
+done_cpus k ec (Replies caller true) = refl
+done_cpus k ec (Replies caller false) = refl
 done_cpus k ec other = refl
 
 paid_cpus : (k : KernelState) (cpu sc quantum : ℕ) (o : Option Budget) → (counted (paid_by k sc quantum o) cpu).cpus ≡ k.cpus

@@ -1,48 +1,77 @@
--- What a deed refers to is of the kind that it asks for: a walk over the rows of the table of hypercalls.
-use Rattle.std.proofs.Common.{◌≡◌, ℕ, List, refl}
-use Rattle.std.specs.Prelude.{Bool, true, false, not, nat_lt, ◌&&◌, if◌then◌else◌, slice_get, Option, Some, None, option_map, option_and_then, Result, Ok, Err}
+-- What a deed refers to is of the kind that it asks for: a walk over the rows of the table of hypercalls, and over what is given.
+use Rattle.std.proofs.Common.{◌≡◌, ℕ, ◌+◌, inl, inr, refl, subst}
+use Rattle.std.specs.Prelude.{◌⊎◌, Bool, true, false, not, nat_lt, ◌&&◌, if◌then◌else◌, slice_get, Option, Some, None, IfSome, option_map, option_and_then, Result, Ok, Err}
 use Rattle.nova_calls.specs.declared.call.Call.{Call}
 use Rattle.nova_calls.specs.declared.call.Call.TheVariants as call
 use Rattle.nova_calls.specs.declared.numbers.TheConstants.{CREATE_EC, CREATE_SC, CREATE_PT, CREATE_SM, SC_CTRL}
 use Rattle.nova_objects.specs.declared.object.EcKind.{EcKind}
+use Rattle.nova_objects.specs.declared.object.EcKind.TheVariants.{Local, Global, Vcpu}
 use Rattle.nova_objects.specs.declared.object.Object.{Object}
 use Rattle.nova_objects.specs.declared.object.Object.TheVariants.{Pd, Ec, Sc, Pt, Sm}
+use Rattle.nova_range.specs.declared.range.Range.{Range}
+use Rattle.nova_range.specs.declared.rights.Rights.{Rights}
 use Rattle.nova_range.specs.declared.status.Status.{Status}
 use Rattle.nova_range.specs.declared.status.Status.TheVariants.{BadCap, BadCpu, BadPar}
-use Rattle.nova_model.specs.Capabilities.{allowed, bind_portal_right, bind_scheduling_right, capability, control_right, create_right, is_held, is_ec, is_local, is_pd, is_pt, is_sc, is_schedulable, named, or_bad_cap}
+use Rattle.nova_utcb.specs.Messages.{has_counts}
+use Rattle.nova_model.specs.Calls.{admitted}
+use Rattle.nova_model.specs.Capabilities.{allowed, bind_portal_right, bind_scheduling_right, call_right, capability, control_right, create_right, is_held, is_ec, is_local, is_pd, is_pt, is_sc, is_schedulable, named, or_bad_cap}
 use Rattle.nova_model.specs.Creation.{object_of}
 use Rattle.nova_model.specs.Deeds.{deed}
 use Rattle.nova_model.specs.Delegations.{allows}
-use Rattle.nova_model.specs.Hypercalls.{and_then, is_scheduled, is_virtual, maker, makes, new_domain, row, ticks_in, unless}
-use Rattle.nova_model.specs.State.{KernelState, budget_at, pd_of, processor_in, processor_of}
+use Rattle.nova_model.specs.Deliveries.{delivery, flag, given_to, sequel_of, taken_from, words_for}
+use Rattle.nova_model.specs.Hypercalls.{and_then, called, create_ec, handler_in, handler_of, ip_in, is_scheduled, maker, makes, new_domain, replied, row, ticks_in, unless}
+use Rattle.nova_model.specs.State.{KernelState, budget_at, context, is_local_thread, is_thread_kind, message, pd_of, processor_in, processor_of, transfer}
+use Rattle.nova_model.specs.declared.admit.Admit.{Admit}
+use Rattle.nova_model.specs.declared.admit.Admit.TheVariants.{Refused, Help, Send}
+use Rattle.nova_model.specs.declared.context.Mark.{Mark}
+use Rattle.nova_model.specs.declared.context.Mark.TheVariants as came
+use Rattle.nova_model.specs.declared.context.State.{State}
+use Rattle.nova_model.specs.declared.context.State.TheVariants.{Granting, Replying}
 use Rattle.nova_model.specs.declared.deed.Deed.{Deed}
-use Rattle.nova_model.specs.declared.deed.Deed.TheVariants.{Makes, Names, Recalls, Tells}
+use Rattle.nova_model.specs.declared.deed.Deed.TheVariants.{Makes, Names, Recalls, Tells, Finishes, Calls, Helps, Replies}
 use Rattle.nova_model.specs.declared.delegation.Derivation.{Derivation}
 use Rattle.nova_model.specs.declared.new_object.NewObject.{NewObject}
 use Rattle.nova_model.specs.declared.new_object.NewObject.TheVariants as new
-use Rattle.nova_laws.specs.Tables.{IsOf}
-use Rattle.nova_range.specs.declared.range.Range.{Range}
-use Rattle.nova_range.specs.declared.rights.Rights.{Rights}
+use Rattle.nova_model.specs.declared.transfer.Delivery.{Delivery}
+use Rattle.nova_model.specs.declared.transfer.ItemWords.{ItemWords}
+use Rattle.nova_model.specs.declared.transfer.Sequel.{Sequel}
+use Rattle.nova_model.specs.declared.transfer.Sequel.TheVariants as sequel
+use Rattle.nova_laws.specs.Tables.{IsOf, Refers, cpu_of}
 use Rattle.nova_laws.proofs.Rows.{named_holds, unless_holds}
 use Rattle.nova_forest.proofs.Walk.{IfDone, deed_holds}
 
-abbrev pub cpu_of : Option Object → Option ℕ
-cpu_of (Some (Ec pd cpu kind event)) = Some cpu
-cpu_of other = None
+-- a call that its handler, that of a portal, takes
+pub record IsSent (k : KernelState) (ec handler ip : ℕ) : Type 0 where
+  pub portal : ℕ
+  pub mtd : ℕ
+  pub leads : slice_get k.objects portal ≡ Some (Pt handler mtd ip)
+  pub flag : Bool
+  pub admits : admitted k.contexts ec handler flag ≡ Send
 
--- what an object refers to, among these
-abbrev pub Refers : List Object → Object → Type 0
-Refers objects Pd = Unit {0}
-Refers objects (Ec pd cpu kind event) = slice_get objects pd ≡ Some Pd
-Refers objects (Sc ec cpu priority quantum) = cpu_of (slice_get objects ec) ≡ Some cpu
-Refers objects (Pt ec mtd ip) = IsOf objects is_local ec
-Refers objects Sm = Unit {0}
+-- it is the caller of this one
+abbrev pub IsCallerOf : KernelState → ℕ → ℕ → Type 0
+IsCallerOf k ec caller = (mark : Mark) × ((context k ec).caller ≡ Some (caller, mark))
+
+-- who is told what came of an item, and what follows its end
+abbrev pub TellsFor : KernelState → ℕ → Option ℕ → Type 0
+TellsFor k ec told = IfSome told (λ n. (n ≡ ec) ⊎ IsCallerOf k ec n)
+
+abbrev pub TellsIn : KernelState → ℕ → Option ItemWords → Type 0
+TellsIn k ec words = IfSome words (λ w. (w.ec ≡ ec) ⊎ IsCallerOf k ec w.ec)
+
+abbrev pub Follows : KernelState → ℕ → Sequel → Type 0
+Follows k ec (sequel.Replied caller) = IsCallerOf k ec caller
+Follows k ec other = Unit {0}
 
 -- what a deed refers to
-abbrev pub Asks : KernelState → Deed → Type 0
-Asks k (Makes call target made) = Refers k.objects (object_of made)
-Asks k (Names pt identifier) = IsOf k.objects is_pt pt
-Asks k other = Unit {0}
+abbrev pub Asks : KernelState → ℕ → Deed → Type 0
+Asks k ec (Makes call target made) = Refers k.objects (object_of made)
+Asks k ec (Names pt identifier) = IsOf k.objects is_pt pt
+Asks k ec (Finishes item end words after) = TellsIn k ec words × Follows k ec after
+Asks k ec (Calls handler ip identifier items) = IsSent k ec handler ip
+Asks k ec (Helps handler) = (flag : Bool) × (admitted k.contexts ec handler flag ≡ Help)
+Asks k ec (Replies caller items) = (context k ec).caller ≡ Some (caller, came.Call)
+Asks k ec other = Unit {0}
 
 named_is : (k : KernelState) (domain : ℕ) (is : Object → Bool) (right selector : ℕ) → IfDone (IsOf k.objects is) (named k domain is right selector)
 named_is k domain is right selector = by_capability (capability k domain selector)
@@ -72,15 +101,15 @@ maker_is k domain target pd = by_owner (named k domain is_pd create_right pd) (i
     by_owner (Ok o) false h = h
 
 -- an object that is made by rules that see to what it refers to
-makes_asks : (k : KernelState) (domain number target pd : ℕ) (new : ℕ → Result NewObject Status) →
-    ((o : ℕ) → IsOf k.objects is_pd o → IfDone (λ made. Refers k.objects (object_of made)) (new o)) → IfDone (Asks k) (makes k domain number target pd new)
-makes_asks k domain number target pd new h = by_owner (maker k domain target pd) (maker_is k domain target pd)
+makes_asks : (k : KernelState) (ec domain number target pd : ℕ) (new : ℕ → Result NewObject Status) →
+    ((o : ℕ) → IsOf k.objects is_pd o → IfDone (λ made. Refers k.objects (object_of made)) (new o)) → IfDone (Asks k ec) (makes k domain number target pd new)
+makes_asks k ec domain number target pd new h = by_owner (maker k domain target pd) (maker_is k domain target pd)
   where
-    by_new : (r : Result NewObject Status) → IfDone (λ made. Refers k.objects (object_of made)) r → IfDone (Asks k) (and_then r (λ made. Ok (Makes number target made)))
+    by_new : (r : Result NewObject Status) → IfDone (λ made. Refers k.objects (object_of made)) r → IfDone (Asks k ec) (and_then r (λ made. Ok (Makes number target made)))
     by_new (Ok made) refers = refers
     by_new (Err status) refers = tt
 
-    by_owner : (owner : Result ℕ Status) → IfDone (IsOf k.objects is_pd) owner → IfDone (Asks k) (and_then owner (λ o. and_then (new o) (λ made. Ok (Makes number target made))))
+    by_owner : (owner : Result ℕ Status) → IfDone (IsOf k.objects is_pd) owner → IfDone (Asks k ec) (and_then owner (λ o. and_then (new o) (λ made. Ok (Makes number target made))))
     by_owner (Ok o) is = by_new (new o) (h o is)
     by_owner (Err status) is = tt
 
@@ -92,10 +121,17 @@ pd_there (Some (Sc ec cpu priority quantum)) h = absurd (cc)
 pd_there (Some (Pt ec mtd ip)) h = absurd (cc)
 pd_there (Some Sm) h = absurd (cc)
 
-ec_refers : (k : KernelState) (o cpu : ℕ) (kind : EcKind) (sp event : ℕ) (test : Bool) → IsOf k.objects is_pd o →
+ec_refers : (k : KernelState) (o cpu : ℕ) (kind : EcKind) (sp event : ℕ) (test : Bool) → is_thread_kind kind ≡ true → IsOf k.objects is_pd o →
     IfDone (λ made. Refers k.objects (object_of made)) (unless test BadCpu (Ok (new.Ec o cpu kind sp event)))
-ec_refers k o cpu kind sp event true is = tt
-ec_refers k o cpu kind sp event false is = pd_there (slice_get k.objects o) is
+ec_refers k o cpu kind sp event true thread is = tt
+ec_refers k o cpu kind sp event false thread is = (pd_there (slice_get k.objects o) is, thread)
+
+create_ec_asks : (k : KernelState) (ec domain target pd cpu : ℕ) (kind : EcKind) (sp event : ℕ) → IfDone (Asks k ec) (create_ec k domain target pd cpu kind sp event)
+create_ec_asks k ec domain target pd cpu Local sp event =
+    makes_asks k ec domain CREATE_EC target pd _ (λ o is. ec_refers k o cpu Local sp event (not (nat_lt cpu k.cpus)) refl is)
+create_ec_asks k ec domain target pd cpu Global sp event =
+    makes_asks k ec domain CREATE_EC target pd _ (λ o is. ec_refers k o cpu Global sp event (not (nat_lt cpu k.cpus)) refl is)
+create_ec_asks k ec domain target pd cpu Vcpu sp event = tt
 
 pt_refers : (k : KernelState) (mtd ip : ℕ) (r : Result ℕ Status) → IfDone (IsOf k.objects is_local) r →
     IfDone (λ made. Refers k.objects (object_of made)) (and_then r (λ handler. Ok (new.Pt handler mtd ip)))
@@ -119,34 +155,113 @@ sc_refers k quantum priority (Ok ec) h = by_test (is_scheduled k ec)
     by_test true = tt
     by_test false = processor_there (slice_get k.objects ec) h
 
-named_asks : (k : KernelState) (is : Object → Bool) (r : Result ℕ Status) (d : ℕ → Deed) → IfDone (IsOf k.objects is) r →
-    ((n : ℕ) → IsOf k.objects is n → Asks k (d n)) → IfDone (Asks k) (and_then r (λ n. Ok (d n)))
-named_asks k is (Ok n) d h asks = asks n h
-named_asks k is (Err status) d h asks = tt
+named_asks : (k : KernelState) (ec : ℕ) (is : Object → Bool) (r : Result ℕ Status) (d : ℕ → Deed) → IfDone (IsOf k.objects is) r →
+    ((n : ℕ) → IsOf k.objects is n → Asks k ec (d n)) → IfDone (Asks k ec) (and_then r (λ n. Ok (d n)))
+named_asks k ec is (Ok n) d h asks = asks n h
+named_asks k ec is (Err status) d h asks = tt
 
-opens_asks : (k : KernelState) (target : ℕ) (first : Option (Range × Rights)) → Asks k (new_domain k target first)
-opens_asks k target None = tt
-opens_asks k target (Some range) = tt
+opens_asks : (k : KernelState) (ec target : ℕ) (first : Option (Range × Rights)) → Asks k ec (new_domain k target first)
+opens_asks k ec target None = tt
+opens_asks k ec target (Some range) = tt
 
-row_asks : (k : KernelState) (domain : ℕ) (c : Call) → IfDone (Asks k) (row k domain c)
-row_asks k domain (call.CreatePd target pd first) = named_holds (Asks k) (maker k domain target pd) (λ owner. new_domain k target first) (λ owner. opens_asks k target first)
-row_asks k domain (call.CreateEc target pd cpu kind sp event) = unless_holds (Asks k) (is_virtual kind) BadPar _
-    (makes_asks k domain CREATE_EC target pd _ (λ o is. ec_refers k o cpu kind sp event (not (nat_lt cpu k.cpus)) is))
-row_asks k domain (call.CreateSc target pd ec quantum priority) = makes_asks k domain CREATE_SC target pd _
-    (λ o is. sc_refers k quantum priority (named k domain is_schedulable bind_scheduling_right ec) (named_is k domain is_schedulable bind_scheduling_right ec))
-row_asks k domain (call.CreatePt target pd ec mtd ip) =
-    makes_asks k domain CREATE_PT target pd _ (λ o is. pt_refers k mtd.0 ip (named k domain is_local bind_portal_right ec) (named_is k domain is_local bind_portal_right ec))
-row_asks k domain (call.CreateSm target pd count) = makes_asks k domain CREATE_SM target pd (λ o. Ok (new.Sm count)) (λ o is. tt)
-row_asks k domain (call.Lookup range) = tt
-row_asks k domain (call.EcCtrl ec) = named_asks k is_ec (named k domain is_ec control_right ec) (λ n. Recalls n) (named_is k domain is_ec control_right ec) (λ n is. tt)
-row_asks k domain (call.ScCtrl sc) =
-    named_asks k is_sc (named k domain is_sc control_right sc) (λ n. Tells SC_CTRL (ticks_in (budget_at k n))) (named_is k domain is_sc control_right sc) (λ n is. tt)
-row_asks k domain (call.PtCtrl pt identifier) =
-    named_asks k is_pt (named k domain is_pt control_right pt) (λ n. Names n identifier) (named_is k domain is_pt control_right pt) (λ n is. is)
-row_asks k domain other = tt
+-- calls and replies
 
-pub deed_asks : (k : KernelState) (ec : ℕ) → Asks k (deed k ec)
+portal_at : (o : Option Object) → option_map is_pt o ≡ Some true → (mtd : ℕ) × (o ≡ Some (Pt (handler_in o) mtd (ip_in o)))
+portal_at None h = absurd (cc)
+portal_at (Some Pd) h = absurd (cc)
+portal_at (Some (Ec pd cpu kind event)) h = absurd (cc)
+portal_at (Some (Sc ec cpu priority quantum)) h = absurd (cc)
+portal_at (Some (Pt ec mtd ip)) h = (mtd, refl)
+portal_at (Some Sm) h = absurd (cc)
+
+called_asks : (k : KernelState) (ec : ℕ) (flag : Bool) (r : Result ℕ Status) → IfDone (IsOf k.objects is_pt) r →
+    IfDone (Asks k ec) (and_then r (λ pt. called k ec pt (admitted k.contexts ec (handler_of k pt) flag)))
+called_asks k ec flag (Err status) is = tt
+called_asks k ec flag (Ok pt) is = by_admit (admitted k.contexts ec (handler_of k pt) flag) refl
+  where
+    by_admit : (a : Admit) → admitted k.contexts ec (handler_of k pt) flag ≡ a → IfDone (Asks k ec) (called k ec pt a)
+    by_admit (Refused status) admits = tt
+    by_admit Help admits = (flag, admits)
+    by_admit Send admits =
+        let at = portal_at (slice_get k.objects pt) is in
+        record { portal = pt; mtd = at.0; leads = at.1; flag = flag; admits = admits }
+
+replied_asks : (k : KernelState) (ec : ℕ) (o : Option (ℕ × Mark)) → (context k ec).caller ≡ o → IfDone (Asks k ec) (replied k ec o)
+replied_asks k ec (Some (caller, came.Call)) is = is
+replied_asks k ec (Some (caller, came.Exit)) is = tt
+replied_asks k ec None is = tt
+
+row_asks : (k : KernelState) (ec domain : ℕ) (c : Call) → IfDone (Asks k ec) (row k ec domain c)
+row_asks k ec domain (call.Call portal flag) = unless_holds (Asks k ec) (not (has_counts (message k ec))) BadPar _
+    (called_asks k ec flag (named k domain is_pt call_right portal) (named_is k domain is_pt call_right portal))
+row_asks k ec domain call.Reply = unless_holds (Asks k ec) (not (is_local_thread k ec)) BadPar _
+    (unless_holds (Asks k ec) (not (has_counts (message k ec))) BadPar _ (replied_asks k ec (context k ec).caller refl))
+row_asks k ec domain (call.CreatePd target pd first) =
+    named_holds (Asks k ec) (maker k domain target pd) (λ owner. new_domain k target first) (λ owner. opens_asks k ec target first)
+row_asks k ec domain (call.CreateEc target pd cpu kind sp event) = create_ec_asks k ec domain target pd cpu kind sp event
+row_asks k ec domain (call.CreateSc target pd whose quantum priority) = makes_asks k ec domain CREATE_SC target pd _
+    (λ o is. sc_refers k quantum priority (named k domain is_schedulable bind_scheduling_right whose) (named_is k domain is_schedulable bind_scheduling_right whose))
+row_asks k ec domain (call.CreatePt target pd handler mtd ip) = makes_asks k ec domain CREATE_PT target pd _
+    (λ o is. pt_refers k mtd.0 ip (named k domain is_local bind_portal_right handler) (named_is k domain is_local bind_portal_right handler))
+row_asks k ec domain (call.CreateSm target pd count) = makes_asks k ec domain CREATE_SM target pd (λ o. Ok (new.Sm count)) (λ o is. tt)
+row_asks k ec domain (call.Lookup range) = tt
+row_asks k ec domain (call.EcCtrl whose) =
+    named_asks k ec is_ec (named k domain is_ec control_right whose) (λ n. Recalls n) (named_is k domain is_ec control_right whose) (λ n is. tt)
+row_asks k ec domain (call.ScCtrl sc) =
+    named_asks k ec is_sc (named k domain is_sc control_right sc) (λ n. Tells SC_CTRL (ticks_in (budget_at k n))) (named_is k domain is_sc control_right sc) (λ n is. tt)
+row_asks k ec domain (call.PtCtrl pt identifier) =
+    named_asks k ec is_pt (named k domain is_pt control_right pt) (λ n. Names n identifier) (named_is k domain is_pt control_right pt) (λ n is. is)
+row_asks k ec domain other = tt
+
+-- ends of items
+
+tells_words : (k : KernelState) (ec : ℕ) (o : Option ℕ) (first second : ℕ) → TellsFor k ec o → TellsIn k ec (words_for o first second)
+tells_words k ec None first second h = tt
+tells_words k ec (Some n) first second h = h
+
+follows_item : (k : KernelState) (ec : ℕ) (v : Delivery) (item : ℕ) → Follows k ec v.last → Follows k ec (sequel_of v item)
+follows_item k ec v item h = by_test (nat_lt (item + 1) v.items)
+  where
+    by_test : (t : Bool) → Follows k ec (if t then sequel.Item else v.last)
+    by_test true = tt
+    by_test false = h
+
+-- where an item goes
+abbrev Goes : KernelState → ℕ → Delivery → Type 0
+Goes k ec v = TellsFor k ec v.told × Follows k ec v.last
+
+taken_goes : (k : KernelState) (ec item : ℕ) (o : Option (ℕ × Mark)) → IfSome (taken_from k ec item o) (Goes k ec)
+taken_goes k ec item None = tt
+taken_goes k ec item (Some (caller, mark)) = (inl refl, tt)
+
+given_goes : (k : KernelState) (ec item : ℕ) (o : Option (ℕ × Mark)) → (context k ec).caller ≡ o → IfSome (given_to k ec item o) (Goes k ec)
+given_goes k ec item None is = tt
+given_goes k ec item (Some (caller, mark)) is = (inr (mark, is), (mark, is))
+
+delivery_goes : (k : KernelState) (ec : ℕ) (s : State) → IfSome (delivery k ec s) (Goes k ec)
+delivery_goes k ec (Granting (Some new)) = (tt, tt)
+delivery_goes k ec (Granting None) = taken_goes k ec (transfer k ec).item (context k ec).caller
+delivery_goes k ec Replying = given_goes k ec (transfer k ec).item (context k ec).caller refl
+delivery_goes k ec other = tt
+
+item_goes : (k : KernelState) (ec : ℕ) (v : Delivery) → delivery k ec (context k ec).state ≡ Some v → Goes k ec v
+item_goes k ec v is = subst (λ (o : Option Delivery). IfSome o (Goes k ec)) is (delivery_goes k ec (context k ec).state)
+
+pub deed_asks : (k : KernelState) (ec : ℕ) → Asks k ec (deed k ec)
 deed_asks k ec =
-    deed_holds (Asks k) k ec tt
-    (record { steps = tt; raises = λ reason q0 q1. tt; dies = λ reason q0. tt; refuses = λ number status. tt; rows = λ c read. row_asks k (pd_of k ec) c })
-    (λ new state. record { gives = λ d x g. tt; skips = λ reason place cursor. tt; ends = tt })
+    deed_holds (Asks k ec) k ec tt
+    (record {
+      steps = tt;
+      raises = λ reason q0 q1. tt;
+      dies = λ reason q0. tt;
+      refuses = λ number status. tt;
+      aborts = λ handler is. tt;
+      rows = λ asks c read. row_asks k ec (pd_of k ec) c;
+    })
+    (record {
+      gives = λ d x g. tt;
+      skips = λ d reason place g. tt;
+      finishes = λ v end answer is ends.
+          let goes = item_goes k ec v is in
+          (tells_words k ec v.told answer (flag v) goes.0, follows_item k ec v (transfer k ec).item goes.1);
+    })

@@ -4,18 +4,24 @@ use Rattle.std.specs.Prelude.{◌≢◌, ◌==◌, Bool, true, false, if◌then�
 use Rattle.nova_range.specs.Statuses.{status_code}
 use Rattle.nova_range.specs.declared.status.Status.{Status}
 use Rattle.nova_model.specs.Choice.{choice}
-use Rattle.nova_model.specs.Deeds.{answered, deed, done, sign_of, with_context}
+use Rattle.nova_model.specs.Deeds.{answered, deed, deed_in, done, sign_of, with_context}
+use Rattle.nova_model.specs.Deliveries.{delivers, delivery}
 use Rattle.nova_model.specs.Runs.{after}
-use Rattle.nova_model.specs.State.{KernelState, Contexts, context, context_at, context_in, ec_in, ec_of}
+use Rattle.nova_model.specs.State.{KernelState, Contexts, context, context_at, context_in, ec_in, ec_of, transfer}
 use Rattle.nova_model.specs.Turn.{charged, event_of, answer_of, turn, turn_by, state_after}
 use Rattle.nova_model.specs.Choice.{Candidate}
 use Rattle.nova_model.specs.declared.context.EcState.{EcState}
+use Rattle.nova_model.specs.declared.context.State.{State}
+use Rattle.nova_model.specs.declared.context.State.TheVariants.{Fresh, Ready, Parked, Calling, Helping, Exiting, Sending, Granting, Replying, Dead}
 use Rattle.nova_model.specs.declared.deed.Deed.{Deed}
-use Rattle.nova_model.specs.declared.deed.Deed.TheVariants.{Rests, Steps, Raises, Dies, Refuses, Makes, Recalls, Tells, Names, Opens, Gives, Skips, Ends}
+use Rattle.nova_model.specs.declared.deed.Deed.TheVariants.{Rests, Steps, Raises, Dies, Refuses, Makes, Recalls, Tells, Names, Opens, Gives, Skips, Finishes, Calls, Helps, Replies, Aborts}
 use Rattle.nova_model.specs.declared.event.Event.{Event}
 use Rattle.nova_model.specs.declared.event.EventKind.TheVariants.{Answer}
 use Rattle.nova_model.specs.declared.event.Turn.TheVariants.{Stepped}
-use Rattle.nova_laws.specs.Refusals.{IsAnswered, IsRefusal, LeavesRest}
+use Rattle.nova_model.specs.declared.transfer.Delivery.{Delivery}
+use Rattle.nova_model.specs.declared.transfer.ItemEnd.TheVariants.{Given, Skipped, Translated}
+use Rattle.nova_laws.specs.Refusals.{IsAnswered, IsRefusal, LeavesRest, is_asking}
+use Rattle.nova_forest.proofs.Walk.{delivers_holds}
 use Rattle.nova_laws.proofs.Charges.{charge_leaves}
 use Rattle.nova_laws.proofs.Setting.{entry_itself, entry_other, index_itself, index_other}
 
@@ -34,11 +40,47 @@ refuses (Names pt identifier) answers failed = absurd (failed refl)
 refuses (Opens target domain) answers failed = absurd cc
 refuses (Gives child cursor) answers failed = absurd cc
 refuses (Skips reason place cursor) answers failed = absurd cc
-refuses (Ends item children) answers failed = absurd cc
+refuses (Finishes item (Given children) words follows) answers failed = absurd cc
+refuses (Finishes item (Skipped skip) words follows) answers failed = absurd cc
+refuses (Finishes item (Translated word) words follows) answers failed = absurd cc
+refuses (Calls handler ip identifier items) answers failed = absurd cc
+refuses (Helps handler) answers failed = absurd cc
+refuses (Replies caller true) answers failed = absurd cc
+refuses (Replies caller false) answers failed = absurd (failed refl)
+refuses (Aborts handler) answers failed = absurd cc
 refuses Rests answers failed = absurd cc
 refuses Steps answers failed = absurd cc
 refuses (Raises reason q0 q1) answers failed = absurd cc
 refuses (Dies reason q0) answers failed = absurd cc
+
+-- and it makes a hypercall, whose state is asking
+abbrev AsksFirst : State → Deed → Type 0
+AsksFirst s (Refuses call status) = is_asking s ≡ true
+AsksFirst s other = Unit {0}
+
+asks_first : (s : State) (d : Deed) → is_asking s ≡ true → AsksFirst s d
+asks_first s (Refuses call status) asks = asks
+asks_first s other asks = tt
+
+gives_first : (k : KernelState) (ec : ℕ) (s : State) (o : Option Delivery) → delivery k ec (context k ec).state ≡ o → AsksFirst s (delivers k (transfer k ec) o)
+gives_first k ec s o is =
+    delivers_holds (AsksFirst s) k ec o is tt (record { gives = λ d x g. tt; skips = λ d reason place g. tt; finishes = λ v end answer present ends. tt })
+
+state_first : (k : KernelState) (ec : ℕ) (s : State) → (context k ec).state ≡ s → AsksFirst s (deed_in k ec s)
+state_first k ec Fresh is = tt
+state_first k ec Ready is = asks_first Ready _ refl
+state_first k ec Parked is = tt
+state_first k ec (Calling h) is = tt
+state_first k ec (Helping h) is = asks_first (Helping h) _ refl
+state_first k ec (Exiting reason q0 q1) is = tt
+state_first k ec (Sending reason q0 q1 h) is = tt
+state_first k ec (Granting new) is = gives_first k ec (Granting new) (delivery k ec (Granting new)) (ap (delivery k ec) is)
+state_first k ec Replying is = gives_first k ec Replying (delivery k ec Replying) (ap (delivery k ec) is)
+state_first k ec Dead is = tt
+
+deed_first : (k : KernelState) (ec : ℕ) → AsksFirst (context k ec).state (deed k ec)
+unfolding deed
+deed_first k ec = state_first k ec (context k ec).state refl
 
 -- the turn of the chosen one
 pub turn_chosen : (k : KernelState) (cpu : ℕ) (c : Candidate) → choice k cpu ≡ Some c → after k cpu ≡ charged (done k c.actor (deed k c.actor)) cpu c.sc
@@ -46,13 +88,14 @@ unfolding turn
 turn_chosen k cpu c chosen = ap (λ (o : Option Candidate). state_after k (turn_by k cpu o)) chosen
 
 -- the caller, and the rest, after a refusal and its charge
-answer_of_refusal : (x : EcState) (status : Status) → IsAnswered (status_code status) x (answered x status None)
-answer_of_refusal x status = record {
+answer_of_refusal : (x : EcState) (status : Status) → is_asking x.state ≡ true → IsAnswered (status_code status) x (answered x status None)
+answer_of_refusal x status asks = record {
   status = λ has. index_itself x.regs.x 10 (status_code status) has;
   pc = refl;
   registers = λ i other. by_test i other (i == 0);
   number = refl;
   cpu = refl;
+  before = asks;
   state = refl;
   caller = refl;
   recall = refl;
@@ -63,14 +106,14 @@ answer_of_refusal x status = record {
     by_test i other true = refl
     by_test i other false = index_other x.regs.x 10 i (status_code status) other
 
-charged_answer : (k : KernelState) (ec cpu sc : ℕ) (status : Status) → IsSome (context_at k ec) →
+charged_answer : (k : KernelState) (ec cpu sc : ℕ) (status : Status) → is_asking (context k ec).state ≡ true → IsSome (context_at k ec) →
     IsAnswered (status_code status) (context k ec) (context (charged (with_context k ec (answered (context k ec) status None)) cpu sc) ec)
-charged_answer k ec cpu sc status there =
+charged_answer k ec cpu sc status asks there =
     let new = with_context k ec (answered (context k ec) status None) in
     let stays = (charge_leaves new cpu sc).contexts in
     subst (λ (x : EcState). IsAnswered (status_code status) (context k ec) x)
     (sym (ap (λ (cs : Contexts). ec_of cs ec) stays ∙ ap context_in (entry_itself k.contexts ec (answered (context k ec) status None) there)))
-    (answer_of_refusal (context k ec) status)
+    (answer_of_refusal (context k ec) status asks)
 
 charged_rest : (k : KernelState) (ec cpu sc : ℕ) (x : EcState) → LeavesRest k (charged (with_context k ec x) cpu sc) ec sc cpu
 charged_rest k ec cpu sc x =
@@ -92,15 +135,15 @@ charged_rest k ec cpu sc x =
     }
 
 -- of the turn of who is chosen
-refusal_of : (k : KernelState) (cpu : ℕ) (c : Candidate) (d : Deed) (status : Status) (number : ℕ) → d ≡ Refuses number status →
+refusal_of : (k : KernelState) (cpu : ℕ) (c : Candidate) (d : Deed) (status : Status) (number : ℕ) → d ≡ Refuses number status → is_asking (context k c.actor).state ≡ true →
     after k cpu ≡ charged (with_context k c.actor (answered (context k c.actor) status None)) cpu c.sc → IsRefusal k cpu (event_of cpu c d)
-refusal_of k cpu c d status number is turns =
+refusal_of k cpu c d status number is asks turns =
     let code : status_code status ≡ (sign_of d).2 = sym (ap (λ (x : Deed). (sign_of x).2) is) in record {
       status = status;
       code = code;
       answer = λ there.
           subst (λ (n : ℕ). IsAnswered n (context k c.actor) (context (after k cpu) c.actor)) code
-          (subst (λ (new : KernelState). IsAnswered (status_code status) (context k c.actor) (context new c.actor)) (sym turns) (charged_answer k c.actor cpu c.sc status there));
+          (subst (λ (new : KernelState). IsAnswered (status_code status) (context k c.actor) (context new c.actor)) (sym turns) (charged_answer k c.actor cpu c.sc status asks there));
       rest = subst (λ (new : KernelState). LeavesRest k new c.actor c.sc cpu) (sym turns) (charged_rest k c.actor cpu c.sc (answered (context k c.actor) status None));
       after = turns;
     }
@@ -109,7 +152,8 @@ chosen_refusal : (k : KernelState) (cpu : ℕ) (c : Candidate) → choice k cpu 
     IsRefusal k cpu (event_of cpu c (deed k c.actor))
 chosen_refusal k cpu c chosen answers failed =
     let r = refuses (deed k c.actor) answers failed in
-    refusal_of k cpu c (deed k c.actor) r.status r.call r.is (turn_chosen k cpu c chosen ∙ ap (λ (d : Deed). charged (done k c.actor d) cpu c.sc) r.is)
+    let asks : is_asking (context k c.actor).state ≡ true = subst (AsksFirst (context k c.actor).state) r.is (deed_first k c.actor) in
+    refusal_of k cpu c (deed k c.actor) r.status r.call r.is asks (turn_chosen k cpu c chosen ∙ ap (λ (d : Deed). charged (done k c.actor d) cpu c.sc) r.is)
 
 pub refusal : (k : KernelState) (cpu : ℕ) (e : Event) → answer_of (turn k cpu) ≡ Stepped e → e.kind ≡ Answer → e.b ≢ 0 → IsRefusal k cpu e
 unfolding turn

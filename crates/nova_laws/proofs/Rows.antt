@@ -1,18 +1,24 @@
 -- Rules that rows of the table of hypercalls share: what they give.
 use Rattle.std.proofs.Common.{◌≡◌, ℕ, refl}
-use Rattle.std.specs.Prelude.{Bool, true, false, Option, Some, None, Result, Ok, Err}
+use Rattle.std.specs.Prelude.{Bool, true, false, not, Option, Some, None, Result, Ok, Err}
 use Rattle.nova_calls.specs.declared.call.Call.{Call}
-use Rattle.nova_calls.specs.declared.call.Call.TheVariants as call
+use Rattle.nova_calls.specs.declared.call.Call.TheVariants as asks
 use Rattle.nova_calls.specs.declared.numbers.TheConstants.{CREATE_EC, CREATE_SC, CREATE_PT, CREATE_SM, SC_CTRL}
 use Rattle.nova_range.specs.declared.range.Range.{Range}
 use Rattle.nova_range.specs.declared.rights.Rights.{Rights}
 use Rattle.nova_range.specs.declared.status.Status.TheVariants.{BadPar}
-use Rattle.nova_model.specs.Capabilities.{is_ec, is_sc, is_pt, named, control_right}
+use Rattle.nova_utcb.specs.Messages.{has_counts, has_items}
+use Rattle.nova_model.specs.Capabilities.{is_ec, is_sc, is_pt, named, call_right, control_right}
+use Rattle.nova_model.specs.Calls.{admitted}
 use Rattle.nova_range.specs.declared.status.Status.{Status}
-use Rattle.nova_model.specs.Hypercalls.{and_then, is_virtual, maker, makes, new_domain, row, ticks_in, unless}
-use Rattle.nova_model.specs.State.{KernelState, budget_at}
+use Rattle.nova_model.specs.Hypercalls.{and_then, call, called, handler_of, identifier, ip_of, is_virtual, maker, makes, new_domain, reply, replied, row, ticks_in, unless}
+use Rattle.nova_model.specs.State.{KernelState, budget_at, context, is_local_thread, message}
+use Rattle.nova_model.specs.declared.admit.Admit.{Admit}
+use Rattle.nova_model.specs.declared.admit.Admit.TheVariants.{Refused, Help, Send}
+use Rattle.nova_model.specs.declared.context.Mark.{Mark}
+use Rattle.nova_model.specs.declared.context.Mark.TheVariants as mark
 use Rattle.nova_model.specs.declared.deed.Deed.{Deed}
-use Rattle.nova_model.specs.declared.deed.Deed.TheVariants.{Makes, Recalls, Tells, Names, Gives, Skips, Ends}
+use Rattle.nova_model.specs.declared.deed.Deed.TheVariants.{Makes, Recalls, Tells, Names, Gives, Skips, Finishes, Calls, Helps, Replies}
 use Rattle.nova_model.specs.declared.new_object.NewObject.{NewObject}
 use Rattle.nova_model.specs.declared.new_object.NewObject.TheVariants.{Sm}
 use Rattle.nova_forest.proofs.Walk.{IfDone}
@@ -39,6 +45,58 @@ pub named_holds : (P : Deed → Type 0) (r : Result ℕ Status) (d : ℕ → Dee
 named_holds P (Ok n) d h = h n
 named_holds P (Err status) d h = tt
 
+-- what a call is admitted as
+pub record IsAdmitted (k : KernelState) (ec domain selector : ℕ) (flag : Bool) (pt : ℕ) (comes : Admit) : Type 0 where
+  pub counts : has_counts (message k ec) ≡ true
+  pub portal : named k domain is_pt call_right selector ≡ Ok pt
+  pub admits : admitted k.contexts ec (handler_of k pt) flag ≡ comes
+
+-- what holds of a call that is sent, and of one that helps
+pub call_holds : (P : Deed → Type 0) (k : KernelState) (ec domain selector : ℕ) (flag : Bool) →
+    ((pt : ℕ) → IsAdmitted k ec domain selector flag pt Send → P (Calls (handler_of k pt) (ip_of k pt) (identifier k pt) (has_items (message k ec)))) →
+    ((pt : ℕ) → IsAdmitted k ec domain selector flag pt Help → P (Helps (handler_of k pt))) → IfDone P (call k ec domain selector flag)
+call_holds P k ec domain selector flag sends helps = by_counts (has_counts (message k ec)) refl
+  where
+    by_admit : (pt : ℕ) (a : Admit) → IsAdmitted k ec domain selector flag pt a → IfDone P (called k ec pt a)
+    by_admit pt (Refused status) is = tt
+    by_admit pt Help is = helps pt is
+    by_admit pt Send is = sends pt is
+
+    by_portal : has_counts (message k ec) ≡ true → (o : Result ℕ Status) → named k domain is_pt call_right selector ≡ o →
+        IfDone P (and_then o (λ pt. called k ec pt (admitted k.contexts ec (handler_of k pt) flag)))
+    by_portal counts (Err status) portal = tt
+    by_portal counts (Ok pt) portal =
+        by_admit pt (admitted k.contexts ec (handler_of k pt) flag) (record { counts = counts; portal = portal; admits = refl })
+
+    by_counts : (t : Bool) → has_counts (message k ec) ≡ t →
+        IfDone P (unless (not t) BadPar (and_then (named k domain is_pt call_right selector) (λ pt. called k ec pt (admitted k.contexts ec (handler_of k pt) flag))))
+    by_counts false counts = tt
+    by_counts true counts = by_portal counts (named k domain is_pt call_right selector) refl
+
+-- a reply goes to whom its maker serves
+pub record IsReplying (k : KernelState) (ec caller : ℕ) : Type 0 where
+  pub local : is_local_thread k ec ≡ true
+  pub counts : has_counts (message k ec) ≡ true
+  pub serves : (context k ec).caller ≡ Some (caller, mark.Call)
+
+pub reply_holds : (P : Deed → Type 0) (k : KernelState) (ec : ℕ) →
+    ((caller : ℕ) → IsReplying k ec caller → P (Replies caller (has_items (message k ec)))) → IfDone P (reply k ec)
+reply_holds P k ec replies = by_local (is_local_thread k ec) refl
+  where
+    by_caller : is_local_thread k ec ≡ true → has_counts (message k ec) ≡ true → (o : Option (ℕ × Mark)) → (context k ec).caller ≡ o → IfDone P (replied k ec o)
+    by_caller local counts None serves = tt
+    by_caller local counts (Some (caller, mark.Call)) serves = replies caller (record { local = local; counts = counts; serves = serves })
+    by_caller local counts (Some (caller, other)) serves = tt
+
+    by_counts : is_local_thread k ec ≡ true → (t : Bool) → has_counts (message k ec) ≡ t → IfDone P (unless (not t) BadPar (replied k ec (context k ec).caller))
+    by_counts local false counts = tt
+    by_counts local true counts = by_caller local counts (context k ec).caller refl
+
+    by_local : (t : Bool) → is_local_thread k ec ≡ t →
+        IfDone P (unless (not t) BadPar (unless (not (has_counts (message k ec))) BadPar (replied k ec (context k ec).caller)))
+    by_local false local = tt
+    by_local true local = by_counts local (has_counts (message k ec)) refl
+
 -- what holds of each such deed
 pub done_weaker : (P Q : Deed → Type 0) (r : Result Deed Status) → ((d : Deed) → P d → Q d) → IfDone P r → IfDone Q r
 done_weaker P Q (Ok d) weaker h = weaker d h
@@ -48,7 +106,7 @@ done_weaker P Q (Err status) weaker h = tt
 abbrev pub is_part : Deed → Bool
 is_part (Gives child cursor) = true
 is_part (Skips reason place cursor) = true
-is_part (Ends item children) = true
+is_part (Finishes item end words after) = true
 is_part other = false
 
 abbrev pub IsWhole : Deed → Type 0
@@ -58,17 +116,19 @@ new_domain_whole : (k : KernelState) (target : ℕ) (first : Option (Range × Ri
 new_domain_whole k target None = refl
 new_domain_whole k target (Some range) = refl
 
-pub row_whole : (k : KernelState) (domain : ℕ) (c : Call) → IfDone IsWhole (row k domain c)
-row_whole k domain (call.CreatePd target pd first) =
+pub row_whole : (k : KernelState) (ec domain : ℕ) (c : Call) → IfDone IsWhole (row k ec domain c)
+row_whole k ec domain (asks.Call portal flag) = call_holds IsWhole k ec domain portal flag (λ pt is. refl) (λ pt is. refl)
+row_whole k ec domain asks.Reply = reply_holds IsWhole k ec (λ caller is. refl)
+row_whole k ec domain (asks.CreatePd target pd first) =
     named_holds IsWhole (maker k domain target pd) (λ owner. new_domain k target first) (λ owner. new_domain_whole k target first)
-row_whole k domain (call.CreateEc target pd cpu kind sp event) =
+row_whole k ec domain (asks.CreateEc target pd cpu kind sp event) =
     unless_holds IsWhole (is_virtual kind) BadPar _ (makes_hold IsWhole CREATE_EC target (λ made. refl) k domain pd _)
-row_whole k domain (call.CreateSc target pd ec quantum priority) = makes_hold IsWhole CREATE_SC target (λ made. refl) k domain pd _
-row_whole k domain (call.CreatePt target pd handler mtd ip) = makes_hold IsWhole CREATE_PT target (λ made. refl) k domain pd _
-row_whole k domain (call.CreateSm target pd count) = makes_hold IsWhole CREATE_SM target (λ made. refl) k domain pd (λ o. Ok (Sm count))
-row_whole k domain (call.Lookup range) = refl
-row_whole k domain (call.EcCtrl other) = named_holds IsWhole (named k domain is_ec control_right other) (λ n. Recalls n) (λ n. refl)
-row_whole k domain (call.ScCtrl sc) =
+row_whole k ec domain (asks.CreateSc target pd its quantum priority) = makes_hold IsWhole CREATE_SC target (λ made. refl) k domain pd _
+row_whole k ec domain (asks.CreatePt target pd handler mtd ip) = makes_hold IsWhole CREATE_PT target (λ made. refl) k domain pd _
+row_whole k ec domain (asks.CreateSm target pd count) = makes_hold IsWhole CREATE_SM target (λ made. refl) k domain pd (λ o. Ok (Sm count))
+row_whole k ec domain (asks.Lookup range) = refl
+row_whole k ec domain (asks.EcCtrl other) = named_holds IsWhole (named k domain is_ec control_right other) (λ n. Recalls n) (λ n. refl)
+row_whole k ec domain (asks.ScCtrl sc) =
     named_holds IsWhole (named k domain is_sc control_right sc) (λ n. Tells SC_CTRL (ticks_in (budget_at k n))) (λ n. refl)
-row_whole k domain (call.PtCtrl pt identifier) = named_holds IsWhole (named k domain is_pt control_right pt) (λ n. Names n identifier) (λ n. refl)
-row_whole k domain other = tt
+row_whole k ec domain (asks.PtCtrl pt identifier) = named_holds IsWhole (named k domain is_pt control_right pt) (λ n. Names n identifier) (λ n. refl)
+row_whole k ec domain other = tt

@@ -97,3 +97,10 @@ set_length (y ∷ xs) (suc e) x = ap suc (set_length xs e x)
 pub joined_length : {T : Type 0} (xs : List T) (x : T) → length (xs ++ x ∷ []) ≡ length xs + 1
 joined_length [] x = refl
 joined_length (y ∷ xs) x = let rest = joined_length xs x in omega arith
+
+-- and past the last nothing was
+pub joined_other : {T : Type 0} (xs : List T) (x : T) (n : ℕ) → n ≢ length xs → slice_get (xs ++ x ∷ []) n ≡ slice_get xs n
+joined_other [] x zero other = absurd (other refl)
+joined_other [] x (suc n) other = refl
+joined_other (y ∷ xs) x zero other = refl
+joined_other (y ∷ xs) x (suc n) other = joined_other xs x n (λ same. other (ap suc same))

@@ -1,29 +1,34 @@
--- A child that a creator gives is what its range and a derivation of its protection domain share.
+-- A child that is given is what the range of its item and a derivation of the giver's share.
 use Rattle.std.proofs.Common.{◌≡◌, ℕ, ◌+◌, ◌-◌, ◌<◌, ◌≤◌, ◌%◌, ◌^◌, List, ap, ◌∙◌, sym, subst, inl, inr, refl, arith}
-use Rattle.std.specs.Prelude.{◌⊎◌, ◌==◌, ◌&&◌, Bool, true, false, max, min, bit_and, Some, Ok}
+use Rattle.std.specs.Prelude.{◌⊎◌, ◌==◌, ◌&&◌, Bool, true, false, max, min, bit_and, Option, Some, None, Ok, Err, if◌then◌else◌}
 use Rattle.std.proofs.lemmas.Bool.{cases_lt, eqb-true, eq-eqb}
 use Rattle.std.proofs.lemmas.Nat.{and_assoc, and_comm}
+use Rattle.nova_range.specs.Clamps.{clamp_of}
+use Rattle.nova_range.specs.RangeWords.{meaning_of}
+use Rattle.nova_range.specs.declared.range.Range.{Range}
 use Rattle.nova_range.specs.declared.rights.Rights.{Rights}
 use Rattle.nova_model.specs.Boot.{Scenario, boot}
-use Rattle.nova_model.specs.Deeds.{deed, is_busy}
-use Rattle.nova_model.specs.Delegations.{allows}
+use Rattle.nova_model.specs.Deeds.{deed}
+use Rattle.nova_model.specs.Deliveries.{delivery, is_busy}
+use Rattle.nova_model.specs.Delegations.{allows, is_same_kind}
 use Rattle.nova_model.specs.Forest.{IsAligned, IsForest}
 use Rattle.nova_model.specs.Hypercalls.{row}
 use Rattle.nova_model.specs.Runs.{run}
 use Rattle.nova_model.specs.State.{KernelState, context, pd_of}
-use Rattle.nova_model.specs.Transfers.{child_of, common_rights, judged, next_source}
-use Rattle.nova_model.specs.declared.context.State.TheVariants.{Granting}
+use Rattle.nova_model.specs.Transfers.{child_of, common_rights, hotspot_in, job_at, job_between, next_source, read_as}
 use Rattle.nova_model.specs.declared.deed.Deed.{Deed}
 use Rattle.nova_model.specs.declared.deed.Deed.TheVariants.{Gives}
 use Rattle.nova_model.specs.declared.delegation.Derivation.{Derivation}
+use Rattle.nova_model.specs.declared.transfer.Delivery.{Delivery}
 use Rattle.nova_model.specs.declared.transfer.Job.{Job}
+use Rattle.nova_model.specs.declared.transfer.Skip.TheVariants.{Window}
+use Rattle.nova_forest.proofs.Jobs.{job_ranges}
 use Rattle.nova_forest.proofs.Changes.{boot_run_forest}
 use Rattle.nova_forest.proofs.Members.{all_at, contains_from_in}
 use Rattle.nova_forest.proofs.Multiples.{nested}
 use Rattle.nova_forest.proofs.Transfers.{child_rights, judged_facts, left_facts, next_facts}
-use Rattle.nova_forest.proofs.Walk.{IsGiving, deed_holds, resumed}
-use Rattle.nova_laws.specs.Giving.{GivesRange, IsShared, whole}
-use Rattle.nova_laws.proofs.Giving.{creators_give}
+use Rattle.nova_forest.proofs.Walk.{IsGiving, deed_holds, job_in, resumed}
+use Rattle.nova_laws.specs.Giving.{IsShared}
 use Rattle.nova_laws.proofs.Rows.{IsWhole, done_weaker, is_part, row_whole}
 
 -- RIGHTS
@@ -78,90 +83,120 @@ common_places a low b high ha hb first second = by_order (cases_lt high low)
           all = λ place from below_a below_b. rw (order, begins, here) below_a;
         }
 
+-- ITEMS
+
+-- a delegation that reads as this job: its range and its window, and the clamp of both
+record IsRead (v : Delivery) (j : Job) : Type 0 where
+  range : Range
+  range_rights : Rights
+  window : Range
+  window_rights : Rights
+  reads : read_as (meaning_of v.range_word) ≡ Some (range, range_rights)
+  takes : read_as (meaning_of v.delegations) ≡ Some (window, window_rights)
+  job : j ≡ job_at range range_rights (clamp_of range window (hotspot_in v.second_word)) v.giver v.receiver
+
+job_reads : (v : Delivery) (j : Job) → job_in v ≡ Ok j → IsRead v j
+job_reads v j is = by_words (read_as (meaning_of v.range_word)) refl (read_as (meaning_of v.delegations)) refl is
+  where
+    by_kind : (r w : Range × Rights) → read_as (meaning_of v.range_word) ≡ Some r → read_as (meaning_of v.delegations) ≡ Some w → (t : Bool) →
+        (if t then Ok (job_at r.0 r.1 (clamp_of r.0 w.0 (hotspot_in v.second_word)) v.giver v.receiver) else Err Window) ≡ Ok j → IsRead v j
+    by_kind r w reads takes true e = record {
+      range = r.0;
+      range_rights = r.1;
+      window = w.0;
+      window_rights = w.1;
+      reads = reads;
+      takes = takes;
+      job = let same : job_at r.0 r.1 (clamp_of r.0 w.0 (hotspot_in v.second_word)) v.giver v.receiver ≡ j = cc in sym same;
+    }
+    by_kind r w reads takes false e = absurd (cc)
+
+    by_words : (o : Option (Range × Rights)) → read_as (meaning_of v.range_word) ≡ o → (p : Option (Range × Rights)) → read_as (meaning_of v.delegations) ≡ p →
+        job_between o p (hotspot_in v.second_word) v.giver v.receiver ≡ Ok j → IsRead v j
+    by_words None reads p takes e = absurd (cc)
+    by_words (Some r) reads None takes e = absurd (cc)
+    by_words (Some r) reads (Some w) takes e = by_kind r w reads takes (is_same_kind r.0.kind w.0.kind) e
+
 -- CHILDREN
 
--- the item of a creator, from its cursor on
-abbrev pub item : (k : KernelState) (ec domain : ℕ) → GivesRange k ec domain → Job
-item k ec domain gift = resumed k ec (whole gift.range gift.rights (pd_of k ec) domain)
-
-child_shared : (k : KernelState) (ec domain : ℕ) (d : Derivation) (gift : GivesRange k ec domain) → IsForest k.delegations →
-    next_source k.delegations.list (item k ec domain gift) ≡ Some d → IsShared k ec (child_of (item k ec domain gift) k.delegations.next d)
-child_shared k ec domain d gift forest is =
-    let next = next_facts k.delegations.list (item k ec domain gift) d is in
-    let left = left_facts (item k ec domain gift) d next.left in
+-- the child of the derivation that is next
+child_shared : (k : KernelState) (ec : ℕ) (v : Delivery) (j : Job) (d : Derivation) → delivery k ec (context k ec).state ≡ Some v → job_in v ≡ Ok j → IsForest k.delegations →
+    next_source k.delegations.list (resumed k ec j) ≡ Some d → IsShared k ec (child_of (resumed k ec j) k.delegations.next d)
+child_shared k ec v j d present is forest next_is =
+    let read = job_reads v j is in
+    let of_job = read.job in
+    let next = next_facts k.delegations.list (resumed k ec j) d next_is in
+    let left = left_facts (resumed k ec j) d next.left in
     let aligned = all_at IsAligned k.delegations.list d forest.aligned next.there in
-    let common = common_places d.base d.order gift.range.base gift.range.order aligned.base gift.places.aligned left.first left.second in
+    let ranges = job_ranges v.range_word v.second_word v.delegations v.giver v.receiver j is in
+    let common = common_places d.base d.order j.source j.order aligned.base ranges.source.aligned left.first left.second in
     let starts = common.starts in
     let in_first = common.in_first in
     let in_second = common.in_second in
     record {
-      gift = gift;
+      item = v;
+      present = present;
+      range = read.range;
+      range_rights = read.range_rights;
+      reads = read.reads;
+      window = read.window;
+      window_rights = read.window_rights;
+      takes = read.takes;
+      clamped = record { source = j.source; dest = j.dest; order = j.order };
+      clamps = ap (λ (x : Job). record { source = x.source; dest = x.dest; order = x.order }) of_job;
       source = d;
       there = contains_from_in k.delegations.list d next.there;
-      held = left.giver;
+      held = left.giver ∙ ap (λ (x : Job). x.giver) of_job;
+      receiver = ap (λ (x : Job). x.receiver) of_job;
       parent = refl;
-      kind = refl;
-      same_kind = left.kind;
-      in_range = λ place has.
+      kind = ap (λ (x : Job). x.kind) of_job;
+      same_kind = left.kind ∙ ap (λ (x : Job). x.kind) of_job;
+      in_window = λ place has.
           let from = has.from_base in
           let before = has.before_end in
           record { from_base = omega (arith, from, starts); before_end = omega (arith, before, in_second) };
       in_source = λ place has.
           let from = has.from_base in
           let before = has.before_end in
-          record { from_base = omega (arith, from, starts); before_end = omega (arith, before, in_first) };
+          record { from_base = omega (arith, from, starts); before_end = omega (arith, from, before, in_first) };
       whole = λ place of_range of_source.
           let from_range = of_range.from_base in
           let from_source = of_source.from_base in
-          let both : max d.base gift.range.base ≤ place = omega (arith, from_range, from_source) in
-          record {
-            from_base = omega (arith, from_range, from_source);
-            before_end = common.all place both of_source.before_end of_range.before_end;
-          };
+          let both : max d.base j.source ≤ place = omega (arith, from_range, from_source) in
+          let before = common.all place both of_source.before_end of_range.before_end in
+          record { from_base = omega (arith, from_range, from_source); before_end = omega (arith, from_range, before) };
       leads = omega arith;
-      common = refl;
-      rights = shared_rights d.rights gift.rights;
+      common = ap (λ (x : Job). bit_and d.rights.0 x.rights.0) of_job;
+      rights = λ right. shared_rights d.rights j.rights right ∙ ap (λ (x : Job). allows d.rights right && allows x.rights right) of_job;
     }
 
-child_ends : (k : KernelState) (ec domain : ℕ) (d : Derivation) (gift : GivesRange k ec domain) → IsForest k.delegations →
-    next_source k.delegations.list (item k ec domain gift) ≡ Some d →
-    (child_of (item k ec domain gift) k.delegations.next d).base + 2 ^ (child_of (item k ec domain gift) k.delegations.next d).order ≤ d.base + 2 ^ d.order
-child_ends k ec domain d gift forest is =
-    let next = next_facts k.delegations.list (item k ec domain gift) d is in
-    let left = left_facts (item k ec domain gift) d next.left in
-    let aligned = all_at IsAligned k.delegations.list d forest.aligned next.there in
-    (common_places d.base d.order gift.range.base gift.range.order aligned.base gift.places.aligned left.first left.second).in_first
-
-giving_shared : (k : KernelState) (ec domain : ℕ) (d x : Derivation) → IsGiving k ec domain d x → IsForest k.delegations → GivesRange k ec domain →
-    IsShared k ec x × (x.base + 2 ^ x.order ≤ d.base + 2 ^ d.order)
-giving_shared k ec domain d x g forest gift =
-    let both : Ok g.job ≡ Ok (whole gift.range gift.rights (pd_of k ec) domain) = sym g.reads ∙ gift.job in
-    let same : g.job ≡ whole gift.range gift.rights (pd_of k ec) domain = cc in
-    let next = subst (λ (j : Job). next_source k.delegations.list (resumed k ec j) ≡ Some d) same g.next in
-    let good = subst (λ (j : Job). judged (is_busy k) k.delegations.list (child_of (resumed k ec j) k.delegations.next d) ≡ Ok x) same g.good in
-    let child = judged_facts (is_busy k) k.delegations.list (child_of (item k ec domain gift) k.delegations.next d) x good in (
-      subst (IsShared k ec) (sym child.same) (child_shared k ec domain d gift forest next),
-      subst (λ (y : Derivation). y.base + 2 ^ y.order ≤ d.base + 2 ^ d.order) (sym child.same) (child_ends k ec domain d gift forest next),
-    )
+giving_shared : (k : KernelState) (ec : ℕ) (d x : Derivation) → IsGiving k ec d x → IsForest k.delegations → IsShared k ec x
+giving_shared k ec d x g forest =
+    let child = judged_facts (is_busy k) k.delegations.list (child_of (resumed k ec g.job) k.delegations.next d) x g.good in
+    subst (IsShared k ec) (sym child.same) (child_shared k ec g.item g.job d g.of_item.present g.reads forest g.next)
 
 -- of each deed
-abbrev pub Shares : KernelState → ℕ → Deed → Type 0
-Shares k ec (Gives x cursor) =
-    IsForest k.delegations → ((domain : ℕ) → (context k ec).state ≡ Granting (Some domain) → GivesRange k ec domain) →
-    IsShared k ec x × (x.base + 2 ^ x.order ≤ cursor)
+abbrev Shares : KernelState → ℕ → Deed → Type 0
+Shares k ec (Gives x cursor) = IsForest k.delegations → IsShared k ec x
 Shares k ec other = Unit {0}
 
 whole_shares : (k : KernelState) (ec : ℕ) (d : Deed) → is_part d ≡ false → Shares k ec d
 whole_shares k ec (Gives x cursor) whole = absurd (cc)
 whole_shares k ec other whole = tt
 
-pub deed_shares : (k : KernelState) (ec : ℕ) → Shares k ec (deed k ec)
+deed_shares : (k : KernelState) (ec : ℕ) → Shares k ec (deed k ec)
 deed_shares k ec =
     deed_holds (Shares k ec) k ec tt
-    (record { steps = tt; raises = λ reason q0 q1. tt; dies = λ reason q0. tt; refuses = λ number status. tt; rows = λ c read. done_weaker IsWhole (Shares k ec) (row k (pd_of k ec) c) (whole_shares k ec) (row_whole k (pd_of k ec) c) })
-    (λ domain state. record { gives = λ d x g forest gives. giving_shared k ec domain d x g forest (gives domain state); skips = λ reason place cursor. tt; ends = tt })
+    (record {
+      steps = tt;
+      raises = λ reason q0 q1. tt;
+      dies = λ reason q0. tt;
+      refuses = λ number status. tt;
+      aborts = λ handler is. tt;
+      rows = λ asks c read. done_weaker IsWhole (Shares k ec) (row k ec (pd_of k ec) c) (whole_shares k ec) (row_whole k ec (pd_of k ec) c);
+    })
+    (record { gives = giving_shared k ec; skips = λ d reason place is. tt; finishes = λ v end answer present is. tt })
 
 pub children_shared : (s : Scenario) (turns : List ℕ) (ec cursor : ℕ) (child : Derivation) → deed (run (boot s) turns) ec ≡ Gives child cursor → IsShared (run (boot s) turns) ec child
 children_shared s turns ec cursor child is =
-    let k = run (boot s) turns in
-    (subst (Shares k ec) is (deed_shares k ec) (boot_run_forest s turns) (λ domain state. creators_give s turns ec domain state)).0
+    let k = run (boot s) turns in subst (Shares k ec) is (deed_shares k ec) (boot_run_forest s turns)

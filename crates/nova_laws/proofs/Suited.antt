@@ -1,38 +1,32 @@
 -- What goes with an object, from tables that fit.
 use Rattle.nova_model.specs.Boot.{Scenario, boot}
-use Rattle.std.proofs.Common.{◌≡◌, ℕ, ◌+◌, List, [], ◌∷◌, zero, suc, refl, ap, ◌∙◌, sym, arith}
-use Rattle.std.specs.Prelude.{Bool, true, map, slice_get, Option, Some, None, IfSome, IsSome, is_some, option_map}
-use Rattle.std.specs.List.{AllByRecursion}
+use Rattle.std.proofs.Common.{◌≡◌, ℕ, ◌+◌, List, refl, ap, ◌∙◌, sym, arith}
+use Rattle.std.specs.Prelude.{Bool, true, slice_get, Option, Some, None, IfSome, IsSome, is_some, option_map}
 use Rattle.nova_objects.specs.declared.object.Object.{Object}
 use Rattle.nova_objects.specs.declared.object.Object.TheVariants.{Pd, Ec, Sc, Pt, Sm}
 use Rattle.nova_model.specs.Capabilities.{is_ec, is_pt, is_sc}
 use Rattle.nova_model.specs.Runs.{run}
-use Rattle.nova_model.specs.State.{KernelState, budget_at, context_at, entry}
+use Rattle.nova_model.specs.State.{KernelState, budget_at, context_at, entry, is_thread_kind}
 use Rattle.nova_model.specs.declared.context.EcState.{EcState}
-use Rattle.nova_laws.specs.Tables.{IsContext, IsOf, Suits, is_sm}
-use Rattle.nova_laws.proofs.Fitting.{Fits, boot_run_fits, get_map, get_tags, tag, tag_of}
-use Rattle.nova_laws.proofs.Referring.{Refers, cpu_of}
-
-pub all_get : {A : Type 0} (P : A → Type 0) (xs : List A) (n : ℕ) → AllByRecursion P xs → IfSome (slice_get xs n) P
-all_get P [] n h = tt
-all_get P (x ∷ xs) zero h = h.0
-all_get P (x ∷ xs) (suc n) h = all_get P xs n h.1
+use Rattle.nova_laws.specs.Tables.{HasTables, IsContext, IsOf, Refers, Suits, cpu_of, has_words, is_sm, tag, tag_of}
+use Rattle.nova_laws.proofs.Fitting.{boot_run_fits}
+use Rattle.nova_laws.proofs.Tabling.{all_get, kinds_at, tags_at}
 
 -- a table at a number
-kinds_at : {T : Type 0} (is : Object → Bool) (xs : List (Option T)) (os : List Object) (n : ℕ) → map is_some xs ≡ map is os →
-    option_map is_some (slice_get xs n) ≡ option_map is (slice_get os n)
-kinds_at is xs os n h = sym (get_map is_some xs n) ∙ ap (λ (l : List Bool). slice_get l n) h ∙ get_map is os n
-
-tags_at : (k : KernelState) (n : ℕ) → Fits k → option_map tag (slice_get k.contexts n) ≡ option_map (tag_of n) (slice_get k.objects n)
-tags_at k n h =
+tagged_at : (k : KernelState) (n : ℕ) → HasTables k → option_map tag (slice_get k.contexts n) ≡ option_map (tag_of n) (slice_get k.objects n)
+tagged_at k n h =
     let e : 0 + n ≡ n = omega arith in
-    sym (get_map tag k.contexts n) ∙ ap (λ (l : List (Option (ℕ × ℕ))). slice_get l n) h.contexts ∙ get_tags 0 k.objects n
-    ∙ ap (λ (m : ℕ). option_map (tag_of m) (slice_get k.objects n)) e
+    tags_at k n h ∙ ap (λ (m : ℕ). option_map (tag_of m) (slice_get k.objects n)) e
 
 there_at : {T : Type 0} (o : Option (Option T)) → option_map is_some o ≡ Some true → IsSome (entry o)
 there_at None h = absurd (cc)
 there_at (Some None) h = absurd (cc)
 there_at (Some (Some x)) h = refl
+
+some_at : {T : Type 0} (o : Option (Option T)) (t : Bool) → option_map is_some o ≡ Some t → is_some (entry o) ≡ t
+some_at None t h = absurd (cc)
+some_at (Some None) t h = cc
+some_at (Some (Some x)) t h = cc
 
 only_at : {T : Type 0} (is : Object → Bool) (o : Option (Option T)) (object : Option Object) → option_map is_some o ≡ option_map is object → IsSome (entry o) →
     option_map is object ≡ Some true
@@ -54,16 +48,15 @@ some_same : (a b : ℕ) → Some a ≡ Some b → a ≡ b
 some_same a b h = cc
 
 context_there : (k : KernelState) (n pd cpu : ℕ) (o : Option (Option EcState)) → slice_get k.contexts n ≡ o → option_map tag o ≡ Some (Some (n, cpu)) →
-    slice_get k.objects pd ≡ Some Pd → IsSome (entry (slice_get k.messages n)) → IsSome (entry (slice_get k.transfers n)) → IsContext k n pd cpu
-context_there k n pd cpu None is h domain words gives = absurd (cc)
-context_there k n pd cpu (Some None) is h domain words gives = absurd (cc)
-context_there k n pd cpu (Some (Some x)) is h domain words gives = record {
+    slice_get k.objects pd ≡ Some Pd → IsSome (entry (slice_get k.transfers n)) → IsContext k n pd cpu
+context_there k n pd cpu None is h domain gives = absurd (cc)
+context_there k n pd cpu (Some None) is h domain gives = absurd (cc)
+context_there k n pd cpu (Some (Some x)) is h domain gives = record {
   state = x;
   there = ap entry is;
   number = some_same x.id n (ap first h);
   processor = some_same x.cpu cpu (ap second h);
   domain = domain;
-  words = words;
   gives = gives;
 }
 
@@ -90,15 +83,17 @@ only_context n (Some (Some x)) (Some Sm) h there = absurd (cc)
 
 -- WHAT GOES WITH AN OBJECT
 
-object_suits : (k : KernelState) (n : ℕ) → Fits k → (o : Object) → slice_get k.objects n ≡ Some o → Refers k.objects o → Suits k n o
+object_suits : (k : KernelState) (n : ℕ) → HasTables k → (o : Object) → slice_get k.objects n ≡ Some o → Refers k.objects o → Suits k n o
 object_suits k n h Pd is refers = tt
-object_suits k n h (Ec pd cpu kind event) is refers =
-    context_there k n pd cpu (slice_get k.contexts n) refl (tags_at k n h ∙ ap (λ (o : Option Object). option_map (tag_of n) o) is) refers
-    (there_at (slice_get k.messages n) (kinds_at is_ec k.messages k.objects n h.messages ∙ ap (λ (o : Option Object). option_map is_ec o) is))
-    (there_at (slice_get k.transfers n) (kinds_at is_ec k.transfers k.objects n h.transfers ∙ ap (λ (o : Option Object). option_map is_ec o) is))
+object_suits k n h (Ec pd cpu kind event) is refers = (
+  context_there k n pd cpu (slice_get k.contexts n) refl (tagged_at k n h ∙ ap (λ (o : Option Object). option_map (tag_of n) o) is) refers.0
+      (there_at (slice_get k.transfers n) (kinds_at is_ec k.transfers k.objects n h.transfers ∙ ap (λ (o : Option Object). option_map is_ec o) is)),
+  some_at (slice_get k.messages n) (is_thread_kind kind)
+      (kinds_at has_words k.messages k.objects n h.messages ∙ ap (λ (o : Option Object). option_map has_words o) is),
+)
 object_suits k n h (Sc ec cpu priority quantum) is refers = (
   there_at (slice_get k.budgets n) (kinds_at is_sc k.budgets k.objects n h.budgets ∙ ap (λ (o : Option Object). option_map is_sc o) is),
-  cpu_there ec cpu (slice_get k.contexts ec) (slice_get k.objects ec) (tags_at k ec h) refers,
+  cpu_there ec cpu (slice_get k.contexts ec) (slice_get k.objects ec) (tagged_at k ec h) refers,
 )
 object_suits k n h (Pt ec mtd ip) is refers = (
   there_at (slice_get k.identifiers n) (kinds_at is_pt k.identifiers k.objects n h.identifiers ∙ ap (λ (o : Option Object). option_map is_pt o) is),
@@ -107,7 +102,7 @@ object_suits k n h (Pt ec mtd ip) is refers = (
 object_suits k n h Sm is refers =
     there_at (slice_get k.semaphores n) (kinds_at is_sm k.semaphores k.objects n h.semaphores ∙ ap (λ (o : Option Object). option_map is_sm o) is)
 
-suits : (k : KernelState) (n : ℕ) → Fits k → IfSome (slice_get k.objects n) (Suits k n)
+suits : (k : KernelState) (n : ℕ) → HasTables k → IfSome (slice_get k.objects n) (Suits k n)
 suits k n h = by_object (slice_get k.objects n) refl (all_get (Refers k.objects) k.objects n h.refer)
   where
     by_object : (o : Option Object) → slice_get k.objects n ≡ o → IfSome o (Refers k.objects) → IfSome o (Suits k n)
@@ -115,33 +110,33 @@ suits k n h = by_object (slice_get k.objects n) refl (all_get (Refers k.objects)
     by_object (Some o) is refers = object_suits k n h o is refers
 
 pub tables_suit : (s : Scenario) (turns : List ℕ) (n : ℕ) → IfSome (slice_get (run (boot s) turns).objects n) (Suits (run (boot s) turns) n)
-tables_suit s turns n = suits (run (boot s) turns) n (boot_run_fits s turns)
+tables_suit s turns n = suits (run (boot s) turns) n (boot_run_fits s turns).tables
 
 pub contexts_only : (s : Scenario) (turns : List ℕ) (n : ℕ) → IsSome (context_at (run (boot s) turns) n) → IsOf (run (boot s) turns).objects is_ec n
 contexts_only s turns n there =
-    let k = run (boot s) turns in only_context n (slice_get k.contexts n) (slice_get k.objects n) (tags_at k n (boot_run_fits s turns)) there
+    let k = run (boot s) turns in only_context n (slice_get k.contexts n) (slice_get k.objects n) (tagged_at k n (boot_run_fits s turns).tables) there
 
-pub messages_only : (s : Scenario) (turns : List ℕ) (n : ℕ) → IsSome (entry (slice_get (run (boot s) turns).messages n)) → IsOf (run (boot s) turns).objects is_ec n
+pub messages_only : (s : Scenario) (turns : List ℕ) (n : ℕ) → IsSome (entry (slice_get (run (boot s) turns).messages n)) → IsOf (run (boot s) turns).objects has_words n
 messages_only s turns n there =
     let k = run (boot s) turns in
-    let h = boot_run_fits s turns in only_at is_ec (slice_get k.messages n) (slice_get k.objects n) (kinds_at is_ec k.messages k.objects n h.messages) there
+    let h = (boot_run_fits s turns).tables in only_at has_words (slice_get k.messages n) (slice_get k.objects n) (kinds_at has_words k.messages k.objects n h.messages) there
 
 pub transfers_only : (s : Scenario) (turns : List ℕ) (n : ℕ) → IsSome (entry (slice_get (run (boot s) turns).transfers n)) → IsOf (run (boot s) turns).objects is_ec n
 transfers_only s turns n there =
     let k = run (boot s) turns in
-    let h = boot_run_fits s turns in only_at is_ec (slice_get k.transfers n) (slice_get k.objects n) (kinds_at is_ec k.transfers k.objects n h.transfers) there
+    let h = (boot_run_fits s turns).tables in only_at is_ec (slice_get k.transfers n) (slice_get k.objects n) (kinds_at is_ec k.transfers k.objects n h.transfers) there
 
 pub budgets_only : (s : Scenario) (turns : List ℕ) (n : ℕ) → IsSome (budget_at (run (boot s) turns) n) → IsOf (run (boot s) turns).objects is_sc n
 budgets_only s turns n there =
     let k = run (boot s) turns in
-    let h = boot_run_fits s turns in only_at is_sc (slice_get k.budgets n) (slice_get k.objects n) (kinds_at is_sc k.budgets k.objects n h.budgets) there
+    let h = (boot_run_fits s turns).tables in only_at is_sc (slice_get k.budgets n) (slice_get k.objects n) (kinds_at is_sc k.budgets k.objects n h.budgets) there
 
 pub identifiers_only : (s : Scenario) (turns : List ℕ) (n : ℕ) → IsSome (entry (slice_get (run (boot s) turns).identifiers n)) → IsOf (run (boot s) turns).objects is_pt n
 identifiers_only s turns n there =
     let k = run (boot s) turns in
-    let h = boot_run_fits s turns in only_at is_pt (slice_get k.identifiers n) (slice_get k.objects n) (kinds_at is_pt k.identifiers k.objects n h.identifiers) there
+    let h = (boot_run_fits s turns).tables in only_at is_pt (slice_get k.identifiers n) (slice_get k.objects n) (kinds_at is_pt k.identifiers k.objects n h.identifiers) there
 
 pub semaphores_only : (s : Scenario) (turns : List ℕ) (n : ℕ) → IsSome (entry (slice_get (run (boot s) turns).semaphores n)) → IsOf (run (boot s) turns).objects is_sm n
 semaphores_only s turns n there =
     let k = run (boot s) turns in
-    let h = boot_run_fits s turns in only_at is_sm (slice_get k.semaphores n) (slice_get k.objects n) (kinds_at is_sm k.semaphores k.objects n h.semaphores) there
+    let h = (boot_run_fits s turns).tables in only_at is_sm (slice_get k.semaphores n) (slice_get k.objects n) (kinds_at is_sm k.semaphores k.objects n h.semaphores) there

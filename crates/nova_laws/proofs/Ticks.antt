@@ -77,7 +77,7 @@ new_ticks cpu stamp (new.Sm count) = refl
 -- A TURN
 
 pub lengths : (k : KernelState) → Fits k → length k.budgets ≡ length k.objects
-lengths k h = sym (length-map k.budgets is_some) ∙ ap length h.budgets ∙ length-map k.objects _
+lengths k h = sym (length-map k.budgets is_some) ∙ ap length h.tables.budgets ∙ length-map k.objects _
 
 adds_ticks : (k s : KernelState) (ec cpu : ℕ) → Adds k s ec → length k.budgets ≡ length k.objects → paid_on s cpu ≡ paid_on k cpu
 adds_ticks k s ec cpu (AddsNone objects budgets next) same = ap₂ (λ (os : List Object) (bs : List (Option Budget)). sum (ticks_on cpu os bs)) objects budgets

@@ -2,8 +2,13 @@ pub mod Refusals
 pub mod Orders
 pub mod Choices
 pub mod Tables
-pub mod Giving
 pub mod Scheduling
 pub mod Events
 pub mod Rounds
+pub mod Callers
+pub mod Giving
 pub mod Asked
+pub mod Words
+pub mod Links
+pub mod Keeping
+pub mod Windows

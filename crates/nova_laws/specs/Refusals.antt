@@ -1,5 +1,5 @@
 -- A turn in which a hypercall is refused.
-use Rattle.std.specs.Prelude.{◌≡◌, ◌≢◌, ◌<◌, ℕ, ◌+◌, ◌%◌, ◌^◌, length, slice_get, IsSome, None}
+use Rattle.std.specs.Prelude.{◌≡◌, ◌≢◌, ◌<◌, ℕ, Bool, true, false, ◌+◌, ◌%◌, ◌^◌, length, slice_get, IsSome, None}
 use Rattle.rv_model.specs.Registers.{reg}
 use Rattle.nova_range.specs.Statuses.{status_code}
 use Rattle.nova_range.specs.declared.status.Status.{Status}
@@ -8,16 +8,26 @@ use Rattle.nova_model.specs.Runs.{after}
 use Rattle.nova_model.specs.State.{KernelState, budget_at, context, context_at}
 use Rattle.nova_model.specs.Turn.{charged}
 use Rattle.nova_model.specs.declared.context.EcState.{EcState}
+use Rattle.nova_model.specs.declared.context.State.{State}
+use Rattle.nova_model.specs.declared.context.State.TheVariants.{Helping, Ready}
 use Rattle.nova_model.specs.declared.event.Event.{Event}
 
--- the caller has the status in x10, where it has that register, and its pc is after the instruction; all else of it is as before
+-- it was about to do an instruction, or helped, and made its call again
+abbrev pub is_asking : State → Bool
+is_asking Ready = true
+is_asking (Helping handler) = true
+is_asking other = false
+
+-- the caller has the status in x10, where it has that register, and its pc is after the instruction; one that helped is ready; all else of it is
+-- as before
 pub record IsAnswered (code : ℕ) (old new : EcState) : Type 0 where
   pub status : 10 < length old.regs.x → reg new.regs 10 ≡ code
   pub pc : new.regs.pc ≡ (old.regs.pc + 4) % 2 ^ 32
   pub registers : (i : ℕ) → i ≢ 10 → reg new.regs i ≡ reg old.regs i
   pub number : new.id ≡ old.id
   pub cpu : new.cpu ≡ old.cpu
-  pub state : new.state ≡ old.state
+  pub before : is_asking old.state ≡ true
+  pub state : new.state ≡ Ready
   pub caller : new.caller ≡ old.caller
   pub recall : new.recall ≡ old.recall
 
@@ -39,7 +49,7 @@ pub record LeavesRest (old new : KernelState) (ec sc cpu : ℕ) : Type 0 where
   pub processors : (other : ℕ) → other ≢ cpu → slice_get new.stirs.processors other ≡ slice_get old.stirs.processors other
   pub turns : new.turns ≡ old.turns + 1
 
--- the status is the event's second number: it changes x10 and pc of the caller, the charge what it charges, and nothing else is changed
+-- the status is the event's second number: it changes x10 and pc of the caller, and the state of one that helped, the charge what it charges, and nothing else is changed
 pub record IsRefusal (k : KernelState) (cpu : ℕ) (e : Event) : Type 0 where
   pub status : Status
   pub code : status_code status ≡ e.b

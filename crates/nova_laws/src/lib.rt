@@ -1,6 +1,7 @@
 //! Laws of the kernel's definitions. The functions do nothing: their contracts are the laws.
 #![tactic(auto)]
 
+mod callers;
 mod choice;
 mod edges;
 mod events;
@@ -12,9 +13,11 @@ mod rounds;
 mod scheduling;
 mod tables;
 mod transfers;
+mod words;
 
+pub use callers::a_handler_at_work_has_one_caller;
 pub use choice::the_best_is_chosen;
-pub use edges::no_call_makes_an_edge;
+pub use edges::edges_form_no_circle;
 pub use events::{a_trace_has_an_event_a_turn, an_event_names_the_chosen};
 pub use making::a_schedule_is_made_as_asked;
 pub use orders::round_robin_runs_out;
@@ -27,6 +30,8 @@ pub use scheduling::{
 };
 pub use tables::tables_go_with_objects;
 pub use transfers::{
-    a_child_is_what_range_and_derivation_share, a_creator_counts_what_it_gives,
-    a_creator_gives_a_range_to_a_domain, each_part_moves_on,
+    a_child_is_what_range_and_derivation_share, a_creator_gives_a_range_to_a_domain,
+    an_item_counts_its_children, each_part_moves_on, items_are_given_in_order,
+    items_go_to_the_windows_of_the_receiver, words_tell_what_came_of_an_item,
 };
+pub use words::a_turn_writes_the_words_of_one;

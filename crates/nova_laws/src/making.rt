@@ -17,10 +17,10 @@ pub fn a_schedule_is_made_as_asked()
     ensures asked { (k : KernelState) (caller call target ec cpu priority quantum : ℕ)
         → deed k caller ≡ Makes call target (Sc ec cpu priority quantum)
         → (call ≡ CREATE_SC) × AsksSchedule k (pd_of k caller) (context k caller).regs target ec cpu priority quantum }
-    ensures made { (k : KernelState) (domain : ℕ) (r : Registers) (target ec cpu priority quantum : ℕ)
+    ensures made { (k : KernelState) (caller domain : ℕ) (r : Registers) (target ec cpu priority quantum : ℕ)
         → IsForest k.delegations
         → AsksSchedule k domain r target ec cpu priority quantum
-        → hypercall k domain r ≡ Makes CREATE_SC target (Sc ec cpu priority quantum) }
+        → hypercall k caller domain r ≡ Makes CREATE_SC target (Sc ec cpu priority quantum) }
     ensures turns { (k : KernelState) (caller target ec cpu priority quantum : ℕ)
         → IsForest k.delegations
         → IsCalling k caller

@@ -4,7 +4,7 @@ ghost use Rattle.nova_model.specs.Boot.{Scenario, boot};
 ghost use Rattle.nova_model.specs.Capabilities.{is_ec, is_pt, is_sc};
 ghost use Rattle.nova_model.specs.Runs.{run};
 ghost use Rattle.nova_model.specs.State.{budget_at, context_at, entry};
-ghost use Rattle.nova_laws.specs.Tables.{IsOf, Suits, is_sm};
+ghost use Rattle.nova_laws.specs.Tables.{IsOf, Suits, has_words, is_sm};
 
 /// Whatever list of turns is taken from whatever boot state, what goes with each object is there, and
 /// entries of tables are there only where the object of their number is of that kind.
@@ -14,7 +14,7 @@ pub fn tables_go_with_objects()
     ensures contexts { (scenario : Scenario) (turns : List ℕ) (n : ℕ)
         → IsSome (context_at (run (boot scenario) turns) n) → IsOf (run (boot scenario) turns).objects is_ec n }
     ensures messages { (scenario : Scenario) (turns : List ℕ) (n : ℕ)
-        → IsSome (entry (slice_get (run (boot scenario) turns).messages n)) → IsOf (run (boot scenario) turns).objects is_ec n }
+        → IsSome (entry (slice_get (run (boot scenario) turns).messages n)) → IsOf (run (boot scenario) turns).objects has_words n }
     ensures transfers { (scenario : Scenario) (turns : List ℕ) (n : ℕ)
         → IsSome (entry (slice_get (run (boot scenario) turns).transfers n)) → IsOf (run (boot scenario) turns).objects is_ec n }
     ensures budgets { (scenario : Scenario) (turns : List ℕ) (n : ℕ)

@@ -3,7 +3,7 @@ use Rattle.std.specs.Prelude.{false, ℕ, ◌+◌, ◌/◌, ◌%◌, ◌^◌, Li
 use Rattle.std.specs.List.{range_with_len}
 use Rattle.rv_model.specs.Registers.{Registers, with_reg}
 use Rattle.nova_model.specs.Memory.{Memory, written}
-use Rattle.nova_model.specs.State.{KernelState, no_transfer}
+use Rattle.nova_model.specs.State.{KernelState, no_transfer, no_words}
 use Rattle.nova_model.specs.declared.delegation.Derivation.{Derivation}
 use Rattle.nova_range.specs.declared.range.Kind.TheVariants.{Mem, Obj}
 use Rattle.nova_range.specs.declared.rights.Rights.{Rights}
@@ -67,7 +67,7 @@ bare cpus ram consoles root = record {
   delegations = record { list = root_derivations ram consoles; next = consoles + 4 };
   objects = root_objects root;
   contexts = None ∷ Some (root_context root) ∷ None ∷ [];
-  messages = None ∷ Some (replicate 128 0) ∷ None ∷ [];
+  messages = None ∷ Some no_words ∷ None ∷ [];
   transfers = None ∷ Some no_transfer ∷ None ∷ [];
   budgets = None ∷ None ∷ Some (record { left = root.quantum; stamp = 0; ticks = 0 }) ∷ [];
   identifiers = None ∷ None ∷ None ∷ [];

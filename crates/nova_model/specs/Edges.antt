@@ -1,11 +1,11 @@
 -- Donation: an execution context that waits for a handler has an edge to it, and its turns go along edges to the one that acts.
--- (Steinberg and Kauer, NOVA, EuroSys 2010, for donation; that one helps a handler that is busy is this project's own rule.) No call
--- makes an edge yet.
+-- (Steinberg and Kauer, NOVA, EuroSys 2010, for donation; that one helps a handler that is busy is this project's own rule.)
 use Rattle.std.specs.Prelude.{ℕ, zero, suc, ⊤, ◌≡◌, ◌≢◌, ◌==◌, ◌||◌, Bool, true, false, List, [], ◌∷◌, length, Option, Some, None, is_none, option_map, option_and_then}
 use Rattle.std.specs.List.{find, list_any}
 use Rattle.nova_model.specs.State.{Contexts, ec_in}
+use Rattle.nova_model.specs.declared.context.Mark.{Mark}
 use Rattle.nova_model.specs.declared.context.State.{State}
-use Rattle.nova_model.specs.declared.context.State.TheVariants.{Fresh, Ready, Parked, Calling, Helping, Exiting, Sending, Granting, Dead}
+use Rattle.nova_model.specs.declared.context.State.TheVariants.{Fresh, Ready, Parked, Calling, Helping, Exiting, Sending, Granting, Replying, Dead}
 
 abbrev pub state_in : Contexts → ℕ → Option State
 state_in cs e = option_map (λ x. x.state) (ec_in cs e)
@@ -43,6 +43,7 @@ acts_by (Helping h) handler = is_free handler
 acts_by (Exiting reason q0 q1) handler = true
 acts_by (Sending reason q0 q1 h) handler = is_free handler
 acts_by (Granting new) handler = true
+acts_by Replying handler = true
 acts_by Dead handler = false
 
 abbrev pub acts_as : Contexts → Option State → Bool
@@ -97,3 +98,16 @@ pub record IsNewEdge (cs : Contexts) (e h : ℕ) : Type 0 where
 abbrev pub MayWait : Contexts → ℕ → Option ℕ → Type 0
 MayWait cs e None = ⊤
 MayWait cs e (Some h) = IsNewEdge cs e h
+
+-- the caller that an execution context serves, with its mark
+abbrev pub caller_in : Contexts → ℕ → Option (ℕ × Mark)
+caller_in cs e = option_and_then (λ x. x.caller) (ec_in cs e)
+
+-- callers are there, and on one processor with those who serve them
+abbrev pub AreCallers : Contexts → Type 0
+AreCallers cs = (e c : ℕ) (mark : Mark) → caller_in cs e ≡ Some (c, mark) → cpu_in cs c ≡ cpu_in cs e
+
+-- a caller to be of one that is there
+abbrev pub MayServe : Contexts → ℕ → Option (ℕ × Mark) → Type 0
+MayServe cs e None = ⊤
+MayServe cs e (Some (c, mark)) = cpu_in cs c ≡ cpu_in cs e

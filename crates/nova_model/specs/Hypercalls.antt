@@ -1,14 +1,16 @@
 -- The table of hypercalls: for each number its refusals in their order, each with its condition, and else the deed.
 -- (NOVA specification, hypercalls; the numbers and statuses are this project's.)
-use Rattle.std.specs.Prelude.{ℕ, ◌==◌, Bool, true, false, not, nat_lt, if◌then◌else◌, [], ◌∷◌, length, Option, Some, None, option_map, Result, Ok, Err}
+use Rattle.std.specs.Prelude.{ℕ, ◌==◌, Bool, true, false, not, nat_lt, if◌then◌else◌, [], ◌∷◌, length, slice_get, Option, Some, None, option_map, Result, Ok, Err}
 use Rattle.std.specs.List.{find, list_any}
 use Rattle.rv_model.specs.Registers.{Registers, reg}
 use Rattle.nova_calls.specs.Hypercalls.{call_of}
 use Rattle.nova_calls.specs.declared.call.Call.{Call}
-use Rattle.nova_calls.specs.declared.numbers.TheConstants.{CREATE_PD, CREATE_EC, CREATE_SC, CREATE_PT, CREATE_SM, LOOKUP, EC_CTRL, SC_CTRL, PT_CTRL}
+use Rattle.nova_calls.specs.declared.numbers.TheConstants.{CALL, REPLY, CREATE_PD, CREATE_EC, CREATE_SC, CREATE_PT, CREATE_SM, LOOKUP, EC_CTRL, SC_CTRL, PT_CTRL}
+use Rattle.nova_calls.specs.declared.call.Call.TheVariants as asks
 use Rattle.nova_calls.specs.declared.call.Call.TheVariants.{CreatePd, CreateEc, CreateSc, CreatePt, CreateSm, Lookup, EcCtrl, ScCtrl, PtCtrl}
+use Rattle.nova_utcb.specs.Messages.{has_counts, has_items}
 use Rattle.nova_objects.specs.declared.object.Object.{Object}
-use Rattle.nova_objects.specs.declared.object.Object.TheVariants.{Sc}
+use Rattle.nova_objects.specs.declared.object.Object.TheVariants.{Sc, Pt}
 use Rattle.nova_objects.specs.declared.object.EcKind.{EcKind}
 use Rattle.nova_objects.specs.declared.object.EcKind.TheVariants.{Local, Global, Vcpu}
 use Rattle.nova_range.specs.RangeWords.{word_of}
@@ -16,12 +18,17 @@ use Rattle.nova_range.specs.declared.range.Range.{Range}
 use Rattle.nova_range.specs.declared.rights.Rights.{Rights}
 use Rattle.nova_range.specs.declared.status.Status.{Status}
 use Rattle.nova_range.specs.declared.status.Status.TheVariants.{BadHyp, BadCap, BadPar, BadCpu}
-use Rattle.nova_model.specs.Capabilities.{create_right, control_right, bind_scheduling_right, bind_portal_right, is_pd, is_ec, is_local, is_schedulable, is_sc, is_pt, is_held, named}
+use Rattle.nova_model.specs.Capabilities.{create_right, control_right, call_right, bind_scheduling_right, bind_portal_right, is_pd, is_ec, is_local, is_schedulable, is_sc, is_pt, is_held, named}
+use Rattle.nova_model.specs.Calls.{admitted}
 use Rattle.nova_model.specs.Delegations.{covers, range_of}
-use Rattle.nova_model.specs.State.{KernelState, budget_at, processor_of}
+use Rattle.nova_model.specs.State.{KernelState, entry, context, message, budget_at, processor_of, is_local_thread}
+use Rattle.nova_model.specs.declared.admit.Admit.{Admit}
+use Rattle.nova_model.specs.declared.admit.Admit.TheVariants.{Refused, Help, Send}
 use Rattle.nova_model.specs.declared.budget.Budget.{Budget}
+use Rattle.nova_model.specs.declared.context.Mark.{Mark}
+use Rattle.nova_model.specs.declared.context.Mark.TheVariants as mark
 use Rattle.nova_model.specs.declared.deed.Deed.{Deed}
-use Rattle.nova_model.specs.declared.deed.Deed.TheVariants.{Refuses, Makes, Recalls, Tells, Names, Opens}
+use Rattle.nova_model.specs.declared.deed.Deed.TheVariants.{Refuses, Makes, Recalls, Tells, Names, Opens, Calls, Helps, Replies}
 use Rattle.nova_model.specs.declared.new_object.NewObject.{NewObject}
 use Rattle.nova_model.specs.declared.new_object.NewObject.TheVariants as new
 
@@ -100,33 +107,80 @@ ticks_in (Some b) = b.ticks
 abbrev pub looked_up : KernelState → ℕ → Range → ℕ
 looked_up k domain range = word_of (option_map (λ d. (range_of d, d.rights)) (find (covers range.kind domain range.base) k.delegations.list))
 
+-- the handler of a portal, where it begins, and the portal's identifier
+abbrev pub handler_in : Option Object → ℕ
+handler_in (Some (Pt ec mtd ip)) = ec
+handler_in other = 0
+
+abbrev pub ip_in : Option Object → ℕ
+ip_in (Some (Pt ec mtd ip)) = ip
+ip_in other = 0
+
+abbrev pub handler_of : KernelState → ℕ → ℕ
+handler_of k pt = handler_in (slice_get k.objects pt)
+
+abbrev pub ip_of : KernelState → ℕ → ℕ
+ip_of k pt = ip_in (slice_get k.objects pt)
+
+abbrev pub number_in : Option ℕ → ℕ
+number_in (Some number) = number
+number_in None = 0
+
+abbrev pub identifier : KernelState → ℕ → ℕ
+identifier k pt = number_in (entry (slice_get k.identifiers pt))
+
+-- call: BAD_PAR where the caller's message counts more words than there are; BAD_CAP where the selector names no portal with call; then what comes
+-- of it at the handler
+abbrev pub called : KernelState → ℕ → ℕ → Admit → Result Deed Status
+called k ec pt (Refused status) = Err status
+called k ec pt Help = Ok (Helps (handler_of k pt))
+called k ec pt Send = Ok (Calls (handler_of k pt) (ip_of k pt) (identifier k pt) (has_items (message k ec)))
+
+abbrev pub call : KernelState → ℕ → ℕ → ℕ → Bool → Result Deed Status
+call k ec domain selector flag =
+    unless (not (has_counts (message k ec))) BadPar (
+    and_then (named k domain is_pt call_right selector) (λ pt. called k ec pt (admitted k.contexts ec (handler_of k pt) flag)))
+
+-- reply: BAD_PAR where a local thread doesn't ask, or where its message counts more words than there are; else it goes to the caller, whom a local
+-- thread that is at work has. No exit is sent yet, so each caller called.
+abbrev pub replied : KernelState → ℕ → Option (ℕ × Mark) → Result Deed Status
+replied k ec (Some (caller, mark.Call)) = Ok (Replies caller (has_items (message k ec)))
+replied k ec other = Err BadPar
+
+abbrev pub reply : KernelState → ℕ → Result Deed Status
+reply k ec =
+    unless (not (is_local_thread k ec)) BadPar (
+    unless (not (has_counts (message k ec))) BadPar (replied k ec (context k ec).caller))
+
 -- the rows. lookup has no refusal. ec_ctrl, sc_ctrl, pt_ctrl: BAD_CAP where the selector names no such object with control. A call that is not built
 -- yet has none.
-abbrev pub row : KernelState → ℕ → Call → Result Deed Status
-row k domain (CreatePd target pd first) = create_pd k domain target pd first
-row k domain (CreateEc target pd cpu kind sp event) = create_ec k domain target pd cpu kind sp event
-row k domain (CreateSc target pd ec quantum priority) = create_sc k domain target pd ec quantum priority
-row k domain (CreatePt target pd ec mtd ip) = create_pt k domain target pd ec mtd.0 ip
-row k domain (CreateSm target pd count) = create_sm k domain target pd count
-row k domain (Lookup range) = Ok (Tells LOOKUP (looked_up k domain range))
-row k domain (EcCtrl ec) = and_then (named k domain is_ec control_right ec) (λ n. Ok (Recalls n))
-row k domain (ScCtrl sc) = and_then (named k domain is_sc control_right sc) (λ n. Ok (Tells SC_CTRL (ticks_in (budget_at k n))))
-row k domain (PtCtrl pt identifier) = and_then (named k domain is_pt control_right pt) (λ n. Ok (Names n identifier))
-row k domain other = Err BadHyp
+abbrev pub row : KernelState → ℕ → ℕ → Call → Result Deed Status
+row k ec domain (asks.Call portal flag) = call k ec domain portal flag
+row k ec domain asks.Reply = reply k ec
+row k ec domain (CreatePd target pd first) = create_pd k domain target pd first
+row k ec domain (CreateEc target pd cpu kind sp event) = create_ec k domain target pd cpu kind sp event
+row k ec domain (CreateSc target pd whose quantum priority) = create_sc k domain target pd whose quantum priority
+row k ec domain (CreatePt target pd handler mtd ip) = create_pt k domain target pd handler mtd.0 ip
+row k ec domain (CreateSm target pd count) = create_sm k domain target pd count
+row k ec domain (Lookup range) = Ok (Tells LOOKUP (looked_up k domain range))
+row k ec domain (EcCtrl whose) = and_then (named k domain is_ec control_right whose) (λ n. Ok (Recalls n))
+row k ec domain (ScCtrl sc) = and_then (named k domain is_sc control_right sc) (λ n. Ok (Tells SC_CTRL (ticks_in (budget_at k n))))
+row k ec domain (PtCtrl pt identifier) = and_then (named k domain is_pt control_right pt) (λ n. Ok (Names n identifier))
+row k ec domain other = Err BadHyp
 
 -- the numbers that are built
 abbrev pub is_built : ℕ → Bool
-is_built number = list_any (λ n. n == number) (CREATE_PD ∷ CREATE_EC ∷ CREATE_SC ∷ CREATE_PT ∷ CREATE_SM ∷ LOOKUP ∷ EC_CTRL ∷ SC_CTRL ∷ PT_CTRL ∷ [])
+is_built number = list_any (λ n. n == number) (CALL ∷ REPLY ∷ CREATE_PD ∷ CREATE_EC ∷ CREATE_SC ∷ CREATE_PT ∷ CREATE_SM ∷ LOOKUP ∷ EC_CTRL ∷ SC_CTRL ∷ PT_CTRL ∷ [])
 
 -- a number that is not built is BAD_HYP, whatever its arguments are; else the arguments are read
-abbrev pub asked : KernelState → ℕ → Registers → Result Deed Status
-asked k domain r = if is_built (reg r 17) then and_then (call_of r) (row k domain) else Err BadHyp
+abbrev pub asked : KernelState → ℕ → ℕ → Registers → Result Deed Status
+asked k ec domain r = if is_built (reg r 17) then and_then (call_of r) (row k ec domain) else Err BadHyp
 
 -- a refusal is a deed too
 abbrev pub or_refuses : ℕ → Result Deed Status → Deed
 or_refuses call (Ok deed) = deed
 or_refuses call (Err status) = Refuses call status
 
--- the hypercall whose number is in x17
-abbrev pub hypercall : KernelState → ℕ → Registers → Deed
-hypercall k domain r = or_refuses (reg r 17) (asked k domain r)
+-- the hypercall of an execution context of this protection domain, whose number is in x17
+abbrev pub hypercall : KernelState → ℕ → ℕ → Registers → Deed
+hypercall k ec domain r = or_refuses (reg r 17) (asked k ec domain r)

@@ -3,6 +3,7 @@ pub mod Delegations
 pub mod AddressSpaces
 pub mod State
 pub mod Edges
+pub mod Calls
 pub mod Choice
 pub mod Capabilities
 pub mod Creation
@@ -14,3 +15,5 @@ pub mod Boot
 pub mod Forest
 pub mod Lines
 pub mod Transfers
+pub mod Translations
+pub mod Deliveries

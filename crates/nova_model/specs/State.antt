@@ -1,5 +1,5 @@
 -- The state of the kernel: one record, with a part for each thing that a kernel keeps.
-use Rattle.std.specs.Prelude.{ℕ, Bool, true, false, List, [], Option, Some, None, slice_get, slice_set}
+use Rattle.std.specs.Prelude.{ℕ, Bool, true, false, if◌then◌else◌, List, [], replicate, Option, Some, None, slice_get, slice_set}
 use Rattle.nova_model.specs.Memory.{Memory}
 use Rattle.nova_model.specs.Delegations.{Delegations}
 use Rattle.nova_objects.specs.declared.object.Object.{Object}
@@ -86,6 +86,20 @@ transfer_at k ec = entry (slice_get k.transfers ec)
 abbrev pub transfer : KernelState → ℕ → Transfer
 transfer k ec = transfer_in (transfer_at k ec)
 
+-- the message words of a thread; they are all 0 at birth
+abbrev pub no_words : List ℕ
+no_words = replicate 128 0
+
+abbrev pub message_in : Option (List ℕ) → List ℕ
+message_in (Some m) = m
+message_in None = no_words
+
+abbrev pub message : KernelState → ℕ → List ℕ
+message k ec = message_in (entry (slice_get k.messages ec))
+
+abbrev pub with_message : KernelState → ℕ → List ℕ → KernelState
+with_message k ec m = record k { messages = slice_set k.messages ec (Some m) }
+
 abbrev pub budget_at : KernelState → ℕ → Option Budget
 budget_at k sc = entry (slice_get k.budgets sc)
 
@@ -115,3 +129,14 @@ processor_of k ec = processor_in (slice_get k.objects ec)
 
 abbrev pub is_thread : KernelState → ℕ → Bool
 is_thread k ec = is_thread_in (slice_get k.objects ec)
+
+-- the message words that a thread finds on its own page; any other execution context has none
+abbrev pub own_words : KernelState → ℕ → Option (List ℕ)
+own_words k ec = if is_thread k ec then Some (message k ec) else None
+
+abbrev pub is_local_in : Option Object → Bool
+is_local_in (Some (Ec pd cpu Local event)) = true
+is_local_in other = false
+
+abbrev pub is_local_thread : KernelState → ℕ → Bool
+is_local_thread k ec = is_local_in (slice_get k.objects ec)

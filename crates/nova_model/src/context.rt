@@ -20,6 +20,8 @@ pub enum State {
     /// It gives: a new protection domain its first range, as its creator; or, with none, it takes the
     /// items of a call, as the handler.
     Granting(Option<u32>),
+    /// It gives the items of its reply.
+    Replying,
     /// It ended.
     Dead,
 }

@@ -1,6 +1,6 @@
 use crate::delegation::Derivation;
 use crate::new_object::NewObject;
-use crate::transfer::Reason;
+use crate::transfer::{ItemEnd, ItemWords, Reason, Sequel};
 use nova_range::Status;
 
 /// What an execution context does in its turn, and nothing of how it was found out. All that the turn
@@ -66,10 +66,33 @@ pub enum Deed {
         place: u32,
         cursor: u32,
     },
-    /// Nothing is left of its last item, of this index, of which so many children were made: its
-    /// hypercall ends.
-    Ends {
+    /// An item, of this index, ended. Its two words are written where they are to be found, and then
+    /// the next item follows, or what ends it all.
+    Finishes {
         item: u32,
-        children: u32,
+        end: ItemEnd,
+        words: Option<ItemWords>,
+        after: Sequel,
+    },
+    /// Its call is sent to a handler, which begins at an instruction pointer with a portal's identifier,
+    /// or takes the items of the call first.
+    Calls {
+        handler: u32,
+        ip: u32,
+        identifier: u32,
+        items: bool,
+    },
+    /// Its call found this handler busy, which it helps.
+    Helps {
+        handler: u32,
+    },
+    /// It replies to its caller, and gives the items of the reply first where there are any.
+    Replies {
+        caller: u32,
+        items: bool,
+    },
+    /// The handler that it called is dead, so its call ends.
+    Aborts {
+        handler: u32,
     },
 }

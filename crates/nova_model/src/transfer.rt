@@ -41,10 +41,66 @@ pub enum Reason {
 }
 
 /// How far an execution context that gives items is: the present item's index, the cursor in it, and
-/// the children that were made of it. All are 0 at the beginning and after each item.
+/// the children that were made of it. Cursor and children are 0 at the beginning of each item, and the
+/// index too at the beginning and after the last.
 #[derive(Clone, Copy)]
 pub struct Transfer {
     pub item: u32,
     pub cursor: u32,
     pub children: u32,
+}
+
+/// How an item ended.
+#[derive(Clone, Copy)]
+pub enum ItemEnd {
+    /// Nothing is left of a delegation, of which so many children were made.
+    Given(u32),
+    /// A delegation was skipped as a whole.
+    Skipped(Skip),
+    /// A translation was answered by a range word, or by 0.
+    Translated(u32),
+}
+
+/// The two words of an item that ended, and the execution context into whose message words they are
+/// written.
+#[derive(Clone, Copy)]
+pub struct ItemWords {
+    pub ec: u32,
+    pub first: u32,
+    pub second: u32,
+}
+
+/// What follows an item that ended.
+#[derive(Clone, Copy)]
+pub enum Sequel {
+    /// The next item.
+    Item,
+    /// The call that made a protection domain ends.
+    Opened,
+    /// A handler has taken the items of a call.
+    Taken,
+    /// The reply to this caller completes.
+    Replied(u32),
+}
+
+/// The present item of an execution context that gives items, and where it goes.
+#[derive(Clone, Copy)]
+pub struct Delivery {
+    /// The item: a range word, and the word of its hotspot and its flag.
+    pub range_word: u32,
+    pub second_word: u32,
+    /// The protection domain that gives.
+    pub giver: u32,
+    /// The protection domain that is given to.
+    pub receiver: u32,
+    /// The windows, as range words, of translations and of delegations.
+    pub translations: u32,
+    pub delegations: u32,
+    /// The execution context that finds in its message words what came of an item; nobody for a first
+    /// range.
+    pub told: Option<u32>,
+    /// How many items there are.
+    pub items: u32,
+    /// What follows the last of them.
+    pub last: Sequel,
 }

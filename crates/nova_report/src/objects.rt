@@ -31,6 +31,7 @@ fn state_word<'a>(state: State) -> &'a str
         State::Exiting(..) => "exiting",
         State::Sending(..) => "sending",
         State::Granting(_) => "granting",
+        State::Replying => "replying",
         State::Dead => "dead",
     }
 }

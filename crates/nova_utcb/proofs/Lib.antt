@@ -4,3 +4,5 @@ pub mod Groups
 pub mod Exits
 pub mod CopyLaws
 pub mod ExitLaws
+pub mod Pages
+pub mod PageLaws

@@ -3,3 +3,4 @@ pub use Rattle.nova_range.specs.Mtds
 pub mod Messages
 pub mod Groups
 pub mod Files
+pub mod Pages

@@ -1,7 +1,7 @@
 -- The message words of a thread. Word 0 has two counts: untyped words in bits 0 to 15, and items in bits 16 to 31. Word 1 is the
 -- window of translations and word 2 that of delegations. Word 3 is free. The data words are 4 to 127: untyped words lie from word 4
 -- on, and items of two words each from word 127 down.
-use Rattle.std.specs.Prelude.{◌≡◌, ◌<◌, ℕ, suc, ◌+◌, ◌-◌, ◌*◌, ◌/◌, ◌%◌, ◌^◌, ◌==◌, ◌&&◌, ◌||◌, Bool, nat_le, nat_lt, bit_and, if◌then◌else◌, List, [], ◌∷◌, length, slice_index, Result, Ok, Err}
+use Rattle.std.specs.Prelude.{◌≡◌, ◌<◌, ℕ, suc, ◌+◌, ◌-◌, ◌*◌, ◌/◌, ◌%◌, ◌^◌, ◌==◌, ◌&&◌, ◌||◌, Bool, nat_le, nat_lt, bit_and, if◌then◌else◌, List, [], ◌∷◌, length, slice_index, slice_set, Result, Ok, Err}
 use Rattle.rv_model.specs.Registers.{Registers, reg}
 use Rattle.nova_range.specs.declared.mtd.Mtd.{Mtd}
 use Rattle.nova_range.specs.declared.mtd.TheConstants.Mtd.{QUAL, PC, LOW, HIGH}
@@ -50,6 +50,17 @@ second_place i = 127 - 2 * i
 
 abbrev pub item_at : List ℕ → ℕ → ℕ × ℕ
 item_at m i = (word m (range_place i), word m (second_place i))
+
+-- how many items a message has; one that counts more words than there are has none
+abbrev pub counted_items : List ℕ → ℕ
+counted_items m = if has_counts m then items m else 0
+
+abbrev pub has_items : List ℕ → Bool
+has_items m = nat_lt 0 (items m)
+
+-- the words with an item put in its place
+abbrev pub with_item : List ℕ → ℕ → ℕ → ℕ → List ℕ
+with_item m i first second = slice_set (slice_set m (range_place i) first) (second_place i) second
 
 -- the windows that items go to, as range words
 abbrev pub translation_window : List ℕ → ℕ
@@ -117,3 +128,16 @@ written_back m r = record { pc = renewed m PC 7 r.pc; x = ruled (register_back m
 -- The page of a thread's message words begins with them, each with its lowest byte first: byte j of it.
 abbrev pub byte_at : List ℕ → ℕ → ℕ
 byte_at m j = word m (j / 4) / 2 ^ (8 * (j % 4)) % 2 ^ 8
+
+-- what a load of `width` bytes finds from an offset on; they lie within one word
+abbrev pub loaded : List ℕ → ℕ → ℕ → ℕ
+loaded m offset width = word m (offset / 4) / 2 ^ (8 * (offset % 4)) % 2 ^ (8 * width)
+
+-- a word in which `width` bytes from byte `at` on are those of a value: those before it, the value, those after it
+abbrev pub with_bytes : ℕ → ℕ → ℕ → ℕ → ℕ
+with_bytes w at width value =
+    w % 2 ^ (8 * at) + 2 ^ (8 * at) * (value % 2 ^ (8 * width)) + 2 ^ (8 * (at + width)) * (w / 2 ^ (8 * (at + width)))
+
+-- the words after a store of the lowest bytes of a value
+abbrev pub stored : List ℕ → ℕ → ℕ → ℕ → List ℕ
+stored m offset width value = slice_set m (offset / 4) (with_bytes (word m (offset / 4)) (offset % 4) width value)

@@ -1,7 +1,8 @@
-ghost use Rattle.std.specs.Prelude.{◌≡◌, ◌≢◌, ◌<◌, ◌≤◌, ◌+◌, ◌*◌, ◌^◌, ℕ, List, true, false, Ok, replicate, slice_index, slice_set};
+ghost use Rattle.std.specs.Prelude.{◌≡◌, ◌≢◌, ◌<◌, ◌≤◌, ◌+◌, ◌-◌, ◌*◌, ◌^◌, ◌⊎◌, ℕ, List, true, false, Ok, replicate, slice_index, slice_set};
 ghost use Rattle.rv_model.specs.Registers.{Registers, reg};
 ghost use Rattle.nova_utcb.specs.Messages.{IsMessage, word, untyped, items, has_counts, counts_of, range_place, second_place};
-ghost use Rattle.nova_utcb.specs.Messages.{translation_window, delegation_window, is_given, copied, names, exited, groups_in, written_back, byte_at};
+ghost use Rattle.nova_utcb.specs.Messages.{translation_window, delegation_window, is_given, copied, names, exited, groups_in, written_back, byte_at, loaded, stored, item_at, with_item};
+ghost use Rattle.nova_utcb.specs.Pages.{IsAccess, byte_of, number_from};
 ghost use Rattle.nova_utcb.specs.Files.{IsFile, FitsExit};
 
 use nova_range::Mtd;
@@ -69,18 +70,53 @@ pub fn groups_not_named_stay()
         reg (written_back m r) i ≡ reg r i }
 {}
 
-/// What comes of message words is message words: at birth, by a word that is put in, by a copy and by
-/// an exit.
+/// What comes of message words is message words: at birth, by a word that is put in, by a copy, by
+/// an exit, by a store to the page and by an item.
 pub fn messages_stay_messages()
     ensures born { IsMessage (replicate 128 0) }
     ensures set { (m : List ℕ) (i value : ℕ) → IsMessage m → value < 2 ^ 32 → IsMessage (slice_set m i value) }
     ensures copied { (from to : List ℕ) → IsMessage from → IsMessage to → IsMessage (copied from to) }
     ensures exited { (mtd : Mtd) (q0 q1 : ℕ) (r : Registers) (m : List ℕ) → FitsExit mtd q0 q1 r → IsMessage m →
         IsMessage (exited mtd q0 q1 r m) }
+    ensures stored { (m : List ℕ) (offset width value : ℕ) → IsMessage m → IsAccess offset width →
+        IsMessage (stored m offset width value) }
+    ensures item { (m : List ℕ) (i first second : ℕ) → IsMessage m → first < 2 ^ 32 → second < 2 ^ 32 →
+        IsMessage (with_item m i first second) }
 {}
 
 /// A word is the number of its four bytes in the page, the lowest first.
 pub fn words_lie_by_bytes()
     ensures { (m : List ℕ) (i : ℕ) → IsMessage m →
         byte_at m (4 * i) + 2 ^ 8 * byte_at m (4 * i + 1) + 2 ^ 16 * byte_at m (4 * i + 2) + 2 ^ 24 * byte_at m (4 * i + 3) ≡ word m i }
+{}
+
+/// A load is the number of its bytes in the page, the lowest first.
+#[tactic(auto, using(crate::proofs::PageLaws::loads))]
+pub fn loads_are_their_bytes()
+    ensures { (m : List ℕ) (offset width : ℕ) → IsMessage m → IsAccess offset width →
+        loaded m offset width ≡ number_from m offset width }
+{}
+
+/// A store puts the bytes of its value, the lowest first, and no other byte of the page changes.
+pub fn stores_change_their_bytes()
+    ensures own { (m : List ℕ) (offset width value j : ℕ) → IsMessage m → IsAccess offset width →
+        offset ≤ j → j < offset + width → byte_at (stored m offset width value) j ≡ byte_of value (j - offset) }
+    ensures others { (m : List ℕ) (offset width value j : ℕ) → IsMessage m → IsAccess offset width →
+        (j < offset) ⊎ (offset + width ≤ j) → byte_at (stored m offset width value) j ≡ byte_at m j }
+{}
+
+/// An item that is put in is read back. Every other word stays: other items, the counts and both
+/// windows among them.
+pub fn items_are_read_back()
+    ensures same { (m : List ℕ) (i first second : ℕ) → IsMessage m → i < 62 →
+        item_at (with_item m i first second) i ≡ (first, second) }
+    ensures others { (m : List ℕ) (i j first second : ℕ) → i < 62 → j < 62 → i ≢ j →
+        item_at (with_item m i first second) j ≡ item_at m j }
+    ensures words { (m : List ℕ) (i first second n : ℕ) → n ≢ range_place i → n ≢ second_place i →
+        word (with_item m i first second) n ≡ word m n }
+    ensures counts { (m : List ℕ) (i first second : ℕ) → i < 62 →
+        counts_of (with_item m i first second) ≡ counts_of m }
+    ensures windows { (m : List ℕ) (i first second : ℕ) → i < 62 →
+        (translation_window (with_item m i first second) ≡ translation_window m)
+        × (delegation_window (with_item m i first second) ≡ delegation_window m) }
 {}

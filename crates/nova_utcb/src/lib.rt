@@ -3,7 +3,9 @@
 
 mod counts;
 mod exit;
+mod item;
 pub mod laws;
+mod page;
 #[cfg(test)]
 mod tests;
 mod utcb;

@@ -163,3 +163,52 @@ fn named_groups_are_written_back(rt: HostRuntime) {
     assert_back(&rt, 0xffff_fff0, [0x100, 1001, 1015, 1016, 1031]);
     assert_back(&rt, 0xffff_ffff, [5007, 5009, 5023, 5024, 5039]);
 }
+
+/// A place in a word and a width; what is loaded there where the word is 0x4433_2211, and the word
+/// after 0xddcc_bbaa is stored there.
+const ACCESSES: [(u32, u32, u32, u32); 7] = [
+    (0, 1, 0x11, 0x4433_22aa),
+    (1, 1, 0x22, 0x4433_aa11),
+    (2, 1, 0x33, 0x44aa_2211),
+    (3, 1, 0x44, 0xaa33_2211),
+    (0, 2, 0x2211, 0x4433_bbaa),
+    (2, 2, 0x4433, 0xbbaa_2211),
+    (0, 4, 0x4433_2211, 0xddcc_bbaa),
+];
+
+#[test]
+fn bytes_of_a_word_are_loaded_and_stored(rt: HostRuntime) {
+    for (at, width, loaded, stored) in ACCESSES {
+        assert!(rt; (width == 1 || width == 2 || width == 4) && at < 4 && at % width == 0);
+        let mut utcb = numbered(5000, 0, 0);
+        utcb.set(127, 0x4433_2211);
+        assert_eq!(rt; utcb.load(508 + at, width), loaded, "{at} {width}");
+        utcb.store(508 + at, width, 0xddcc_bbaa);
+        assert_eq!(rt; utcb.word(127), stored, "{at} {width}");
+        assert_numbered(&rt, &utcb, 1, 127, 5000);
+    }
+}
+
+#[test]
+fn items_are_put_in_and_counted(rt: HostRuntime) {
+    let mut utcb = numbered(5000, 0, 62);
+    assert_eq!(rt;
+        (utcb.items(), utcb.has_items(), utcb.has_counts()),
+        (62, true, true)
+    );
+    utcb.set_item(61, 7, 8);
+    assert_eq!(rt; (utcb.word(4), utcb.word(5)), (7, 8));
+    utcb.set_item(0, 9, 10);
+    assert!(rt; utcb.item(0) == (9, 10));
+    assert_numbered(&rt, &utcb, 1, 4, 5000);
+    assert_numbered(&rt, &utcb, 6, 126, 5000);
+    assert_eq!(rt;
+        (utcb.translation_window(), utcb.delegation_window()),
+        (5001, 5002)
+    );
+    utcb.set(0, 0x003e_0001);
+    assert_eq!(rt;
+        (utcb.items(), utcb.has_items(), utcb.has_counts()),
+        (0, true, false)
+    );
+}

@@ -1,5 +1,5 @@
 ghost use Rattle.std.specs.Prelude.{◌≡◌, ◌<◌, ◌≤◌, ◌↔◌, ◌+◌, ◌*◌, replicate, slice_set, IsErr, IsTrue};
-ghost use Rattle.nova_utcb.specs.Messages.{IsMessage, word, untyped, items, counts_of, has_counts, item_at, copied};
+ghost use Rattle.nova_utcb.specs.Messages.{IsMessage, word, untyped, items, counts_of, has_counts, copied};
 
 use crate::counts::BadCounts;
 use std::marker::Model;
@@ -72,13 +72,11 @@ impl Utcb {
         Ok((untyped, items))
     }
 
-    /// The range word of item `i` and its second word. `i` is below 62.
-    pub fn item(&self, i: u32) -> (u32, u32)
-        requires { i < 62 }
-        ensures { result ≡ item_at self.now i }
+    /// Whether the data words hold what is counted.
+    pub fn has_counts(&self) -> bool
+        ensures { result ≡ has_counts self.now }
     {
-        let i = i as usize;
-        (self.words[126 - 2 * i], self.words[127 - 2 * i])
+        self.counts().is_ok()
     }
 
     /// Copies a message: word 0 and the untyped words that it counts. All other words stay. The

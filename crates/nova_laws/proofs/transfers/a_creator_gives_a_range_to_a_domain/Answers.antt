@@ -1,4 +1,4 @@
-use Rattle.nova_laws.proofs.Giving.{creators_give, others_rest}
+use Rattle.nova_laws.proofs.Creators.{creators_give, others_rest}
 use Rattle.nova_laws.proofs.transfers.a_creator_gives_a_range_to_a_domain.Goals as goal
 
 pub returns-clause-gives : goal.returns-clause-gives

@@ -1,4 +1,8 @@
-use Rattle.std.proofs.Common.{◌≡◌, ◌-◌, length, arith}
+use Rattle.std.proofs.Common.{◌≡◌, ◌-◌, length, arith, IfErr, Result, subst, sym}
+use Rattle.std.proofs.lemmas.Result.{err_from_is_err_and}
+use Rattle.nova_run.specs.declared.fault.RunFault.{RunFault}
+use Rattle.nova_run.specs.declared.fault.RunFault.TheVariants.{Memory}
+use Rattle.nova_run.specs.declared.finished.Finished.{Finished}
 use Rattle.nova_run.proofs.Passes.{IsRunning-first, IsRunning-pass, Finished-ended, Finished-all}
 use Rattle.nova_run.proofs.rounds.round_robin.Goals as goal
 
@@ -17,3 +21,8 @@ loop-pass-preserved c =
 pub returns-clause-finished : goal.returns-clause-finished
 returns-clause-finished c =
     Finished-all c.args.kernel.state c.loop-pass.run c.args.limit (c.args.limit - c.loop-pass._pass) _ c.loop-pass.invariant (omega arith)
+
+pub returns-in_err-pass-clause-memory : goal.returns-in_err-pass-clause-memory
+returns-in_err-pass-clause-memory c =
+    let p = err_from_is_err_and c.from_residual-in_err-pass.result c.from_residual-in_err-pass.ensures.1 in
+    subst (λ (r : Result Finished RunFault). IfErr r (λ fault. fault ≡ Memory)) (sym p.1) p.2

@@ -6,6 +6,7 @@ use Rattle.nova_model.specs.State.{ec_in, ec_of, with_ec}
 use Rattle.nova_model.specs.declared.context.EcState.{EcState}
 use Rattle.nova_ec.specs.Tables.{EcTable, StepsIn, Steps, with_items}
 use Rattle.nova_ec.proofs.Tables.{ec_of-there, ec_read, edges_kept, numbered_set}
+use Rattle.nova_ec.proofs.Callers.{callers_kept}
 use Rattle.nova_ec.proofs.Steps.{steady, steps_there}
 use Rattle.nova_ec.proofs.ecs.Ecs.step.Given as given
 use Rattle.nova_ec.proofs.ecs.Ecs.step.Goals as goal
@@ -21,6 +22,7 @@ invariant_of-self g c =
       edges_kept c.self.inside.items.items c.args.ec c.in-Some.context c.step_in.new.context c.self.invariant.0 (there g c) kept.cpu kept.state,
       c.self.invariant.1,
       numbered_set c.self.inside.items.items c.args.ec c.in-Some.context c.step_in.new.context (there g c) kept.id c.self.invariant.2,
+      callers_kept c.self.inside.items.items c.args.ec c.in-Some.context c.step_in.new.context c.self.invariant.3 (there g c) kept.cpu kept.caller,
     )
 
 pub returns : goal.returns

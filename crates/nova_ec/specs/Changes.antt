@@ -1,0 +1,107 @@
+-- What stays where an execution context changes.
+use Rattle.std.specs.Prelude.{ℕ, ◌≡◌, ◌≢◌, ◌⊎◌, Bool, true, false, Option, Some, None, IsSome}
+use Rattle.nova_range.specs.declared.status.Status.{Status}
+use Rattle.nova_range.specs.declared.status.Status.TheVariants.{Success}
+use Rattle.nova_model.specs.Deeds.{changed, answered, parked, serving}
+use Rattle.nova_model.specs.Edges.{AreCallers, AreEdges, IsNewEdge, MayServe, MayWait, acts, after_edges, caller_in, chase, cpu_in, edge}
+use Rattle.nova_model.specs.State.{Contexts, ec_in, ec_of, with_ec}
+use Rattle.nova_model.specs.declared.context.EcState.{EcState}
+use Rattle.nova_model.specs.declared.context.Mark.{Mark}
+use Rattle.nova_model.specs.declared.context.Mark.TheVariants.{Call}
+use Rattle.nova_model.specs.declared.deed.Deed.{Deed}
+use Rattle.nova_model.specs.declared.deed.Deed.TheVariants.{Dies, Finishes, Calls, Helps, Replies}
+use Rattle.nova_model.specs.declared.transfer.Sequel.{Sequel}
+use Rattle.nova_model.specs.declared.transfer.Sequel.TheVariants.{Replied}
+use Rattle.nova_ec.specs.Tables.{AreNumbered, MayBecome}
+use Rattle.nova_ec.specs.Ways.{TurnsStay}
+
+-- SOUNDNESS
+
+-- from the first table to the second: what was sound still is, and all have the processors that they had
+pub record KeepsSound (cs ds : Contexts) : Type 0 where
+  pub edges : AreEdges cs → AreEdges ds
+  pub callers : AreCallers cs → AreCallers ds
+  pub numbers : AreNumbered cs → AreNumbered ds
+  pub cpus : (e : ℕ) → cpu_in ds e ≡ cpu_in cs e
+
+-- one becomes another that it may become
+abbrev pub ChangesKeep : Type 0
+ChangesKeep = (cs : Contexts) (e : ℕ) (y : EcState) → MayBecome cs e y → KeepsSound cs (with_ec cs e y)
+
+-- the handler for which an execution context waits after its deed
+abbrev pub edge_by : Deed → Option ℕ
+edge_by (Calls handler ip identifier items) = Some handler
+edge_by (Helps handler) = Some handler
+edge_by other = None
+
+abbrev pub DeedsKeep : Type 0
+DeedsKeep = (cs : Contexts) (e : ℕ) (d : Deed) → IsSome (ec_in cs e) → MayWait cs e (edge_by d) → KeepsSound cs (with_ec cs e (changed (ec_of cs e) d))
+
+abbrev pub ServingKeeps : Type 0
+ServingKeeps = (cs : Contexts) (h c ip identifier : ℕ) (items : Bool) → IsSome (ec_in cs h) → MayServe cs h (Some (c, Call)) →
+    KeepsSound cs (with_ec cs h (serving (ec_of cs h) c ip identifier items))
+
+abbrev pub ParkingKeeps : Type 0
+ParkingKeeps = (cs : Contexts) (h : ℕ) → IsSome (ec_in cs h) → KeepsSound cs (with_ec cs h (parked (ec_of cs h)))
+
+abbrev pub AnsweringKeeps : Type 0
+AnsweringKeeps = (cs : Contexts) (e : ℕ) (status : Status) (value : Option ℕ) → IsSome (ec_in cs e) →
+    KeepsSound cs (with_ec cs e (answered (ec_of cs e) status value))
+
+-- one, and then another, by what it is then
+abbrev pub with_both : Contexts → ℕ → EcState → ℕ → (EcState → EcState) → Contexts
+with_both cs e y f next = with_ec (with_ec cs e y) f (next (ec_of (with_ec cs e y) f))
+
+-- a call: the caller waits, and its handler serves it
+abbrev pub SendingKeeps : Type 0
+SendingKeeps = (cs : Contexts) (c h ip identifier : ℕ) (items : Bool) → IsSome (ec_in cs c) → IsNewEdge cs c h →
+    KeepsSound cs (with_both cs c (changed (ec_of cs c) (Calls h ip identifier items)) h (λ x. serving x c ip identifier items))
+
+-- a reply: the handler is parked, and its caller's call ends
+abbrev pub CompletingKeeps : Type 0
+CompletingKeeps = (cs : Contexts) (h c : ℕ) (mark : Mark) → AreCallers cs → caller_in cs h ≡ Some (c, mark) →
+    KeepsSound cs (with_both cs h (parked (ec_of cs h)) c (λ x. answered x Success None))
+
+-- WAYS
+
+-- a way that passes one, along the edges of both tables up to there
+pub record Passes (cs ds : Contexts) (x e : ℕ) : Type 0 where
+  pub edges : ℕ
+  pub before : after_edges edges (edge cs) x ≡ Some e
+  pub after : after_edges edges (edge ds) x ≡ Some e
+
+-- where one changes, a way along the edges then is one along the edges before, or passes it
+abbrev pub NewWays : Type 0
+NewWays = (cs : Contexts) (e x f n : ℕ) (y : EcState) → after_edges n (edge (with_ec cs e y)) x ≡ Some f →
+    (after_edges n (edge cs) x ≡ Some f) ⊎ Passes cs (with_ec cs e y) x e
+
+-- TURNS
+
+-- from the first table to the second, all turns stay with whom they stayed, and the same ones act
+abbrev pub AllStay : Contexts → Contexts → Type 0
+AllStay cs ds = (z : ℕ) → (chase ds z ≡ chase cs z) × (acts ds z ≡ acts cs z)
+
+-- so it is where one changes that acts before and after, even where it waited for another
+abbrev pub ActingKeepsChases : Type 0
+ActingKeepsChases = (cs : Contexts) (e : ℕ) (y : EcState) → acts cs e ≡ true → acts (with_ec cs e y) e ≡ true → AllStay cs (with_ec cs e y)
+
+-- whether one that acted acts after its deed
+abbrev pub acts_after : Sequel → Bool
+acts_after (Replied caller) = false
+acts_after other = true
+
+abbrev pub goes_on : Deed → Bool
+goes_on (Dies reason q0) = false
+goes_on (Calls handler ip identifier items) = false
+goes_on (Helps handler) = false
+goes_on (Replies caller items) = items
+goes_on (Finishes item end words after) = acts_after after
+goes_on other = true
+
+abbrev pub DeedsKeepChases : Type 0
+DeedsKeepChases = (cs : Contexts) (e : ℕ) (d : Deed) → acts cs e ≡ true → goes_on d ≡ true → AllStay cs (with_ec cs e (changed (ec_of cs e) d))
+
+-- where two of one processor change, one after the other, turns on other processors stay
+abbrev pub OthersStayTwice : Type 0
+OthersStayTwice = (cs : Contexts) (e f z : ℕ) (y w : EcState) → AreEdges cs → KeepsSound cs (with_ec cs e y) → cpu_in cs f ≡ cpu_in cs e →
+    cpu_in cs z ≢ cpu_in cs e → TurnsStay cs (with_ec (with_ec cs e y) f w) z

@@ -1,0 +1,46 @@
+-- What calls and replies make of the table of execution contexts.
+use Rattle.std.specs.Prelude.{ℕ, Bool, Option, Some, None, option_map}
+use Rattle.nova_range.specs.declared.status.Status.TheVariants.{Success, Aborted}
+use Rattle.nova_model.specs.Deeds.{answered, parked, serving}
+use Rattle.nova_model.specs.Edges.{caller_in}
+use Rattle.nova_model.specs.State.{Contexts, ec_of, with_ec}
+use Rattle.nova_model.specs.declared.context.State.{State}
+use Rattle.nova_model.specs.declared.context.State.TheVariants.{Calling, Helping}
+
+-- an execution context is about to do another thing
+abbrev pub turned_to : Contexts → ℕ → State → Contexts
+turned_to cs e state = with_ec cs e (record (ec_of cs e) { state = state })
+
+-- a call is sent: the caller waits for the handler, and the handler serves the call
+abbrev pub served_in : Contexts → ℕ → ℕ → ℕ → ℕ → Bool → Contexts
+served_in cs caller handler ip identifier items = with_ec cs handler (serving (ec_of cs handler) caller ip identifier items)
+
+abbrev pub sent_among : Contexts → ℕ → ℕ → ℕ → ℕ → Bool → Contexts
+sent_among cs caller handler ip identifier items = served_in (turned_to cs caller (Calling handler)) caller handler ip identifier items
+
+-- a call found its handler busy: the caller helps
+abbrev pub helped_among : Contexts → ℕ → ℕ → Contexts
+helped_among cs caller handler = turned_to cs caller (Helping handler)
+
+-- a reply to a call is complete: the handler is parked, and the caller's call ends with success
+abbrev pub parked_in : Contexts → ℕ → Contexts
+parked_in cs handler = with_ec cs handler (parked (ec_of cs handler))
+
+abbrev pub succeeded_in : Contexts → ℕ → Contexts
+succeeded_in cs caller = with_ec cs caller (answered (ec_of cs caller) Success None)
+
+abbrev pub completed_among : Contexts → ℕ → ℕ → Contexts
+completed_among cs handler caller = succeeded_in (parked_in cs handler) caller
+
+-- whom a handler serves, whatever the mark is
+abbrev pub served : Contexts → ℕ → Option ℕ
+served cs handler = option_map (λ c. c.0) (caller_in cs handler)
+
+-- a reply to the one that is served
+abbrev pub replied_among : Contexts → ℕ → Option ℕ → Contexts
+replied_among cs handler (Some caller) = completed_among cs handler caller
+replied_among cs handler None = cs
+
+-- the handler of a call is dead: the call ends with ABORTED
+abbrev pub aborted_among : Contexts → ℕ → Contexts
+aborted_among cs caller = with_ec cs caller (answered (ec_of cs caller) Aborted None)

@@ -1,0 +1,96 @@
+ghost use Rattle.std.specs.Prelude.{◌≡◌, false, IsTrue};
+ghost use Rattle.nova_utcb.specs.Messages.{copied, has_counts, has_items};
+ghost use Rattle.nova_model.specs.Edges.{cpu_in, state_in, is_dead};
+ghost use Rattle.nova_model.specs.Calls.{is_same_cpu, is_parked, admitted};
+ghost use Rattle.nova_model.specs.declared.admit.Admit.TheVariants.{Help, Send};
+ghost use Rattle.nova_ec.specs.Tables.{with_items};
+ghost use Rattle.nova_ipc.specs.Effects.{sent_among, helped_among};
+
+use nova_ec::{Ecs, State};
+use nova_model::Admit;
+use nova_range::Status;
+use nova_utcb::Utcb;
+
+/// The processor of an execution context, where it is there.
+fn cpu(ecs: &Ecs, ec: u32) -> Option<u32>
+    ensures { result ≡ cpu_in ecs.now.items ec }
+{
+    Some(ecs.get(ec)?.cpu)
+}
+
+/// What an execution context is about to do, where it is there.
+fn state(ecs: &Ecs, ec: u32) -> Option<State>
+    ensures { result ≡ state_in ecs.now.items ec }
+{
+    Some(ecs.get(ec)?.state)
+}
+
+/// Whether both are there, on one processor.
+fn is_same_cpu(a: Option<u32>, b: Option<u32>) -> bool
+    ensures { result ≡ is_same_cpu a b }
+{
+    match (a, b) {
+        (Some(a), Some(b)) => a == b,
+        _ => false,
+    }
+}
+
+fn is_dead(state: Option<State>) -> bool
+    ensures { result ≡ is_dead state }
+{
+    matches!(state, Some(State::Dead))
+}
+
+fn is_parked(state: Option<State>) -> bool
+    ensures { result ≡ is_parked state }
+{
+    matches!(state, Some(State::Parked))
+}
+
+/// What comes of a call to a handler, with or without its flag, which says not to wait. The first of
+/// these holds: `BadCpu` where one of both isn't there, or they are on two processors; `Aborted` where
+/// the handler is dead, or following edges from it meets the caller; `Send` where it is parked;
+/// `Timeout` with the flag; `Help` without it.
+pub fn admit(ecs: &Ecs, caller: u32, handler: u32, flag: bool) -> Admit
+    ensures { result ≡ admitted ecs.now.items caller handler flag }
+{
+    if !is_same_cpu(cpu(ecs, handler), cpu(ecs, caller)) {
+        return Admit::Refused(Status::BadCpu);
+    }
+    let state = state(ecs, handler);
+    if is_dead(state) || ecs.circle(handler, caller) {
+        return Admit::Refused(Status::Aborted);
+    }
+    if is_parked(state) {
+        return Admit::Send;
+    }
+    if flag {
+        return Admit::Refused(Status::Timeout);
+    }
+    Admit::Help
+}
+
+/// Sends a call to a handler that takes it. The message is copied: word 0, and the untyped words that
+/// it counts. The caller is then `Calling` the handler. The handler serves the caller: it begins at
+/// `ip` with the portal's identifier in x10, and takes the items first, where there are any.
+#[tactic(auto, using(crate::proofs::Admits::send_edge, crate::proofs::Admits::handler_stays, crate::proofs::Admits::may_serve))]
+pub fn send(ecs: &mut Ecs, from: &Utcb, to: &mut Utcb, caller: u32, handler: u32, ip: u32, id: u32)
+    requires taken { admitted ecs.old.items caller handler false ≡ Send }
+    requires counts { IsTrue (has_counts from.now) }
+    ensures contexts { ecs.new ≡ with_items ecs.old (sent_among ecs.old.items caller handler ip id (has_items from.now)) }
+    ensures message { to.new ≡ copied from.now to.old }
+{
+    to.copy_words(from);
+    ecs.set_state(caller, State::Calling(handler));
+    ecs.serve(handler, caller, ip, id, from.has_items());
+}
+
+/// A call without the flag found its handler busy: the caller is then `Helping` it, and nothing else
+/// changes.
+#[tactic(auto, using(crate::proofs::Admits::help_edge))]
+pub fn help(ecs: &mut Ecs, caller: u32, handler: u32)
+    requires { admitted ecs.old.items caller handler false ≡ Help }
+    ensures { ecs.new ≡ with_items ecs.old (helped_among ecs.old.items caller handler) }
+{
+    ecs.set_state(caller, State::Helping(handler));
+}

@@ -1,0 +1,13 @@
+//! Calls and replies between threads: whom a call reaches, and what it does to both and to their
+//! message words.
+#![tactic(auto)]
+
+mod calls;
+pub mod laws;
+mod replies;
+#[cfg(test)]
+mod tests;
+
+pub use calls::{admit, help, send};
+pub use nova_model::Admit;
+pub use replies::{abort, answer, complete};

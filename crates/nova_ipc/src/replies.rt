@@ -1,0 +1,43 @@
+ghost use Rattle.std.specs.Prelude.{◌≡◌, IsSome, IsTrue};
+ghost use Rattle.nova_utcb.specs.Messages.{copied, has_counts};
+ghost use Rattle.nova_model.specs.State.{ec_in};
+ghost use Rattle.nova_ec.specs.Tables.{with_items};
+ghost use Rattle.nova_ipc.specs.Effects.{served, replied_among, aborted_among};
+
+use nova_ec::Ecs;
+use nova_range::Status;
+use nova_utcb::Utcb;
+
+/// Copies the message of a reply: word 0, and the untyped words that it counts. All other words of
+/// the caller stay.
+pub fn answer(from: &Utcb, to: &mut Utcb)
+    requires { IsTrue (has_counts from.now) }
+    ensures { to.new ≡ copied from.now to.old }
+{
+    to.copy_words(from);
+}
+
+/// A reply is complete. The handler is parked, without a caller and with its registers. Its
+/// caller's call ends with `Success`: it is `Ready`, the status is in its x10, and its pc is after the
+/// call. The handler serves a caller.
+pub fn complete(ecs: &mut Ecs, handler: u32)
+    requires { IsSome (served ecs.old.items handler) }
+    ensures { ecs.new ≡ with_items ecs.old (replied_among ecs.old.items handler (served ecs.old.items handler)) }
+{
+    ecs.keeps_callers();
+    let Some((caller, _)) = ecs.context(handler).caller else {
+        unreachable!();
+    };
+    ecs.park(handler);
+    ecs.answer(caller, Status::Success, None);
+}
+
+/// The call of an execution context whose handler is dead ends with `Aborted`: the caller, who is
+/// there, is `Ready`, the status is in its x10, and its pc is after the call. The handler's record
+/// stays.
+pub fn abort(ecs: &mut Ecs, caller: u32)
+    requires { IsSome (ec_in ecs.old.items caller) }
+    ensures { ecs.new ≡ with_items ecs.old (aborted_among ecs.old.items caller) }
+{
+    ecs.answer(caller, Status::Aborted, None);
+}

@@ -1,0 +1,99 @@
+-- What an instruction over the bus is for the state of the kernel.
+use Rattle.std.proofs.Common.{◌≡◌, ℕ, List, refl, ap, ap₂, ◌∙◌, subst}
+use Rattle.std.specs.Prelude.{Bool, if◌then◌else◌, slice_get, Option, Some, None}
+use Rattle.rv_model.specs.Step.{Once, Raised, Went, Store, one}
+use Rattle.rv_core.specs.Steps.{space_of}
+use Rattle.rv_core.specs.declared.outcome.Outcome.{Outcome}
+use Rattle.nova_ec.specs.Tables.{EcTable, Steps as Steps_of}
+use Rattle.nova_model.specs.AddressSpaces.{AddressSpace, space, space_through, after_store, words_after_store}
+use Rattle.nova_model.specs.Deeds.{address_space, instruction, stepped, done}
+use Rattle.nova_model.specs.Delegations.{Delegations}
+use Rattle.nova_model.specs.Memory.{Memory}
+use Rattle.nova_model.specs.State.{KernelState, Contexts, entry, ec_of, message_in, with_ec, context, pd_of, is_thread}
+use Rattle.nova_model.specs.declared.deed.Deed.TheVariants.{Steps}
+use Rattle.nova_model.specs.declared.delegation.Derivation.{Derivation}
+use Rattle.nova_kernel.specs.Acts.{outcome_of}
+use Rattle.nova_kernel.specs.Reach.{ReachState, reached, fetched, loaded, takes, stored}
+
+-- the state with what an instruction reaches, and with another table of execution contexts
+abbrev pub reaching : KernelState → ReachState → Contexts → KernelState
+reaching k reach contexts = record k {
+  delegations = reach.nodes.delegations;
+  memory = reach.memory;
+  messages = reach.messages.items;
+  consoles = reach.consoles;
+  contexts = contexts;
+}
+
+-- what an execution context reaches
+pub record IsReached (k : KernelState) (ec : ℕ) (reach : ReachState) : Type 0 where
+  pub delegations : reach.nodes.delegations ≡ k.delegations
+  pub memory : reach.memory ≡ k.memory
+  pub messages : reach.messages.items ≡ k.messages
+  pub consoles : reach.consoles ≡ k.consoles
+  pub number : reach.ec ≡ ec
+  pub pd : reach.pd ≡ pd_of k ec
+  pub is_thread : reach.is_thread ≡ is_thread k ec
+
+space-reached : (k : KernelState) (ec : ℕ) (reach : ReachState) → IsReached k ec reach → reached reach ≡ address_space k ec
+space-reached k ec reach r = spaces (ap (λ (d : Delegations). d.list) r.delegations) r.memory r.pd r.is_thread r.messages r.number
+  where
+    spaces : {l l' : List Derivation} {m m' : Memory} {p p' : ℕ} {t t' : Bool} {w w' : List (Option (List ℕ))} {e e' : ℕ} →
+        l ≡ l' → m ≡ m' → p ≡ p' → t ≡ t' → w ≡ w' → e ≡ e' →
+        space_through l m p (if t then Some (message_in (entry (slice_get w e))) else None)
+        ≡ space_through l' m' p' (if t' then Some (message_in (entry (slice_get w' e'))) else None)
+    spaces l m p t w e = cc
+
+-- the state with other delegations, another memory, other message words, other consoles and another table of contexts
+framed : KernelState → Delegations → Memory → List (Option (List ℕ)) → ℕ → Contexts → KernelState
+framed k delegations memory messages consoles contexts =
+    record k { delegations = delegations; memory = memory; messages = messages; consoles = consoles; contexts = contexts }
+
+framed-ap : (k : KernelState) {d d' : Delegations} {m m' : Memory} {w w' : List (Option (List ℕ))} {c c' : ℕ} {x x' : Contexts} →
+    d ≡ d' → m ≡ m' → w ≡ w' → c ≡ c' → x ≡ x' → framed k d m w c x ≡ framed k d' m' w' c' x'
+framed-ap k d m w c x = cc
+
+-- message words after a store
+words-ap : (s : Store) {a a' : AddressSpace} {e e' : ℕ} {w w' : List (Option (List ℕ))} → a ≡ a' → e ≡ e' → w ≡ w' →
+    words_after_store a e s w ≡ words_after_store a' e' s w'
+words-ap s a e w = rw (a, e, w) refl
+
+reaching-contexts : (k : KernelState) (ec : ℕ) (reach : ReachState) (cs ds : Contexts) → IsReached k ec reach → cs ≡ ds →
+    reaching k reach cs ≡ record k { contexts = ds }
+unfolding framed
+reaching-contexts k ec reach cs ds r is = framed-ap k r.delegations r.memory r.messages r.consoles is
+
+reaching-stored : (k : KernelState) (ec : ℕ) (reach : ReachState) (s : Store) (cs ds : Contexts) → IsReached k ec reach → cs ≡ ds →
+    reaching k (stored s reach) cs ≡ record k {
+      memory = after_store (address_space k ec) s k.memory;
+      messages = words_after_store (address_space k ec) ec s k.messages;
+      contexts = ds;
+    }
+unfolding framed
+reaching-stored k ec reach s cs ds r is =
+    framed-ap k r.delegations (ap₂ (λ (a : AddressSpace) (m : Memory). after_store a s m) (space-reached k ec reach r) r.memory)
+    (words-ap s (space-reached k ec reach r) r.number r.messages) r.consoles is
+
+-- one instruction over what the execution context reaches is one of the kernel's
+reaching-steps : (k : KernelState) (t t' : EcTable) (ec : ℕ) (reach reach' : ReachState) (outcome : Outcome) (o : Once) → t.items ≡ k.contexts →
+    IsReached k ec reach → Steps_of stored o t ec reach outcome t' reach' → (outcome ≡ outcome_of o) × (reaching k reach' t'.items ≡ stepped k ec o)
+reaching-steps k t t' ec reach reach' outcome (Raised reason q0 q1) is r h =
+    (h.0, ap₂ (λ (s : ReachState) (u : EcTable). reaching k s u.items) h.2 h.1 ∙ reaching-contexts k ec reach t.items k.contexts r is)
+reaching-steps k t t' ec reach reach' outcome (Went regs None) is r h = (
+  h.0,
+  ap₂ (λ (s : ReachState) (u : EcTable). reaching k s u.items) h.2 h.1
+      ∙ reaching-contexts k ec reach _ _ r (ap (λ (cs : Contexts). with_ec cs ec (record (ec_of cs ec) { regs = regs })) is),
+)
+reaching-steps k t t' ec reach reach' outcome (Went regs (Some store)) is r h = (
+  h.0,
+  ap₂ (λ (s : ReachState) (u : EcTable). reaching k s u.items) h.2 h.1
+      ∙ reaching-stored k ec reach store _ _ r (ap (λ (cs : Contexts). with_ec cs ec (record (ec_of cs ec) { regs = regs })) is),
+)
+
+pub steps-there : (k : KernelState) (t t' : EcTable) (ec : ℕ) (reach reach' : ReachState) (outcome : Outcome) → t.items ≡ k.contexts → IsReached k ec reach →
+    Steps_of stored (one (ec_of t.items ec).regs (space_of fetched loaded takes reach)) t ec reach outcome t' reach' →
+    (outcome ≡ outcome_of (instruction k ec)) × (reaching k reach' t'.items ≡ done k ec Steps)
+steps-there k t t' ec reach reach' outcome is r h =
+    reaching-steps k t t' ec reach reach' outcome (instruction k ec) is r
+    (subst (λ (a : AddressSpace). Steps_of stored (one (context k ec).regs (space a)) t ec reach outcome t' reach') (space-reached k ec reach r)
+    (subst (λ (cs : Contexts). Steps_of stored (one (ec_of cs ec).regs (space (reached reach))) t ec reach outcome t' reach') is h))

@@ -1,0 +1,93 @@
+ghost use Rattle.std.specs.Prelude.{◌≡◌, ◌==◌, ◌&&◌, ◌+◌, ◌^◌, ◌<◌, ◌≤◌, true, IsSome, IfOk, OnErr};
+ghost use Rattle.rv_model.specs.Step.{environment_call};
+ghost use Rattle.nova_model.specs.Deeds.{instruction, signalled, stepping, deed, is_making};
+ghost use Rattle.nova_model.specs.State.{context_at, is_thread};
+ghost use Rattle.nova_kernel.specs.Parts.{shown, IsCounted};
+ghost use Rattle.nova_kernel.specs.Acts.{Fits, IsAsked, begun};
+
+use crate::parts::Parts;
+use nova_model::{Deed, State};
+use rv_core::outcome::{ENVIRONMENT_CALL, Outcome};
+use std::alloc::AllocError;
+
+/// The reason of a startup exit.
+const STARTUP: u32 = 0;
+
+/// The reason of a recall exit.
+pub const RECALL: u32 = 8;
+
+impl Parts {
+    /// The deed of an instruction that raises: an ECALL of a thread is a hypercall, and any other is
+    /// an exit.
+    fn signal(&self, ec: u32, reason: u32, q0: u32, q1: u32) -> Deed
+        requires there { IsSome (context_at (shown self.now) ec) }
+        requires counted { IsCounted (shown self.now) }
+        ensures deed { result ≡ signalled (shown self.now) ec reason q0 q1 ((reason == environment_call) && is_thread (shown self.now) ec) }
+        ensures fits { IsAsked (shown self.now) ec result }
+    {
+        if reason == ENVIRONMENT_CALL && self.is_thread(ec) {
+            self.hypercall(ec)
+        } else {
+            Deed::Raises { reason, q0, q1 }
+        }
+    }
+
+    /// The deed of an execution context whose next is an instruction. One that goes on is done at
+    /// once, and nothing else is.
+    fn step(&mut self, ec: u32) -> Deed
+        requires there { IsSome (context_at (shown self.old) ec) }
+        requires counted { IsCounted (shown self.old) }
+        requires log { 0 < self.old.reach.room }
+        ensures deed { result ≡ stepping (shown self.old) ec (instruction (shown self.old) ec) }
+        ensures begun { shown self.new ≡ begun (shown self.old) ec result }
+        ensures queues { self.new.queues ≡ self.old.queues }
+        ensures fits { Fits (shown self.old) ec result }
+        ensures log { self.old.reach.room ≤ self.new.reach.room + 1 }
+        ensures making { is_making result ≡ true → self.new.reach.room ≡ self.old.reach.room }
+    {
+        match self.execute(ec) {
+            Outcome::Next => Deed::Steps,
+            Outcome::Raise { reason, q0, q1 } => self.signal(ec, reason, q0, q1),
+        }
+    }
+
+    /// The deed of an execution context. An instruction that goes on and a part of an item are done at
+    /// once, and nothing else is. It refuses for want of memory alone, where a part makes a child, and
+    /// then nothing has changed.
+    #[tactic(auto, unfolding(nova_model::specs::Deeds::deed))]
+    pub fn decide(&mut self, ec: u32) -> Result<Deed, AllocError>
+        requires there { IsSome (context_at (shown self.old) ec) }
+        requires counted { IsCounted (shown self.old) }
+        requires turns { self.old.turns < 2 ^ 31 }
+        requires log { 0 < self.old.reach.room }
+        ensures deed { IfOk result (λ d. d ≡ deed (shown self.old) ec) }
+        ensures begun { IfOk result (λ d. shown self.new ≡ begun (shown self.old) ec d) }
+        ensures queues { self.new.queues ≡ self.old.queues }
+        ensures fits { IfOk result (Fits (shown self.old) ec) }
+        ensures log { self.old.reach.room ≤ self.new.reach.room + 1 }
+        ensures making { IfOk result (λ d. is_making d ≡ true → self.new.reach.room ≡ self.old.reach.room) }
+        ensures memory { OnErr result ((shown self.new ≡ shown self.old) × (self.new.reach.room ≡ self.old.reach.room)) }
+        ensures wanted { OnErr result (is_making (deed (shown self.old) ec) ≡ true) }
+    {
+        let context = self.contexts.context(ec);
+        let deed = match context.state {
+            State::Fresh => Deed::Raises {
+                reason: STARTUP,
+                q0: 0,
+                q1: 0,
+            },
+            State::Ready if context.recall => Deed::Raises {
+                reason: RECALL,
+                q0: 0,
+                q1: 0,
+            },
+            State::Ready => self.step(ec),
+            State::Exiting(reason, q0, _) => Deed::Dies { reason, q0 },
+            State::Granting(_) | State::Replying => self.deliver(ec)?,
+            State::Calling(handler) => Deed::Aborts { handler },
+            State::Helping(_) => self.hypercall(ec),
+            State::Parked | State::Sending(..) | State::Dead => Deed::Rests,
+        };
+        Ok(deed)
+    }
+}

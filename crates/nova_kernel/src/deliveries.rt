@@ -1,0 +1,272 @@
+ghost use Rattle.std.specs.Prelude.{true, false, ◌≡◌, ◌-◌, ◌^◌, ◌<◌, ℕ, length, IsSome, IfSome, IfOk, OnOk, OnErr};
+ghost use Rattle.nova_range.specs.Rights.{IsRights};
+ghost use Rattle.nova_model.specs.Deeds.{with_transfer, gave, skipped, is_making};
+ghost use Rattle.nova_model.specs.Deliveries.{answered_by, delivery, part_deed, delegated, delivered, delivers};
+ghost use Rattle.nova_model.specs.Delegations.{with_id};
+ghost use Rattle.nova_model.specs.State.{KernelState, context_at, context, transfer};
+ghost use Rattle.nova_model.specs.Forest.{IsForest};
+ghost use Rattle.nova_model.specs.Transfers.{job_of, moved};
+ghost use Rattle.nova_model.specs.Translations.{translated};
+ghost use Rattle.nova_delegate.specs.Parts.{HasChild, IsUnderWay, MakesChild, done_of};
+ghost use Rattle.nova_kernel.specs.Acts.{Fits, IsGivenBy, begun, is_over, now_at, part_now, with_part};
+ghost use Rattle.nova_kernel.specs.Parts.{shown, IsCounted};
+
+use crate::creation::NO_TRANSFER;
+use crate::items::{DELEGATES, finished, flag, range_given};
+use crate::parts::Parts;
+use crate::reach::Reach;
+use nova_delegate::{PartDone, job, translate};
+use nova_model::{Deed, Delivery, ItemEnd, Job, Reason, Transfer};
+use std::alloc::AllocError;
+
+/// How far it is after a part of which a child was made.
+fn gave(transfer: Transfer, cursor: u32) -> Transfer
+    requires { transfer.children < 2 ^ 31 }
+    ensures { result ≡ gave transfer cursor }
+{
+    Transfer {
+        cursor,
+        children: transfer.children + 1,
+        ..transfer
+    }
+}
+
+impl Reach {
+    /// The word that answers a range word of a giver's: the same memory or object as the receiver has it.
+    fn translate(&self, word: u32, window: u32, giver: u32, receiver: u32) -> u32
+        ensures { result ≡ translated self.now.nodes.delegations.list word window giver receiver }
+    {
+        translate(&self.nodes, word, window, giver, receiver)
+    }
+}
+
+impl Parts {
+    /// How far an execution context is with the items that it gives.
+    pub fn transfer(&self, ec: u32) -> Transfer
+        ensures { result ≡ transfer (shown self.now) ec }
+    {
+        match self.transfers.get(ec as usize) {
+            Some(Some(transfer)) => *transfer,
+            _ => NO_TRANSFER,
+        }
+    }
+
+    /// How far an execution context is with its items changes.
+    pub fn set_transfer(&mut self, ec: u32, transfer: Transfer)
+        requires { ec < length (shown self.old).transfers }
+        ensures transfer { shown self.new ≡ with_transfer (shown self.old) ec transfer }
+        ensures queues { self.new.queues ≡ self.old.queues }
+        ensures log { self.new.reach.room ≡ self.old.reach.room }
+    {
+        self.transfers[ec as usize] = Some(transfer);
+    }
+
+    /// A child of this id was made.
+    fn note_child(&mut self, ec: u32, transfer: Transfer, id: u32, cursor: u32) -> Deed
+        requires there { ec < length (shown self.old).transfers }
+        requires child { IsSome (with_id (shown self.old).delegations.list id) }
+        requires few { transfer.children < 2 ^ 31 }
+        ensures deed { IfSome (with_id (shown self.old).delegations.list id) (λ child. result ≡ Deed.Gives child cursor) }
+        ensures over { is_over result ≡ true }
+        ensures fits { (k : KernelState) → Fits k ec result }
+        ensures transfer { shown self.new ≡ with_transfer (shown self.old) ec (gave transfer cursor) }
+        ensures queues { self.new.queues ≡ self.old.queues }
+        ensures log { self.new.reach.room ≡ self.old.reach.room }
+    {
+        let Some(child) = self.reach.get(id) else {
+            unreachable!()
+        };
+        self.set_transfer(ec, gave(transfer, cursor));
+        Deed::Gives { child, cursor }
+    }
+
+    /// A part was skipped.
+    fn note_skip(
+        &mut self,
+        ec: u32,
+        transfer: Transfer,
+        reason: Reason,
+        place: u32,
+        cursor: u32,
+    ) -> Deed
+        requires there { ec < length (shown self.old).transfers }
+        ensures deed { result ≡ Deed.Skips reason place cursor }
+        ensures transfer { shown self.new ≡ with_transfer (shown self.old) ec (skipped transfer cursor) }
+        ensures queues { self.new.queues ≡ self.old.queues }
+        ensures log { self.new.reach.room ≡ self.old.reach.room }
+    {
+        self.set_transfer(ec, Transfer { cursor, ..transfer });
+        Deed::Skips {
+            reason,
+            place,
+            cursor,
+        }
+    }
+
+    /// Gives the next part of an item. It refuses for want of memory alone, where a child would be made,
+    /// and then nothing has changed.
+    fn give(&mut self, job: &mut Job) -> Result<PartDone, AllocError>
+        requires next { (shown self.old).delegations.next < 2 ^ 32 - 1 }
+        requires forest { IsForest (shown self.old).delegations }
+        requires job { IsUnderWay job.old }
+        ensures done { IfOk result (λ r. r ≡ done_of job.old (part_now (shown self.old) job.old)) }
+        ensures given { OnOk result (shown self.new ≡ with_part (shown self.old) (part_now (shown self.old) job.old)) }
+        ensures job { OnOk result (job.new ≡ moved job.old (part_now (shown self.old) job.old)) }
+        ensures there { OnOk result (HasChild (shown self.new).delegations (part_now (shown self.old) job.old)) }
+        ensures refused { OnErr result (shown self.new ≡ shown self.old) }
+        ensures wanted { OnErr result (MakesChild (part_now (shown self.old) job.old)) }
+        ensures queues { self.new.queues ≡ self.old.queues }
+        ensures log { self.new.reach.room ≡ self.old.reach.room }
+    {
+        self.reach.give(job)
+    }
+
+    /// One part of a delegation: a child is made or skipped, at once; or nothing is left and the item
+    /// ends, which is still to be done. It refuses for want of memory alone, where a child would be
+    /// made, and then nothing has changed.
+    fn give_part(
+        &mut self,
+        ec: u32,
+        transfer: Transfer,
+        delivery: Delivery,
+        job: Job,
+    ) -> Result<Deed, AllocError>
+        requires there { IsSome (context_at (shown self.old) ec) }
+        requires counted { IsCounted (shown self.old) }
+        requires turns { self.old.turns < 2 ^ 31 }
+        requires transfer { transfer ≡ now_at (shown self.old) ec }
+        requires item { transfer.item < 62 }
+        requires given { IsGivenBy (shown self.old) ec transfer.item delivery }
+        requires job { IsUnderWay job }
+        requires rights { IsRights job.rights }
+        ensures deed { IfOk result (λ d. d ≡ part_deed delivery transfer job (part_now (shown self.old) job)) }
+        ensures begun { IfOk result (λ d. shown self.new ≡ begun (shown self.old) ec d) }
+        ensures fits { IfOk result (Fits (shown self.old) ec) }
+        ensures memory { OnErr result (shown self.new ≡ shown self.old) }
+        ensures wanted { OnErr result (is_making (part_deed delivery transfer job (part_now (shown self.old) job)) ≡ true) }
+        ensures queues { self.new.queues ≡ self.old.queues }
+        ensures log { self.new.reach.room ≡ self.old.reach.room }
+    {
+        let mut moving = job;
+        let deed = match self.give(&mut moving)? {
+            PartDone::Made(id) => self.note_child(ec, transfer, id, moving.cursor),
+            PartDone::Skipped(reason, place) => {
+                self.note_skip(ec, transfer, reason, place, moving.cursor)
+            }
+            PartDone::Ended => {
+                let children = transfer.children;
+                finished(
+                    delivery,
+                    transfer.item,
+                    ItemEnd::Given(children),
+                    range_given(job, children),
+                )
+            }
+        };
+        Ok(deed)
+    }
+
+    /// The next part of a delegation, or it is skipped as a whole. It refuses as `give_part`.
+    fn delegate(
+        &mut self,
+        ec: u32,
+        transfer: Transfer,
+        delivery: Delivery,
+    ) -> Result<Deed, AllocError>
+        requires there { IsSome (context_at (shown self.old) ec) }
+        requires counted { IsCounted (shown self.old) }
+        requires turns { self.old.turns < 2 ^ 31 }
+        requires transfer { transfer ≡ now_at (shown self.old) ec }
+        requires item { transfer.item < 62 }
+        requires given { IsGivenBy (shown self.old) ec transfer.item delivery }
+        ensures deed { IfOk result (λ d. d ≡ delegated (shown self.old) delivery transfer (job_of delivery.range_word delivery.second_word delivery.delegations delivery.giver delivery.receiver)) }
+        ensures begun { IfOk result (λ d. shown self.new ≡ begun (shown self.old) ec d) }
+        ensures fits { IfOk result (Fits (shown self.old) ec) }
+        ensures memory { OnErr result (shown self.new ≡ shown self.old) }
+        ensures wanted { OnErr result (is_making (delegated (shown self.old) delivery transfer (job_of delivery.range_word delivery.second_word delivery.delegations delivery.giver delivery.receiver)) ≡ true) }
+        ensures queues { self.new.queues ≡ self.old.queues }
+        ensures log { self.new.reach.room ≡ self.old.reach.room }
+    {
+        let Delivery {
+            range_word,
+            second_word,
+            delegations,
+            giver,
+            receiver,
+            ..
+        } = delivery;
+        match job(range_word, second_word, delegations, giver, receiver) {
+            Ok(whole) => {
+                let cursor = transfer.cursor;
+                self.give_part(ec, transfer, delivery, Job { cursor, ..whole })
+            }
+            Err(skip) => Ok(finished(delivery, transfer.item, ItemEnd::Skipped(skip), 0)),
+        }
+    }
+
+    /// The deed that answers a translation.
+    fn answer_item(&self, transfer: Transfer, delivery: Delivery) -> Deed
+        requires { transfer.item < 62 }
+        ensures deed { result ≡ answered_by delivery transfer (translated (shown self.now).delegations.list delivery.range_word delivery.translations delivery.giver delivery.receiver) }
+        ensures fits { (k : KernelState) (ec : ℕ) → IsGivenBy k ec transfer.item delivery → Fits k ec result }
+        ensures later { is_over result ≡ false }
+    {
+        let answer = self.reach.translate(
+            delivery.range_word,
+            delivery.translations,
+            delivery.giver,
+            delivery.receiver,
+        );
+        finished(delivery, transfer.item, ItemEnd::Translated(answer), answer)
+    }
+
+    /// The next part of the present item, by its flag. It refuses as `give_part`.
+    fn deliver_item(
+        &mut self,
+        ec: u32,
+        transfer: Transfer,
+        delivery: Delivery,
+    ) -> Result<Deed, AllocError>
+        requires there { IsSome (context_at (shown self.old) ec) }
+        requires counted { IsCounted (shown self.old) }
+        requires turns { self.old.turns < 2 ^ 31 }
+        requires transfer { transfer ≡ now_at (shown self.old) ec }
+        requires item { transfer.item < 62 }
+        requires given { IsGivenBy (shown self.old) ec transfer.item delivery }
+        ensures deed { IfOk result (λ d. d ≡ delivered (shown self.old) delivery transfer) }
+        ensures begun { IfOk result (λ d. shown self.new ≡ begun (shown self.old) ec d) }
+        ensures fits { IfOk result (Fits (shown self.old) ec) }
+        ensures memory { OnErr result (shown self.new ≡ shown self.old) }
+        ensures wanted { OnErr result (is_making (delivered (shown self.old) delivery transfer) ≡ true) }
+        ensures queues { self.new.queues ≡ self.old.queues }
+        ensures log { self.new.reach.room ≡ self.old.reach.room }
+    {
+        if flag(delivery) == DELEGATES {
+            self.delegate(ec, transfer, delivery)
+        } else {
+            Ok(self.answer_item(transfer, delivery))
+        }
+    }
+
+    /// One part of what an execution context gives: a part of a delegation, or what ends an item. A part is
+    /// done at once, and nothing else is. It refuses for want of memory alone, where a child would be made,
+    /// and then nothing has changed.
+    pub fn deliver(&mut self, ec: u32) -> Result<Deed, AllocError>
+        requires there { IsSome (context_at (shown self.old) ec) }
+        requires counted { IsCounted (shown self.old) }
+        requires turns { self.old.turns < 2 ^ 31 }
+        ensures deed { IfOk result (λ d. d ≡ delivers (shown self.old) (transfer (shown self.old) ec) (delivery (shown self.old) ec (context (shown self.old) ec).state)) }
+        ensures begun { IfOk result (λ d. shown self.new ≡ begun (shown self.old) ec d) }
+        ensures fits { IfOk result (Fits (shown self.old) ec) }
+        ensures memory { OnErr result (shown self.new ≡ shown self.old) }
+        ensures wanted { OnErr result (is_making (delivers (shown self.old) (transfer (shown self.old) ec) (delivery (shown self.old) ec (context (shown self.old) ec).state)) ≡ true) }
+        ensures queues { self.new.queues ≡ self.old.queues }
+        ensures log { self.new.reach.room ≡ self.old.reach.room }
+    {
+        let transfer = self.transfer(ec);
+        match self.delivery(ec, transfer.item) {
+            Some(delivery) => self.deliver_item(ec, transfer, delivery),
+            None => Ok(Deed::Rests),
+        }
+    }
+}

@@ -1,0 +1,82 @@
+ghost use Rattle.std.specs.Prelude.{◌≡◌};
+ghost use Rattle.nova_model.specs.Deeds.{reason_number, skip_number, parent_id, item_sign};
+ghost use Rattle.nova_model.specs.Turn.{event_by};
+
+use crate::choice::Chosen;
+use nova_calls::numbers;
+use nova_model::{Deed, Event, EventKind, ItemEnd, Reason, Skip};
+
+/// Why a part is skipped, as a number.
+fn reason_number(reason: Reason) -> u32
+    ensures { result ≡ reason_number reason }
+{
+    match reason {
+        Reason::Rights => 3,
+        Reason::Taken => 4,
+        Reason::Busy => 5,
+    }
+}
+
+/// Why an item is skipped as a whole, as a number.
+fn skip_number(skip: Skip) -> u32
+    ensures { result ≡ skip_number skip }
+{
+    match skip {
+        Skip::Empty => 1,
+        Skip::Window => 2,
+    }
+}
+
+/// What the end of an item comes to in an event: the kind, and two numbers.
+fn item_sign(item: u32, end: ItemEnd) -> (EventKind, u32, u32)
+    ensures { result ≡ item_sign item end }
+{
+    match end {
+        ItemEnd::Given(children) => (EventKind::Ended, item, children),
+        ItemEnd::Skipped(skip) => (EventKind::Skip, skip_number(skip), item),
+        ItemEnd::Translated(word) => (EventKind::Xlat, word, item),
+    }
+}
+
+/// The parent of a child, as a number.
+fn parent_id(parent: Option<u32>) -> u32
+    ensures { result ≡ parent_id parent }
+{
+    parent.unwrap_or(0)
+}
+
+/// The event of a deed.
+pub fn event_of(cpu: u32, chosen: Chosen, deed: Deed) -> Event
+    ensures { result ≡ event_by cpu chosen.sc chosen.actor deed }
+{
+    let (kind, a, b) = match deed {
+        Deed::Rests | Deed::Steps => (EventKind::Step, 0, 0),
+        Deed::Raises { reason, q0, .. } => (EventKind::Raise, reason, q0),
+        Deed::Dies { reason, q0 } => (EventKind::Died, reason, q0),
+        Deed::Refuses { call, status } => (EventKind::Answer, call, status.code()),
+        Deed::Makes { call, .. } => (EventKind::Answer, call, 0),
+        Deed::Recalls { .. } => (EventKind::Answer, numbers::EC_CTRL, 0),
+        Deed::Tells { call, .. } => (EventKind::Answer, call, 0),
+        Deed::Names { .. } => (EventKind::Answer, numbers::PT_CTRL, 0),
+        Deed::Opens { domain, .. } => (EventKind::Begin, numbers::CREATE_PD, domain),
+        Deed::Gives { child, .. } => (EventKind::Made, child.id, parent_id(child.parent)),
+        Deed::Skips { reason, place, .. } => (EventKind::Skip, reason_number(reason), place),
+        Deed::Finishes { item, end, .. } => item_sign(item, end),
+        Deed::Calls { handler, .. } => (EventKind::Begin, numbers::CALL, handler),
+        Deed::Helps { handler } => (EventKind::Help, handler, 0),
+        Deed::Replies {
+            caller,
+            items: true,
+        } => (EventKind::Begin, numbers::REPLY, caller),
+        Deed::Replies { items: false, .. } => (EventKind::Answer, numbers::REPLY, 0),
+        Deed::Aborts { handler } => (EventKind::Abort, handler, 0),
+    };
+    Event {
+        cpu,
+        sc: chosen.sc,
+        ec: chosen.actor,
+        kind,
+        a,
+        b,
+    }
+}

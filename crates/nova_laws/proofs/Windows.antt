@@ -1,0 +1,215 @@
+-- What is given, field by field, and the words that tell of an item that ended.
+use Rattle.std.proofs.Common.{◌≡◌, ℕ, refl, ap, ◌∙◌, subst, arith}
+use Rattle.std.proofs.lemmas.Bool.Decides.{nat_tests}
+use Rattle.std.specs.Prelude.{◌≢◌, ◌<◌, ◌≤◌, ◌+◌, ◌%◌, ◌==◌, nat_lt, Bool, true, false, if◌then◌else◌, Option, Some, None, Result, Ok, Err}
+use Rattle.nova_utcb.specs.Messages.{has_counts, items}
+use Rattle.nova_range.specs.RangeWords.{word_of}
+use Rattle.nova_model.specs.Deeds.{deed, deed_in}
+use Rattle.nova_model.specs.Deliveries.{answered_by, delegated, delivered, delivers, delivery, delivery_between, finished, first_delivery, flag, given_to, is_busy, part_deed, parted, range_given, sequel_of, taken_from, words_for}
+use Rattle.nova_model.specs.Hypercalls.{row}
+use Rattle.nova_model.specs.State.{KernelState, context, message, pd_of, transfer}
+use Rattle.nova_model.specs.Transfers.{Part, dest_of, job_of, next_part}
+use Rattle.nova_model.specs.Translations.{translated}
+use Rattle.nova_model.specs.declared.context.Mark.{Mark}
+use Rattle.nova_model.specs.declared.context.State.{State}
+use Rattle.nova_model.specs.declared.context.State.TheVariants.{Granting, Replying}
+use Rattle.nova_model.specs.declared.deed.Deed.{Deed}
+use Rattle.nova_model.specs.declared.deed.Deed.TheVariants.{Finishes}
+use Rattle.nova_model.specs.declared.delegation.Derivation.{Derivation}
+use Rattle.nova_model.specs.declared.transfer.Delivery.{Delivery}
+use Rattle.nova_model.specs.declared.transfer.ItemEnd.{ItemEnd}
+use Rattle.nova_model.specs.declared.transfer.ItemEnd.TheVariants.{Given, Skipped, Translated}
+use Rattle.nova_model.specs.declared.transfer.ItemWords.{ItemWords}
+use Rattle.nova_model.specs.declared.transfer.Job.{Job}
+use Rattle.nova_model.specs.declared.transfer.Reason.{Reason}
+use Rattle.nova_model.specs.declared.transfer.Sequel.{Sequel}
+use Rattle.nova_model.specs.declared.transfer.Sequel.TheVariants.{Item, Replied, Taken}
+use Rattle.nova_model.specs.declared.transfer.Skip.{Skip}
+use Rattle.nova_forest.proofs.Walk as walk
+use Rattle.nova_forest.proofs.Walk.{is_giving}
+use Rattle.nova_laws.specs.Windows.{EndsItem, GoesBetween, GoesToItself, Tells, TellsOfItem}
+use Rattle.nova_laws.proofs.Rows.{IsWhole, done_weaker, is_part, row_whole}
+
+-- WHAT IS GIVEN
+
+some_are_counted : (test : Bool) (n : ℕ) → 0 < (if test then n else 0) → (if test then n else 0) ≡ n
+some_are_counted true n some = refl
+some_are_counted false n some = absurd (omega arith)
+
+pub items_taken : (k : KernelState) (ec caller : ℕ) (mark : Mark) → (context k ec).state ≡ Granting None → (context k ec).caller ≡ Some (caller, mark) →
+    GoesBetween k ec caller ec Taken
+items_taken k ec caller mark is keeps = record {
+  item = delivery_between k caller ec (transfer k ec).item Taken;
+  present = ap (delivery k ec) is ∙ ap (taken_from k ec (transfer k ec).item) keeps;
+  range = refl;
+  second = refl;
+  count = some_are_counted (has_counts (message k caller)) (items (message k caller));
+  translations = refl;
+  delegations = refl;
+  giver = refl;
+  taker = refl;
+  told = refl;
+  follows = refl;
+}
+
+pub items_replied : (k : KernelState) (ec caller : ℕ) (mark : Mark) → (context k ec).state ≡ Replying → (context k ec).caller ≡ Some (caller, mark) →
+    GoesBetween k ec ec caller (Replied caller)
+items_replied k ec caller mark is keeps = record {
+  item = delivery_between k ec caller (transfer k ec).item (Replied caller);
+  present = ap (delivery k ec) is ∙ ap (given_to k ec (transfer k ec).item) keeps;
+  range = refl;
+  second = refl;
+  count = some_are_counted (has_counts (message k ec)) (items (message k ec));
+  translations = refl;
+  delegations = refl;
+  giver = refl;
+  taker = refl;
+  told = refl;
+  follows = refl;
+}
+
+pub range_created : (k : KernelState) (ec domain : ℕ) → (context k ec).state ≡ Granting (Some domain) → GoesToItself k ec domain
+range_created k ec domain is = record {
+  item = first_delivery k ec domain;
+  present = ap (delivery k ec) is;
+  range = refl;
+  second = refl;
+  count = refl;
+  delegations = refl;
+  giver = refl;
+  taker = refl;
+  told = refl;
+  follows = refl;
+}
+
+-- WHAT IS TOLD
+
+abbrev EndTells : KernelState → ℕ → Deed → Type 0
+EndTells k ec (Finishes item end None follows) = EndsItem k ec item None follows
+EndTells k ec (Finishes item end (Some words) follows) = EndsItem k ec item (Some words) follows × TellsOfItem k ec item end words
+EndTells k ec other = Unit {0}
+
+whole_tells : (k : KernelState) (ec : ℕ) (d : Deed) → is_part d ≡ false → EndTells k ec d
+whole_tells k ec (Finishes item end words follows) whole = absurd (cc)
+whole_tells k ec other whole = tt
+
+next_follows : (v : Delivery) (item : ℕ) → item + 1 < v.items → sequel_of v item ≡ Item
+next_follows v item more = let test : nat_lt (item + 1) v.items ≡ true = grind (arith, nat_tests) in ap (λ (t : Bool). if t then Item else v.last) test
+
+last_follows : (v : Delivery) (item : ℕ) → v.items ≤ item + 1 → sequel_of v item ≡ v.last
+last_follows v item over = let test : nat_lt (item + 1) v.items ≡ false = grind (arith, nat_tests) in ap (λ (t : Bool). if t then Item else v.last) test
+
+finished_tells : (k : KernelState) (ec : ℕ) (v : Delivery) (end : ItemEnd) (answer : ℕ) → delivery k ec (context k ec).state ≡ Some v → Tells k ec v end answer →
+    EndTells k ec (finished v (transfer k ec).item end answer)
+finished_tells k ec v end answer present tells = by_told v.told refl
+  where
+    by_told : (o : Option ℕ) → v.told ≡ o → EndTells k ec (Finishes (transfer k ec).item end (words_for o answer (flag v)) (sequel_of v (transfer k ec).item))
+    by_told None told = record {
+      item = v;
+      present = present;
+      its = refl;
+      next = next_follows v (transfer k ec).item;
+      last = last_follows v (transfer k ec).item;
+      silent = λ none. refl;
+      told = λ whom is. absurd (cc);
+    }
+    by_told (Some whom) told = (
+      record {
+        item = v;
+        present = present;
+        its = refl;
+        next = next_follows v (transfer k ec).item;
+        last = last_follows v (transfer k ec).item;
+        silent = λ none. absurd (cc);
+        told = λ whose is. refl;
+      },
+      record { item = v; present = present; its = refl; told = told; first = tells; second = refl },
+    )
+
+given_none : (test : Bool) (word children : ℕ) → (children == 0) ≡ test → children ≡ 0 → (if test then 0 else word) ≡ 0
+given_none true word children tests none = refl
+given_none false word children tests none = absurd (let t : (children == 0) ≡ true = ap (λ (c : ℕ). c == 0) none in cc)
+
+given_some : (test : Bool) (word children : ℕ) → (children == 0) ≡ test → children ≢ 0 → (if test then 0 else word) ≡ word
+given_some true word children tests some = absurd (grind (arith, nat_tests))
+given_some false word children tests some = refl
+
+parted_tells : (k : KernelState) (ec : ℕ) (j : Job) (d : Derivation) (r : Result Derivation Reason) → EndTells k ec (parted j d r)
+parted_tells k ec j d (Ok x) = tt
+parted_tells k ec j d (Err reason) = tt
+
+-- a delegation, by what it reads as and what is next
+delegated_tells : (k : KernelState) (ec : ℕ) (v : Delivery) → delivery k ec (context k ec).state ≡ Some v → v.second_word % 2 ≡ 1 →
+    EndTells k ec (delegated k v (transfer k ec) (job_of v.range_word v.second_word v.delegations v.giver v.receiver))
+delegated_tells k ec v present flagged = by_job (job_of v.range_word v.second_word v.delegations v.giver v.receiver) refl
+  where
+    by_part : (j : Job) (o : Option Part) → job_of v.range_word v.second_word v.delegations v.giver v.receiver ≡ Ok j →
+        EndTells k ec (part_deed v (transfer k ec) (record j { cursor = (transfer k ec).cursor }) o)
+    by_part j None reads =
+        let children = (transfer k ec).children in
+        finished_tells k ec v (Given children) (range_given (record j { cursor = (transfer k ec).cursor }) children) present (
+          flagged,
+          refl,
+          record {
+            job = j;
+            reads = reads;
+            none = given_none (children == 0) (word_of (Some (dest_of j, j.rights))) children refl;
+            some = given_some (children == 0) (word_of (Some (dest_of j, j.rights))) children refl;
+          },
+        )
+    by_part j (Some p) reads = parted_tells k ec (record j { cursor = (transfer k ec).cursor }) p.source p.child
+
+    by_job : (r : Result Job Skip) → job_of v.range_word v.second_word v.delegations v.giver v.receiver ≡ r → EndTells k ec (delegated k v (transfer k ec) r)
+    by_job (Err skip) reads = finished_tells k ec v (Skipped skip) 0 present (flagged, reads, refl)
+    by_job (Ok j) reads = by_part j (next_part (is_busy k) k.delegations (record j { cursor = (transfer k ec).cursor })) reads
+
+delivered_tells : (k : KernelState) (ec : ℕ) (v : Delivery) → delivery k ec (context k ec).state ≡ Some v → EndTells k ec (delivered k v (transfer k ec))
+delivered_tells k ec v present = by_flag (flag v == 1) refl
+  where
+    by_flag : (t : Bool) → (flag v == 1) ≡ t → EndTells k ec (if t
+        then delegated k v (transfer k ec) (job_of v.range_word v.second_word v.delegations v.giver v.receiver)
+        else answered_by v (transfer k ec) (translated k.delegations.list v.range_word v.translations v.giver v.receiver))
+    by_flag true is = delegated_tells k ec v present (grind (arith, nat_tests))
+    by_flag false is =
+        let answer = translated k.delegations.list v.range_word v.translations v.giver v.receiver in
+        finished_tells k ec v (Translated answer) answer present (grind (arith, nat_tests), refl, refl)
+
+delivers_tells : (k : KernelState) (ec : ℕ) (o : Option Delivery) → delivery k ec (context k ec).state ≡ o → EndTells k ec (delivers k (transfer k ec) o)
+delivers_tells k ec None present = tt
+delivers_tells k ec (Some v) present = delivered_tells k ec v present
+
+-- one that gives no items ends none
+own_tells : (k : KernelState) (ec : ℕ) → is_giving (context k ec).state ≡ false → EndTells k ec (deed k ec)
+own_tells k ec rests = walk.own_holds (EndTells k ec) k ec rests tt (record {
+  steps = tt;
+  raises = λ reason q0 q1. tt;
+  dies = λ reason q0. tt;
+  refuses = λ number status. tt;
+  aborts = λ handler is. tt;
+  rows = λ asks c read. done_weaker IsWhole (EndTells k ec) (row k ec (pd_of k ec) c) (whole_tells k ec) (row_whole k ec (pd_of k ec) c);
+})
+
+giving_tells : (k : KernelState) (ec : ℕ) → is_giving (context k ec).state ≡ true → EndTells k ec (deed k ec)
+unfolding deed
+giving_tells k ec giving = by_state (context k ec).state refl giving
+  where
+    by_state : (s : State) → (context k ec).state ≡ s → is_giving s ≡ true → EndTells k ec (deed_in k ec s)
+    by_state (Granting new) is some = delivers_tells k ec (delivery k ec (Granting new)) (ap (delivery k ec) is)
+    by_state Replying is some = delivers_tells k ec (delivery k ec Replying) (ap (delivery k ec) is)
+    by_state other is some = absurd (cc)
+
+deed_tells : (k : KernelState) (ec : ℕ) → EndTells k ec (deed k ec)
+deed_tells k ec = by_test (is_giving (context k ec).state) refl
+  where
+    by_test : (t : Bool) → is_giving (context k ec).state ≡ t → EndTells k ec (deed k ec)
+    by_test false is = own_tells k ec is
+    by_test true is = giving_tells k ec is
+
+pub words_tell : (k : KernelState) (ec item : ℕ) (end : ItemEnd) (words : ItemWords) (follows : Sequel) → deed k ec ≡ Finishes item end (Some words) follows →
+    TellsOfItem k ec item end words
+words_tell k ec item end words follows is = (subst (EndTells k ec) is (deed_tells k ec)).1
+
+pub items_end : (k : KernelState) (ec item : ℕ) (end : ItemEnd) (words : Option ItemWords) (follows : Sequel) → deed k ec ≡ Finishes item end words follows →
+    EndsItem k ec item words follows
+items_end k ec item end None follows is = subst (EndTells k ec) is (deed_tells k ec)
+items_end k ec item end (Some words) follows is = (subst (EndTells k ec) is (deed_tells k ec)).0

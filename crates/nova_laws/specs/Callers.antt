@@ -1,0 +1,19 @@
+-- Callers: whom a handler serves, and who waits for its reply.
+use Rattle.std.specs.Prelude.{ℕ, ◌≡◌, ◌≢◌, Some, None}
+use Rattle.nova_model.specs.Edges.{caller_in, cpu_in, state_in}
+use Rattle.nova_model.specs.State.{Contexts}
+use Rattle.nova_model.specs.declared.context.Mark.TheVariants.{Call}
+use Rattle.nova_model.specs.declared.context.State.TheVariants.{Calling}
+
+-- a handler keeps one caller, which called it and is there on its processor; that one waits for its reply, and no other does
+pub record HasOneCaller (cs : Contexts) (h : ℕ) : Type 0 where
+  pub caller : ℕ
+  pub keeps : caller_in cs h ≡ Some (caller, Call)
+  pub processor : cpu_in cs caller ≡ cpu_in cs h
+  pub waits : state_in cs caller ≡ Some (Calling h)
+  pub only : (other : ℕ) → state_in cs other ≡ Some (Calling h) → other ≡ caller
+
+-- it keeps none, and nobody waits for its reply
+pub record HasNoCaller (cs : Contexts) (h : ℕ) : Type 0 where
+  pub keeps : caller_in cs h ≡ None
+  pub nobody : (other : ℕ) → state_in cs other ≢ Some (Calling h)

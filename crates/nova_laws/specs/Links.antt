@@ -1,0 +1,51 @@
+-- Callers and those who serve them, entry by entry of a table of execution contexts.
+use Rattle.std.specs.Prelude.{ℕ, ◌≡◌, Bool, true, false, Option, Some, None, IsSome, option_and_then, option_map}
+use Rattle.nova_model.specs.Calls.{is_parked}
+use Rattle.nova_model.specs.Edges.{is_dead, is_free}
+use Rattle.nova_model.specs.State.{Contexts, ec_in}
+use Rattle.nova_model.specs.declared.context.EcState.{EcState}
+use Rattle.nova_model.specs.declared.context.Mark.{Mark}
+use Rattle.nova_model.specs.declared.context.Mark.TheVariants.{Call}
+use Rattle.nova_model.specs.declared.context.State.{State}
+use Rattle.nova_model.specs.declared.context.State.TheVariants.{Calling, Granting, Replying, Sending}
+
+-- of an entry: what the execution context is about to do, its caller, and its processor
+abbrev pub state_at : Option EcState → Option State
+state_at o = option_map (λ (x : EcState). x.state) o
+
+abbrev pub caller_at : Option EcState → Option (ℕ × Mark)
+caller_at o = option_and_then (λ (x : EcState). x.caller) o
+
+abbrev pub cpu_at : Option EcState → Option ℕ
+cpu_at o = option_map (λ (x : EcState). x.cpu) o
+
+-- a handler that takes the items of a call, or gives those of its reply
+abbrev pub is_giving : Option State → Bool
+is_giving (Some (Granting None)) = true
+is_giving (Some Replying) = true
+is_giving other = false
+
+-- one whose exit waits for a handler
+abbrev pub is_sending : Option State → Bool
+is_sending (Some (Sending reason q0 q1 h)) = true
+is_sending other = false
+
+-- one and another: who calls the other is kept as its caller, whom a handler keeps waits for it while it lives, and both are on one processor
+pub record IsLinked (c : ℕ) (x : Option EcState) (h : ℕ) (y : Option EcState) : Type 0 where
+  pub known : state_at x ≡ Some (Calling h) → caller_at y ≡ Some (c, Call)
+  pub waits : (mark : Mark) → caller_at y ≡ Some (c, mark) → is_dead (state_at y) ≡ false → state_at x ≡ Some (Calling h)
+  pub cpu : (mark : Mark) → caller_at y ≡ Some (c, mark) → cpu_at x ≡ cpu_at y
+
+-- of each by itself: only a local thread is parked, and then without a caller; a local thread that is at work has one; a caller is kept by a local
+-- thread alone, and called; one that takes or gives items has a caller; and no exit is sent
+pub record IsWell (is_local : Bool) (y : Option EcState) : Type 0 where
+  pub parked : is_parked (state_at y) ≡ true → (caller_at y ≡ None) × (is_local ≡ true)
+  pub serving : is_local ≡ true → IsSome y → is_free (state_at y) ≡ false → IsSome (caller_at y)
+  pub kept : (c : ℕ) (mark : Mark) → caller_at y ≡ Some (c, mark) → (mark ≡ Call) × (is_local ≡ true)
+  pub giving : is_giving (state_at y) ≡ true → IsSome (caller_at y)
+  pub sends : is_sending (state_at y) ≡ false
+
+-- so each with each, where these numbers are of local threads
+pub record AreServed (is_local : ℕ → Bool) (cs : Contexts) : Type 0 where
+  pub linked : (c h : ℕ) → IsLinked c (ec_in cs c) h (ec_in cs h)
+  pub well : (h : ℕ) → IsWell (is_local h) (ec_in cs h)
