@@ -7,9 +7,10 @@ use Rattle.nova_model.specs.Deeds.{changed}
 use Rattle.nova_model.specs.State.{Contexts, ec_in, ec_of, with_ec}
 use Rattle.nova_model.specs.Edges.{met_within, edge, edge_of, acts, acts_as, acts_by, is_dead, is_free, stays, chase, or_itself, state_in}
 use Rattle.nova_model.specs.declared.context.EcState.{EcState}
+use Rattle.nova_model.specs.declared.context.Mark.TheVariants as mark
 use Rattle.nova_model.specs.declared.context.State.{State}
-use Rattle.nova_model.specs.declared.context.State.TheVariants.{Fresh, Ready, Parked, Calling, Helping, Exiting, Sending, Granting, Replying, Dead}
-use Rattle.nova_model.specs.declared.deed.Deed.TheVariants.{Rests, Steps, Raises, Dies, Refuses, Makes, Recalls, Tells, Names, Opens, Gives, Skips, Finishes, Calls, Helps, Replies, Aborts}
+use Rattle.nova_model.specs.declared.context.State.TheVariants.{Fresh, Ready, Parked, Calling, Helping, Exiting, Sending, Granting, Replying, Blocked, Dead}
+use Rattle.nova_model.specs.declared.deed.Deed.TheVariants.{Rests, Steps, Raises, Dies, Waits, Sends, Refuses, Makes, Recalls, Tells, Names, Opens, Gives, Skips, Finishes, Calls, Helps, Replies, Aborts, Ups, Downs, Blocks}
 use Rattle.nova_model.specs.declared.transfer.Sequel.TheVariants as sequel
 use Rattle.nova_ec.specs.Changes.{ActingKeepsChases, AllStay, DeedsKeepChases}
 use Rattle.nova_ec.specs.Ways.{TurnsStay}
@@ -34,6 +35,7 @@ not_free (Exiting reason q0 q1) handler h = refl
 not_free (Sending reason q0 q1 g) handler h = refl
 not_free (Granting new) handler h = refl
 not_free Replying handler h = refl
+not_free (Blocked sm) handler h = absurd cc
 
 not_dead : (s : State) → is_free (Some s) ≡ false → is_dead (Some s) ≡ false
 not_dead Parked h = refl
@@ -46,6 +48,7 @@ not_dead (Exiting reason q0 q1) h = refl
 not_dead (Sending reason q0 q1 g) h = refl
 not_dead (Granting new) h = refl
 not_dead Replying h = refl
+not_dead (Blocked sm) h = refl
 
 pub awake : (cs : Contexts) (e : ℕ) → acts cs e ≡ true → IsAwake cs e
 awake cs e here = by_entry (ec_in cs e) refl here
@@ -181,6 +184,8 @@ deeds_keep_chases cs e (Gives child cursor) before goes = all_stay_here cs e bef
 deeds_keep_chases cs e (Skips reason place cursor) before goes = all_stay_here cs e before
 deeds_keep_chases cs e (Raises reason q0 q1) before goes = all_stay_alone cs e (changed (ec_of cs e) (Raises reason q0 q1)) before (λ handler. refl)
 deeds_keep_chases cs e (Dies reason q0) before goes = absurd cc
+deeds_keep_chases cs e (Waits handler reason q0 q1) before goes = absurd cc
+deeds_keep_chases cs e (Sends handler ip identifier mtd reason q0 q1) before goes = absurd cc
 deeds_keep_chases cs e (Refuses call status) before goes = all_stay_alone cs e (changed (ec_of cs e) (Refuses call status)) before (λ handler. refl)
 deeds_keep_chases cs e (Makes call target new) before goes = all_stay_alone cs e (changed (ec_of cs e) (Makes call target new)) before (λ handler. refl)
 deeds_keep_chases cs e (Recalls other) before goes = all_stay_alone cs e (changed (ec_of cs e) (Recalls other)) before (λ handler. refl)
@@ -192,9 +197,13 @@ deeds_keep_chases cs e (Finishes item end words sequel.Opened) before goes =
     all_stay_alone cs e (changed (ec_of cs e) (Finishes item end words sequel.Opened)) before (λ handler. refl)
 deeds_keep_chases cs e (Finishes item end words sequel.Taken) before goes =
     all_stay_alone cs e (changed (ec_of cs e) (Finishes item end words sequel.Taken)) before (λ handler. refl)
-deeds_keep_chases cs e (Finishes item end words (sequel.Replied caller)) before goes = absurd cc
+deeds_keep_chases cs e (Finishes item end words (sequel.Replied caller mark)) before goes = absurd cc
 deeds_keep_chases cs e (Calls handler ip identifier items) before goes = absurd cc
 deeds_keep_chases cs e (Helps handler) before goes = absurd cc
-deeds_keep_chases cs e (Replies caller true) before goes = all_stay_alone cs e (changed (ec_of cs e) (Replies caller true)) before (λ handler. refl)
-deeds_keep_chases cs e (Replies caller false) before goes = absurd cc
-deeds_keep_chases cs e (Aborts handler) before goes = all_stay_alone cs e (changed (ec_of cs e) (Aborts handler)) before (λ handler. refl)
+deeds_keep_chases cs e (Replies caller mark true) before goes = all_stay_alone cs e (changed (ec_of cs e) (Replies caller mark true)) before (λ handler. refl)
+deeds_keep_chases cs e (Replies caller mark false) before goes = absurd cc
+deeds_keep_chases cs e (Aborts handler mark.Call) before goes = all_stay_alone cs e (changed (ec_of cs e) (Aborts handler mark.Call)) before (λ handler. refl)
+deeds_keep_chases cs e (Aborts handler mark.Exit) before goes = absurd cc
+deeds_keep_chases cs e (Ups sm woken) before goes = all_stay_alone cs e (changed (ec_of cs e) (Ups sm woken)) before (λ handler. refl)
+deeds_keep_chases cs e (Downs sm) before goes = all_stay_alone cs e (changed (ec_of cs e) (Downs sm)) before (λ handler. refl)
+deeds_keep_chases cs e (Blocks sm) before goes = absurd cc

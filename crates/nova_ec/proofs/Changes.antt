@@ -1,17 +1,17 @@
 -- Edges, callers, numbers and processors stay sound under each change, and ways along new edges come from old ones.
 use Rattle.std.proofs.Common.{◌≡◌, ℕ, ap, sym, ◌∙◌, subst, inl, inr, refl, IsSome}
-use Rattle.std.specs.Prelude.{Bool, true, false, ◌⊎◌, Option, Some, None, option_map}
+use Rattle.std.specs.Prelude.{Bool, true, false, ◌⊎◌, List, Option, Some, None, option_map}
 use Rattle.nova_range.specs.declared.status.Status.{Status}
-use Rattle.nova_range.specs.declared.status.Status.TheVariants.{Success}
-use Rattle.nova_model.specs.Deeds.{changed, answered, parked, serving}
+use Rattle.nova_model.specs.Deeds.{changed, answered, parked, resumed, serving}
 use Rattle.nova_model.specs.Edges.{MayServe, MayWait, after_edges, cpu_in, edge}
 use Rattle.nova_model.specs.State.{Contexts, context_in, ec_in, ec_of, with_ec}
 use Rattle.nova_model.specs.declared.context.EcState.{EcState}
-use Rattle.nova_model.specs.declared.context.Mark.TheVariants.{Call}
+use Rattle.nova_model.specs.declared.context.Mark.{Mark}
+use Rattle.nova_model.specs.declared.context.Mark.TheVariants as mark
 use Rattle.nova_model.specs.declared.deed.Deed.{Deed}
-use Rattle.nova_model.specs.declared.deed.Deed.TheVariants.{Rests, Steps, Raises, Dies, Refuses, Makes, Recalls, Tells, Names, Opens, Gives, Skips, Finishes, Calls, Helps, Replies, Aborts}
+use Rattle.nova_model.specs.declared.deed.Deed.TheVariants.{Rests, Steps, Raises, Dies, Waits, Sends, Refuses, Makes, Recalls, Tells, Names, Opens, Gives, Skips, Finishes, Calls, Helps, Replies, Aborts, Ups, Downs, Blocks}
 use Rattle.nova_model.specs.declared.transfer.Sequel.TheVariants as sequel
-use Rattle.nova_ec.specs.Changes.{AnsweringKeeps, ChangesKeep, CompletingKeeps, DeedsKeep, KeepsSound, NewWays, OthersStayTwice, ParkingKeeps, Passes, SendingKeeps, ServingKeeps, edge_by}
+use Rattle.nova_ec.specs.Changes.{AnsweringKeeps, ChangesKeep, CompletingKeeps, DeedsKeep, KeepsSound, NewWays, OthersStayTwice, ParkingKeeps, Passes, ResumingKeeps, SendingKeeps, ServingKeeps, edge_by}
 use Rattle.nova_ec.specs.Tables.{MayBecome}
 use Rattle.nova_ec.proofs.Callers.{server_there, callers_put}
 use Rattle.nova_ec.proofs.Tables.{cpu-set, edge-set_other, edges_put, numbered_put, there_by_cpu}
@@ -32,6 +32,8 @@ deed_may cs e Rests there may = (ec_of cs e, there_at cs e there, refl, inl refl
 deed_may cs e Steps there may = (ec_of cs e, there_at cs e there, refl, inl refl, refl, inl refl)
 deed_may cs e (Raises reason q0 q1) there may = (ec_of cs e, there_at cs e there, refl, inr tt, refl, inl refl)
 deed_may cs e (Dies reason q0) there may = (ec_of cs e, there_at cs e there, refl, inr tt, refl, inl refl)
+deed_may cs e (Waits handler reason q0 q1) there may = (ec_of cs e, there_at cs e there, refl, inr may, refl, inl refl)
+deed_may cs e (Sends handler ip identifier mtd reason q0 q1) there may = (ec_of cs e, there_at cs e there, refl, inr may, refl, inl refl)
 deed_may cs e (Refuses call status) there may = (ec_of cs e, there_at cs e there, refl, inr tt, refl, inl refl)
 deed_may cs e (Makes call target new) there may = (ec_of cs e, there_at cs e there, refl, inr tt, refl, inl refl)
 deed_may cs e (Recalls other) there may = (ec_of cs e, there_at cs e there, refl, inr tt, refl, inl refl)
@@ -43,23 +45,31 @@ deed_may cs e (Skips reason place cursor) there may = (ec_of cs e, there_at cs e
 deed_may cs e (Finishes item end words sequel.Item) there may = (ec_of cs e, there_at cs e there, refl, inl refl, refl, inl refl)
 deed_may cs e (Finishes item end words sequel.Opened) there may = (ec_of cs e, there_at cs e there, refl, inr tt, refl, inl refl)
 deed_may cs e (Finishes item end words sequel.Taken) there may = (ec_of cs e, there_at cs e there, refl, inr tt, refl, inl refl)
-deed_may cs e (Finishes item end words (sequel.Replied caller)) there may = (ec_of cs e, there_at cs e there, refl, inr tt, refl, inr tt)
+deed_may cs e (Finishes item end words (sequel.Replied caller mark)) there may = (ec_of cs e, there_at cs e there, refl, inr tt, refl, inr tt)
 deed_may cs e (Calls handler ip identifier items) there may = (ec_of cs e, there_at cs e there, refl, inr may, refl, inl refl)
 deed_may cs e (Helps handler) there may = (ec_of cs e, there_at cs e there, refl, inr may, refl, inl refl)
-deed_may cs e (Replies caller true) there may = (ec_of cs e, there_at cs e there, refl, inr tt, refl, inl refl)
-deed_may cs e (Replies caller false) there may = (ec_of cs e, there_at cs e there, refl, inr tt, refl, inr tt)
-deed_may cs e (Aborts handler) there may = (ec_of cs e, there_at cs e there, refl, inr tt, refl, inl refl)
+deed_may cs e (Replies caller mark true) there may = (ec_of cs e, there_at cs e there, refl, inr tt, refl, inl refl)
+deed_may cs e (Replies caller mark false) there may = (ec_of cs e, there_at cs e there, refl, inr tt, refl, inr tt)
+deed_may cs e (Aborts handler mark.Call) there may = (ec_of cs e, there_at cs e there, refl, inr tt, refl, inl refl)
+deed_may cs e (Aborts handler mark.Exit) there may = (ec_of cs e, there_at cs e there, refl, inr tt, refl, inl refl)
+deed_may cs e (Ups sm woken) there may = (ec_of cs e, there_at cs e there, refl, inr tt, refl, inl refl)
+deed_may cs e (Downs sm) there may = (ec_of cs e, there_at cs e there, refl, inr tt, refl, inl refl)
+deed_may cs e (Blocks sm) there may = (ec_of cs e, there_at cs e there, refl, inr tt, refl, inl refl)
 
-pub serving_may : (cs : Contexts) (h c ip identifier : ℕ) (items : Bool) → IsSome (ec_in cs h) → MayServe cs h (Some (c, Call)) →
-    MayBecome cs h (serving (ec_of cs h) c ip identifier items)
-serving_may cs h c ip identifier true there may = (ec_of cs h, there_at cs h there, refl, inr tt, refl, inr may)
-serving_may cs h c ip identifier false there may = (ec_of cs h, there_at cs h there, refl, inr tt, refl, inr may)
+pub serving_may : (cs : Contexts) (h c ip identifier : ℕ) (mark : Mark) (items : Bool) → IsSome (ec_in cs h) → MayServe cs h (Some (c, mark)) →
+    MayBecome cs h (serving (ec_of cs h) c mark ip identifier items)
+serving_may cs h c ip identifier mark true there may = (ec_of cs h, there_at cs h there, refl, inr tt, refl, inr may)
+serving_may cs h c ip identifier mark false there may = (ec_of cs h, there_at cs h there, refl, inr tt, refl, inr may)
 
 pub parked_may : (cs : Contexts) (h : ℕ) → IsSome (ec_in cs h) → MayBecome cs h (parked (ec_of cs h))
 parked_may cs h there = (ec_of cs h, there_at cs h there, refl, inr tt, refl, inr tt)
 
 pub answered_may : (cs : Contexts) (e : ℕ) (status : Status) (value : Option ℕ) → IsSome (ec_in cs e) → MayBecome cs e (answered (ec_of cs e) status value)
 answered_may cs e status value there = (ec_of cs e, there_at cs e there, refl, inr tt, refl, inl refl)
+
+pub resumed_may : (cs : Contexts) (e : ℕ) (mark : Mark) (m : List ℕ) → IsSome (ec_in cs e) → MayBecome cs e (resumed (ec_of cs e) mark m)
+resumed_may cs e mark.Call m there = (ec_of cs e, there_at cs e there, refl, inr tt, refl, inl refl)
+resumed_may cs e mark.Exit m there = (ec_of cs e, there_at cs e there, refl, inr tt, refl, inl refl)
 
 -- what each keeps
 
@@ -75,13 +85,17 @@ pub deeds_keep : DeedsKeep
 deeds_keep cs e d there may = changes_keep cs e (changed (ec_of cs e) d) (deed_may cs e d there may)
 
 pub serving_keeps : ServingKeeps
-serving_keeps cs h c ip identifier items there may = changes_keep cs h (serving (ec_of cs h) c ip identifier items) (serving_may cs h c ip identifier items there may)
+serving_keeps cs h c ip identifier mark items there may =
+    changes_keep cs h (serving (ec_of cs h) c mark ip identifier items) (serving_may cs h c ip identifier mark items there may)
 
 pub parking_keeps : ParkingKeeps
 parking_keeps cs h there = changes_keep cs h (parked (ec_of cs h)) (parked_may cs h there)
 
 pub answering_keeps : AnsweringKeeps
 answering_keeps cs e status value there = changes_keep cs e (answered (ec_of cs e) status value) (answered_may cs e status value there)
+
+pub resuming_keeps : ResumingKeeps
+resuming_keeps cs e mark m there = changes_keep cs e (resumed (ec_of cs e) mark m) (resumed_may cs e mark m there)
 
 pub keeps_through : (cs ds es : Contexts) → KeepsSound cs ds → KeepsSound ds es → KeepsSound cs es
 keeps_through cs ds es first second = record {
@@ -100,18 +114,18 @@ there_on_one cs ds e f kept there same =
     some_there ds f (there_by_cpu ds f (ec_of cs e).cpu (kept.cpus f ∙ same ∙ ap (option_map (λ (x : EcState). x.cpu)) (there_at cs e there)))
 
 pub sending_keeps : SendingKeeps
-sending_keeps cs c h ip identifier items there new =
+sending_keeps cs c h ip identifier mark items there new =
     let ds = with_ec cs c (changed (ec_of cs c) (Calls h ip identifier items)) in
     let first : KeepsSound cs ds = deeds_keep cs c (Calls h ip identifier items) there new in
-    let serves : MayServe ds h (Some (c, Call)) = first.cpus c ∙ sym new.one_processor ∙ sym (first.cpus h) in
-    keeps_through cs ds _ first (serving_keeps ds h c ip identifier items (there_on_one cs ds c h first there new.one_processor) serves)
+    let serves : MayServe ds h (Some (c, mark)) = first.cpus c ∙ sym new.one_processor ∙ sym (first.cpus h) in
+    keeps_through cs ds _ first (serving_keeps ds h c ip identifier mark items (there_on_one cs ds c h first there new.one_processor) serves)
 
 pub completing_keeps : CompletingKeeps
-completing_keeps cs h c mark sound serves =
+completing_keeps cs h c mark m sound serves =
     let there : IsSome (ec_in cs h) = some_there cs h (server_there cs h c mark serves) in
     let ds = with_ec cs h (parked (ec_of cs h)) in
     let first : KeepsSound cs ds = parking_keeps cs h there in
-    keeps_through cs ds _ first (answering_keeps ds c Success None (there_on_one cs ds h c first there (sound h c mark serves)))
+    keeps_through cs ds _ first (resuming_keeps ds c mark m (there_on_one cs ds h c first there (sound h c mark serves)))
 
 -- ways
 

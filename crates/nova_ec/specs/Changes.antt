@@ -1,15 +1,15 @@
 -- What stays where an execution context changes.
-use Rattle.std.specs.Prelude.{ℕ, ◌≡◌, ◌≢◌, ◌⊎◌, Bool, true, false, Option, Some, None, IsSome}
+use Rattle.std.specs.Prelude.{ℕ, ◌≡◌, ◌≢◌, ◌⊎◌, Bool, true, false, List, Option, Some, None, IsSome}
 use Rattle.nova_range.specs.declared.status.Status.{Status}
-use Rattle.nova_range.specs.declared.status.Status.TheVariants.{Success}
-use Rattle.nova_model.specs.Deeds.{changed, answered, parked, serving}
+use Rattle.nova_model.specs.Deeds.{changed, answered, parked, resumed, serving}
 use Rattle.nova_model.specs.Edges.{AreCallers, AreEdges, IsNewEdge, MayServe, MayWait, acts, after_edges, caller_in, chase, cpu_in, edge}
 use Rattle.nova_model.specs.State.{Contexts, ec_in, ec_of, with_ec}
 use Rattle.nova_model.specs.declared.context.EcState.{EcState}
 use Rattle.nova_model.specs.declared.context.Mark.{Mark}
-use Rattle.nova_model.specs.declared.context.Mark.TheVariants.{Call}
+use Rattle.nova_model.specs.declared.context.Mark.TheVariants as mark
+use Rattle.nova_model.specs.declared.context.State.TheVariants.{Calling}
 use Rattle.nova_model.specs.declared.deed.Deed.{Deed}
-use Rattle.nova_model.specs.declared.deed.Deed.TheVariants.{Dies, Finishes, Calls, Helps, Replies}
+use Rattle.nova_model.specs.declared.deed.Deed.TheVariants.{Dies, Waits, Sends, Finishes, Calls, Helps, Replies, Aborts, Blocks}
 use Rattle.nova_model.specs.declared.transfer.Sequel.{Sequel}
 use Rattle.nova_model.specs.declared.transfer.Sequel.TheVariants.{Replied}
 use Rattle.nova_ec.specs.Tables.{AreNumbered, MayBecome}
@@ -32,14 +32,16 @@ ChangesKeep = (cs : Contexts) (e : ℕ) (y : EcState) → MayBecome cs e y → K
 abbrev pub edge_by : Deed → Option ℕ
 edge_by (Calls handler ip identifier items) = Some handler
 edge_by (Helps handler) = Some handler
+edge_by (Waits handler reason q0 q1) = Some handler
+edge_by (Sends handler ip identifier mtd reason q0 q1) = Some handler
 edge_by other = None
 
 abbrev pub DeedsKeep : Type 0
 DeedsKeep = (cs : Contexts) (e : ℕ) (d : Deed) → IsSome (ec_in cs e) → MayWait cs e (edge_by d) → KeepsSound cs (with_ec cs e (changed (ec_of cs e) d))
 
 abbrev pub ServingKeeps : Type 0
-ServingKeeps = (cs : Contexts) (h c ip identifier : ℕ) (items : Bool) → IsSome (ec_in cs h) → MayServe cs h (Some (c, Call)) →
-    KeepsSound cs (with_ec cs h (serving (ec_of cs h) c ip identifier items))
+ServingKeeps = (cs : Contexts) (h c ip identifier : ℕ) (mark : Mark) (items : Bool) → IsSome (ec_in cs h) → MayServe cs h (Some (c, mark)) →
+    KeepsSound cs (with_ec cs h (serving (ec_of cs h) c mark ip identifier items))
 
 abbrev pub ParkingKeeps : Type 0
 ParkingKeeps = (cs : Contexts) (h : ℕ) → IsSome (ec_in cs h) → KeepsSound cs (with_ec cs h (parked (ec_of cs h)))
@@ -48,19 +50,22 @@ abbrev pub AnsweringKeeps : Type 0
 AnsweringKeeps = (cs : Contexts) (e : ℕ) (status : Status) (value : Option ℕ) → IsSome (ec_in cs e) →
     KeepsSound cs (with_ec cs e (answered (ec_of cs e) status value))
 
+abbrev pub ResumingKeeps : Type 0
+ResumingKeeps = (cs : Contexts) (e : ℕ) (mark : Mark) (m : List ℕ) → IsSome (ec_in cs e) → KeepsSound cs (with_ec cs e (resumed (ec_of cs e) mark m))
+
 -- one, and then another, by what it is then
 abbrev pub with_both : Contexts → ℕ → EcState → ℕ → (EcState → EcState) → Contexts
 with_both cs e y f next = with_ec (with_ec cs e y) f (next (ec_of (with_ec cs e y) f))
 
--- a call: the caller waits, and its handler serves it
+-- a call or an exit: the caller waits, and its handler serves it
 abbrev pub SendingKeeps : Type 0
-SendingKeeps = (cs : Contexts) (c h ip identifier : ℕ) (items : Bool) → IsSome (ec_in cs c) → IsNewEdge cs c h →
-    KeepsSound cs (with_both cs c (changed (ec_of cs c) (Calls h ip identifier items)) h (λ x. serving x c ip identifier items))
+SendingKeeps = (cs : Contexts) (c h ip identifier : ℕ) (mark : Mark) (items : Bool) → IsSome (ec_in cs c) → IsNewEdge cs c h →
+    KeepsSound cs (with_both cs c (record (ec_of cs c) { state = Calling h }) h (λ x. serving x c mark ip identifier items))
 
--- a reply: the handler is parked, and its caller's call ends
+-- a reply: the handler is parked, and its caller goes on
 abbrev pub CompletingKeeps : Type 0
-CompletingKeeps = (cs : Contexts) (h c : ℕ) (mark : Mark) → AreCallers cs → caller_in cs h ≡ Some (c, mark) →
-    KeepsSound cs (with_both cs h (parked (ec_of cs h)) c (λ x. answered x Success None))
+CompletingKeeps = (cs : Contexts) (h c : ℕ) (mark : Mark) (m : List ℕ) → AreCallers cs → caller_in cs h ≡ Some (c, mark) →
+    KeepsSound cs (with_both cs h (parked (ec_of cs h)) c (λ x. resumed x mark m))
 
 -- WAYS
 
@@ -87,14 +92,23 @@ ActingKeepsChases = (cs : Contexts) (e : ℕ) (y : EcState) → acts cs e ≡ tr
 
 -- whether one that acted acts after its deed
 abbrev pub acts_after : Sequel → Bool
-acts_after (Replied caller) = false
+acts_after (Replied caller mark) = false
 acts_after other = true
+
+-- one whose call is aborted goes on, and one whose exit is aborted dies
+abbrev pub is_call : Mark → Bool
+is_call mark.Call = true
+is_call mark.Exit = false
 
 abbrev pub goes_on : Deed → Bool
 goes_on (Dies reason q0) = false
+goes_on (Waits handler reason q0 q1) = false
+goes_on (Sends handler ip identifier mtd reason q0 q1) = false
 goes_on (Calls handler ip identifier items) = false
 goes_on (Helps handler) = false
-goes_on (Replies caller items) = items
+goes_on (Replies caller mark items) = items
+goes_on (Aborts handler mark) = is_call mark
+goes_on (Blocks sm) = false
 goes_on (Finishes item end words after) = acts_after after
 goes_on other = true
 

@@ -7,6 +7,7 @@ use Rattle.nova_model.specs.State.{Contexts, ec_in, ec_of, with_ec}
 use Rattle.nova_model.specs.Edges.{acts, chase, cpu_in, edge_of, MayWait, MayServe}
 use Rattle.nova_model.specs.declared.context.EcState.{EcState}
 use Rattle.nova_model.specs.declared.context.Mark.{Mark}
+use Rattle.nova_model.specs.declared.context.State.{State}
 
 -- an entry for each number, which holds an execution context or nothing, and for how many more there is room
 pub record EcTable : Type 0 where
@@ -19,6 +20,10 @@ actor_in cs e = if acts cs (chase cs e) then Some (chase cs e) else None
 
 abbrev pub with_items : EcTable → Contexts → EcTable
 with_items t items = record t { items = items }
+
+-- an execution context is about to do another thing
+abbrev pub turned_to : Contexts → ℕ → State → Contexts
+turned_to cs e state = with_ec cs e (record (ec_of cs e) { state = state })
 
 -- each has the number of its entry
 abbrev pub IsNumbered : ℕ → Option EcState → Type 0

@@ -1,14 +1,16 @@
-ghost use Rattle.std.specs.Prelude.{false, true, ◌≡◌, ◌+◌, ◌-◌, ◌<◌, ◌≤◌, [], ◌∷◌, ◌++◌, length, max, IsOk, IsSome, IfOk, IfSome, OnOk, OnErr, option_and_then, option_map, if◌then◌else◌, Some, None};
+ghost use Rattle.std.specs.Prelude.{false, true, ◌||◌, ◌≡◌, ◌+◌, ◌-◌, ◌<◌, ◌≤◌, [], ◌∷◌, ◌++◌, length, max, IsOk, IsSome, IfOk, IfSome, OnOk, OnErr, option_and_then, option_map, Some, None};
 ghost use Rattle.rv_model.specs.Step.{one};
 ghost use Rattle.rv_core.specs.Steps.{space_of};
 ghost use Rattle.nova_model.specs.State.{ec_in, ec_of, with_ec};
-ghost use Rattle.nova_model.specs.Edges.{state_in, edge_of, edge, acts_by, acts, stays, met, chase, circle, MayWait, MayServe, AreEdges, AreCallers};
-ghost use Rattle.nova_model.specs.Deeds.{answered_registers, answered, parked, entered, serving};
+ghost use Rattle.nova_model.specs.Calls.{is_same_cpu, is_parked};
+ghost use Rattle.nova_model.specs.Edges.{cpu_in, is_dead, state_in, edge_of, edge, acts, stays, met, chase, circle, MayWait, MayServe, AreEdges, AreCallers};
+ghost use Rattle.nova_model.specs.Deeds.{answered, parked, serving};
 ghost use Rattle.nova_ec.specs.Tables.{Steps, StepsIn, MayBecome, IsServing, with_items, actor_in};
 ghost use Rattle.nova_model.specs.declared.context.EcState.{EcState};
-ghost use Rattle.nova_model.specs.declared.context.Mark.TheVariants.{Call};
-ghost use Rattle.nova_model.specs.declared.context.State.TheVariants.{Granting, Ready};
+ghost use Rattle.nova_model.specs.declared.context.State.TheVariants.{Ready};
 
+use crate::registers::{answered_registers, entered};
+use crate::states::{acts_by, edge_of, entry_state};
 use nova_model::{EcState, Mark, State};
 use nova_range::Status;
 use rv_core::bus::Bus;
@@ -36,75 +38,6 @@ impl Model for Ecs {
     ghost view = { λ t. record { items = t.items.items; spare = t.spare } };
 
     ghost invariant = { λ t. AreEdges t.items.items × (vec_len t.items + t.spare ≤ vec_capacity t.items) × AreNumbered t.items.items × AreCallers t.items.items };
-}
-
-/// The handler that an execution context in this state waits for.
-pub fn edge_of(state: State) -> Option<u32>
-    ensures { result ≡ edge_of state }
-{
-    match state {
-        State::Calling(handler) | State::Helping(handler) | State::Sending(_, _, _, handler) => {
-            Some(handler)
-        }
-        State::Fresh
-        | State::Ready
-        | State::Parked
-        | State::Exiting(..)
-        | State::Granting(_)
-        | State::Replying
-        | State::Dead => None,
-    }
-}
-
-/// Whether an execution context in the first state acts, where its handler is in the second.
-fn acts_by(state: State, handler: Option<State>) -> bool
-    ensures { result ≡ acts_by state handler }
-{
-    match state {
-        State::Fresh | State::Ready | State::Exiting(..) | State::Granting(_) | State::Replying =>
-            true,
-        State::Parked | State::Dead => false,
-        State::Calling(_) => matches!(handler, Some(State::Dead)),
-        State::Helping(_) | State::Sending(..) => {
-            matches!(handler, Some(State::Parked | State::Dead))
-        }
-    }
-}
-
-/// The registers after a hypercall: the status in x10, a value in x11, and pc after the instruction.
-fn answered_registers(mut regs: Regs, status: Status, value: Option<u32>) -> Regs
-    ensures { result ≡ answered_registers regs status value }
-{
-    regs.set(10, status.code());
-    if let Some(value) = value {
-        regs.set(11, value);
-    }
-    let next = regs.pc().wrapping_add(4);
-    regs.set_pc(next);
-    regs
-}
-
-/// The registers of a handler at the beginning of a call: its portal's identifier in x10, and pc at the
-/// portal's instruction pointer.
-fn entered(mut regs: Regs, ip: u32, identifier: u32) -> Regs
-    ensures { result ≡ entered regs ip identifier }
-{
-    regs.set(10, identifier);
-    regs.set_pc(ip);
-    regs
-}
-
-/// What a handler is about to do at the beginning of a call: it takes the items first, where there are
-/// any.
-fn entry_state(items: bool) -> State
-    ensures state { result ≡ (if items then Granting None else Ready) }
-    ensures edge { edge_of result ≡ None }
-{
-    if items {
-        State::Granting(None)
-    } else {
-        State::Ready
-    }
 }
 
 /// One instruction of an execution context over a bus.
@@ -278,6 +211,32 @@ impl Ecs {
         if is_acting { Some(end) } else { None }
     }
 
+    /// Whether both are there, on one processor.
+    pub fn share_processor(&self, a: u32, b: u32) -> bool
+        ensures { result ≡ is_same_cpu (cpu_in self.now.items a) (cpu_in self.now.items b) }
+    {
+        match (self.get(a), self.get(b)) {
+            (Some(a), Some(b)) => a.cpu == b.cpu,
+            _ => false,
+        }
+    }
+
+    /// Whether no reply of a handler can come to another: the handler is dead, or following edges from it
+    /// meets the other.
+    pub fn is_lost(&self, handler: u32, ec: u32) -> bool
+        ensures { result ≡ (is_dead (state_in self.now.items handler) || circle self.now.items handler ec) }
+    {
+        matches!(self.get(handler), Some(context) if matches!(context.state, State::Dead))
+            || self.circle(handler, ec)
+    }
+
+    /// Whether an execution context waits for a call.
+    pub fn is_parked(&self, ec: u32) -> bool
+        ensures { result ≡ is_parked (state_in self.now.items ec) }
+    {
+        matches!(self.get(ec), Some(context) if matches!(context.state, State::Parked))
+    }
+
     /// An execution context changes, but for its processor.
     fn put(&mut self, ec: u32, context: EcState)
         requires { MayBecome self.old.items ec context }
@@ -342,6 +301,17 @@ impl Ecs {
         self.put(ec, context);
     }
 
+    /// An execution context whose exit is answered goes on, with these registers.
+    pub fn resume(&mut self, ec: u32, regs: &Regs)
+        requires { IsSome (ec_in self.old.items ec) }
+        ensures { self.new ≡ with_items self.old (with_ec self.old.items ec (record (ec_of self.old.items ec) { regs = regs.now; state = Ready })) }
+    {
+        let mut context = *self.context(ec);
+        context.state = State::Ready;
+        context.regs = *regs;
+        self.put(ec, context);
+    }
+
     /// A handler waits for a call, and serves no caller.
     pub fn park(&mut self, ec: u32)
         requires { IsSome (ec_in self.old.items ec) }
@@ -353,17 +323,17 @@ impl Ecs {
         self.put(ec, context);
     }
 
-    /// A handler begins the call of a caller of its processor: at an instruction pointer, with a portal's
-    /// identifier in x10. Where the call has items it takes them first.
-    pub fn serve(&mut self, ec: u32, caller: u32, ip: u32, identifier: u32, items: bool)
+    /// A handler begins the call or the exit of a caller of its processor: at an instruction pointer, with a
+    /// portal's identifier in x10. Where a call has items it takes them first.
+    pub fn serve(&mut self, ec: u32, caller: u32, mark: Mark, ip: u32, identifier: u32, items: bool)
         requires there { IsSome (ec_in self.old.items ec) }
-        requires caller { MayServe self.old.items ec (Some (caller, Call)) }
-        ensures { self.new ≡ with_items self.old (with_ec self.old.items ec (serving (ec_of self.old.items ec) caller ip identifier items)) }
+        requires caller { MayServe self.old.items ec (Some (caller, mark)) }
+        ensures { self.new ≡ with_items self.old (with_ec self.old.items ec (serving (ec_of self.old.items ec) caller mark ip identifier items)) }
     {
         let mut context = *self.context(ec);
         context.state = entry_state(items);
         context.regs = entered(context.regs, ip, identifier);
-        context.caller = Some((caller, Mark::Call));
+        context.caller = Some((caller, mark));
         self.put(ec, context);
     }
 

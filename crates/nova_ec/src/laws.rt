@@ -1,5 +1,5 @@
 ghost use Rattle.nova_ec.specs.Ways.{ChasesEnd, ChasesGoOn, CirclesAreWays, OnlyDonorsChange, UnmovedKeepsChases, SameStateKeepsChases, JoiningMovesNone, OthersStay, SameActs};
-ghost use Rattle.nova_ec.specs.Changes.{ChangesKeep, DeedsKeep, ServingKeeps, ParkingKeeps, AnsweringKeeps, SendingKeeps, CompletingKeeps, NewWays, ActingKeepsChases, DeedsKeepChases, OthersStayTwice};
+ghost use Rattle.nova_ec.specs.Changes.{ChangesKeep, DeedsKeep, ServingKeeps, ParkingKeeps, AnsweringKeeps, ResumingKeeps, SendingKeeps, CompletingKeeps, NewWays, ActingKeepsChases, DeedsKeepChases, OthersStayTwice};
 
 /// Each chase ends: in the first on its way with which turns stay.
 #[tactic(auto, using(crate::proofs::Ends::chases_end))]
@@ -39,16 +39,17 @@ pub fn turns_stay()
 
 /// Edges, callers and numbers stay sound, and processors stay, where an execution context becomes
 /// another that it may become: by each deed, where a new edge is one that it may have; where it serves
-/// a caller that it may serve; where it is parked; where its call ends.
+/// a caller that it may serve; where it is parked; where its call ends; where it goes on after a reply.
 pub fn changes_keep()
     ensures changes { ChangesKeep }
     ensures deeds { DeedsKeep }
     ensures serving { ServingKeeps }
     ensures parking { ParkingKeeps }
     ensures answering { AnsweringKeeps }
+    ensures resuming { ResumingKeeps }
 {}
 
-/// So they do where a call is sent, and where a reply completes.
+/// So they do where a call or an exit is sent, and where a reply completes.
 pub fn calls_keep()
     ensures sending { SendingKeeps }
     ensures completing { CompletingKeeps }

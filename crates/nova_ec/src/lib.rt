@@ -3,6 +3,8 @@
 
 pub mod ecs;
 pub mod laws;
+mod registers;
+mod states;
 #[cfg(test)]
 mod tests;
 

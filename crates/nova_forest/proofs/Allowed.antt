@@ -22,13 +22,13 @@ use Rattle.nova_model.specs.Deliveries.{is_busy}
 use Rattle.nova_model.specs.Delegations.{Delegations, allows, covers, has_place, is_same_kind, range_of}
 use Rattle.nova_model.specs.Forest.{IsAligned, IsForest, IsFitting}
 use Rattle.nova_model.specs.Calls.{admitted}
-use Rattle.nova_model.specs.Hypercalls.{and_then, unless, maker, makes, new_domain, call, called, handler_of, reply, replied, row, is_scheduled, is_virtual, ticks_in}
+use Rattle.nova_model.specs.Hypercalls.{and_then, unless, maker, makes, new_domain, call, called, reply, replied, row, is_scheduled, is_virtual, ticks_in}
+use Rattle.nova_model.specs.Portals.{handler_of}
 use Rattle.nova_model.specs.State.{KernelState, budget_at, context, is_local_thread, message, pd_of, processor_of}
 use Rattle.nova_model.specs.Transfers.{child_of}
 use Rattle.nova_model.specs.declared.admit.Admit.{Admit}
 use Rattle.nova_model.specs.declared.admit.Admit.TheVariants.{Refused, Help, Send}
 use Rattle.nova_model.specs.declared.context.Mark.{Mark}
-use Rattle.nova_model.specs.declared.context.Mark.TheVariants as mark
 use Rattle.nova_model.specs.declared.deed.Deed.{Deed}
 use Rattle.nova_model.specs.declared.deed.Deed.TheVariants.{Makes, Recalls, Tells, Names, Opens, Gives}
 use Rattle.nova_model.specs.declared.delegation.Derivation.{Derivation}
@@ -39,7 +39,7 @@ use Rattle.nova_forest.proofs.Jobs.{job_ranges, job_between_them}
 use Rattle.nova_forest.proofs.Members.{IsIn, all_at, contains_from_in, found_in, in_from_contains}
 use Rattle.nova_forest.proofs.Selectors.{TakesSelector, call_takes}
 use Rattle.nova_forest.proofs.Transfers.{kinds_equal, next_facts, left_facts, judged_facts, child_rights, sent_rights, child_is_range, free_child_fits}
-use Rattle.nova_forest.proofs.Walk.{IfDone, resumed, IsGiving, deed_holds}
+use Rattle.nova_forest.proofs.Walk.{IfDone, resumed, IsGiving, sm_ctrl_holds, deed_holds}
 
 -- deciding: a selector that a deed takes is below 2^20 and free, the domain that takes it may make objects, a domain that it opens has the next
 -- number, and a child that it gives is one
@@ -195,8 +195,7 @@ call_free k ec domain portal flag = unless_free k ec _ BadPar _ (by_portal (name
 
 replied_free : (k : KernelState) (ec : ℕ) (caller : Option (ℕ × Mark)) → IfDone (IsAllowed k ec) (replied k ec caller)
 replied_free k ec None = tt
-replied_free k ec (Some (caller, mark.Call)) = tt
-replied_free k ec (Some (caller, other)) = tt
+replied_free k ec (Some (caller, mark)) = tt
 
 reply_free : (k : KernelState) (ec : ℕ) → IfDone (IsAllowed k ec) (reply k ec)
 reply_free k ec =
@@ -223,6 +222,8 @@ row_free k ec (asks.EcCtrl other) selector = named_free k ec (named k (pd_of k e
 row_free k ec (asks.ScCtrl sc) selector =
     named_free k ec (named k (pd_of k ec) is_sc control_right sc) (λ n. Tells SC_CTRL (ticks_in (budget_at k n))) (λ n. tt)
 row_free k ec (asks.PtCtrl pt identifier) selector = named_free k ec (named k (pd_of k ec) is_pt control_right pt) (λ n. Names n identifier) (λ n. tt)
+row_free k ec (asks.SmCtrl sm action) selector =
+    sm_ctrl_holds (IsAllowed k ec) k (pd_of k ec) sm action (λ n whom is wakes. tt) (λ n is answers. tt) (λ n is answers. tt)
 row_free k ec other selector = tt
 
 -- ids are below the next
@@ -270,6 +271,8 @@ deed_allowed k ec =
       steps = tt;
       raises = λ reason q0 q1. tt;
       dies = λ reason q0. tt;
+      waits = λ pt reason q0 q1 is. tt;
+      sends = λ pt reason q0 q1 is. tt;
       refuses = λ number status. tt;
       aborts = λ handler is. tt;
       rows = λ asks c is. row_free k ec c (call_takes (context k ec).regs c is);

@@ -1,21 +1,24 @@
 -- What a turn adds to objects and delegations: what its deed does, one row a variant.
 use Rattle.std.proofs.Common.{◌≡◌, ℕ, [], ◌∷◌, ◌++◌, refl, ◌∙◌}
-use Rattle.std.specs.Prelude.{true, false, slice_get, Option, Some, None}
+use Rattle.std.specs.Prelude.{Bool, true, false, slice_get, Option, Some, None}
 use Rattle.rv_model.specs.Step.{Once, Raised, Went}
 use Rattle.nova_model.specs.Capabilities.{allowed}
 use Rattle.nova_model.specs.Choice.{choice}
 use Rattle.nova_model.specs.Creation.{object_of, root_capability}
-use Rattle.nova_model.specs.Deeds.{with_context, recalled, stepped, changed, told, followed, done, deed, instruction}
+use Rattle.nova_model.specs.Deeds.{with_context, recalled, stepped, changed, brought, replied_to, told, followed, woken_in, done, deed, instruction}
 use Rattle.nova_model.specs.Delegations.{added}
 use Rattle.nova_model.specs.Hypercalls.{call}
 use Rattle.nova_model.specs.Runs.{after}
+use Rattle.nova_model.specs.Semaphores.{upped}
 use Rattle.nova_model.specs.State.{KernelState, budget_at, context, pd_of}
 use Rattle.nova_model.specs.Turn.{counted, paid_by, charged, quantum_in, turn, turn_by, state_after}
 use Rattle.nova_model.specs.declared.budget.Budget.{Budget}
 use Rattle.nova_model.specs.Choice.{Candidate}
 use Rattle.nova_model.specs.declared.context.EcState.{EcState}
+use Rattle.nova_model.specs.declared.context.Mark.{Mark}
+use Rattle.nova_model.specs.declared.context.Mark.TheVariants as mark
 use Rattle.nova_model.specs.declared.deed.Deed.{Deed}
-use Rattle.nova_model.specs.declared.deed.Deed.TheVariants.{Rests, Steps, Makes, Recalls, Opens, Gives, Finishes, Replies}
+use Rattle.nova_model.specs.declared.deed.Deed.TheVariants.{Rests, Steps, Makes, Recalls, Opens, Gives, Finishes, Replies, Ups}
 use Rattle.nova_model.specs.declared.new_object.NewObject.{NewObject}
 use Rattle.nova_model.specs.declared.new_object.NewObject.TheVariants as new
 use Rattle.nova_model.specs.declared.transfer.ItemEnd.{ItemEnd}
@@ -41,15 +44,28 @@ told_same : (k : KernelState) (item : ℕ) (words : Option ItemWords) → IsSame
 told_same k item None = unchanged k
 told_same k item (Some w) = record { objects = refl; delegations = refl }
 
-followed_same : (k s : KernelState) (after : Sequel) → IsSame k s → IsSame k (followed s after)
-followed_same k s (sequel.Replied caller) same = record { objects = same.objects; delegations = same.delegations }
-followed_same k s other same = same
+followed_same : (k s : KernelState) (ec : ℕ) (after : Sequel) → IsSame k s → IsSame k (followed s ec after)
+followed_same k s ec (sequel.Replied caller mark) same = record { objects = same.objects; delegations = same.delegations }
+followed_same k s ec other same = same
 
 finished_same : (k : KernelState) (ec item : ℕ) (end : ItemEnd) (words : Option ItemWords) (after : Sequel) → IsSame k (done k ec (Finishes item end words after))
 finished_same k ec item end words after =
     let s = with_context k ec (changed (context k ec) (Finishes item end words after)) in
-    let same = followed_same s (told s item words) after (told_same s item words) in
+    let same = followed_same s (told s item words) ec after (told_same s item words) in
     record { objects = same.objects; delegations = same.delegations }
+
+-- a reply leaves them, and so does waking one at a semaphore
+brought_same : (k : KernelState) (ec caller : ℕ) (came : Mark) → IsSame k (brought k ec caller came)
+brought_same k ec caller mark.Call = record { objects = refl; delegations = refl }
+brought_same k ec caller mark.Exit = unchanged k
+
+replied_same : (k : KernelState) (ec caller : ℕ) (came : Mark) (items : Bool) → IsSame k (replied_to k ec caller came items)
+replied_same k ec caller came true = brought_same k ec caller came
+replied_same k ec caller came false = let same = brought_same k ec caller came in record { objects = same.objects; delegations = same.delegations }
+
+woken_same : (k : KernelState) (whom : Option ℕ) → IsSame k (woken_in k whom)
+woken_same k None = unchanged k
+woken_same k (Some ec) = record { objects = refl; delegations = refl }
 
 -- a state with one object more
 made_grows : (k s : KernelState) (ec target : ℕ) (made : NewObject) → IsAsked k (pd_of k ec) target (object_of made) → s.objects ≡ k.objects ++ object_of made ∷ [] →
@@ -83,8 +99,12 @@ done_grows k ec (Makes call target made) asked = made_grows k (done k ec (Makes 
 done_grows k ec (Opens target number) allowed = made_grows k (done k ec (Opens target number)) ec target new.Pd allowed.0 refl refl
 done_grows k ec (Recalls other) allowed = recalled_grows k ec other _ _
 done_grows k ec (Gives child cursor) given = GivesChild (record { child = child; given = given; objects = refl; delegations = refl })
-done_grows k ec (Replies caller true) allowed = Leaves (record { objects = refl; delegations = refl })
-done_grows k ec (Replies caller false) allowed = Leaves (record { objects = refl; delegations = refl })
+done_grows k ec (Replies caller came items) allowed =
+    let same = replied_same (with_context k ec (changed (context k ec) (Replies caller came items))) ec caller came items in
+    Leaves (record { objects = same.objects; delegations = same.delegations })
+done_grows k ec (Ups sm whom) allowed =
+    let same = woken_same (record (with_context k ec (changed (context k ec) (Ups sm whom))) { semaphores = upped k.semaphores sm }) whom in
+    Leaves (record { objects = same.objects; delegations = same.delegations })
 done_grows k ec (Finishes item end words after) allowed = Leaves (finished_same k ec item end words after)
 done_grows k ec other allowed = Leaves (record { objects = refl; delegations = refl })
 

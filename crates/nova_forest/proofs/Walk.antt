@@ -1,26 +1,38 @@
--- The one walk over deciding: what holds of each deed that looks alone at a state, of what the rows of the table of hypercalls give, and of
--- the parts and ends of items, holds of the deed of every execution context.
+-- The one walk over deciding: what holds of each deed that looks alone at a state, of what an exit comes to, of what the rows of the table of
+-- hypercalls give, and of the parts and ends of items, holds of the deed of every execution context.
 use Rattle.std.proofs.Common.{◌≡◌, ℕ, ap, refl}
 use Rattle.std.specs.Prelude.{Bool, true, false, ◌==◌, Option, Some, None, option_map, Result, Ok, Err, if◌then◌else◌}
 use Rattle.rv_model.specs.Registers.{Registers, reg}
 use Rattle.rv_model.specs.Step.{Once, Raised, Went}
 use Rattle.nova_calls.specs.Hypercalls.{call_of}
 use Rattle.nova_calls.specs.declared.call.Call.{Call}
+use Rattle.nova_calls.specs.declared.call.SmAction.{SmAction}
+use Rattle.nova_calls.specs.declared.call.SmAction.TheVariants as act
 use Rattle.nova_range.specs.Ranges.{end_of}
 use Rattle.nova_range.specs.declared.status.Status.{Status}
 use Rattle.nova_range.specs.declared.status.Status.TheVariants.{BadHyp}
-use Rattle.nova_model.specs.Deeds.{startup, recall, signalled, stepping, ready, deed_in, deed, instruction}
+use Rattle.nova_model.specs.Calls.{exit_admitted}
+use Rattle.nova_model.specs.Capabilities.{down_right, is_sm, named, up_right}
+use Rattle.nova_model.specs.Deeds.{startup, recall, signalled, stepping, ready, mark_in, deed_in, deed, instruction}
 use Rattle.nova_model.specs.Delegations.{range_of}
 use Rattle.nova_model.specs.Deliveries.{is_busy, delivery, flag, finished, range_given, parted, part_deed, delegated, answered_by, delivered, delivers}
-use Rattle.nova_model.specs.Hypercalls.{and_then, row, is_built, or_refuses, hypercall}
+use Rattle.nova_model.specs.Exits.{raised_exit, exit_portal, exit_to, exit_at, exits}
+use Rattle.nova_model.specs.Hypercalls.{and_then, upped_by, downed_by, sm_ctrl, row, is_built, or_refuses, hypercall}
+use Rattle.nova_model.specs.Portals.{descriptor, handler_of, identifier, ip_of}
+use Rattle.nova_model.specs.Semaphores.{answer_of, semaphore, woken}
 use Rattle.nova_model.specs.State.{KernelState, context, pd_of, transfer}
 use Rattle.nova_model.specs.Transfers.{job_of, next_source, child_of, judged, part_of}
 use Rattle.nova_model.specs.Translations.{translated}
+use Rattle.nova_model.specs.declared.admit.ExitAdmit.{ExitAdmit}
+use Rattle.nova_model.specs.declared.admit.ExitAdmit.TheVariants as exit
 use Rattle.nova_model.specs.declared.context.State.{State}
-use Rattle.nova_model.specs.declared.context.State.TheVariants.{Fresh, Ready, Parked, Calling, Helping, Exiting, Sending, Granting, Replying, Dead}
+use Rattle.nova_model.specs.declared.context.State.TheVariants.{Fresh, Ready, Parked, Calling, Helping, Exiting, Sending, Granting, Replying, Blocked, Dead}
 use Rattle.nova_model.specs.declared.deed.Deed.{Deed}
-use Rattle.nova_model.specs.declared.deed.Deed.TheVariants.{Rests, Steps, Raises, Dies, Refuses, Gives, Skips, Aborts}
+use Rattle.nova_model.specs.declared.deed.Deed.TheVariants.{Rests, Steps, Raises, Dies, Waits, Sends, Refuses, Gives, Skips, Aborts, Ups, Downs, Blocks}
 use Rattle.nova_model.specs.declared.delegation.Derivation.{Derivation}
+use Rattle.nova_model.specs.declared.semaphore.Down.{Down}
+use Rattle.nova_model.specs.declared.semaphore.Down.TheVariants as lowering
+use Rattle.nova_model.specs.declared.semaphore.Overflow.{Overflow}
 use Rattle.nova_model.specs.declared.transfer.Delivery.{Delivery}
 use Rattle.nova_model.specs.declared.transfer.ItemEnd.{ItemEnd}
 use Rattle.nova_model.specs.declared.transfer.ItemEnd.TheVariants.{Given, Skipped, Translated}
@@ -46,13 +58,22 @@ is_giving other = false
 
 -- ONE THAT GIVES NO ITEMS
 
+-- an exit that it raised finds this portal, and comes to this at its handler
+pub record IsExit (k : KernelState) (ec pt reason q0 q1 : ℕ) (comes : ExitAdmit) : Type 0 where
+  pub raised : raised_exit (context k ec).state ≡ Some (reason, q0, q1)
+  pub portal : exit_portal k ec reason ≡ Ok pt
+  pub admits : exit_admitted k.contexts ec (handler_of k pt) ≡ comes
+
 -- what holds of each deed of an execution context that does something of its own
 pub record Holds (P : Deed → Type 0) (k : KernelState) (ec : ℕ) : Type 0 where
   pub steps : P Steps
   pub raises : (reason q0 q1 : ℕ) → P (Raises reason q0 q1)
   pub dies : (reason q0 : ℕ) → P (Dies reason q0)
+  pub waits : (pt reason q0 q1 : ℕ) → IsExit k ec pt reason q0 q1 exit.Waits → P (Waits (handler_of k pt) reason q0 q1)
+  pub sends : (pt reason q0 q1 : ℕ) → IsExit k ec pt reason q0 q1 exit.Sends →
+      P (Sends (handler_of k pt) (ip_of k pt) (identifier k pt) (descriptor k pt) reason q0 q1)
   pub refuses : (call : ℕ) (status : Status) → P (Refuses call status)
-  pub aborts : (handler : ℕ) → (context k ec).state ≡ Calling handler → P (Aborts handler)
+  pub aborts : (handler : ℕ) → (context k ec).state ≡ Calling handler → P (Aborts handler (mark_in (context k handler).caller))
   pub rows : is_asking (context k ec).state ≡ true → (c : Call) → call_of (context k ec).regs ≡ Ok c → IfDone P (row k ec (pd_of k ec) c)
 
 pub hypercall_holds : (P : Deed → Type 0) (k : KernelState) (ec domain : ℕ) (r : Registers) → ((call : ℕ) (status : Status) → P (Refuses call status)) →
@@ -75,6 +96,48 @@ hypercall_holds P k ec domain r refuses rows = by_test (is_built (reg r 17))
 pub asking_holds : (P : Deed → Type 0) (k : KernelState) (ec : ℕ) → is_asking (context k ec).state ≡ true → Holds P k ec →
     P (hypercall k ec (pd_of k ec) (context k ec).regs)
 asking_holds P k ec asks h = hypercall_holds P k ec (pd_of k ec) (context k ec).regs h.refuses (h.rows asks)
+
+-- of one whose exit is raised and not sent
+pub exits_holds : (P : Deed → Type 0) (k : KernelState) (ec reason q0 q1 : ℕ) → raised_exit (context k ec).state ≡ Some (reason, q0, q1) → Holds P k ec →
+    P (exits k ec reason q0 q1)
+exits_holds P k ec reason q0 q1 raised h = by_portal (exit_portal k ec reason) refl
+  where
+    by_admit : (pt : ℕ) (a : ExitAdmit) → IsExit k ec pt reason q0 q1 a → P (exit_to k pt reason q0 q1 a)
+    by_admit pt exit.Dies is = h.dies reason q0
+    by_admit pt exit.Waits is = h.waits pt reason q0 q1 is
+    by_admit pt exit.Sends is = h.sends pt reason q0 q1 is
+
+    by_portal : (o : Result ℕ Status) → exit_portal k ec reason ≡ o → P (exit_at k ec reason q0 q1 o)
+    by_portal (Err status) portal = h.dies reason q0
+    by_portal (Ok pt) portal = by_admit pt (exit_admitted k.contexts ec (handler_of k pt)) (record { raised = raised; portal = portal; admits = refl })
+
+-- of the row of semaphores: what holds of an up, of a down that is done and of one that waits
+pub sm_ctrl_holds : (P : Deed → Type 0) (k : KernelState) (domain selector : ℕ) (action : SmAction) →
+    ((sm : ℕ) (whom : Option ℕ) → named k domain is_sm up_right selector ≡ Ok sm → woken (semaphore k.semaphores sm) ≡ Ok whom → P (Ups sm whom)) →
+    ((sm : ℕ) → named k domain is_sm down_right selector ≡ Ok sm → answer_of (semaphore k.semaphores sm) ≡ lowering.Done → P (Downs sm)) →
+    ((sm : ℕ) → named k domain is_sm down_right selector ≡ Ok sm → answer_of (semaphore k.semaphores sm) ≡ lowering.Blocked → P (Blocks sm)) →
+    IfDone P (sm_ctrl k domain selector action)
+sm_ctrl_holds P k domain selector act.Up ups downs blocks = by_name (named k domain is_sm up_right selector) refl
+  where
+    by_woken : (sm : ℕ) → named k domain is_sm up_right selector ≡ Ok sm → (o : Result (Option ℕ) Overflow) → woken (semaphore k.semaphores sm) ≡ o →
+        IfDone P (upped_by sm o)
+    by_woken sm is (Ok whom) wakes = ups sm whom is wakes
+    by_woken sm is (Err e) wakes = tt
+
+    by_name : (o : Result ℕ Status) → named k domain is_sm up_right selector ≡ o →
+        IfDone P (and_then o (λ sm. upped_by sm (woken (semaphore k.semaphores sm))))
+    by_name (Ok sm) is = by_woken sm is (woken (semaphore k.semaphores sm)) refl
+    by_name (Err status) is = tt
+sm_ctrl_holds P k domain selector act.Down ups downs blocks = by_name (named k domain is_sm down_right selector) refl
+  where
+    by_answer : (sm : ℕ) → named k domain is_sm down_right selector ≡ Ok sm → (d : Down) → answer_of (semaphore k.semaphores sm) ≡ d → P (downed_by sm d)
+    by_answer sm is lowering.Done answers = downs sm is answers
+    by_answer sm is lowering.Blocked answers = blocks sm is answers
+
+    by_name : (o : Result ℕ Status) → named k domain is_sm down_right selector ≡ o →
+        IfDone P (and_then o (λ sm. Ok (downed_by sm (answer_of (semaphore k.semaphores sm)))))
+    by_name (Ok sm) is = by_answer sm is (answer_of (semaphore k.semaphores sm)) refl
+    by_name (Err status) is = tt
 
 -- of one that is about to do an instruction
 pub ready_holds : (P : Deed → Type 0) (k : KernelState) (ec : ℕ) (test : Bool) → is_asking (context k ec).state ≡ true → Holds P k ec → P (ready k ec test)
@@ -182,14 +245,15 @@ own_holds P k ec not_giving rests h = by_state (context k ec).state refl not_giv
     by_state : (s : State) → (context k ec).state ≡ s → is_giving s ≡ false → P (deed_in k ec s)
     by_state Fresh is none = h.raises startup 0 0
     by_state Ready is none = ready_holds P k ec (context k ec).recall (ap is_asking is) h
-    by_state (Exiting reason q0 q1) is none = h.dies reason q0
+    by_state (Exiting reason q0 q1) is none = exits_holds P k ec reason q0 q1 (ap raised_exit is) h
     by_state Parked is none = rests
     by_state Dead is none = rests
+    by_state (Blocked sm) is none = rests
     by_state (Granting new) is none = absurd (cc)
     by_state Replying is none = absurd (cc)
     by_state (Calling handler) is none = h.aborts handler is
     by_state (Helping handler) is none = asking_holds P k ec (ap is_asking is) h
-    by_state (Sending reason q0 q1 handler) is none = rests
+    by_state (Sending reason q0 q1 handler) is none = exits_holds P k ec reason q0 q1 (ap raised_exit is) h
 
 pub giving_holds : (P : Deed → Type 0) (k : KernelState) (ec : ℕ) → is_giving (context k ec).state ≡ true → P Rests → Delivers P k ec → P (deed k ec)
 unfolding deed

@@ -10,7 +10,7 @@ use Rattle.nova_model.specs.declared.context.EcState.{EcState}
 use Rattle.nova_model.specs.declared.context.State.{State}
 use Rattle.nova_range.specs.declared.status.Status.TheVariants.{BadCpu, Aborted, Timeout}
 use Rattle.nova_ec.proofs.Tables.{cpu-set}
-use Rattle.nova_ipc.specs.Effects.{turned_to}
+use Rattle.nova_ec.specs.Tables.{turned_to}
 
 pub same_cpu-is : (a b : Option ℕ) → is_same_cpu a b ≡ true → (a ≡ b) × (IsSome a) × (IsSome b)
 same_cpu-is (Some a) (Some b) h = (ap Some (let s : a ≡ b = grind (arith, h) in s), refl, refl)

@@ -13,13 +13,15 @@ use Rattle.nova_model.specs.Calls.{admitted}
 use Rattle.nova_model.specs.Deeds.{answered, parked, serving, answered_registers, performed}
 use Rattle.nova_model.specs.declared.admit.Admit.TheVariants as answer
 use Rattle.nova_model.specs.declared.context.EcState.{EcState}
+use Rattle.nova_model.specs.declared.context.Mark.TheVariants.{Call}
 use Rattle.nova_model.specs.declared.context.State.TheVariants.{Calling, Helping}
 use Rattle.nova_model.specs.declared.deed.Deed.TheVariants.{Finishes}
 use Rattle.nova_model.specs.declared.transfer.ItemEnd.{ItemEnd}
 use Rattle.nova_model.specs.declared.transfer.ItemWords.{ItemWords}
 use Rattle.nova_model.specs.declared.transfer.Sequel.TheVariants.{Replied}
 use Rattle.nova_ec.proofs.Tables.{ec_in-set_same, ec_in-set_other}
-use Rattle.nova_ipc.specs.Effects.{turned_to, sent_among, helped_among, parked_in, completed_among, aborted_among}
+use Rattle.nova_ec.specs.Tables.{turned_to}
+use Rattle.nova_ipc.specs.Effects.{sent_among, helped_among, parked_in, completed_among, aborted_among}
 use Rattle.nova_ipc.specs.Serving.{Serves, Returns}
 use Rattle.nova_ipc.proofs.Admits.{of_there, send_edge, handler_stays}
 
@@ -42,7 +44,7 @@ one_register r v is = get_or-set_same r.x 10 v 0 (omega (arith, is.size))
 other_register : (r : Registers) (pc v i : ℕ) → i ≢ 10 → reg (record { pc = pc; x = slice_set r.x 10 v }) i ≡ reg r i
 other_register r pc v i other = ap (λ (w : ℕ). if i == 0 then 0 else w) (get_or-set_other r.x 10 i v 0 other)
 
-serves : (x : EcState) (caller ip identifier : ℕ) (items : Bool) → IsFile x.regs → Serves x (serving x caller ip identifier items) caller ip identifier items
+serves : (x : EcState) (caller ip identifier : ℕ) (items : Bool) → IsFile x.regs → Serves x (serving x caller Call ip identifier items) caller ip identifier items
 serves x caller ip identifier items is = record {
   same = record { id = refl; cpu = refl; recall = refl };
   served = refl;
@@ -67,15 +69,15 @@ pub sent_caller : (cs : Contexts) (e h ip identifier : ℕ) (items : Bool) → a
     ec_in (sent_among cs e h ip identifier items) e ≡ Some (record (ec_of cs e) { state = Calling h })
 sent_caller cs e h ip identifier items is =
     let s = send_edge cs e h false is in
-    stays (turned_to cs e (Calling h)) h e (serving (ec_of (turned_to cs e (Calling h)) h) e ip identifier items) (apart cs e h s.2 s.0.no_circle)
+    stays (turned_to cs e (Calling h)) h e (serving (ec_of (turned_to cs e (Calling h)) h) e Call ip identifier items) (apart cs e h s.2 s.0.no_circle)
     ∙ put cs e (record (ec_of cs e) { state = Calling h }) s.1
 
 pub sent_handler : (cs : Contexts) (e h ip identifier : ℕ) (items : Bool) → admitted cs e h false ≡ answer.Send → IsFile (ec_of cs h).regs →
     (y : EcState) × (ec_in (sent_among cs e h ip identifier items) h ≡ Some y) × Serves (ec_of cs h) y e ip identifier items
 sent_handler cs e h ip identifier items is file = (
-  serving (ec_of cs h) e ip identifier items,
-  put (turned_to cs e (Calling h)) h (serving (ec_of (turned_to cs e (Calling h)) h) e ip identifier items) (handler_stays cs e h (Calling h) is)
-      ∙ ap (λ (x : EcState). Some (serving x e ip identifier items)) same,
+  serving (ec_of cs h) e Call ip identifier items,
+  put (turned_to cs e (Calling h)) h (serving (ec_of (turned_to cs e (Calling h)) h) e Call ip identifier items) (handler_stays cs e h (Calling h) is)
+      ∙ ap (λ (x : EcState). Some (serving x e Call ip identifier items)) same,
   serves (ec_of cs h) e ip identifier items file,
 ) where
   same : ec_of (turned_to cs e (Calling h)) h ≡ ec_of cs h
@@ -85,7 +87,7 @@ sent_handler cs e h ip identifier items is file = (
 
 pub sent_others : (cs : Contexts) (e h ip identifier f : ℕ) (items : Bool) → f ≢ e → f ≢ h → ec_in (sent_among cs e h ip identifier items) f ≡ ec_in cs f
 sent_others cs e h ip identifier f items a b =
-    stays (turned_to cs e (Calling h)) h f (serving (ec_of (turned_to cs e (Calling h)) h) e ip identifier items) b
+    stays (turned_to cs e (Calling h)) h f (serving (ec_of (turned_to cs e (Calling h)) h) e Call ip identifier items) b
     ∙ stays cs e f (record (ec_of cs e) { state = Calling h }) a
 
 -- One that helps
@@ -124,6 +126,6 @@ abort_others cs e f other = stays cs e f (answered (ec_of cs e) Aborted None) ot
 
 -- the last item of a reply
 pub reply_finishes : (k : KernelState) (ec item caller : ℕ) (end : ItemEnd) (words : Option ItemWords) →
-    (performed k ec (Finishes item end words (Replied caller))).contexts ≡ completed_among k.contexts ec caller
+    (performed k ec (Finishes item end words (Replied caller Call))).contexts ≡ completed_among k.contexts ec caller
 reply_finishes k ec item caller end None = refl
 reply_finishes k ec item caller end (Some w) = refl

@@ -1,19 +1,17 @@
 -- What calls and replies make of the table of execution contexts.
-use Rattle.std.specs.Prelude.{ℕ, Bool, Option, Some, None, option_map}
+use Rattle.std.specs.Prelude.{ℕ, Bool, Option, Some, None}
 use Rattle.nova_range.specs.declared.status.Status.TheVariants.{Success, Aborted}
 use Rattle.nova_model.specs.Deeds.{answered, parked, serving}
 use Rattle.nova_model.specs.Edges.{caller_in}
 use Rattle.nova_model.specs.State.{Contexts, ec_of, with_ec}
-use Rattle.nova_model.specs.declared.context.State.{State}
+use Rattle.nova_model.specs.declared.context.Mark.{Mark}
+use Rattle.nova_model.specs.declared.context.Mark.TheVariants.{Call}
 use Rattle.nova_model.specs.declared.context.State.TheVariants.{Calling, Helping}
-
--- an execution context is about to do another thing
-abbrev pub turned_to : Contexts → ℕ → State → Contexts
-turned_to cs e state = with_ec cs e (record (ec_of cs e) { state = state })
+use Rattle.nova_ec.specs.Tables.{turned_to}
 
 -- a call is sent: the caller waits for the handler, and the handler serves the call
 abbrev pub served_in : Contexts → ℕ → ℕ → ℕ → ℕ → Bool → Contexts
-served_in cs caller handler ip identifier items = with_ec cs handler (serving (ec_of cs handler) caller ip identifier items)
+served_in cs caller handler ip identifier items = with_ec cs handler (serving (ec_of cs handler) caller Call ip identifier items)
 
 abbrev pub sent_among : Contexts → ℕ → ℕ → ℕ → ℕ → Bool → Contexts
 sent_among cs caller handler ip identifier items = served_in (turned_to cs caller (Calling handler)) caller handler ip identifier items
@@ -32,9 +30,13 @@ succeeded_in cs caller = with_ec cs caller (answered (ec_of cs caller) Success N
 abbrev pub completed_among : Contexts → ℕ → ℕ → Contexts
 completed_among cs handler caller = succeeded_in (parked_in cs handler) caller
 
--- whom a handler serves, whatever the mark is
-abbrev pub served : Contexts → ℕ → Option ℕ
-served cs handler = option_map (λ c. c.0) (caller_in cs handler)
+-- the caller of a handler that serves a call
+abbrev pub caller_by_call : Option (ℕ × Mark) → Option ℕ
+caller_by_call (Some (caller, Call)) = Some caller
+caller_by_call other = None
+
+abbrev pub served_call : Contexts → ℕ → Option ℕ
+served_call cs handler = caller_by_call (caller_in cs handler)
 
 -- a reply to the one that is served
 abbrev pub replied_among : Contexts → ℕ → Option ℕ → Contexts

@@ -1,51 +1,14 @@
 ghost use Rattle.std.specs.Prelude.{◌≡◌, false, IsTrue};
 ghost use Rattle.nova_utcb.specs.Messages.{copied, has_counts, has_items};
-ghost use Rattle.nova_model.specs.Edges.{cpu_in, state_in, is_dead};
-ghost use Rattle.nova_model.specs.Calls.{is_same_cpu, is_parked, admitted};
+ghost use Rattle.nova_model.specs.Calls.{admitted};
 ghost use Rattle.nova_model.specs.declared.admit.Admit.TheVariants.{Help, Send};
 ghost use Rattle.nova_ec.specs.Tables.{with_items};
 ghost use Rattle.nova_ipc.specs.Effects.{sent_among, helped_among};
 
-use nova_ec::{Ecs, State};
+use nova_ec::{Ecs, Mark, State};
 use nova_model::Admit;
 use nova_range::Status;
 use nova_utcb::Utcb;
-
-/// The processor of an execution context, where it is there.
-fn cpu(ecs: &Ecs, ec: u32) -> Option<u32>
-    ensures { result ≡ cpu_in ecs.now.items ec }
-{
-    Some(ecs.get(ec)?.cpu)
-}
-
-/// What an execution context is about to do, where it is there.
-fn state(ecs: &Ecs, ec: u32) -> Option<State>
-    ensures { result ≡ state_in ecs.now.items ec }
-{
-    Some(ecs.get(ec)?.state)
-}
-
-/// Whether both are there, on one processor.
-fn is_same_cpu(a: Option<u32>, b: Option<u32>) -> bool
-    ensures { result ≡ is_same_cpu a b }
-{
-    match (a, b) {
-        (Some(a), Some(b)) => a == b,
-        _ => false,
-    }
-}
-
-fn is_dead(state: Option<State>) -> bool
-    ensures { result ≡ is_dead state }
-{
-    matches!(state, Some(State::Dead))
-}
-
-fn is_parked(state: Option<State>) -> bool
-    ensures { result ≡ is_parked state }
-{
-    matches!(state, Some(State::Parked))
-}
 
 /// What comes of a call to a handler, with or without its flag, which says not to wait. The first of
 /// these holds: `BadCpu` where one of both isn't there, or they are on two processors; `Aborted` where
@@ -54,14 +17,13 @@ fn is_parked(state: Option<State>) -> bool
 pub fn admit(ecs: &Ecs, caller: u32, handler: u32, flag: bool) -> Admit
     ensures { result ≡ admitted ecs.now.items caller handler flag }
 {
-    if !is_same_cpu(cpu(ecs, handler), cpu(ecs, caller)) {
+    if !ecs.share_processor(handler, caller) {
         return Admit::Refused(Status::BadCpu);
     }
-    let state = state(ecs, handler);
-    if is_dead(state) || ecs.circle(handler, caller) {
+    if ecs.is_lost(handler, caller) {
         return Admit::Refused(Status::Aborted);
     }
-    if is_parked(state) {
+    if ecs.is_parked(handler) {
         return Admit::Send;
     }
     if flag {
@@ -82,7 +44,7 @@ pub fn send(ecs: &mut Ecs, from: &Utcb, to: &mut Utcb, caller: u32, handler: u32
 {
     to.copy_words(from);
     ecs.set_state(caller, State::Calling(handler));
-    ecs.serve(handler, caller, ip, id, from.has_items());
+    ecs.serve(handler, caller, Mark::Call, ip, id, from.has_items());
 }
 
 /// A call without the flag found its handler busy: the caller is then `Helping` it, and nothing else

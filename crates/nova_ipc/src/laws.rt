@@ -5,6 +5,7 @@ ghost use Rattle.nova_model.specs.Calls.{admitted};
 ghost use Rattle.nova_model.specs.Deeds.{parked, performed};
 ghost use Rattle.nova_model.specs.declared.admit.Admit.TheVariants.{Refused, Help, Send};
 ghost use Rattle.nova_model.specs.declared.context.EcState.{EcState};
+ghost use Rattle.nova_model.specs.declared.context.Mark.TheVariants.{Call};
 ghost use Rattle.nova_model.specs.declared.context.State.TheVariants.{Calling, Helping};
 ghost use Rattle.nova_model.specs.declared.deed.Deed.TheVariants.{Calls, Helps, Replies, Finishes, Aborts};
 ghost use Rattle.nova_model.specs.declared.transfer.ItemEnd.{ItemEnd};
@@ -83,16 +84,16 @@ pub fn aborted_calls_answer_the_caller()
 {}
 
 /// The deeds of a turn change the table of execution contexts as these calls do: one that calls, one
-/// that helps, a reply without items or after its last, and one whose handler is dead.
+/// that helps, a reply to a call without items or after its last, and a call whose handler is dead.
 pub fn deeds_change_the_table_so()
     ensures calls { (k : KernelState) (ec handler ip identifier : ℕ) (items : Bool) →
         (performed k ec (Calls handler ip identifier items)).contexts ≡ sent_among k.contexts ec handler ip identifier items }
     ensures helps { (k : KernelState) (ec handler : ℕ) →
         (performed k ec (Helps handler)).contexts ≡ helped_among k.contexts ec handler }
     ensures replies { (k : KernelState) (ec caller : ℕ) →
-        (performed k ec (Replies caller false)).contexts ≡ completed_among k.contexts ec caller }
+        (performed k ec (Replies caller Call false)).contexts ≡ completed_among k.contexts ec caller }
     ensures finishes { (k : KernelState) (ec item caller : ℕ) (end : ItemEnd) (words : Option ItemWords) →
-        (performed k ec (Finishes item end words (Replied caller))).contexts ≡ completed_among k.contexts ec caller }
+        (performed k ec (Finishes item end words (Replied caller Call))).contexts ≡ completed_among k.contexts ec caller }
     ensures aborts { (k : KernelState) (ec handler : ℕ) →
-        (performed k ec (Aborts handler)).contexts ≡ aborted_among k.contexts ec }
+        (performed k ec (Aborts handler Call)).contexts ≡ aborted_among k.contexts ec }
 {}

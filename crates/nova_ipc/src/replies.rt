@@ -2,7 +2,7 @@ ghost use Rattle.std.specs.Prelude.{◌≡◌, IsSome, IsTrue};
 ghost use Rattle.nova_utcb.specs.Messages.{copied, has_counts};
 ghost use Rattle.nova_model.specs.State.{ec_in};
 ghost use Rattle.nova_ec.specs.Tables.{with_items};
-ghost use Rattle.nova_ipc.specs.Effects.{served, replied_among, aborted_among};
+ghost use Rattle.nova_ipc.specs.Effects.{served_call, replied_among, aborted_among};
 
 use nova_ec::Ecs;
 use nova_range::Status;
@@ -17,12 +17,12 @@ pub fn answer(from: &Utcb, to: &mut Utcb)
     to.copy_words(from);
 }
 
-/// A reply is complete. The handler is parked, without a caller and with its registers. Its
-/// caller's call ends with `Success`: it is `Ready`, the status is in its x10, and its pc is after the
-/// call. The handler serves a caller.
+/// A reply to a call is complete. The handler, which serves one, is parked, without a caller and with
+/// its registers. Its caller's call ends with `Success`: it is `Ready`, the status is in its x10, and
+/// its pc is after the call.
 pub fn complete(ecs: &mut Ecs, handler: u32)
-    requires { IsSome (served ecs.old.items handler) }
-    ensures { ecs.new ≡ with_items ecs.old (replied_among ecs.old.items handler (served ecs.old.items handler)) }
+    requires { IsSome (served_call ecs.old.items handler) }
+    ensures { ecs.new ≡ with_items ecs.old (replied_among ecs.old.items handler (served_call ecs.old.items handler)) }
 {
     ecs.keeps_callers();
     let Some((caller, _)) = ecs.context(handler).caller else {

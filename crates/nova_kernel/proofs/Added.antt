@@ -1,11 +1,11 @@
 -- What the lists show of an object that is added.
 use Rattle.std.proofs.Common.{◌≡◌, ℕ, List, [], ◌∷◌, ◌++◌, refl}
-use Rattle.std.specs.Prelude.{Option, None, map, option_map, option_and_then}
+use Rattle.std.specs.Prelude.{None, map, option_map, option_and_then}
 use Rattle.std.proofs.lemmas.List.{map-append}
 use Rattle.nova_objects.specs.declared.object.Object.{Object}
 use Rattle.nova_objects.specs.declared.object.EcKind.{EcKind}
 use Rattle.nova_objects.specs.declared.object.EcKind.TheVariants.{Local, Global, Vcpu}
-use Rattle.nova_model.specs.Creation.{first_state, context_of, idle_semaphore}
+use Rattle.nova_model.specs.Creation.{first_state, context_of}
 use Rattle.nova_model.specs.Edges.{edge_of}
 use Rattle.nova_model.specs.declared.context.EcState.{EcState}
 use Rattle.nova_model.specs.declared.new_object.NewObject.{NewObject}
@@ -14,10 +14,6 @@ use Rattle.nova_kernel.specs.Birth.{guest_of}
 
 pub guests-added : (objects : List Object) (o : Object) → map guest_of (objects ++ o ∷ []) ≡ map guest_of objects ++ guest_of o ∷ []
 guests-added objects o = map-append guest_of objects (o ∷ [])
-
-pub semaphores-added : (counts : List (Option ℕ)) (c : Option ℕ) →
-    map (option_map idle_semaphore) (counts ++ c ∷ []) ≡ map (option_map idle_semaphore) counts ++ option_map idle_semaphore c ∷ []
-semaphores-added counts c = map-append (option_map idle_semaphore) counts (c ∷ [])
 
 -- an execution context that is made waits for no other
 waits-for_none : (kind : EcKind) → edge_of (first_state kind) ≡ None
@@ -32,4 +28,4 @@ made_alone number (new.Sc ec cpu priority quantum) = refl
 made_alone number (new.Pt ec mtd ip) = refl
 made_alone number (new.Sm count) = refl
 
-pub ruleset added = (made_alone, guests-added, semaphores-added)
+pub ruleset added = (made_alone, guests-added)

@@ -8,6 +8,7 @@ use Rattle.nova_model.specs.State.{budget_at, transfer_at}
 use Rattle.nova_model.specs.Boot.{bare, root_derivations, console_derivation, object_derivation}
 use Rattle.nova_model.specs.declared.delegation.Derivation.{Derivation}
 use Rattle.nova_model.specs.declared.root.Root.{Root}
+use Rattle.nova_laws.specs.Keeping.{IsKept}
 use Rattle.nova_kernel.specs.Reach.{LeadsToFrames, LeadToFrames}
 use Rattle.nova_model.specs.Memory.{Memory, written, written_in}
 use Rattle.nova_model.specs.Boot.{laid}
@@ -59,8 +60,8 @@ items-bare cpus ram consoles root (suc zero) = omega arith
 items-bare cpus ram consoles root (suc (suc zero)) = tt
 items-bare cpus ram consoles root (suc (suc (suc n))) = tt
 
-pub IsCounted_bare : (cpus ram consoles : ℕ) (root : Root) → consoles ≤ 16 → IsCounted (bare cpus ram consoles root)
-IsCounted_bare cpus ram consoles root few = record {
+pub IsCounted_bare : (cpus ram consoles : ℕ) (root : Root) → consoles ≤ 16 → IsKept (bare cpus ram consoles root) → IsCounted (bare cpus ram consoles root)
+IsCounted_bare cpus ram consoles root few kept = record {
   charged = record {
     turns = omega arith;
     processors = length-replicate cpus 0;
@@ -73,6 +74,7 @@ IsCounted_bare cpus ram consoles root few = record {
   children = children-bare cpus ram consoles root;
   items = items-bare cpus ram consoles root;
   forest = bare_forest cpus ram consoles root;
+  kept = kept;
 }
 
 -- bytes laid into RAM leave the number of its frames

@@ -6,6 +6,7 @@ use Rattle.nova_model.specs.Forest.{IsForest}
 use Rattle.nova_model.specs.State.{KernelState, budget_at, transfer_at, entry}
 use Rattle.nova_model.specs.Turn.{charged, is_spent, budget_after, stamp_after, quantum_in, counted, paid_by}
 use Rattle.nova_model.specs.declared.budget.Budget.{Budget}
+use Rattle.nova_laws.specs.Keeping.{IsKept}
 use Rattle.nova_kernel.specs.Parts.{AreTables, IsAtItem, IsCharged, IsToBeCharged, IsCounted, IsGivenWithin, IsNumbered, IsPaidWithin, KeepsCounts}
 
 pub IsCharged-kept : (old new : KernelState) → KeepsCounts old new → IsCharged old → IsToBeCharged new
@@ -107,9 +108,10 @@ items-paid k cpu sc quantum None h = h
 items-paid k cpu sc quantum (Some b) h = h
 
 -- an act and its charge keep the bounds
-pub IsCounted-charged : (old k : KernelState) (cpu sc : ℕ) → KeepsCounts old k → IsForest k.delegations → old.turns < 2 ^ 31 → IsCounted old → IsCounted (charged k cpu sc)
+pub IsCounted-charged : (old k : KernelState) (cpu sc : ℕ) → KeepsCounts old k → IsForest k.delegations → old.turns < 2 ^ 31 → IsKept (charged k cpu sc) → IsCounted old →
+    IsCounted (charged k cpu sc)
 unfolding charged
-IsCounted-charged old k cpu sc kept forest few c =
+IsCounted-charged old k cpu sc kept forest few keeps c =
     let o = budget_at k sc in
     let quantum = quantum_in (slice_get k.objects sc) in
     record {
@@ -121,4 +123,5 @@ IsCounted-charged old k cpu sc kept forest few c =
           (children-paid k cpu sc quantum (k.turns + 1) o (children-kept old k kept c.children));
       items = items-paid k cpu sc quantum o (λ ec. kept.items ec (c.items ec));
       forest = subst IsForest (sym (delegations-paid k cpu sc quantum o)) forest;
+      kept = keeps;
     }

@@ -85,7 +85,7 @@ pub ended_deed : (v : Delivery) (t : Transfer) (j : Job) (p : Option Part) (answ
 ended_deed v t j p answer d is range h = h ∙ ap (finished v t.item (Given t.children)) range ∙ sym (ap (part_deed v t j) (ended_part j p is))
 
 -- what is decided and not over changes nothing
-pub later_begun : (k : KernelState) (ec : ℕ) (d : Deed) → is_over d ≡ false → k ≡ begun k ec d
+later_begun : (k : KernelState) (ec : ℕ) (d : Deed) → is_over d ≡ false → k ≡ begun k ec d
 later_begun k ec d later = sym (ap (λ (b : Bool). if b then done k ec d else k) later)
 
 pub ended_begun : (k k₁ : KernelState) (ec : ℕ) (j : Job) (p : Option Part) (d : Deed) → Ended ≡ done_of j p → is_over d ≡ false → k₁ ≡ with_part k p →

@@ -1,20 +1,20 @@
 -- After a deed the queues are right but for the marks of the processor on which somebody moved: one row a variant.
 use Rattle.std.proofs.Common.{◌≡◌, ℕ, ◌<◌, length, refl, ap, sym, ◌∙◌, subst, arith, IsSome}
-use Rattle.std.specs.Prelude.{Bool, true, false, not, ◌||◌, Option, Some, None, if◌then◌else◌, option_map, slice_get}
+use Rattle.std.specs.Prelude.{Bool, true, false, List, Option, Some, None, Ok, if◌then◌else◌, option_and_then, slice_get}
 use Rattle.std.proofs.lemmas.List.{length-set}
 use Rattle.rv_model.specs.Step.{Once, Raised, Went}
-use Rattle.nova_range.specs.declared.status.Status.TheVariants.{Success, Aborted, BadCpu, Timeout}
-use Rattle.nova_model.specs.Calls.{admitted, is_parked, is_same_cpu}
-use Rattle.nova_model.specs.Creation.{with_object}
-use Rattle.nova_model.specs.Deeds.{after_item, answered, changed, done, followed, instruction, parked, performed, recalled, serving, stepped, told, with_context}
-use Rattle.nova_model.specs.Edges.{AreCallers, AreEdges, caller_in, circle, cpu_in, edge_of, is_dead, state_in}
-use Rattle.nova_model.specs.State.{Contexts, KernelState, context, context_at, pd_of, with_ec}
-use Rattle.nova_model.specs.declared.admit.Admit.TheVariants.{Help, Refused, Send}
+use Rattle.nova_range.specs.declared.status.Status.TheVariants.{Success}
+use Rattle.nova_model.specs.Creation.{context_of, with_object}
+use Rattle.nova_model.specs.Deeds.{aborted, after_item, answered, changed, done, followed, instruction, parked, performed, recalled, resumed, serving, stepped, told, with_context}
+use Rattle.nova_model.specs.Edges.{AreCallers, AreEdges, acts, caller_in, cpu_in, edge_of}
+use Rattle.nova_model.specs.Semaphores.{semaphore, woken}
+use Rattle.nova_model.specs.State.{Contexts, KernelState, context, context_at, ec_in, ec_of, message, pd_of, with_ec}
 use Rattle.nova_model.specs.declared.context.EcState.{EcState}
 use Rattle.nova_model.specs.declared.context.Mark.{Mark}
+use Rattle.nova_model.specs.declared.context.Mark.TheVariants as mark
 use Rattle.nova_model.specs.declared.context.State.TheVariants.{Calling, Ready, Replying}
 use Rattle.nova_model.specs.declared.deed.Deed.{Deed}
-use Rattle.nova_model.specs.declared.deed.Deed.TheVariants.{Rests, Steps, Raises, Dies, Refuses, Makes, Recalls, Tells, Names, Opens, Gives, Skips, Finishes, Calls, Helps, Replies, Aborts}
+use Rattle.nova_model.specs.declared.deed.Deed.TheVariants.{Rests, Steps, Sends, Makes, Recalls, Names, Opens, Gives, Skips, Finishes, Calls, Replies, Aborts, Ups, Downs, Blocks}
 use Rattle.nova_model.specs.declared.new_object.NewObject.{NewObject}
 use Rattle.nova_model.specs.declared.new_object.NewObject.TheVariants as new
 use Rattle.nova_model.specs.declared.transfer.ItemEnd.{ItemEnd}
@@ -24,12 +24,18 @@ use Rattle.nova_model.specs.declared.transfer.Sequel.{Sequel}
 use Rattle.nova_model.specs.declared.transfer.Sequel.TheVariants.{Item, Opened, Taken, Replied}
 use Rattle.nova_objects.specs.declared.object.Object.{Object}
 use Rattle.nova_objects.specs.declared.object.Object.TheVariants.{Pd, Ec, Sc, Pt, Sm}
+use Rattle.nova_ec.specs.Changes.{KeepsSound}
+use Rattle.nova_ec.proofs.Acting.{deeds_keep_chases}
+use Rattle.nova_ec.proofs.Changes.{deeds_keep}
 use Rattle.nova_ec.proofs.Tables.{edges_set}
+use Rattle.nova_laws.specs.Waiting.{AreBlocked}
 use Rattle.nova_sched.specs.Queues.{Schedule}
 use Rattle.nova_kernel.specs.Acts.{Fits, IsSequel}
+use Rattle.nova_kernel.specs.Parts.{IsCounted}
 use Rattle.nova_kernel.specs.Schedules.{AreQueued, AreQueuedBut, HasHome, IsAtHome, is_moving, IsPlacedIn, joined, processor_at, schedule_after, stale_by}
-use Rattle.nova_kernel.proofs.Joins.{queued_joined}
-use Rattle.nova_kernel.proofs.Waits.{KeepsQueued, LeadsBut, kept_steady, kept_twice, leads_any, leads_twice, moved, queued_kept, same_state, steady, there_at}
+use Rattle.nova_kernel.proofs.Joins.{queued_joined, leads_more}
+use Rattle.nova_kernel.proofs.Waits.{KeepsQueued, LeadsBut, acting, cpu_of, kept_moved, kept_steady, kept_twice, leads_any, leads_twice, moved, queued_kept, same_state, steady, there_at}
+use Rattle.nova_kernel.proofs.Served.{admitted_near, exit_near, still_there, woken_there}
 
 -- a new object's processor is there
 at_home : (cpus ec cpu : ℕ) (cs : Contexts) (o : Option Object) → processor_at o ≡ Some cpu → IsAtHome cpus cs ec o → (cpu < cpus) × (cpu_in cs ec ≡ Some cpu)
@@ -55,20 +61,54 @@ home_along stale cpus cs ds new.Pd kept home = tt
 home_along stale cpus cs ds (new.Pt ec mtd ip) kept home = tt
 home_along stale cpus cs ds (new.Sm count) kept home = tt
 
--- an object is made by one that moves
-made_queued : (k : KernelState) (s : Schedule) (ec pd selector : ℕ) (y : EcState) (new : NewObject) → AreEdges k.contexts → AreEdges (with_ec k.contexts ec y) →
-    length k.contexts ≡ length k.objects → length k.budgets ≡ length k.objects → IsSome (context_at k ec) → y.cpu ≡ (context k ec).cpu → IsPlacedIn k new → AreQueued k s →
-    AreQueuedBut (Some (context k ec).cpu) (with_object (with_context k ec y) pd selector new) (joined (with_ec k.contexts ec y) s (length k.objects) new)
-made_queued k s ec pd selector y new sound after contexts budgets there cpu placed queued =
-    let stale = Some (context k ec).cpu in
-    let kept = moved k ec y sound there cpu in
-    queued_joined stale (with_context k ec y) s pd selector new after (length-set k.contexts ec (Some y) ∙ contexts) budgets
-    (home_along stale s.cpus k.contexts (with_ec k.contexts ec y) new kept.contexts (home_from k s new queued placed)) (queued_kept stale k (with_context k ec y) s queued kept)
+-- who does a deed is there and acts, and what it finds is sound
+pub record MayMove (k : KernelState) (ec : ℕ) : Type 0 where
+  pub there : IsSome (context_at k ec)
+  pub awake : acts k.contexts ec ≡ true
+  pub edges : AreEdges k.contexts
+  pub callers : AreCallers k.contexts
+  pub blocked : AreBlocked k.contexts k.semaphores
+  pub contexts : length k.contexts ≡ length k.objects
+  pub budgets : length k.budgets ≡ length k.objects
 
--- one that waits for no other then
-edges_open : (k : KernelState) (ec : ℕ) (y : EcState) → AreEdges k.contexts → IsSome (context_at k ec) → y.cpu ≡ (context k ec).cpu → edge_of y.state ≡ None →
-    AreEdges (with_ec k.contexts ec y)
-edges_open k ec y sound there cpu none = edges_set k.contexts ec (context k ec) y None sound (there_at k.contexts ec there) cpu none tt
+pub may_move : (k : KernelState) (ec : ℕ) → IsCounted k → IsSome (context_at k ec) → acts k.contexts ec ≡ true → MayMove k ec
+may_move k ec counted there awake = record {
+  there = there;
+  awake = awake;
+  edges = counted.kept.edges;
+  callers = λ e c m is. (counted.kept.served.linked c e).cpu m is;
+  blocked = counted.kept.blocked;
+  contexts = counted.tables.contexts;
+  budgets = counted.tables.budgets;
+}
+
+-- the processor whose marks are old when a deed is done, in the state before it
+abbrev pub stale_at : KernelState → ℕ → Deed → Option ℕ
+stale_at k ec (Ups sm whom) = option_and_then (cpu_in k.contexts) whom
+stale_at k ec d = if is_moving d then Some (context k ec).cpu else None
+
+-- what is left of the queues: processors stay, and the marks of one alone may be old
+pub record Leaves (stale : Option ℕ) (k new : KernelState) (after : Schedule) : Type 0 where
+  pub homes : (e cpu : ℕ) → cpu_in k.contexts e ≡ Some cpu → cpu_in new.contexts e ≡ Some cpu
+  pub queued : AreQueuedBut stale new after
+
+leaves : (stale : Option ℕ) (k new : KernelState) (s : Schedule) → AreQueued k s → KeepsQueued stale k new → Leaves stale k new s
+leaves stale k new s queued kept = record { homes = kept.contexts.homes; queued = queued_kept stale k new s queued kept }
+
+-- an object is made by one that moves
+made_leaves : (k : KernelState) (s : Schedule) (ec pd selector : ℕ) (y : EcState) (new : NewObject) → MayMove k ec → y.cpu ≡ (context k ec).cpu → edge_of y.state ≡ None →
+    IsPlacedIn k new → AreQueued k s →
+    Leaves (Some (context k ec).cpu) k (with_object (with_context k ec y) pd selector new) (joined (with_ec k.contexts ec y) s (length k.objects) new)
+made_leaves k s ec pd selector y new may cpu none placed queued =
+    let stale = Some (context k ec).cpu in
+    let kept = moved k ec y may.edges may.there cpu in
+    let after : AreEdges (with_ec k.contexts ec y) = edges_set k.contexts ec (context k ec) y None may.edges (there_at k.contexts ec may.there) cpu none tt in
+    record {
+      homes = λ e c at. (leads_more (with_ec k.contexts ec y) (context_of (length k.objects) new) after).homes e c (kept.contexts.homes e c at);
+      queued = queued_joined stale (with_context k ec y) s pd selector new after (length-set k.contexts ec (Some y) ∙ may.contexts) may.budgets
+          (home_along stale s.cpus k.contexts (with_ec k.contexts ec y) new kept.contexts (home_from k s new queued placed))
+          (queued_kept stale k (with_context k ec y) s queued kept);
+    }
 
 stepped_keeps : (k : KernelState) (ec : ℕ) (o : Once) → IsSome (context_at k ec) → KeepsQueued None k (stepped k ec o)
 stepped_keeps k ec (Raised reason q0 q1) there = same_state k
@@ -110,34 +150,6 @@ told_aside : (stale : Option ℕ) (k mid : KernelState) (item : ℕ) (words : Op
 told_aside stale k mid item None kept = kept
 told_aside stale k mid item (Some w) kept = aside stale k mid _ kept refl refl refl refl refl
 
--- a call and a reply: two of one processor
-
--- the processor of one who is called
-same_by : (a b : Option ℕ) → is_same_cpu a b ≡ true → a ≡ b
-same_by (Some a) (Some b) same = ap Some (let h : a ≡ b = grind (arith, same) in h)
-same_by None b same = absurd cc
-same_by (Some a) None same = absurd cc
-
-pub admitted_near : (cs : Contexts) (caller handler : ℕ) → admitted cs caller handler false ≡ Send → cpu_in cs handler ≡ cpu_in cs caller
-admitted_near cs caller handler is = same_by (cpu_in cs handler) (cpu_in cs caller) (by_test (is_same_cpu (cpu_in cs handler) (cpu_in cs caller)) is)
-  where
-    by_test : (t : Bool) →
-        (if not t then Refused BadCpu
-        else if is_dead (state_in cs handler) || circle cs handler caller then Refused Aborted
-        else if is_parked (state_in cs handler) then Send
-        else if false then Refused Timeout
-        else Help) ≡ Send → t ≡ true
-    by_test true h = refl
-    by_test false h = absurd cc
-
--- the processor of one who is served
-pub caller_near : (cs : Contexts) (e c : ℕ) → AreCallers cs → option_map (λ (p : ℕ × Mark). p.0) (caller_in cs e) ≡ Some c → cpu_in cs c ≡ cpu_in cs e
-caller_near cs e c sound is = by_caller (caller_in cs e) refl is
-  where
-    by_caller : (o : Option (ℕ × Mark)) → caller_in cs e ≡ o → option_map (λ (p : ℕ × Mark). p.0) o ≡ Some c → cpu_in cs c ≡ cpu_in cs e
-    by_caller None at h = absurd cc
-    by_caller (Some (d, mark)) at h = sound e c mark (at ∙ ap (λ (n : ℕ). Some (n, mark)) (let same : d ≡ c = cc in same))
-
 -- one changes, and then another of its processor
 two_queued : (k : KernelState) (ec other : ℕ) (x : EcState) (f : EcState → EcState) → AreEdges k.contexts → IsSome (context_at k ec) → x.cpu ≡ (context k ec).cpu →
     ((z : EcState) → (f z).cpu ≡ z.cpu) → cpu_in k.contexts other ≡ cpu_in k.contexts ec →
@@ -145,113 +157,148 @@ two_queued : (k : KernelState) (ec other : ℕ) (x : EcState) (f : EcState → E
 two_queued k ec other x f sound there cpu keeps near =
     record { contexts = kept_twice k.contexts ec other x f sound there cpu keeps near; objects = refl; budgets = refl; next_stamp = refl; cpus = refl }
 
-called_queued : (k : KernelState) (ec handler ip identifier : ℕ) (items : Bool) → AreEdges k.contexts → IsSome (context_at k ec) → cpu_in k.contexts handler ≡ cpu_in k.contexts ec →
-    KeepsQueued (Some (context k ec).cpu) k (performed k ec (Calls handler ip identifier items))
-called_queued k ec handler ip identifier items sound there near =
-    aside (Some (context k ec).cpu) k
-    (with_context (with_context k ec (record (context k ec) { state = Calling handler })) handler
-    (serving (context (with_context k ec (record (context k ec) { state = Calling handler })) handler) ec ip identifier items)) _
-    (two_queued k ec handler (record (context k ec) { state = Calling handler }) (λ z. serving z ec ip identifier items) sound there refl (λ z. refl) near)
-    refl refl refl refl refl
+-- a call or an exit is sent, and message words change
+sent_queued : (k new : KernelState) (ec handler ip identifier : ℕ) (m : Mark) (items : Bool) → MayMove k ec → cpu_in k.contexts handler ≡ cpu_in k.contexts ec →
+    let mid = with_context k ec (record (context k ec) { state = Calling handler }) in
+    new.contexts ≡ with_ec mid.contexts handler (serving (context mid handler) ec m ip identifier items) →
+    new.objects ≡ k.objects → new.budgets ≡ k.budgets → new.next_stamp ≡ k.next_stamp → new.cpus ≡ k.cpus → KeepsQueued (Some (context k ec).cpu) k new
+sent_queued k new ec handler ip identifier m items may near contexts objects budgets stamp cpus =
+    let mid = with_context k ec (record (context k ec) { state = Calling handler }) in
+    aside (Some (context k ec).cpu) k (with_context mid handler (serving (context mid handler) ec m ip identifier items)) new
+    (two_queued k ec handler (record (context k ec) { state = Calling handler }) (λ z. serving z ec m ip identifier items) may.edges may.there refl (λ z. refl) near)
+    contexts objects budgets stamp cpus
 
-replied_queued : (k : KernelState) (ec caller : ℕ) (items : Bool) → AreEdges k.contexts → IsSome (context_at k ec) → cpu_in k.contexts caller ≡ cpu_in k.contexts ec →
-    KeepsQueued (Some (context k ec).cpu) k (performed k ec (Replies caller items))
-replied_queued k ec caller true sound there near =
-    aside (Some (context k ec).cpu) k (with_context k ec (record (context k ec) { state = Replying })) _ (moved k ec (record (context k ec) { state = Replying }) sound there refl)
-    refl refl refl refl refl
-replied_queued k ec caller false sound there near =
-    aside (Some (context k ec).cpu) k
-    (with_context (with_context k ec (parked (context k ec))) caller (answered (context (with_context k ec (parked (context k ec))) caller) Success None)) _
-    (two_queued k ec caller (parked (context k ec)) (λ z. answered z Success None) sound there refl (λ z. refl) near)
-    refl refl refl refl refl
+resumed_cpu : (x : EcState) (m : Mark) (words : List ℕ) → (resumed x m words).cpu ≡ x.cpu
+resumed_cpu x mark.Call words = refl
+resumed_cpu x mark.Exit words = refl
+
+aborted_cpu : (x : EcState) (m : Mark) → (aborted x m).cpu ≡ x.cpu
+aborted_cpu x mark.Call = refl
+aborted_cpu x mark.Exit = refl
+
+-- a reply completes, and message words change
+completed_queued : (k new : KernelState) (ec caller : ℕ) (m : Mark) (words : List ℕ) → MayMove k ec → caller_in k.contexts ec ≡ Some (caller, m) →
+    let mid = with_context k ec (parked (context k ec)) in
+    new.contexts ≡ with_ec mid.contexts caller (resumed (context mid caller) m words) →
+    new.objects ≡ k.objects → new.budgets ≡ k.budgets → new.next_stamp ≡ k.next_stamp → new.cpus ≡ k.cpus → KeepsQueued (Some (context k ec).cpu) k new
+completed_queued k new ec caller m words may is contexts objects budgets stamp cpus =
+    let mid = with_context k ec (parked (context k ec)) in
+    aside (Some (context k ec).cpu) k (with_context mid caller (resumed (context mid caller) m words)) new
+    (two_queued k ec caller (parked (context k ec)) (λ z. resumed z m words) may.edges may.there refl (λ z. resumed_cpu z m words)
+    (may.callers ec caller m is))
+    contexts objects budgets stamp cpus
+
+replied_queued : (k : KernelState) (ec caller : ℕ) (m : Mark) (items : Bool) → MayMove k ec → caller_in k.contexts ec ≡ Some (caller, m) →
+    KeepsQueued (Some (context k ec).cpu) k (performed k ec (Replies caller m items))
+replied_queued k ec caller mark.Call true may is =
+    aside (Some (context k ec).cpu) k (with_context k ec (record (context k ec) { state = Replying })) _
+    (moved k ec (record (context k ec) { state = Replying }) may.edges may.there refl) refl refl refl refl refl
+replied_queued k ec caller mark.Exit true may is = moved k ec (record (context k ec) { state = Replying }) may.edges may.there refl
+replied_queued k ec caller mark.Call false may is = completed_queued k _ ec caller mark.Call (message k ec) may is refl refl refl refl refl
+replied_queued k ec caller mark.Exit false may is = completed_queued k _ ec caller mark.Exit (message k ec) may is refl refl refl refl refl
 
 -- the end of an item, with words that are told
-ended_queued : (k : KernelState) (ec item : ℕ) (words : Option ItemWords) (after : Sequel) → AreEdges k.contexts → AreCallers k.contexts → IsSome (context_at k ec) →
-    IsSequel k ec item after →
-    KeepsQueued (stale_by (context k ec).cpu (Finishes item (Given 0) words after)) k (followed (told (with_context k ec (after_item (context k ec) after)) item words) after)
-ended_queued k ec item words Item sound callers there sequel =
-    told_aside None k (with_context k ec (context k ec)) item words (steady k ec (context k ec) there refl refl)
-ended_queued k ec item words Opened sound callers there sequel =
-    told_aside (Some (context k ec).cpu) k _ item words (moved k ec (answered (context k ec) Success None) sound there refl)
-ended_queued k ec item words Taken sound callers there sequel =
-    told_aside (Some (context k ec).cpu) k _ item words (moved k ec (record (context k ec) { state = Ready }) sound there refl)
-ended_queued k ec item words (Replied caller) sound callers there sequel = by_words words
-  where
-    two : KeepsQueued (Some (context k ec).cpu) k
-        (with_context (with_context k ec (parked (context k ec))) caller (answered (context (with_context k ec (parked (context k ec))) caller) Success None))
-    two = two_queued k ec caller (parked (context k ec)) (λ z. answered z Success None) sound there refl (λ z. refl) (caller_near k.contexts ec caller callers sequel)
+ended_queued : (k : KernelState) (ec item : ℕ) (words : Option ItemWords) (after : Sequel) → MayMove k ec → IsSequel k ec item after →
+    KeepsQueued (stale_at k ec (Finishes item (Given 0) words after)) k (followed (told (with_context k ec (after_item (context k ec) after)) item words) ec after)
+ended_queued k ec item words Item may sequel = told_aside None k (with_context k ec (context k ec)) item words (steady k ec (context k ec) may.there refl refl)
+ended_queued k ec item words Opened may sequel =
+    told_aside (Some (context k ec).cpu) k _ item words (moved k ec (answered (context k ec) Success None) may.edges may.there refl)
+ended_queued k ec item words Taken may sequel =
+    told_aside (Some (context k ec).cpu) k _ item words (moved k ec (record (context k ec) { state = Ready }) may.edges may.there refl)
+ended_queued k ec item None (Replied caller m) may sequel = completed_queued k _ ec caller m _ may sequel refl refl refl refl refl
+ended_queued k ec item (Some w) (Replied caller m) may sequel = completed_queued k _ ec caller m _ may sequel refl refl refl refl refl
 
-    by_words : (words : Option ItemWords) → KeepsQueued (Some (context k ec).cpu) k (followed (told (with_context k ec (parked (context k ec))) item words) (Replied caller))
-    by_words None = two
-    by_words (Some w) = aside (Some (context k ec).cpu) k _ _ two refl refl refl refl refl
+finished_queued : (k : KernelState) (ec item : ℕ) (end : ItemEnd) (words : Option ItemWords) (after : Sequel) → MayMove k ec → IsSequel k ec item after →
+    KeepsQueued (stale_at k ec (Finishes item end words after)) k (done k ec (Finishes item end words after))
+finished_queued k ec item end words after may sequel =
+    aside (stale_at k ec (Finishes item (Given 0) words after)) k (followed (told (with_context k ec (after_item (context k ec) after)) item words) ec after) _
+    (ended_queued k ec item words after may sequel) refl refl refl refl refl
 
-finished_queued : (k : KernelState) (ec item : ℕ) (end : ItemEnd) (words : Option ItemWords) (after : Sequel) → AreEdges k.contexts → AreCallers k.contexts →
-    IsSome (context_at k ec) → IsSequel k ec item after →
-    KeepsQueued (stale_by (context k ec).cpu (Finishes item end words after)) k (done k ec (Finishes item end words after))
-finished_queued k ec item end words after sound callers there sequel =
-    aside (stale_by (context k ec).cpu (Finishes item (Given 0) words after)) k (followed (told (with_context k ec (after_item (context k ec) after)) item words) after) _
-    (ended_queued k ec item words after sound callers there sequel) refl refl refl refl refl
+-- an up and a down leave who acts so: all turns stay, but for those of whom an up wakes
+answered_queued : (k : KernelState) (ec : ℕ) → MayMove k ec → KeepsQueued None k (with_context k ec (answered (context k ec) Success None))
+answered_queued k ec may = record {
+  contexts = acting k.contexts ec (answered (context k ec) Success None) may.there refl (deeds_keep_chases k.contexts ec (Downs 0) may.awake refl);
+  objects = refl;
+  budgets = refl;
+  next_stamp = refl;
+  cpus = refl;
+}
 
-pub done_queued : (k : KernelState) (s : Schedule) (ec : ℕ) (d : Deed) → AreEdges k.contexts → AreCallers k.contexts → length k.contexts ≡ length k.objects →
-    length k.budgets ≡ length k.objects → IsSome (context_at k ec) → Fits k ec d → AreQueued k s →
-    AreQueuedBut (stale_by (context k ec).cpu d) (done k ec d) (schedule_after k ec s d)
-done_queued k s ec Rests sound callers contexts budgets there fits queued = queued
-done_queued k s ec Steps sound callers contexts budgets there fits queued =
-    queued_kept None k (stepped k ec (instruction k ec)) s queued (stepped_keeps k ec (instruction k ec) there)
-done_queued k s ec (Raises reason q0 q1) sound callers contexts budgets there fits queued =
-    queued_kept (Some (context k ec).cpu) k _ s queued (moved k ec (changed (context k ec) (Raises reason q0 q1)) sound there refl)
-done_queued k s ec (Dies reason q0) sound callers contexts budgets there fits queued =
-    queued_kept (Some (context k ec).cpu) k _ s queued (moved k ec (changed (context k ec) (Dies reason q0)) sound there refl)
-done_queued k s ec (Refuses call status) sound callers contexts budgets there fits queued =
-    queued_kept (Some (context k ec).cpu) k _ s queued (moved k ec (changed (context k ec) (Refuses call status)) sound there refl)
-done_queued k s ec (Makes call target new) sound callers contexts budgets there fits queued =
-    let y = changed (context k ec) (Makes call target new) in
-    made_queued k s ec (pd_of k ec) target y new sound (edges_open k ec y sound there refl refl) contexts budgets there refl fits.1 queued
-done_queued k s ec (Recalls other) sound callers contexts budgets there fits queued =
-    queued_kept (Some (context k ec).cpu) k _ s queued
+upped_queued : (k : KernelState) (ec sm : ℕ) (whom : Option ℕ) → MayMove k ec → woken (semaphore k.semaphores sm) ≡ Ok whom →
+    KeepsQueued (stale_at k ec (Ups sm whom)) k (performed k ec (Ups sm whom))
+upped_queued k ec sm None may is =
+    aside None k (with_context k ec (answered (context k ec) Success None)) _ (answered_queued k ec may) refl refl refl refl refl
+upped_queued k ec sm (Some w) may is =
+    let mid = with_ec k.contexts ec (answered (context k ec) Success None) in
+    let sound : KeepsSound k.contexts mid = deeds_keep k.contexts ec (Downs 0) may.there tt in
+    let its : IsSome (ec_in mid w) = still_there k.contexts ec w (answered (context k ec) Success None) (woken_there k.contexts k.semaphores sm w may.blocked is) in
+    let first = answered_queued k ec may in
+    let home : Some (ec_of mid w).cpu ≡ cpu_in k.contexts w = sym (cpu_of mid w its) ∙ sound.cpus w in
+    record {
+      contexts = subst (λ (stale : Option ℕ). LeadsBut stale k.contexts (with_ec mid w (answered (ec_of mid w) Success None))) home
+          (leads_twice (Some (ec_of mid w).cpu) k.contexts mid (with_ec mid w (answered (ec_of mid w) Success None))
+          (leads_any (Some (ec_of mid w).cpu) k.contexts mid first.contexts)
+          (kept_moved mid w (ec_of mid w) (answered (ec_of mid w) Success None) (sound.edges may.edges) (there_at mid w its) refl));
+      objects = refl;
+      budgets = refl;
+      next_stamp = refl;
+      cpus = refl;
+    }
+
+pub done_leaves : (k : KernelState) (s : Schedule) (ec : ℕ) (d : Deed) → MayMove k ec → Fits k ec d → AreQueued k s →
+    Leaves (stale_at k ec d) k (done k ec d) (schedule_after k ec s d)
+done_leaves k s ec Rests may fits queued = leaves None k k s queued (same_state k)
+done_leaves k s ec Steps may fits queued = leaves None k _ s queued (stepped_keeps k ec (instruction k ec) may.there)
+done_leaves k s ec (Makes call target new) may fits queued = made_leaves k s ec (pd_of k ec) target (changed (context k ec) (Makes call target new)) new may refl refl fits.1 queued
+done_leaves k s ec (Opens target domain) may fits queued = made_leaves k s ec (pd_of k ec) target (changed (context k ec) (Opens target domain)) new.Pd may refl refl tt queued
+done_leaves k s ec (Recalls other) may fits queued =
+    leaves _ k _ s queued
     (recalled_keeps (Some (context k ec).cpu) k (with_context k ec (changed (context k ec) (Recalls other))) other _
-    (moved k ec (changed (context k ec) (Recalls other)) sound there refl) refl)
-done_queued k s ec (Tells call value) sound callers contexts budgets there fits queued =
-    queued_kept (Some (context k ec).cpu) k _ s queued (moved k ec (changed (context k ec) (Tells call value)) sound there refl)
-done_queued k s ec (Names pt identifier) sound callers contexts budgets there fits queued =
-    queued_kept (Some (context k ec).cpu) k _ s queued
+    (moved k ec (changed (context k ec) (Recalls other)) may.edges may.there refl) refl)
+done_leaves k s ec (Names pt identifier) may fits queued =
+    leaves _ k _ s queued
     (aside (Some (context k ec).cpu) k (with_context k ec (changed (context k ec) (Names pt identifier))) _
-    (moved k ec (changed (context k ec) (Names pt identifier)) sound there refl) refl refl refl refl refl)
-done_queued k s ec (Opens target domain) sound callers contexts budgets there fits queued =
-    let y = changed (context k ec) (Opens target domain) in
-    made_queued k s ec (pd_of k ec) target y new.Pd sound (edges_open k ec y sound there refl refl) contexts budgets there refl tt queued
-done_queued k s ec (Gives child cursor) sound callers contexts budgets there fits queued =
-    queued_kept None k _ s queued (aside None k k _ (same_state k) refl refl refl refl refl)
-done_queued k s ec (Skips reason place cursor) sound callers contexts budgets there fits queued =
-    queued_kept None k _ s queued (aside None k k _ (same_state k) refl refl refl refl refl)
-done_queued k s ec (Finishes item end words after) sound callers contexts budgets there fits queued =
-    queued_kept _ k _ s queued (finished_queued k ec item end words after sound callers there fits.1.1)
-done_queued k s ec (Calls handler ip identifier items) sound callers contexts budgets there fits queued =
-    queued_kept (Some (context k ec).cpu) k _ s queued (called_queued k ec handler ip identifier items sound there (admitted_near k.contexts ec handler fits.0))
-done_queued k s ec (Helps handler) sound callers contexts budgets there fits queued =
-    queued_kept (Some (context k ec).cpu) k _ s queued (moved k ec (changed (context k ec) (Helps handler)) sound there refl)
-done_queued k s ec (Replies caller items) sound callers contexts budgets there fits queued =
-    queued_kept (Some (context k ec).cpu) k _ s queued
-    (replied_queued k ec caller items sound there (caller_near k.contexts ec caller callers (ap (option_map (λ (p : ℕ × Mark). p.0)) fits.0)))
-done_queued k s ec (Aborts handler) sound callers contexts budgets there fits queued =
-    queued_kept (Some (context k ec).cpu) k _ s queued (moved k ec (changed (context k ec) (Aborts handler)) sound there refl)
+    (moved k ec (changed (context k ec) (Names pt identifier)) may.edges may.there refl) refl refl refl refl refl)
+done_leaves k s ec (Gives child cursor) may fits queued = leaves None k _ s queued (aside None k k _ (same_state k) refl refl refl refl refl)
+done_leaves k s ec (Skips reason place cursor) may fits queued = leaves None k _ s queued (aside None k k _ (same_state k) refl refl refl refl refl)
+done_leaves k s ec (Finishes item end words after) may fits queued = leaves _ k _ s queued (finished_queued k ec item end words after may fits.1.1)
+done_leaves k s ec (Calls handler ip identifier items) may fits queued =
+    leaves _ k _ s queued (sent_queued k _ ec handler ip identifier mark.Call items may (admitted_near k.contexts ec handler fits.0) refl refl refl refl refl)
+done_leaves k s ec (Sends handler ip identifier mtd reason q0 q1) may fits queued =
+    leaves _ k _ s queued (sent_queued k _ ec handler ip identifier mark.Exit false may (exit_near k.contexts ec handler fits.0) refl refl refl refl refl)
+done_leaves k s ec (Replies caller m items) may fits queued = leaves _ k _ s queued (replied_queued k ec caller m items may fits.0)
+done_leaves k s ec (Aborts handler m) may fits queued =
+    leaves _ k _ s queued (moved k ec (changed (context k ec) (Aborts handler m)) may.edges may.there (aborted_cpu (context k ec) m))
+done_leaves k s ec (Ups sm whom) may fits queued = leaves _ k _ s queued (upped_queued k ec sm whom may fits)
+done_leaves k s ec (Downs sm) may fits queued =
+    leaves None k _ s queued (aside None k (with_context k ec (answered (context k ec) Success None)) _ (answered_queued k ec may) refl refl refl refl refl)
+done_leaves k s ec (Blocks sm) may fits queued =
+    leaves _ k _ s queued
+    (aside (Some (context k ec).cpu) k (with_context k ec (changed (context k ec) (Blocks sm))) _
+    (moved k ec (changed (context k ec) (Blocks sm)) may.edges may.there refl) refl refl refl refl refl)
+done_leaves k s ec other may fits queued = leaves _ k _ s queued (moved k ec (changed (context k ec) other) may.edges may.there refl)
+
+-- whose marks are old is the same after the deed
+stale_stays : (k : KernelState) (ds : Contexts) (ec : ℕ) (d : Deed) → MayMove k ec → Fits k ec d →
+    ((e cpu : ℕ) → cpu_in k.contexts e ≡ Some cpu → cpu_in ds e ≡ Some cpu) → stale_by ds ec d ≡ stale_at k ec d
+stale_stays k ds ec (Ups sm None) may fits homes = refl
+stale_stays k ds ec (Ups sm (Some w)) may fits homes =
+    let home = cpu_of k.contexts w (woken_there k.contexts k.semaphores sm w may.blocked fits) in homes w (ec_of k.contexts w).cpu home ∙ sym home
+stale_stays k ds ec other may fits homes = by_test (is_moving other)
+  where
+    by_test : (t : Bool) → option_and_then (cpu_in ds) (if t then Some ec else None) ≡ (if t then Some (context k ec).cpu else None)
+    by_test true = homes ec (context k ec).cpu (cpu_of k.contexts ec may.there)
+    by_test false = refl
 
 -- in other words: what is left to be marked when a deed is done
-pub stale_after : (k new : KernelState) (s after : Schedule) (ec cpu : ℕ) (d : Deed) → AreEdges k.contexts → AreCallers k.contexts →
-    length k.contexts ≡ length k.objects → length k.budgets ≡ length k.objects → IsSome (context_at k ec) → Fits k ec d → AreQueued k s → new ≡ done k ec d → after ≡ schedule_after k ec s d →
-    cpu ≡ (context k ec).cpu → AreQueuedBut (stale_by cpu d) new after
-stale_after k new s after ec cpu d sound callers contexts budgets there fits queued is marks home =
-    subst (λ (n : ℕ). AreQueuedBut (stale_by n d) new after) (sym home)
-    (subst (λ (x : KernelState). AreQueuedBut (stale_by (context k ec).cpu d) x after) (sym is)
-    (subst (λ (x : Schedule). AreQueuedBut (stale_by (context k ec).cpu d) (done k ec d) x) (sym marks) (done_queued k s ec d sound callers contexts budgets there fits queued)))
-
-pub stale_moving : (new : KernelState) (after : Schedule) (cpu : ℕ) (d : Deed) → is_moving d ≡ true → AreQueuedBut (stale_by cpu d) new after → AreQueuedBut (Some cpu) new after
-stale_moving new after cpu d moving queued =
-    subst (λ (t : Bool). AreQueuedBut (if t then Some cpu else None) new after) moving queued
-
-pub stale_none : (new : KernelState) (after : Schedule) (cpu : ℕ) (d : Deed) → is_moving d ≡ false → AreQueuedBut (stale_by cpu d) new after → AreQueued new after
-stale_none new after cpu d still queued =
-    subst (λ (t : Bool). AreQueuedBut (if t then Some cpu else None) new after) still queued
+pub stale_after : (k new : KernelState) (s after : Schedule) (ec : ℕ) (d : Deed) (stale : Option ℕ) → MayMove k ec → Fits k ec d → AreQueued k s → new ≡ done k ec d →
+    after ≡ schedule_after k ec s d → stale ≡ stale_by new.contexts ec d → AreQueuedBut stale new after
+stale_after k new s after ec d stale may fits queued is marks home =
+    let left = done_leaves k s ec d may fits queued in
+    subst (λ (o : Option ℕ). AreQueuedBut o new after)
+    (sym (home ∙ ap (λ (x : KernelState). stale_by x.contexts ec d) is ∙ stale_stays k (done k ec d).contexts ec d may fits left.homes))
+    (subst (λ (x : KernelState). AreQueuedBut (stale_at k ec d) x after) (sym is)
+    (subst (λ (x : Schedule). AreQueuedBut (stale_at k ec d) (done k ec d) x) (sym marks) left.queued))
 
 -- nothing changed
 pub queued_same : (k new : KernelState) (s after : Schedule) → AreQueued k s → new ≡ k → after ≡ s → AreQueued new after

@@ -22,9 +22,12 @@ raise-deed k new ec reason q0 q1 d is steps signals =
     subst (λ (s : KernelState). d ≡ signalled s ec reason q0 q1 ((reason == environment_call) && is_thread s ec)) (steps ∙ stays.1) signals
     ∙ sym (ap (stepping k ec) stays.0)
 
+pub raise-stays : (k new : KernelState) (ec : ℕ) (reason q0 q1 : ℕ) → outcome_of (instruction k ec) ≡ Raise reason q0 q1 → new ≡ done k ec Steps → new ≡ k
+raise-stays k new ec reason q0 q1 is steps = steps ∙ (raises k ec (instruction k ec) reason q0 q1 is).1
+
 pub raise-begun : (k new : KernelState) (ec : ℕ) (reason q0 q1 : ℕ) (d : Deed) → outcome_of (instruction k ec) ≡ Raise reason q0 q1 → new ≡ done k ec Steps →
     is_over d ≡ false → new ≡ begun k ec d
-raise-begun k new ec reason q0 q1 d is steps later = steps ∙ (raises k ec (instruction k ec) reason q0 q1 is).1 ∙ rw later refl
+raise-begun k new ec reason q0 q1 d is steps later = raise-stays k new ec reason q0 q1 is steps ∙ rw later refl
 
 -- a deed of which something is left is done from the state that it was decided in
 pub act-does : (k mid new : KernelState) (ec : ℕ) (d : Deed) → mid ≡ k → new ≡ done mid ec d → new ≡ done k ec d

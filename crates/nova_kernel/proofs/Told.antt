@@ -1,11 +1,12 @@
 -- What a handler gives goes to its caller, who is there.
 use Rattle.std.proofs.Common.{◌≡◌, ℕ, ◌≤◌, refl, ap, sym, ◌∙◌, subst}
-use Rattle.std.specs.Prelude.{Option, Some, None, IsSome, option_and_then, option_map}
-use Rattle.nova_model.specs.Deliveries.{delivery_between}
+use Rattle.std.specs.Prelude.{Option, Some, None, IfSome, IsSome, option_and_then, option_map}
+use Rattle.nova_model.specs.Deliveries.{delivery_between, told_by}
 use Rattle.nova_model.specs.Edges.{AreCallers, caller_in}
 use Rattle.nova_model.specs.State.{Contexts, KernelState, context, context_at, context_in, ec_in}
 use Rattle.nova_model.specs.declared.context.EcState.{EcState}
 use Rattle.nova_model.specs.declared.context.Mark.{Mark}
+use Rattle.nova_model.specs.declared.context.Mark.TheVariants.{Call, Exit}
 use Rattle.nova_model.specs.declared.transfer.Delivery.{Delivery}
 use Rattle.nova_model.specs.declared.transfer.Sequel.TheVariants.{Replied}
 use Rattle.nova_kernel.specs.Acts.{IsGivenBy}
@@ -21,12 +22,18 @@ there_too (Some x) b same there = refl
 there_too None None same there = there
 there_too None (Some y) same there = absurd (cc)
 
+-- who is told of the items is there
+told_there : (k : KernelState) (caller : ℕ) (mark : Mark) → IsSome (context_at k caller) → IfSome (told_by caller mark) (λ to. IsSome (context_at k to))
+told_there k caller Call there = there
+told_there k caller Exit there = tt
+
 pub given_to_caller : (k : KernelState) (ec item caller : ℕ) (mark : Mark) (v : Delivery) → IsSome (context_at k ec) → AreCallers k.contexts →
-    (context k ec).caller ≡ Some (caller, mark) → v.items ≤ 62 → v ≡ delivery_between k ec caller item (Replied caller) → IsGivenBy k ec item v
+    (context k ec).caller ≡ Some (caller, mark) → v.items ≤ 62 → v ≡ delivery_between k ec caller item (told_by caller mark) (Replied caller mark) →
+    IsGivenBy k ec item v
 given_to_caller k ec item caller mark v there callers serves items is =
     let kept : caller_in k.contexts ec ≡ Some (caller, mark) = caller_kept k.contexts ec (ec_in k.contexts ec) (Some (caller, mark)) refl there serves in
     subst (λ (w : Delivery). IsGivenBy k ec item w) (sym is) (record {
       items = subst (λ (w : Delivery). w.items ≤ 62) is items;
-      told = there_too (ec_in k.contexts caller) (ec_in k.contexts ec) (callers ec caller mark kept) there;
-      last = ap (option_map (λ (c : ℕ × Mark). c.0)) kept;
+      told = told_there k caller mark (there_too (ec_in k.contexts caller) (ec_in k.contexts ec) (callers ec caller mark kept) there);
+      last = kept;
     })

@@ -10,6 +10,8 @@ use Rattle.nova_model.specs.declared.budget.Budget.{Budget}
 use Rattle.nova_model.specs.declared.context.EcState.{EcState}
 use Rattle.nova_objects.specs.declared.object.Object.{Object}
 use Rattle.nova_objects.specs.declared.object.Object.TheVariants.{Pd, Ec, Sc, Pt, Sm}
+use Rattle.nova_ec.specs.Changes.{AllStay}
+use Rattle.nova_ec.proofs.Acting.{all_turns_stay}
 use Rattle.nova_ec.proofs.Tables.{ec_in-set_other, ec_in-set_same}
 use Rattle.nova_ec.proofs.Untouched.{others_stay_at, same_acts, turns_stay}
 use Rattle.nova_ec.proofs.Donors.{same_state_keeps_chases}
@@ -119,6 +121,13 @@ kept_moved cs e x y sound there cpu = record {
   homes = λ ec home at. cpu_set cs e ec home x y there cpu at;
 }
 
+-- it acts before and after
+pub acting : (cs : Contexts) (e : ℕ) (y : EcState) → IsSome (ec_in cs e) → y.cpu ≡ (ec_of cs e).cpu → AllStay cs (with_ec cs e y) → LeadsBut None cs (with_ec cs e y)
+acting cs e y there cpu all = record {
+  same = λ ec home at fresh. same_acts cs (with_ec cs e y) ec (all_turns_stay cs (with_ec cs e y) ec all);
+  homes = λ ec home at. cpu_set cs e ec home (ec_of cs e) y (there_at cs e there) cpu at;
+}
+
 leads_self : (cs : Contexts) → LeadsBut None cs cs
 leads_self cs = record { same = λ ec home at fresh. refl; homes = λ ec home at. at }
 
@@ -163,7 +172,7 @@ not_there cs home e x at apart same =
     let cpu : apart.0 ≡ home = (let both : Some apart.0 ≡ Some home = sym apart.1 ∙ ap (cpu_in cs) same ∙ at in cc) in
     absurd (let other = apart.2 in grind (arith, cpu, other))
 
-cpu_of : (cs : Contexts) (e : ℕ) → IsSome (ec_in cs e) → cpu_in cs e ≡ Some (ec_of cs e).cpu
+pub cpu_of : (cs : Contexts) (e : ℕ) → IsSome (ec_in cs e) → cpu_in cs e ≡ Some (ec_of cs e).cpu
 cpu_of cs e there = ap (option_map (λ (z : EcState). z.cpu)) (there_at cs e there)
 
 pub kept_twice : (cs : Contexts) (e h : ℕ) (x : EcState) (f : EcState → EcState) → AreEdges cs → IsSome (ec_in cs e) → x.cpu ≡ (ec_of cs e).cpu →

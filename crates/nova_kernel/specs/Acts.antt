@@ -1,17 +1,20 @@
 -- What the parts of a turn answer and leave.
-use Rattle.std.specs.Prelude.{ℕ, ◌≡◌, ◌<◌, ◌≤◌, ◌+◌, ◌^◌, Bool, true, false, if◌then◌else◌, length, Option, Some, None, IsSome, IfSome, option_map}
+use Rattle.std.specs.Prelude.{ℕ, ◌≡◌, ◌<◌, ◌≤◌, ◌+◌, ◌^◌, Bool, true, false, if◌then◌else◌, length, Option, Some, None, Ok, IsSome, IfSome}
 use Rattle.rv_core.specs.declared.outcome.Outcome.{Outcome}
 use Rattle.rv_core.specs.declared.outcome.Outcome.TheVariants.{Next, Raise}
 use Rattle.rv_model.specs.Step.{Once, Raised, Went}
 use Rattle.nova_model.specs.Capabilities.{is_held}
 use Rattle.nova_utcb.specs.Messages.{has_counts, has_items}
-use Rattle.nova_model.specs.Calls.{admitted}
+use Rattle.nova_model.specs.Calls.{admitted, exit_admitted}
+use Rattle.nova_model.specs.Exits.{raised_exit}
+use Rattle.nova_model.specs.Semaphores.{answer_of, semaphore, woken}
 use Rattle.nova_model.specs.Deeds.{done}
 use Rattle.nova_model.specs.Deliveries.{is_busy}
 use Rattle.nova_model.specs.Edges.{caller_in}
-use Rattle.nova_model.specs.State.{KernelState, context_at, message, transfer}
+use Rattle.nova_model.specs.State.{KernelState, context, context_at, message, transfer}
 use Rattle.nova_model.specs.declared.admit.Admit.TheVariants.{Send, Help}
-use Rattle.nova_model.specs.declared.context.Mark.TheVariants.{Call}
+use Rattle.nova_model.specs.declared.admit.ExitAdmit.TheVariants as exit
+use Rattle.nova_model.specs.declared.semaphore.Down.TheVariants.{Done, Blocked}
 use Rattle.nova_model.specs.declared.transfer.Delivery.{Delivery}
 use Rattle.nova_model.specs.declared.transfer.ItemWords.{ItemWords}
 use Rattle.nova_model.specs.declared.transfer.Sequel.{Sequel}
@@ -21,7 +24,7 @@ use Rattle.nova_kernel.specs.Schedules.{IsPlacedIn}
 use Rattle.nova_model.specs.declared.transfer.Job.{Job}
 use Rattle.nova_model.specs.declared.transfer.Transfer.{Transfer}
 use Rattle.nova_model.specs.declared.deed.Deed.{Deed}
-use Rattle.nova_model.specs.declared.deed.Deed.TheVariants.{Rests, Steps, Makes, Recalls, Names, Opens, Gives, Skips, Finishes, Calls, Helps, Replies, Aborts}
+use Rattle.nova_model.specs.declared.deed.Deed.TheVariants.{Rests, Steps, Waits, Sends, Makes, Recalls, Names, Opens, Gives, Skips, Finishes, Calls, Helps, Replies, Aborts, Ups, Downs, Blocks}
 
 -- the outcome of an instruction
 abbrev pub outcome_of : Once → Outcome
@@ -36,7 +39,7 @@ IsToldThere k (Some w) = IsSome (context_at k w.ec)
 -- a further item is one that a message may have; a reply completes to the caller that is kept
 abbrev pub IsSequel : KernelState → ℕ → ℕ → Sequel → Type 0
 IsSequel k ec item Item = item + 1 < 62
-IsSequel k ec item (Replied caller) = option_map (λ c. c.0) (caller_in k.contexts ec) ≡ Some caller
+IsSequel k ec item (Replied caller mark) = caller_in k.contexts ec ≡ Some (caller, mark)
 IsSequel k ec item other = Unit {0}
 
 -- what an execution context gives, of which this item is present: at most 62 items, to one who is there
@@ -46,7 +49,8 @@ pub record IsGivenBy (k : KernelState) (ec item : ℕ) (v : Delivery) : Type 0 w
   pub last : IsSequel k ec item v.last
 
 -- what a deed names is there, a selector is one, and what it makes is of a processor that is there; a call is sent or helps as it is admitted, and
--- with a message that has its counts; a reply goes to the caller that is kept
+-- with a message that has its counts; a reply goes to the caller that is kept; an exit that is raised is sent or waits as it is admitted; an up and a down
+-- come to what the semaphore says
 abbrev pub Fits : KernelState → ℕ → Deed → Type 0
 Fits k ec (Makes call target new) = (target < 2 ^ 20) × IsPlacedIn k new
 Fits k ec (Opens target domain) = (target < 2 ^ 20) × (domain ≡ length k.objects)
@@ -55,7 +59,13 @@ Fits k ec (Names pt identifier) = pt < length k.objects
 Fits k ec (Calls handler ip identifier items) =
     (admitted k.contexts ec handler false ≡ Send) × ((has_counts (message k ec) ≡ true) × (items ≡ has_items (message k ec)))
 Fits k ec (Helps handler) = admitted k.contexts ec handler false ≡ Help
-Fits k ec (Replies caller items) = (caller_in k.contexts ec ≡ Some (caller, Call)) × (has_counts (message k ec) ≡ true)
+Fits k ec (Replies caller mark items) = (caller_in k.contexts ec ≡ Some (caller, mark)) × (has_counts (message k ec) ≡ true)
+Fits k ec (Waits handler reason q0 q1) = exit_admitted k.contexts ec handler ≡ exit.Waits
+Fits k ec (Sends handler ip identifier mtd reason q0 q1) =
+    (exit_admitted k.contexts ec handler ≡ exit.Sends) × (raised_exit (context k ec).state ≡ Some (reason, q0, q1))
+Fits k ec (Ups sm whom) = woken (semaphore k.semaphores sm) ≡ Ok whom
+Fits k ec (Downs sm) = answer_of (semaphore k.semaphores sm) ≡ Done
+Fits k ec (Blocks sm) = answer_of (semaphore k.semaphores sm) ≡ Blocked
 Fits k ec (Finishes item end words after) = (item < 62) × (IsToldThere k words × IsSequel k ec item after)
 Fits k ec other = Unit {0}
 
@@ -67,12 +77,17 @@ is_over (Gives child cursor) = true
 is_over (Skips reason place cursor) = true
 is_over other = false
 
--- what a deed makes of its execution context is all that it does to contexts and message words, but for a recall
+-- what a deed makes of its execution context is all that it does to contexts, message words and semaphores, but for a recall
 abbrev pub is_alone : Deed → Bool
 is_alone (Calls handler ip identifier items) = false
 is_alone (Helps handler) = false
-is_alone (Replies caller items) = false
-is_alone (Aborts handler) = false
+is_alone (Waits handler reason q0 q1) = false
+is_alone (Sends handler ip identifier mtd reason q0 q1) = false
+is_alone (Replies caller mark items) = false
+is_alone (Aborts handler mark) = false
+is_alone (Ups sm whom) = false
+is_alone (Downs sm) = false
+is_alone (Blocks sm) = false
 is_alone (Finishes item end words after) = false
 is_alone other = true
 

@@ -1,13 +1,7 @@
 -- The parts of the state that nothing changes yet: as every object has them at birth. A part that calls begin to change gets a field of
 -- the kernel's and goes from here.
-use Rattle.std.specs.Prelude.{ℕ, List, map, option_map, Option, None}
+use Rattle.std.specs.Prelude.{ℕ, List, map, Option, None}
 use Rattle.nova_objects.specs.declared.object.Object.{Object}
-use Rattle.nova_model.specs.Creation.{idle_semaphore}
-use Rattle.nova_model.specs.State.{Semaphore}
-
--- semaphores with these counters: nobody waits
-abbrev pub semaphores_at_birth : List (Option ℕ) → List (Option Semaphore)
-semaphores_at_birth counts = map (option_map idle_semaphore) counts
 
 -- stir counts of guests: no object is a guest
 abbrev pub guest_of : Object → Option ℕ

@@ -2,6 +2,7 @@
 use Rattle.std.specs.Prelude.{IsSome, slice_index, ℕ, ◌+◌, ◌*◌, ◌^◌, ◌<◌, ◌≤◌, ◌≡◌, length, vec_len, vec_capacity, Option, Some, None}
 use Rattle.nova_model.specs.Forest.{IsForest}
 use Rattle.nova_model.specs.State.{KernelState, context_at, budget_at, transfer_at}
+use Rattle.nova_laws.specs.Keeping.{IsKept}
 use Rattle.nova_model.specs.declared.deed.Deed.{Deed}
 use Rattle.nova_model.specs.declared.deed.Deed.TheVariants.{Makes, Opens}
 use Rattle.nova_model.specs.declared.budget.Budget.{Budget}
@@ -11,7 +12,7 @@ use Rattle.nova_model.specs.declared.new_object.NewObject.TheVariants.{Sc}
 use Rattle.nova_nodes.specs.NodesStates.{room}
 use Rattle.nova_sched.specs.Queues.{QueuesState, Schedule}
 use Rattle.nova_sched.specs.Queues as queues
-use Rattle.nova_kernel.specs.Birth.{semaphores_at_birth, guests_at_birth}
+use Rattle.nova_kernel.specs.Birth.{guests_at_birth}
 use Rattle.nova_kernel.specs.Schedules.{budgets_of}
 use Rattle.nova_kernel.specs.declared.parts.Parts.{Parts}
 
@@ -25,7 +26,7 @@ shown p = record {
   transfers = p.transfers.items;
   budgets = budgets_of p.queues.all (length p.objects.items);
   identifiers = p.identifiers.items;
-  semaphores = semaphores_at_birth p.counts.items;
+  semaphores = p.semaphores.all;
   memory = p.reach.memory;
   next_stamp = p.queues.all.next_stamp;
   turns = p.turns;
@@ -42,7 +43,8 @@ pub record HasRoom (pd : ℕ) (p : Parts) : Type 0 where
   pub messages : 0 < p.reach.messages.spare
   pub transfers : vec_len p.transfers < vec_capacity p.transfers
   pub identifiers : vec_len p.identifiers < vec_capacity p.identifiers
-  pub counts : vec_len p.counts < vec_capacity p.counts
+  pub semaphores : 0 < p.semaphores.spare
+  pub waiting : length p.semaphores.all < p.semaphores.contexts
 
 -- and a scheduling context has room in the queue of its processor
 abbrev pub HasQueue : NewObject → ℕ → QueuesState → Type 0
@@ -105,7 +107,8 @@ IsCharged k = IsChargedWithin (2 * k.turns + 1) k
 abbrev pub IsToBeCharged : KernelState → Type 0
 IsToBeCharged k = IsChargedWithin (2 * k.turns + 2) k
 
--- what always holds: bounds of what is counted, an entry of each table for each object, and delegations that are a sound forest
+-- what always holds: bounds of what is counted, an entry of each table for each object, delegations that are a sound forest, and what each turn keeps of
+-- the state that it finds
 pub record IsCounted (k : KernelState) : Type 0 where
   pub charged : IsCharged k
   pub numbered : IsNumbered k.turns k
@@ -113,6 +116,7 @@ pub record IsCounted (k : KernelState) : Type 0 where
   pub children : (ec : ℕ) → IsGivenWithin k.turns (transfer_at k ec)
   pub items : (ec : ℕ) → IsAtItem (transfer_at k ec)
   pub forest : IsForest k.delegations
+  pub kept : IsKept k
 
 -- an act leaves each execution context and each scheduling context there, and lets none pay; it gives at most one number to an object and to
 -- a derivation, at most one stamp, and counts at most one child

@@ -1,6 +1,6 @@
 -- How the queues of scheduling contexts stand to the state: each scheduling context waits as its object says, with its budget, and is marked
 -- runnable where its turns lead to an execution context that acts.
-use Rattle.std.specs.Prelude.{ℕ, ◌≡◌, ◌<◌, ◌≤◌, ◌==◌, ◌&&◌, Bool, true, false, not, List, [], ◌∷◌, length, map, max, slice_get, Option, Some, None, is_some, option_map, if◌then◌else◌}
+use Rattle.std.specs.Prelude.{ℕ, ◌≡◌, ◌<◌, ◌≤◌, ◌==◌, ◌&&◌, Bool, true, false, not, List, [], ◌∷◌, length, map, max, slice_get, Option, Some, None, is_some, option_and_then, option_map, if◌then◌else◌}
 use Rattle.nova_objects.specs.declared.object.Object.{Object}
 use Rattle.nova_objects.specs.declared.object.Object.TheVariants.{Ec, Sc}
 use Rattle.nova_model.specs.Deeds.{changed}
@@ -8,7 +8,7 @@ use Rattle.nova_model.specs.Edges.{acts, chase, cpu_in}
 use Rattle.nova_model.specs.State.{Contexts, KernelState, budget_at, context, with_ec}
 use Rattle.nova_model.specs.declared.budget.Budget.{Budget}
 use Rattle.nova_model.specs.declared.deed.Deed.{Deed}
-use Rattle.nova_model.specs.declared.deed.Deed.TheVariants.{Rests, Steps, Makes, Gives, Skips, Finishes}
+use Rattle.nova_model.specs.declared.deed.Deed.TheVariants.{Rests, Steps, Makes, Gives, Skips, Finishes, Ups, Downs}
 use Rattle.nova_model.specs.declared.new_object.NewObject.{NewObject}
 use Rattle.nova_model.specs.declared.new_object.NewObject.TheVariants as new
 use Rattle.nova_model.specs.declared.root.Root.{Root}
@@ -91,18 +91,26 @@ schedule_after k ec s (Makes call target new) = joined (with_ec k.contexts ec (c
 schedule_after k ec s other = s
 
 -- An execution context that does this may be in another state then, and another one with it, so that others may find turns or lose them: a
--- hypercall may be made anew by one that helps. It stays as it is where it rests, goes on, or gives a part of an item or one of several.
+-- hypercall may be made anew by one that helps. It stays as it is where it rests, goes on, or gives a part of an item or one of several; and it acts as
+-- before where it ups a semaphore, or lowers one.
 abbrev pub is_moving : Deed → Bool
 is_moving Rests = false
 is_moving Steps = false
 is_moving (Gives child cursor) = false
 is_moving (Skips reason place cursor) = false
 is_moving (Finishes item end words Item) = false
+is_moving (Ups sm whom) = false
+is_moving (Downs sm) = false
 is_moving other = true
 
--- so that the marks of its processor are old then
-abbrev pub stale_by : ℕ → Deed → Option ℕ
-stale_by cpu d = if is_moving d then Some cpu else None
+-- an up moves whom it wakes alone, who may be of another processor
+abbrev pub moved_by : ℕ → Deed → Option ℕ
+moved_by ec (Ups sm whom) = whom
+moved_by ec d = if is_moving d then Some ec else None
+
+-- so that the marks of that one's processor are old then
+abbrev pub stale_by : Contexts → ℕ → Deed → Option ℕ
+stale_by cs ec d = option_and_then (cpu_in cs) (moved_by ec d)
 
 -- scheduling contexts are marked one after another
 abbrev pub remarked : List Object → Contexts → List ℕ → Schedule → Schedule

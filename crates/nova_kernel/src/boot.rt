@@ -19,6 +19,7 @@ use nova_nodes::{ListIndex, Nodes};
 use nova_objects::Objects;
 use nova_range::{Range, Target};
 use nova_sched::Queues;
+use nova_sem::Sems;
 use nova_utcb::Utcb;
 use rv_core::Regs;
 use std::alloc::{AllocError, Global};
@@ -209,6 +210,19 @@ fn root_nodes(alloc: Global, order: u8, consoles: u32) -> Result<Nodes<ListIndex
     Ok(nodes)
 }
 
+/// No semaphores: an entry for each of the root's objects, which holds none.
+fn root_semaphores(alloc: Global) -> Result<Sems, AllocError>
+    ensures { IfOk result (λ s. s.all ≡ None ∷ None ∷ None ∷ []) }
+{
+    let mut semaphores = Sems::new(alloc);
+    semaphores.reserve(3)?;
+    for _object in 0..3u32 {
+        semaphores.room_for_ec()?;
+        semaphores.add(None);
+    }
+    Ok(semaphores)
+}
+
 /// A count of 0 for each processor.
 fn first_stirs(alloc: Global, cpus: u32) -> Result<Vec<u64>, AllocError>
     ensures { IfOk result (λ v. v.items ≡ replicate cpus 0) }
@@ -239,7 +253,7 @@ impl Parts {
         let transfers = root_transfers(alloc)?;
         let queues = root_queues(alloc, cpus, root)?;
         let identifiers = no_entries(alloc)?;
-        let counts = no_entries(alloc)?;
+        let semaphores = root_semaphores(alloc)?;
         let stirs = first_stirs(alloc, cpus)?;
         Ok(Parts {
             reach,
@@ -248,7 +262,7 @@ impl Parts {
             queues,
             transfers,
             identifiers,
-            counts,
+            semaphores,
             turns: 0,
             cpus,
             stirs,

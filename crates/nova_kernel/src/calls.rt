@@ -1,47 +1,16 @@
 ghost use Rattle.std.specs.Prelude.{◌≡◌, IfOk, IsSome};
-ghost use Rattle.nova_model.specs.Hypercalls.{handler_of, ip_of, identifier, call, reply};
+ghost use Rattle.nova_model.specs.Hypercalls.{call, reply};
 ghost use Rattle.nova_model.specs.State.{context_at};
 ghost use Rattle.nova_kernel.specs.Parts.{shown};
 ghost use Rattle.nova_kernel.specs.Acts.{IsAsked};
 
 use crate::capabilities::ObjectType;
 use crate::parts::Parts;
-use nova_ec::Mark;
 use nova_ipc::admit;
-use nova_model::{Admit, Deed, Object, Rights};
+use nova_model::{Admit, Deed, Rights};
 use nova_range::Status;
 
 impl Parts {
-    /// The handler of a portal.
-    fn handler_of(&self, pt: u32) -> u32
-        ensures { result ≡ handler_of (shown self.now) pt }
-    {
-        match self.objects.get(pt) {
-            Some(Object::Pt { ec, .. }) => *ec,
-            _ => 0,
-        }
-    }
-
-    /// Where the handler of a portal begins.
-    fn ip_of(&self, pt: u32) -> u32
-        ensures { result ≡ ip_of (shown self.now) pt }
-    {
-        match self.objects.get(pt) {
-            Some(Object::Pt { ip, .. }) => *ip,
-            _ => 0,
-        }
-    }
-
-    /// The identifier of a portal.
-    fn identifier(&self, pt: u32) -> u32
-        ensures { result ≡ identifier (shown self.now) pt }
-    {
-        match self.identifiers.get(pt as usize) {
-            Some(Some(identifier)) => *identifier,
-            _ => 0,
-        }
-    }
-
     /// `CALL`: sends a call through a portal, or helps its handler where that is busy. `BadPar` where
     /// the message counts more words than there are, `BadCap` where the capability names no portal with
     /// the right to call; then what `admit` answers.
@@ -80,11 +49,12 @@ impl Parts {
             return Err(Status::BadPar);
         }
         match self.contexts.context(ec).caller {
-            Some((caller, Mark::Call)) => Ok(Deed::Replies {
+            Some((caller, mark)) => Ok(Deed::Replies {
                 caller,
+                mark,
                 items: message.has_items(),
             }),
-            _ => Err(Status::BadPar),
+            None => Err(Status::BadPar),
         }
     }
 }

@@ -19,6 +19,7 @@ pub enum ObjectType {
     Schedulable,
     Sc,
     Pt,
+    Sm,
 }
 
 impl ObjectType {
@@ -45,6 +46,7 @@ impl ObjectType {
             ),
             ObjectType::Sc => matches!(object, Object::Sc { .. }),
             ObjectType::Pt => matches!(object, Object::Pt { .. }),
+            ObjectType::Sm => matches!(object, Object::Sm),
         }
     }
 }

@@ -1,6 +1,6 @@
 ghost use Rattle.std.specs.Prelude.{◌≡◌, slice_get, IsSome, IfSome, option_map};
 ghost use Rattle.nova_model.specs.Choice.{choice, choose, is_quiet};
-ghost use Rattle.nova_model.specs.State.{budget_at, context_at, ec_in};
+ghost use Rattle.nova_model.specs.State.{context_at, ec_in};
 ghost use Rattle.nova_sched.specs.Queues as queues;
 ghost use Rattle.nova_kernel.specs.Choices.{chosen_of, led};
 ghost use Rattle.nova_kernel.specs.Parts.{shown};

@@ -142,6 +142,7 @@ impl Parts {
     /// Makes room for one more object and its capability, which a protection domain holds. It refuses
     /// for want of memory alone.
     fn reserve(&mut self, domain: u32) -> Result<(), AllocError>
+        requires numbers { length (shown self.old).semaphores < 2 ^ 32 - 1 }
         ensures shown { shown self.new ≡ shown self.old }
         ensures queues { self.new.queues ≡ self.old.queues }
         ensures log { self.new.reach.room ≡ self.old.reach.room }
@@ -153,13 +154,15 @@ impl Parts {
         self.contexts.reserve(1)?;
         self.transfers.reserve(1)?;
         self.identifiers.reserve(1)?;
-        self.counts.reserve(1)?;
+        self.semaphores.reserve(1)?;
+        self.semaphores.room_for_ec()?;
         Ok(())
     }
 
     /// Makes room for one more protection domain too, with a space of its own.
     fn reserve_domain(&mut self, domain: u32) -> Result<(), AllocError>
-        requires { length (shown self.old).objects < 2 ^ 32 }
+        requires objects { length (shown self.old).objects < 2 ^ 32 }
+        requires numbers { length (shown self.old).semaphores < 2 ^ 32 - 1 }
         ensures shown { shown self.new ≡ shown self.old }
         ensures queues { self.new.queues ≡ self.old.queues }
         ensures log { self.new.reach.room ≡ self.old.reach.room }
@@ -172,6 +175,7 @@ impl Parts {
     /// Makes room for one more scheduling context too, in the queue of a processor.
     fn reserve_sc(&mut self, domain: u32, cpu: u32) -> Result<(), AllocError>
         requires objects { length (shown self.old).objects < 2 ^ 32 }
+        requires numbers { length (shown self.old).semaphores < 2 ^ 32 - 1 }
         requires cpu { cpu < self.old.queues.all.cpus }
         ensures shown { shown self.new ≡ shown self.old }
         ensures queues { self.new.queues.all ≡ self.old.queues.all }
@@ -187,6 +191,7 @@ impl Parts {
     /// refuses for want of memory alone.
     pub fn make_room(&mut self, domain: u32, deed: Deed) -> Result<(), AllocError>
         requires objects { length (shown self.old).objects < 2 ^ 32 }
+        requires numbers { length (shown self.old).semaphores < 2 ^ 32 - 1 }
         requires queue { FitsQueues deed self.old.queues.all }
         ensures shown { shown self.new ≡ shown self.old }
         ensures queues { self.new.queues.all ≡ self.old.queues.all }
@@ -236,6 +241,6 @@ impl Parts {
         self.reach.add_message(words_of(object));
         self.transfers.push_reserved(transfer_of(object));
         self.identifiers.push_reserved(identifier_of(new));
-        self.counts.push_reserved(count_of(new));
+        self.semaphores.add(count_of(new));
     }
 }

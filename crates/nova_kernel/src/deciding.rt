@@ -82,11 +82,15 @@ impl Parts {
                 q1: 0,
             },
             State::Ready => self.step(ec),
-            State::Exiting(reason, q0, _) => Deed::Dies { reason, q0 },
+            State::Exiting(reason, q0, q1) => self.exit(ec, reason, q0, q1),
+            State::Sending(reason, q0, q1, _) => self.exit(ec, reason, q0, q1),
             State::Granting(_) | State::Replying => self.deliver(ec)?,
-            State::Calling(handler) => Deed::Aborts { handler },
+            State::Calling(handler) => Deed::Aborts {
+                handler,
+                mark: self.mark_of(handler),
+            },
             State::Helping(_) => self.hypercall(ec),
-            State::Parked | State::Sending(..) | State::Dead => Deed::Rests,
+            State::Parked | State::Blocked(_) | State::Dead => Deed::Rests,
         };
         Ok(deed)
     }

@@ -1,11 +1,10 @@
-ghost use Rattle.std.specs.Prelude.{not, ◌≡◌, ◌==◌, ◌&&◌, ◌<◌, ◌≤◌, length, true, false, Some, IsSome, option_map};
+ghost use Rattle.std.specs.Prelude.{not, ◌≡◌, ◌==◌, ◌&&◌, ◌<◌, ◌≤◌, length, true, false, Some, IsSome};
 ghost use Rattle.nova_model.specs.Calls.{admitted};
-ghost use Rattle.nova_model.specs.Deeds.{after_item, changed, done, followed, passed, performed, recall, recalled, told, transfer_after, with_context};
-ghost use Rattle.nova_model.specs.Edges.{caller_in};
+ghost use Rattle.nova_model.specs.Deeds.{after_item, brought, changed, done, followed, passed, performed, recall, recalled, told, transfer_after, with_context};
+ghost use Rattle.nova_model.specs.Edges.{acts, caller_in};
 ghost use Rattle.nova_utcb.specs.Messages.{has_counts, has_items};
 ghost use Rattle.nova_ec.specs.Tables.{with_items};
 ghost use Rattle.nova_model.specs.declared.admit.Admit.{Admit};
-ghost use Rattle.nova_model.specs.declared.context.Mark.{Mark};
 ghost use Rattle.nova_model.specs.declared.transfer.ItemEnd.{ItemEnd};
 ghost use Rattle.nova_model.specs.State.{ec_in, ec_of, with_ec, context, context_at, message, pd_of};
 ghost use Rattle.nova_kernel.specs.Parts.{shown, AreTables, HasRoomFor, IsCounted};
@@ -16,8 +15,9 @@ use crate::creation::NO_TRANSFER;
 use crate::deciding::RECALL;
 use crate::parts::Parts;
 use nova_ec::Ecs;
-use nova_ipc::{abort, answer, complete, help, send};
-use nova_model::{Deed, EcState, ItemWords, NewObject, Sequel, State, Transfer};
+use nova_exit::write_back;
+use nova_ipc::{answer, complete, help, send};
+use nova_model::{Deed, EcState, ItemWords, Mark, NewObject, Sequel, State, Transfer};
 use nova_range::Status;
 
 /// Whether the recall of an execution context stays asked for after an exit: a recall is answered by
@@ -35,7 +35,7 @@ fn raise(contexts: &mut Ecs, ec: u32, reason: u32, q0: u32, q1: u32)
 {
     let is_recalled = stays_recalled(contexts.context(ec), reason);
     contexts.set_recall(ec, is_recalled);
-    contexts.set_state(ec, State::Exiting(reason, q0, q1));
+    nova_exit::raise(contexts, ec, reason, q0, q1);
 }
 
 /// What a deed makes of the execution context itself, where it tells others nothing.
@@ -47,7 +47,7 @@ pub fn change(contexts: &mut Ecs, ec: u32, deed: Deed)
 {
     match deed {
         Deed::Raises { reason, q0, q1 } => raise(contexts, ec, reason, q0, q1),
-        Deed::Dies { .. } => contexts.set_state(ec, State::Dead),
+        Deed::Dies { .. } => nova_exit::die(contexts, ec),
         Deed::Refuses { status, .. } => contexts.answer(ec, status, None),
         Deed::Tells { value, .. } => contexts.answer(ec, Status::Success, Some(value)),
         Deed::Makes { .. } | Deed::Recalls { .. } | Deed::Names { .. } => {
@@ -120,13 +120,19 @@ impl Parts {
     }
 
     /// A reply completes: the execution context waits for a call, and its caller goes on.
-    fn complete(&mut self, ec: u32, caller: u32)
-        requires { option_map (λ c. c.0) (caller_in (shown self.old).contexts ec) ≡ Some caller }
-        ensures completed { shown self.new ≡ followed (with_context (shown self.old) ec (after_item (context (shown self.old) ec) (Sequel.Replied caller))) (Sequel.Replied caller) }
+    fn complete(&mut self, ec: u32, caller: u32, mark: Mark)
+        requires { caller_in (shown self.old).contexts ec ≡ Some (caller, mark) }
+        ensures completed { shown self.new ≡ followed (with_context (shown self.old) ec (after_item (context (shown self.old) ec) (Sequel.Replied caller mark))) ec (Sequel.Replied caller mark) }
         ensures queues { self.new.queues ≡ self.old.queues }
         ensures log { self.new.reach.room ≡ self.old.reach.room }
     {
-        complete(&mut self.contexts, ec);
+        match mark {
+            Mark::Call => complete(&mut self.contexts, ec),
+            Mark::Exit => {
+                let message = self.message(ec);
+                write_back(&mut self.contexts, &message, ec);
+            }
+        }
     }
 
     /// Its caller gets the message of its reply.
@@ -143,21 +149,36 @@ impl Parts {
         self.set_message(caller, &to);
     }
 
-    /// It replies: its caller gets the message, and where no items are to be given the reply completes.
-    fn reply_to(&mut self, ec: u32, caller: u32, items: bool)
-        requires caller { caller_in (shown self.old).contexts ec ≡ Some (caller, Mark.Call) }
+    /// A reply brings a caller who called its message; one who came by an exit gets none.
+    fn bring(&mut self, ec: u32, caller: u32, mark: Mark)
+        requires counts { has_counts (message (shown self.old) ec) ≡ true }
+        requires there { caller < length (shown self.old).messages }
+        ensures brought { shown self.new ≡ brought (shown self.old) ec caller mark }
+        ensures queues { self.new.queues ≡ self.old.queues }
+        ensures log { self.new.reach.room ≡ self.old.reach.room }
+    {
+        match mark {
+            Mark::Call => self.pass(ec, caller),
+            Mark::Exit => {}
+        }
+    }
+
+    /// It replies: a caller who called gets the message, and where no items are to be given the reply
+    /// completes.
+    fn reply_to(&mut self, ec: u32, caller: u32, mark: Mark, items: bool)
+        requires caller { caller_in (shown self.old).contexts ec ≡ Some (caller, mark) }
         requires counts { has_counts (message (shown self.old) ec) ≡ true }
         requires tables { AreTables (shown self.old) }
-        ensures replied { shown self.new ≡ performed (shown self.old) ec (Deed.Replies caller items) }
+        ensures replied { shown self.new ≡ performed (shown self.old) ec (Deed.Replies caller mark items) }
         ensures queues { self.new.queues ≡ self.old.queues }
         ensures log { self.new.reach.room ≡ self.old.reach.room }
     {
         self.contexts.keeps_callers();
-        self.pass(ec, caller);
+        self.bring(ec, caller, mark);
         if items {
             self.contexts.set_state(ec, State::Replying);
         } else {
-            self.complete(ec, caller);
+            self.complete(ec, caller, mark);
         }
     }
 
@@ -181,7 +202,7 @@ impl Parts {
     fn follow(&mut self, ec: u32, item: u32, after: Sequel)
         requires there { IsSome (context_at (shown self.old) ec) }
         requires sequel { IsSequel (shown self.old) ec item after }
-        ensures followed { shown self.new ≡ followed (with_context (shown self.old) ec (after_item (context (shown self.old) ec) after)) after }
+        ensures followed { shown self.new ≡ followed (with_context (shown self.old) ec (after_item (context (shown self.old) ec) after)) ec after }
         ensures queues { self.new.queues ≡ self.old.queues }
         ensures log { self.new.reach.room ≡ self.old.reach.room }
     {
@@ -189,7 +210,7 @@ impl Parts {
             Sequel::Item => {}
             Sequel::Opened => self.contexts.answer(ec, Status::Success, None),
             Sequel::Taken => self.contexts.set_state(ec, State::Ready),
-            Sequel::Replied(caller) => self.complete(ec, caller),
+            Sequel::Replied(caller, mark) => self.complete(ec, caller, mark),
         }
     }
 
@@ -236,6 +257,7 @@ impl Parts {
     /// The execution context does a deed that is not over, in the room that was made.
     pub fn perform(&mut self, ec: u32, deed: Deed)
         requires there { IsSome (context_at (shown self.old) ec) }
+        requires acts { acts (shown self.old).contexts ec ≡ true }
         requires counted { IsCounted (shown self.old) }
         requires fits { Fits (shown self.old) ec deed }
         requires left { is_over deed ≡ false }
@@ -254,8 +276,28 @@ impl Parts {
                 ..
             } => self.send(ec, handler, ip, identifier),
             Deed::Helps { handler } => help(&mut self.contexts, ec, handler),
-            Deed::Aborts { .. } => abort(&mut self.contexts, ec),
-            Deed::Replies { caller, items } => self.reply_to(ec, caller, items),
+            Deed::Waits {
+                handler,
+                reason,
+                q0,
+                q1,
+            } => self.await_handler(ec, handler, reason, q0, q1),
+            Deed::Sends {
+                handler,
+                ip,
+                identifier,
+                mtd,
+                ..
+            } => self.send_exit(ec, handler, ip, identifier, mtd),
+            Deed::Aborts { handler, mark } => self.abort(ec, handler, mark),
+            Deed::Replies {
+                caller,
+                mark,
+                items,
+            } => self.reply_to(ec, caller, mark, items),
+            Deed::Ups { sm, woken } => self.raise_counter(ec, sm, woken),
+            Deed::Downs { sm } => self.lower_counter(ec, sm),
+            Deed::Blocks { sm } => self.block(ec, sm),
             Deed::Finishes {
                 item,
                 words,

@@ -1,10 +1,10 @@
 ghost use Rattle.std.specs.Prelude.{◌≡◌};
-ghost use Rattle.nova_model.specs.Deeds.{reason_number, skip_number, parent_id, item_sign};
+ghost use Rattle.nova_model.specs.Deeds.{reason_number, skip_number, mark_number, parent_id, item_sign};
 ghost use Rattle.nova_model.specs.Turn.{event_by};
 
 use crate::choice::Chosen;
 use nova_calls::numbers;
-use nova_model::{Deed, Event, EventKind, ItemEnd, Reason, Skip};
+use nova_model::{Deed, Event, EventKind, ItemEnd, Mark, Reason, Skip};
 
 /// Why a part is skipped, as a number.
 fn reason_number(reason: Reason) -> u32
@@ -24,6 +24,16 @@ fn skip_number(skip: Skip) -> u32
     match skip {
         Skip::Empty => 1,
         Skip::Window => 2,
+    }
+}
+
+/// A call is 0, and an exit 1.
+fn mark_number(mark: Mark) -> u32
+    ensures { result ≡ mark_number mark }
+{
+    match mark {
+        Mark::Call => 0,
+        Mark::Exit => 1,
     }
 }
 
@@ -53,6 +63,12 @@ pub fn event_of(cpu: u32, chosen: Chosen, deed: Deed) -> Event
         Deed::Rests | Deed::Steps => (EventKind::Step, 0, 0),
         Deed::Raises { reason, q0, .. } => (EventKind::Raise, reason, q0),
         Deed::Dies { reason, q0 } => (EventKind::Died, reason, q0),
+        Deed::Waits { handler, .. } => (EventKind::Help, handler, 1),
+        Deed::Sends {
+            handler,
+            reason,
+            ..
+        } => (EventKind::Sent, reason, handler),
         Deed::Refuses { call, status } => (EventKind::Answer, call, status.code()),
         Deed::Makes { call, .. } => (EventKind::Answer, call, 0),
         Deed::Recalls { .. } => (EventKind::Answer, numbers::EC_CTRL, 0),
@@ -67,9 +83,12 @@ pub fn event_of(cpu: u32, chosen: Chosen, deed: Deed) -> Event
         Deed::Replies {
             caller,
             items: true,
+            ..
         } => (EventKind::Begin, numbers::REPLY, caller),
         Deed::Replies { items: false, .. } => (EventKind::Answer, numbers::REPLY, 0),
-        Deed::Aborts { handler } => (EventKind::Abort, handler, 0),
+        Deed::Aborts { handler, mark } => (EventKind::Abort, handler, mark_number(mark)),
+        Deed::Ups { .. } | Deed::Downs { .. } => (EventKind::Answer, numbers::SM_CTRL, 0),
+        Deed::Blocks { sm } => (EventKind::Begin, numbers::SM_CTRL, sm),
     };
     Event {
         cpu,

@@ -52,6 +52,7 @@ fn is_built(number: u32) -> bool
             | numbers::EC_CTRL
             | numbers::SC_CTRL
             | numbers::PT_CTRL
+            | numbers::SM_CTRL
     )
 }
 
@@ -300,7 +301,8 @@ impl Parts {
                 let pt = self.named(domain, ObjectType::Pt, Rights::CONTROL, pt)?;
                 Ok(Deed::Names { pt, identifier })
             }
-            _ => Err(Status::BadHyp),
+            Call::SmCtrl { sm, action } => self.sm_ctrl(domain, sm, action),
+            Call::Revoke { .. } => Err(Status::BadHyp),
         }
     }
 

@@ -1,7 +1,7 @@
 ghost use Rattle.std.specs.Prelude.{false, ◌≡◌, ◌<◌, ◌≤◌, ℕ, IsSome, IfSome};
 ghost use Rattle.nova_delegate.specs.Parts.{IsUnderWay};
 ghost use Rattle.nova_range.specs.Rights.{IsRights};
-ghost use Rattle.nova_model.specs.Deliveries.{first_delivery, delivery_between, taken_from, given_to, delivery, flag, words_for, sequel_of, finished, range_given};
+ghost use Rattle.nova_model.specs.Deliveries.{first_delivery, delivery_between, taken_from, told_by, given_to, delivery, flag, words_for, sequel_of, finished, range_given};
 ghost use Rattle.nova_model.specs.State.{KernelState, context_at, context, transfer};
 ghost use Rattle.nova_kernel.specs.Acts.{Fits, IsGivenBy, is_over};
 ghost use Rattle.nova_kernel.specs.Parts.{shown};
@@ -59,6 +59,16 @@ pub fn finished(delivery: Delivery, item: u32, end: ItemEnd, answer: u32) -> Dee
     }
 }
 
+/// Who is told of the items of a reply: a caller who came by an exit isn't.
+fn told_by(caller: u32, mark: Mark) -> Option<u32>
+    ensures { result ≡ told_by caller mark }
+{
+    match mark {
+        Mark::Call => Some(caller),
+        Mark::Exit => None,
+    }
+}
+
 /// The answer of a delegation of which so many children were made: the word of where it went.
 pub fn range_given(job: Job, children: u32) -> u32
     requires job { IsUnderWay job }
@@ -98,9 +108,16 @@ impl Parts {
     }
 
     /// What one thread gives another: an item of its message, to the windows in that of the other.
-    fn delivery_between(&self, from: u32, to: u32, item: u32, last: Sequel) -> Delivery
+    fn delivery_between(
+        &self,
+        from: u32,
+        to: u32,
+        item: u32,
+        told: Option<u32>,
+        last: Sequel,
+    ) -> Delivery
         requires { item < 62 }
-        ensures delivery { result ≡ delivery_between (shown self.now) from to item last }
+        ensures delivery { result ≡ delivery_between (shown self.now) from to item told last }
         ensures items { result.items ≤ 62 }
     {
         let message = self.message(from);
@@ -113,7 +130,7 @@ impl Parts {
             receiver: self.pd(to),
             translations: windows.translation_window(),
             delegations: windows.delegation_window(),
-            told: Some(to),
+            told,
             items: message.items(),
             last,
         }
@@ -127,7 +144,7 @@ impl Parts {
         ensures given { IfSome result (IsGivenBy (shown self.now) ec item) }
     {
         let (caller, _) = caller?;
-        Some(self.delivery_between(caller, ec, item, Sequel::Taken))
+        Some(self.delivery_between(caller, ec, item, Some(ec), Sequel::Taken))
     }
 
     /// What a handler gives its caller: an item of its own message.
@@ -139,8 +156,9 @@ impl Parts {
         ensures given { IfSome result (IsGivenBy (shown self.now) ec item) }
     {
         self.contexts.keeps_callers();
-        let (caller, _) = caller?;
-        Some(self.delivery_between(ec, caller, item, Sequel::Replied(caller)))
+        let (caller, mark) = caller?;
+        let told = told_by(caller, mark);
+        Some(self.delivery_between(ec, caller, item, told, Sequel::Replied(caller, mark)))
     }
 
     /// The present item of an execution context; none in a state in which no items are given.

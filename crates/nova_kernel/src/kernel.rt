@@ -10,6 +10,7 @@ ghost use Rattle.nova_kernel.specs.Views.{ticks_of, left_of, semaphore_at, deriv
 use crate::parts::Parts;
 use crate::reach::Reach;
 use nova_frames::{Frames, LogByte};
+use nova_laws::turns_keep_what_they_find;
 use nova_model::{Derivation, EcKind, EcState, Kind, Object, Rights, Root, State, Turn};
 use rv_core::Regs;
 use std::alloc::{AllocError, Global};
@@ -52,6 +53,7 @@ impl Kernel {
         requires consoles { consoles ≤ 16 }
         ensures { IfOk result (λ k. k ≡ record { state = bare cpus ram consoles root; room = log_room }) }
     {
+        turns_keep_what_they_find();
         let parts = Parts::new(alloc, cpus, ram, consoles, root, log_room)?;
         Ok(Kernel { parts })
     }
@@ -73,6 +75,7 @@ impl Kernel {
         ensures laid { self.new ≡ record self.old { state = record self.old.state { memory = laid self.old.state.memory address bytes.now } } }
         ensures frames { length self.new.state.memory.ram ≡ length self.old.state.memory.ram }
     {
+        turns_keep_what_they_find();
         self.parts.reach.put(address, bytes);
     }
 

@@ -1,4 +1,4 @@
-ghost use Rattle.std.specs.Prelude.{◌≡◌, ◌+◌, ◌<◌, ◌≤◌, [], ◌∷◌, ◌++◌, length, option_map, vec_len, vec_capacity, IfOk};
+ghost use Rattle.std.specs.Prelude.{◌≡◌, length, option_map, IfOk};
 ghost use Rattle.nova_kernel.specs.Parts.{shown};
 ghost use Rattle.nova_kernel.specs.Views.{semaphore_at};
 
@@ -7,11 +7,12 @@ use nova_ec::Ecs;
 use nova_model::Transfer;
 use nova_objects::Objects;
 use nova_sched::Queues;
+use nova_sem::Sems;
 use std::alloc::AllocError;
 
 /// The parts of a kernel, which a turn changes one by one; `Kernel` shows them as one state. Tables
 /// are by the number of the object: execution contexts, how far they are with the items that they give,
-/// the identifiers of portals, and the counters of semaphores. Scheduling contexts wait in queues.
+/// the identifiers of portals, and semaphores. Scheduling contexts wait in queues.
 #[derive(Drop)]
 pub struct Parts {
     pub reach: Reach,
@@ -20,21 +21,21 @@ pub struct Parts {
     pub queues: Queues,
     pub transfers: Vec<Option<Transfer>>,
     pub identifiers: Vec<Option<u32>>,
-    pub counts: Vec<Option<u32>>,
+    pub semaphores: Sems,
     pub turns: u64,
     pub cpus: u32,
     pub stirs: Vec<u64>,
 }
 
 impl Parts {
-    /// The counter of a semaphore and how many wait at it: nobody can wait yet.
+    /// The counter of a semaphore and how many wait at it.
     pub fn semaphore(&self, sm: u32) -> Option<(u32, u32)>
         ensures { result ≡ option_map (λ s. (s.count, length s.waiting)) (semaphore_at (shown self.now) sm) }
     {
-        match self.counts.get(sm as usize) {
-            Some(Some(count)) => Some((*count, 0)),
-            _ => None,
+        if !self.semaphores.contains(sm) {
+            return None;
         }
+        Some((self.semaphores.count(sm), self.semaphores.waiting(sm)))
     }
 
     /// The same parts in memory of their own, with no room in the console log. It refuses for want of
@@ -51,7 +52,7 @@ impl Parts {
             queues: self.queues.copy()?,
             transfers: Vec::from_slice(*self.transfers.allocator(), &self.transfers)?,
             identifiers: Vec::from_slice(*self.identifiers.allocator(), &self.identifiers)?,
-            counts: Vec::from_slice(*self.counts.allocator(), &self.counts)?,
+            semaphores: self.semaphores.copy()?,
             turns: self.turns,
             cpus: self.cpus,
             stirs: Vec::from_slice(*self.stirs.allocator(), &self.stirs)?,

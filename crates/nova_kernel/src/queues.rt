@@ -1,7 +1,7 @@
-ghost use Rattle.std.specs.Prelude.{◌≡◌, ◌-◌, ◌^◌, ◌<◌, ◌≤◌, length, slice_get, IsSome, Some};
+ghost use Rattle.std.specs.Prelude.{◌≡◌, ◌-◌, ◌^◌, ◌<◌, ◌≤◌, length, Some};
 ghost use Rattle.nova_sched.specs.Queues.{members};
 ghost use Rattle.nova_kernel.specs.Parts.{shown, HasQueue};
-ghost use Rattle.nova_kernel.specs.Schedules.{AreQueued, AreQueuedBut, joined, is_moving, remarked};
+ghost use Rattle.nova_kernel.specs.Schedules.{AreQueued, AreQueuedBut, joined, is_moving, moved_by, remarked, stale_by};
 
 use crate::choice::actor_of;
 use crate::parts::Parts;
@@ -44,7 +44,7 @@ fn mark_all(queues: &mut Queues, objects: &Objects, contexts: &Ecs, cpu: u32)
 
 /// Whether an execution context that does this may be in another state then, so that turns that others
 /// are given may find it or lose it.
-pub fn is_moving(deed: Deed) -> bool
+fn is_moving(deed: Deed) -> bool
     ensures { result ≡ is_moving deed }
 {
     !matches!(
@@ -57,10 +57,32 @@ pub fn is_moving(deed: Deed) -> bool
                 after: Sequel::Item,
                 ..
             }
+            | Deed::Ups { .. }
+            | Deed::Downs { .. }
     )
 }
 
+/// Whose turns may be led elsewhere after a deed of an execution context: its own where it moves, and after
+/// an up those of whom that wakes.
+fn moved_by(ec: u32, deed: Deed) -> Option<u32>
+    ensures { result ≡ moved_by ec deed }
+{
+    match deed {
+        Deed::Ups { woken, .. } => woken,
+        _ if is_moving(deed) => Some(ec),
+        _ => None,
+    }
+}
+
 impl Parts {
+    /// The processor whose marks are old after a deed of an execution context.
+    pub fn stale_by(&self, ec: u32, deed: Deed) -> Option<u32>
+        ensures { result ≡ stale_by (shown self.now).contexts ec deed }
+    {
+        let moved = moved_by(ec, deed)?;
+        Some(self.contexts.get(moved)?.cpu)
+    }
+
     /// Marks the scheduling contexts of a processor anew, where an execution context of it has moved.
     pub fn refresh(&mut self, cpu: u32)
         requires { AreQueuedBut (Some cpu) (shown self.old) self.old.queues.all }

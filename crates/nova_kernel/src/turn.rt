@@ -1,5 +1,6 @@
 ghost use Rattle.std.specs.Prelude.{◌≡◌, ◌+◌, ◌^◌, ◌<◌, ◌≤◌, true, IsSome, IfOk, OnOk, OnErr};
 ghost use Rattle.nova_model.specs.Deeds.{deed, done, is_making};
+ghost use Rattle.nova_model.specs.Edges.{acts};
 ghost use Rattle.nova_model.specs.State.{context_at};
 ghost use Rattle.nova_model.specs.Turn.{state_after, answer_of, turn};
 ghost use Rattle.nova_kernel.specs.Views.{IsMaking, turns_taken};
@@ -10,7 +11,7 @@ ghost use Rattle.nova_kernel.specs.Schedules.{AreQueued, schedule_after};
 use crate::doing::is_over;
 use crate::events::event_of;
 use crate::parts::Parts;
-use crate::queues::is_moving;
+use nova_laws::turns_keep_what_they_find;
 use nova_model::{Deed, Turn};
 use std::alloc::AllocError;
 
@@ -19,6 +20,7 @@ impl Parts {
     /// for want of memory alone, where the deed makes an object or a derivation, and then nothing has changed.
     fn carry_out(&mut self, ec: u32) -> Result<Deed, AllocError>
         requires there { IsSome (context_at (shown self.old) ec) }
+        requires acts { acts (shown self.old).contexts ec ≡ true }
         requires counted { IsCounted (shown self.old) }
         requires queued { AreQueued (shown self.old) self.old.queues.all }
         requires turns { self.old.turns < 2 ^ 31 }
@@ -41,10 +43,11 @@ impl Parts {
         Ok(deed)
     }
 
-    /// The execution context does its deed, and where it moves, the scheduling contexts of its
+    /// The execution context does its deed, and where somebody moves, the scheduling contexts of that one's
     /// processor are marked anew. It refuses as `carry_out`.
     fn act(&mut self, ec: u32) -> Result<Deed, AllocError>
         requires there { IsSome (context_at (shown self.old) ec) }
+        requires acts { acts (shown self.old).contexts ec ≡ true }
         requires counted { IsCounted (shown self.old) }
         requires queued { AreQueued (shown self.old) self.old.queues.all }
         requires turns { self.old.turns < 2 ^ 31 }
@@ -57,11 +60,8 @@ impl Parts {
         ensures kept { OnOk result (KeepsCounts (shown self.old) (shown self.new)) }
         ensures log { self.old.reach.room ≤ self.new.reach.room + 1 }
     {
-        self.contexts.keeps_edges();
-        self.contexts.keeps_callers();
-        let cpu = self.contexts.context(ec).cpu;
         let deed = self.carry_out(ec)?;
-        if is_moving(deed) {
+        if let Some(cpu) = self.stale_by(ec, deed) {
             self.refresh(cpu);
         }
         Ok(deed)
@@ -93,6 +93,7 @@ impl Parts {
         };
         let deed = self.act(chosen.actor)?;
         self.charge(cpu, chosen.sc);
+        turns_keep_what_they_find();
         Ok(Turn::Stepped(event_of(cpu, chosen, deed)))
     }
 }

@@ -1,21 +1,22 @@
 -- A turn leaves whoever gives at its item or brings it to the next one, or it gives no more after the last one.
 use Rattle.std.proofs.Common.{◌≡◌, ◌<◌, ℕ, ◌+◌, List, [], ◌∷◌, ◌++◌, refl, ap, ◌∙◌, sym, subst}
-use Rattle.std.specs.Prelude.{◌≢◌, true, false, is_some, slice_set, Option, Some, None, IfSome, IsSome}
+use Rattle.std.specs.Prelude.{◌≢◌, true, false, is_some, slice_set, Option, Some, None, IfSome, IsSome, Ok}
 use Rattle.rv_model.specs.Step.{Once, Raised, Went}
 use Rattle.nova_model.specs.Boot.{Scenario, boot}
 use Rattle.nova_model.specs.Choice.{Candidate, choice}
-use Rattle.nova_model.specs.Deeds.{after_item, changed, deed, done, instruction, parked, recalled, stepped, transfer_after, with_context}
+use Rattle.nova_model.specs.Deeds.{after_item, changed, deed, done, instruction, parked, recalled, stepped, transfer_after, with_context, woken_in}
 use Rattle.nova_model.specs.Edges.{acts}
 use Rattle.nova_model.specs.Runs.{after, run}
+use Rattle.nova_model.specs.Semaphores.{semaphore, upped, woken}
 use Rattle.nova_model.specs.State.{KernelState, Contexts, context, context_at, context_in, ec_in, ec_of, transfer, transfer_in, with_ec}
 use Rattle.nova_model.specs.Turn.{charged, state_after, turn, turn_by}
 use Rattle.nova_model.specs.declared.context.EcState.{EcState}
 use Rattle.nova_model.specs.declared.context.Mark.{Mark}
 use Rattle.nova_model.specs.declared.context.Mark.TheVariants as mark
 use Rattle.nova_model.specs.declared.context.State.{State}
-use Rattle.nova_model.specs.declared.context.State.TheVariants.{Calling, Parked}
+use Rattle.nova_model.specs.declared.context.State.TheVariants.{Blocked, Calling, Parked}
 use Rattle.nova_model.specs.declared.deed.Deed.{Deed}
-use Rattle.nova_model.specs.declared.deed.Deed.TheVariants.{Rests, Steps, Raises, Dies, Refuses, Makes, Recalls, Tells, Names, Opens, Gives, Skips, Finishes, Calls, Helps, Replies, Aborts}
+use Rattle.nova_model.specs.declared.deed.Deed.TheVariants.{Rests, Steps, Raises, Dies, Waits, Sends, Refuses, Makes, Recalls, Tells, Names, Opens, Gives, Skips, Finishes, Calls, Helps, Replies, Aborts, Ups, Downs, Blocks}
 use Rattle.nova_model.specs.declared.transfer.Delivery.{Delivery}
 use Rattle.nova_model.specs.declared.transfer.ItemEnd.{ItemEnd}
 use Rattle.nova_model.specs.declared.transfer.ItemWords.{ItemWords}
@@ -23,12 +24,14 @@ use Rattle.nova_model.specs.declared.transfer.Sequel.{Sequel}
 use Rattle.nova_model.specs.declared.transfer.Sequel.TheVariants as sequel
 use Rattle.nova_model.specs.declared.transfer.Transfer.{Transfer}
 use Rattle.nova_laws.specs.Giving.{GoesOn, Stays, Next, Ends, is_giving}
+use Rattle.nova_laws.specs.Waiting.{AreBlocked}
 use Rattle.nova_laws.proofs.Awaiting.{Serves, acts_there, same_or_not, served_waits}
+use Rattle.nova_laws.proofs.Blocking.{woken_blocked}
 use Rattle.nova_laws.proofs.Charges.{charge_leaves}
 use Rattle.nova_laws.proofs.Chosen.{Acts, choice_acts}
 use Rattle.nova_laws.proofs.Counting.{at, at_itself, finished_at, others_stay}
 use Rattle.nova_laws.proofs.Fitting.{Fits, boot_run_fits, gives_there}
-use Rattle.nova_laws.proofs.Giving.{quiet_by, quiet_set, set_at}
+use Rattle.nova_laws.proofs.Giving.{quiet_by, quiet_set, resumed_quiet, serves_in, set_at}
 use Rattle.nova_laws.proofs.Messages.{IsFinish, Shows, deed_shows}
 use Rattle.nova_laws.proofs.Opening.{GoesTo, Wants, deed_wants}
 use Rattle.nova_laws.proofs.Ordered.{Stands, boot_run_stands, stands_at}
@@ -88,15 +91,23 @@ finished_state : (k : KernelState) (a e item : ℕ) (end : ItemEnd) (words : Opt
 finished_state k a e item end None sequel.Item goes other able serves gives = set_other k.contexts a e _ other
 finished_state k a e item end None sequel.Opened goes other able serves gives = set_other k.contexts a e _ other
 finished_state k a e item end None sequel.Taken goes other able serves gives = set_other k.contexts a e _ other
-finished_state k a e item end None (sequel.Replied caller) goes other able serves gives =
-    two_set k.contexts a caller e _ _ other (waits_apart k a caller e goes.0 able serves goes.1 gives)
+finished_state k a e item end None (sequel.Replied caller mark) goes other able serves gives =
+    two_set k.contexts a caller e _ _ other (waits_apart k a caller e mark able serves goes gives)
 finished_state k a e item end (Some w) sequel.Item goes other able serves gives = set_other k.contexts a e _ other
 finished_state k a e item end (Some w) sequel.Opened goes other able serves gives = set_other k.contexts a e _ other
 finished_state k a e item end (Some w) sequel.Taken goes other able serves gives = set_other k.contexts a e _ other
-finished_state k a e item end (Some w) (sequel.Replied caller) goes other able serves gives =
-    two_set k.contexts a caller e _ _ other (waits_apart k a caller e goes.0 able serves goes.1 gives)
+finished_state k a e item end (Some w) (sequel.Replied caller mark) goes other able serves gives =
+    two_set k.contexts a caller e _ _ other (waits_apart k a caller e mark able serves goes gives)
 
-other_state : (k : KernelState) (a e : ℕ) (d : Deed) → Wants k a d → e ≢ a → acts k.contexts a ≡ true → Serves k.contexts → is_giving (state_at k.contexts e) ≡ true →
+-- who is woken gave nothing
+woken_state : (k : KernelState) (a e sm : ℕ) (x : EcState) (whom : Option ℕ) → woken (semaphore k.semaphores sm) ≡ Ok whom → e ≢ a → AreBlocked k.contexts k.semaphores →
+    is_giving (state_at k.contexts e) ≡ true → state_at (woken_in (record (with_context k a x) { semaphores = upped k.semaphores sm }) whom).contexts e ≡ state_at k.contexts e
+woken_state k a e sm x None wakes other blocked gives = set_other k.contexts a e x other
+woken_state k a e sm x (Some w) wakes other blocked gives =
+    two_set k.contexts a w e x _ other
+    (gives_apart k.contexts e w gives (quiet_by k.contexts w (Blocked sm) (woken_blocked k sm w wakes blocked) refl))
+
+other_state : (k : KernelState) (a e : ℕ) (d : Deed) → Wants k a d → e ≢ a → acts k.contexts a ≡ true → Fits k → is_giving (state_at k.contexts e) ≡ true →
     state_at (done k a d).contexts e ≡ state_at k.contexts e
 other_state k a e Rests wants other able serves gives = refl
 other_state k a e (Gives child cursor) wants other able serves gives = refl
@@ -110,19 +121,29 @@ other_state k a e (Opens target domain) wants other able serves gives =
     more_at_end _ _ e (ap is_giving own ∙ gives) ∙ own
 other_state k a e (Recalls whose) wants other able serves gives =
     recalled_state (with_context k a (changed (context k a) (Recalls whose))) whose e _ refl ∙ set_other k.contexts a e (changed (context k a) (Recalls whose)) other
-other_state k a e (Finishes item end words after) wants other able serves gives = finished_state k a e item end words after wants.1 other able serves gives
+other_state k a e (Finishes item end words after) wants other able serves gives =
+    finished_state k a e item end words after wants.1 other able (serves_in k serves) gives
 other_state k a e (Calls handler ip identifier items) wants other able serves gives =
     two_set k.contexts a handler e _ _ other (gives_apart k.contexts e handler gives (quiet_by k.contexts handler Parked wants.1 refl))
-other_state k a e (Replies caller true) wants other able serves gives = set_other k.contexts a e _ other
-other_state k a e (Replies caller false) wants other able serves gives =
-    two_set k.contexts a caller e _ _ other (waits_apart k a caller e mark.Call able serves wants.1 gives)
+other_state k a e (Replies caller mark.Call true) wants other able serves gives = set_other k.contexts a e _ other
+other_state k a e (Replies caller mark.Exit true) wants other able serves gives = set_other k.contexts a e _ other
+other_state k a e (Replies caller mark.Call false) wants other able serves gives =
+    two_set k.contexts a caller e _ _ other (waits_apart k a caller e mark.Call able (serves_in k serves) wants.1 gives)
+other_state k a e (Replies caller mark.Exit false) wants other able serves gives =
+    two_set k.contexts a caller e _ _ other (waits_apart k a caller e mark.Exit able (serves_in k serves) wants.1 gives)
+other_state k a e (Sends handler ip identifier mtd reason q0 q1) wants other able serves gives =
+    two_set k.contexts a handler e _ _ other (gives_apart k.contexts e handler gives (quiet_by k.contexts handler Parked wants.1 refl))
+other_state k a e (Waits handler reason q0 q1) wants other able serves gives = set_other k.contexts a e _ other
+other_state k a e (Ups sm whom) wants other able serves gives = woken_state k a e sm _ whom wants.1 other serves.blocked gives
+other_state k a e (Downs sm) wants other able serves gives = set_other k.contexts a e _ other
+other_state k a e (Blocks sm) wants other able serves gives = set_other k.contexts a e _ other
 other_state k a e (Raises reason q0 q1) wants other able serves gives = set_other k.contexts a e _ other
 other_state k a e (Dies reason q0) wants other able serves gives = set_other k.contexts a e _ other
 other_state k a e (Refuses call status) wants other able serves gives = set_other k.contexts a e _ other
 other_state k a e (Tells call value) wants other able serves gives = set_other k.contexts a e _ other
 other_state k a e (Names pt identifier) wants other able serves gives = set_other k.contexts a e _ other
 other_state k a e (Helps handler) wants other able serves gives = set_other k.contexts a e _ other
-other_state k a e (Aborts handler) wants other able serves gives = set_other k.contexts a e _ other
+other_state k a e (Aborts handler mark) wants other able serves gives = set_other k.contexts a e _ other
 
 -- ITS OWN
 
@@ -155,18 +176,18 @@ finished_own k a item end None sequel.Opened f gives there fits h =
     Ends (quiet_own k.contexts a (after_item (context k a) sequel.Opened) there refl) f.present_item f.present (was_last k a item None sequel.Opened f (λ e. absurd (cc)) gives h)
 finished_own k a item end None sequel.Taken f gives there fits h =
     Ends (quiet_own k.contexts a (after_item (context k a) sequel.Taken) there refl) f.present_item f.present (was_last k a item None sequel.Taken f (λ e. absurd (cc)) gives h)
-finished_own k a item end None (sequel.Replied caller) f gives there fits h =
-    Ends (quiet_set (with_ec k.contexts a (parked (context k a))) caller a _ refl (quiet_own k.contexts a (parked (context k a)) there refl)) f.present_item f.present
-    (was_last k a item None (sequel.Replied caller) f (λ e. absurd (cc)) gives h)
+finished_own k a item end None (sequel.Replied caller mark) f gives there fits h =
+    Ends (quiet_set (with_ec k.contexts a (parked (context k a))) caller a _ (resumed_quiet (ec_of (with_ec k.contexts a (parked (context k a))) caller) mark _) (quiet_own k.contexts a (parked (context k a)) there refl)) f.present_item f.present
+    (was_last k a item None (sequel.Replied caller mark) f (λ e. absurd (cc)) gives h)
 finished_own k a item end (Some w) sequel.Item f gives there fits h =
     Next (set_own k.contexts a (context k a) there) (next_item k a item end (Some w) f.number there fits)
 finished_own k a item end (Some w) sequel.Opened f gives there fits h =
     Ends (quiet_own k.contexts a (after_item (context k a) sequel.Opened) there refl) f.present_item f.present (was_last k a item (Some w) sequel.Opened f (λ e. absurd (cc)) gives h)
 finished_own k a item end (Some w) sequel.Taken f gives there fits h =
     Ends (quiet_own k.contexts a (after_item (context k a) sequel.Taken) there refl) f.present_item f.present (was_last k a item (Some w) sequel.Taken f (λ e. absurd (cc)) gives h)
-finished_own k a item end (Some w) (sequel.Replied caller) f gives there fits h =
-    Ends (quiet_set (with_ec k.contexts a (parked (context k a))) caller a _ refl (quiet_own k.contexts a (parked (context k a)) there refl)) f.present_item f.present
-    (was_last k a item (Some w) (sequel.Replied caller) f (λ e. absurd (cc)) gives h)
+finished_own k a item end (Some w) (sequel.Replied caller mark) f gives there fits h =
+    Ends (quiet_set (with_ec k.contexts a (parked (context k a))) caller a _ (resumed_quiet (ec_of (with_ec k.contexts a (parked (context k a))) caller) mark _) (quiet_own k.contexts a (parked (context k a)) there refl)) f.present_item f.present
+    (was_last k a item (Some w) (sequel.Replied caller mark) f (λ e. absurd (cc)) gives h)
 
 own_goes : (k : KernelState) (a : ℕ) (d : Deed) → Wants k a d → Shows k a d → is_giving (context k a).state ≡ true → IsSome (context_at k a) → Fits k → Stands k →
     GoesOn k (done k a d) a
@@ -176,7 +197,9 @@ own_goes k a (Skips reason place cursor) wants shows gives there fits h = Stays 
 own_goes k a (Finishes item end words after) wants shows gives there fits h = finished_own k a item end words after shows gives there fits h
 own_goes k a (Opens target domain) wants shows gives there fits h = let quiet = wants.0 in absurd (cc)
 own_goes k a (Calls handler ip identifier items) wants shows gives there fits h = let quiet = wants.0 in absurd (cc)
-own_goes k a (Replies caller items) wants shows gives there fits h = let quiet = wants.0 in absurd (cc)
+own_goes k a (Replies caller mark items) wants shows gives there fits h = let quiet = wants.0 in absurd (cc)
+own_goes k a (Sends handler ip identifier mtd reason q0 q1) wants shows gives there fits h = let quiet = wants.0 in absurd (cc)
+own_goes k a (Ups sm whom) wants shows gives there fits h = let quiet = wants.0 in absurd (cc)
 own_goes k a other wants shows gives there fits h = absurd (cc)
 
 -- TURNS
@@ -200,7 +223,7 @@ deed_goes k a e able gives fits h = same_or_not e a _ itself another
 
     another : e ≢ a → GoesOn k (done k a (deed k a)) e
     another other =
-        Stays (other_state k a e (deed k a) (deed_wants k a) other able h.serves gives) (ap (λ (t : Transfer). t.item) (others_stay k a e (deed k a) other))
+        Stays (other_state k a e (deed k a) (deed_wants k a) other able fits gives) (ap (λ (t : Transfer). t.item) (others_stay k a e (deed k a) other))
 
 turn_goes : (k : KernelState) (cpu e : ℕ) → is_giving (context k e).state ≡ true → Fits k → Stands k → GoesOn k (after k cpu) e
 unfolding turn

@@ -29,7 +29,7 @@ use Rattle.nova_model.specs.declared.deed.Deed.TheVariants.{Makes, Names, Recall
 use Rattle.nova_model.specs.declared.delegation.Derivation.{Derivation}
 use Rattle.nova_model.specs.declared.new_object.NewObject.{NewObject}
 use Rattle.nova_model.specs.declared.new_object.NewObject.TheVariants as new
-use Rattle.nova_forest.proofs.Walk.{IfDone, deed_holds}
+use Rattle.nova_forest.proofs.Walk.{IfDone, deed_holds, sm_ctrl_holds}
 use Rattle.nova_laws.specs.Asked.{AsksSchedule, HoldsAt, IsCalling, IsHeldAt}
 use Rattle.nova_laws.proofs.Holding.{IsNamedAt, free_from, from_free, named_at, named_is}
 use Rattle.nova_laws.proofs.Rows.{call_holds, named_holds, reply_holds, unless_holds}
@@ -252,7 +252,7 @@ portal_asked k domain r target mtd ip (Err status) = tt
 
 row_asked : (k : KernelState) (ec domain : ℕ) (r : Registers) (c : Call) → call_of r ≡ Ok c → IfDone (AsAsked k domain r) (row k ec domain c)
 row_asked k ec domain r (asks.Call portal flag) is = call_holds (AsAsked k domain r) k ec domain portal flag (λ pt sends. tt) (λ pt helps. tt)
-row_asked k ec domain r asks.Reply is = reply_holds (AsAsked k domain r) k ec (λ caller replies. tt)
+row_asked k ec domain r asks.Reply is = reply_holds (AsAsked k domain r) k ec (λ caller mark replies. tt)
 row_asked k ec domain r (asks.CreatePd target pd first) is =
     named_holds (AsAsked k domain r) (maker k domain target pd) (λ owner. new_domain k target first) (λ owner. opens_asked k domain r target first)
 row_asked k ec domain r (asks.CreateEc target pd cpu kind sp event) is = unless_holds (AsAsked k domain r) (is_virtual kind) BadPar _
@@ -266,6 +266,8 @@ row_asked k ec domain r (asks.CreateSm target pd count) is = makes_each (AsAsked
 row_asked k ec domain r (asks.EcCtrl other) is = named_holds (AsAsked k domain r) (named k domain is_ec control_right other) (λ n. Recalls n) (λ n. tt)
 row_asked k ec domain r (asks.ScCtrl sc) is = named_holds (AsAsked k domain r) (named k domain is_sc control_right sc) (λ n. Tells SC_CTRL (ticks_in (budget_at k n))) (λ n. tt)
 row_asked k ec domain r (asks.PtCtrl pt identifier) is = named_holds (AsAsked k domain r) (named k domain is_pt control_right pt) (λ n. Names n identifier) (λ n. tt)
+row_asked k ec domain r (asks.SmCtrl sm action) is =
+    sm_ctrl_holds (AsAsked k domain r) k domain sm action (λ n whom names wakes. tt) (λ n names answers. tt) (λ n names answers. tt)
 row_asked k ec domain r other is = tt
 
 deed_asked : (k : KernelState) (ec : ℕ) → AsAsked k (pd_of k ec) (context k ec).regs (deed k ec)
@@ -276,6 +278,8 @@ deed_asked k ec =
       raises = λ reason q0 q1. tt;
       dies = λ reason q0. tt;
       refuses = λ number status. tt;
+      waits = λ pt reason q0 q1 is. tt;
+      sends = λ pt reason q0 q1 is. tt;
       aborts = λ handler is. tt;
       rows = λ asks c is. row_asked k ec (pd_of k ec) (context k ec).regs c is;
     })

@@ -14,7 +14,7 @@ use Rattle.nova_model.specs.declared.context.EcState.{EcState}
 use Rattle.nova_model.specs.declared.context.Mark.{Mark}
 use Rattle.nova_model.specs.declared.context.Mark.TheVariants.{Call}
 use Rattle.nova_model.specs.declared.context.State.{State}
-use Rattle.nova_model.specs.declared.context.State.TheVariants.{Calling, Dead, Parked}
+use Rattle.nova_model.specs.declared.context.State.TheVariants.{Calling, Dead, Granting, Parked}
 use Rattle.nova_laws.specs.Callers.{HasNoCaller, HasOneCaller}
 use Rattle.nova_laws.specs.Links.{IsWell}
 use Rattle.nova_laws.specs.Tables.{Refers, tag, tag_of}
@@ -50,19 +50,19 @@ one_caller k h fits local works = by_caller (caller_in k.contexts h) refl (well.
     by_caller : (o : Option (ℕ × Mark)) → caller_in k.contexts h ≡ o → IsSome o → HasOneCaller k.contexts h
     by_caller None keeps some = absurd (cc)
     by_caller (Some (c, mark)) keeps some =
-        let came : caller_in k.contexts h ≡ Some (c, Call) = keeps ∙ ap (λ (m : Mark). Some (c, m)) (well.kept c mark keeps).0 in
         let link = fits.served.linked c h in record {
           caller = c;
-          keeps = came;
+          mark = mark;
+          keeps = keeps;
           processor = link.cpu mark keeps;
           waits = link.waits mark keeps (free_dead (state_in k.contexts h) works);
-          only = λ other waits. ap number_in (sym ((fits.served.linked other h).known waits) ∙ came);
+          only = λ other waits. ap number_in (sym ((fits.served.linked other h).known waits).1 ∙ keeps);
         }
 
 no_caller : (k : KernelState) (h : ℕ) → Fits k → state_in k.contexts h ≡ Some Parked → HasNoCaller k.contexts h
 no_caller k h fits is =
     let none = ((fits.served.well h).parked (ap is_parked is)).0 in
-    record { keeps = none; nobody = λ other waits. let kept = (fits.served.linked other h).known waits in absurd (let two : None ≡ Some (other, Call) = sym none ∙ kept in cc) }
+    record { keeps = none; nobody = λ other waits. let kept = (fits.served.linked other h).known waits in absurd (let two : None ≡ Some (other, kept.0) = sym none ∙ kept.1 in cc) }
 
 -- THE LAWS
 
@@ -77,8 +77,12 @@ pub callers_there : (s : Scenario) (turns : List ℕ) → AreCallers (run (boot 
 callers_there s turns e c mark keeps = ((boot_run_fits s turns).served.linked c e).cpu mark keeps
 
 pub callers_known : (s : Scenario) (turns : List ℕ) (c h : ℕ) → state_in (run (boot s) turns).contexts c ≡ Some (Calling h) →
-    caller_in (run (boot s) turns).contexts h ≡ Some (c, Call)
+    (mark : Mark) × (caller_in (run (boot s) turns).contexts h ≡ Some (c, mark))
 callers_known s turns c h = ((boot_run_fits s turns).served.linked c h).known
+
+pub called_ones_taken : (s : Scenario) (turns : List ℕ) (h c : ℕ) (mark : Mark) → state_in (run (boot s) turns).contexts h ≡ Some (Granting None) →
+    caller_in (run (boot s) turns).contexts h ≡ Some (c, mark) → mark ≡ Call
+called_ones_taken s turns h c mark is keeps = ((boot_run_fits s turns).served.well h).taking c mark keeps is
 
 local_by : (o : Option Object) → option_map is_local o ≡ Some true → is_local_in o ≡ true
 local_by None h = absurd (cc)
@@ -107,4 +111,4 @@ others_alone s turns h other = (λ is. let local = (well.parked (ap is_parked is
 
     by_caller : (o : Option (ℕ × Mark)) → caller_in (run (boot s) turns).contexts h ≡ o → o ≡ None
     by_caller None keeps = refl
-    by_caller (Some (c, mark)) keeps = let local = (well.kept c mark keeps).1 in absurd (cc)
+    by_caller (Some (c, mark)) keeps = let local = well.kept c mark keeps in absurd (cc)

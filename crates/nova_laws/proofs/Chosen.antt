@@ -16,26 +16,27 @@ use Rattle.nova_model.specs.Calls.{admitted}
 use Rattle.nova_model.specs.Capabilities.{call_right, control_right, is_ec, is_sc, is_pt, named}
 use Rattle.nova_model.specs.Choice.{Candidate, actor, candidate_with, candidate_of, candidates_from, candidates, choice, in_front}
 use Rattle.nova_model.specs.Deeds.{deed, deed_in}
-use Rattle.nova_model.specs.Deliveries.{delivered, delivers, delivery, delivery_between, first_delivery, given_to, taken_from}
+use Rattle.nova_model.specs.Deliveries.{delivered, delivers, delivery, delivery_between, first_delivery, given_to, taken_from, told_by}
 use Rattle.nova_model.specs.Edges.{acts, acts_as, acts_by, edge_of, state_in}
-use Rattle.nova_model.specs.Hypercalls.{and_then, called, handler_of, is_virtual, maker, new_domain, replied, row, ticks_in}
+use Rattle.nova_model.specs.Exits.{raised_exit}
+use Rattle.nova_model.specs.Hypercalls.{and_then, called, is_virtual, maker, new_domain, replied, row, ticks_in}
+use Rattle.nova_model.specs.Portals.{handler_of}
 use Rattle.nova_model.specs.State.{KernelState, budget_at, context, context_in, ec_in, is_local_thread, message, pd_of, transfer}
 use Rattle.nova_model.specs.declared.admit.Admit.{Admit}
 use Rattle.nova_model.specs.declared.admit.Admit.TheVariants as admit
 use Rattle.nova_model.specs.declared.budget.Budget.{Budget}
 use Rattle.nova_model.specs.declared.context.EcState.{EcState}
 use Rattle.nova_model.specs.declared.context.Mark.{Mark}
-use Rattle.nova_model.specs.declared.context.Mark.TheVariants as came
 use Rattle.nova_model.specs.declared.context.State.{State}
-use Rattle.nova_model.specs.declared.context.State.TheVariants.{Fresh, Ready, Parked, Calling, Helping, Exiting, Sending, Granting, Replying, Dead}
+use Rattle.nova_model.specs.declared.context.State.TheVariants.{Fresh, Ready, Parked, Calling, Helping, Exiting, Sending, Granting, Replying, Blocked, Dead}
 use Rattle.nova_model.specs.declared.deed.Deed.{Deed}
 use Rattle.nova_model.specs.declared.deed.Deed.TheVariants.{Rests, Recalls, Tells, Names}
 use Rattle.nova_model.specs.declared.new_object.NewObject.TheVariants.{Sm}
 use Rattle.nova_model.specs.declared.transfer.Delivery.{Delivery}
 use Rattle.nova_model.specs.declared.transfer.Sequel.TheVariants as sequel
-use Rattle.nova_laws.specs.Links.{IsWell, is_giving, is_sending}
+use Rattle.nova_laws.specs.Links.{IsWell, is_giving}
 use Rattle.nova_laws.proofs.Rows.{makes_hold, named_holds, unless_holds}
-use Rattle.nova_forest.proofs.Walk.{Holds, IfDone, asking_holds, delivered_holds, is_asking, ready_holds}
+use Rattle.nova_forest.proofs.Walk.{Holds, IfDone, asking_holds, delivered_holds, exits_holds, is_asking, ready_holds, sm_ctrl_holds}
 
 -- WHO IS CHOSEN ACTS
 
@@ -100,8 +101,7 @@ called_does k ec flag (Ok pt) = by_admit (admitted k.contexts ec (handler_of k p
     by_admit admit.Send = refl
 
 replied_does : (k : KernelState) (ec : ℕ) (o : Option (ℕ × Mark)) → IfDone Does (replied k ec o)
-replied_does k ec (Some (caller, came.Call)) = refl
-replied_does k ec (Some (caller, came.Exit)) = tt
+replied_does k ec (Some (caller, mark)) = refl
 replied_does k ec None = tt
 
 row_does : (k : KernelState) (ec domain : ℕ) (c : Call) → IfDone Does (row k ec domain c)
@@ -118,6 +118,7 @@ row_does k ec domain (call.Lookup range) = refl
 row_does k ec domain (call.EcCtrl whose) = named_holds Does (named k domain is_ec control_right whose) (λ n. Recalls n) (λ n. refl)
 row_does k ec domain (call.ScCtrl sc) = named_holds Does (named k domain is_sc control_right sc) (λ n. Tells SC_CTRL (ticks_in (budget_at k n))) (λ n. refl)
 row_does k ec domain (call.PtCtrl pt identifier) = named_holds Does (named k domain is_pt control_right pt) (λ n. Names n identifier) (λ n. refl)
+row_does k ec domain (call.SmCtrl sm action) = sm_ctrl_holds Does k domain sm action (λ n whom is wakes. refl) (λ n is answers. refl) (λ n is answers. refl)
 row_does k ec domain other = tt
 
 own_does : (k : KernelState) (ec : ℕ) → Holds Does k ec
@@ -126,6 +127,8 @@ own_does k ec = record {
   raises = λ reason q0 q1. refl;
   dies = λ reason q0. refl;
   refuses = λ number status. refl;
+  waits = λ pt reason q0 q1 is. refl;
+  sends = λ pt reason q0 q1 is. refl;
   aborts = λ handler is. refl;
   rows = λ asks c read. row_does k ec (pd_of k ec) c;
 }
@@ -138,27 +141,28 @@ taking_does : (k : KernelState) (ec : ℕ) (o : Option (ℕ × Mark)) → (conte
     Does (delivers k (transfer k ec) (taken_from k ec (transfer k ec).item o))
 taking_does k ec None is keeps some = absurd (cc)
 taking_does k ec (Some (caller, mark)) is keeps some =
-    item_does k ec (delivery_between k caller ec (transfer k ec).item sequel.Taken) (ap (delivery k ec) is ∙ ap (taken_from k ec (transfer k ec).item) keeps)
+    item_does k ec (delivery_between k caller ec (transfer k ec).item (Some ec) sequel.Taken) (ap (delivery k ec) is ∙ ap (taken_from k ec (transfer k ec).item) keeps)
 
 replying_does : (k : KernelState) (ec : ℕ) (o : Option (ℕ × Mark)) → (context k ec).state ≡ Replying → (context k ec).caller ≡ o → IsSome o →
     Does (delivers k (transfer k ec) (given_to k ec (transfer k ec).item o))
 replying_does k ec None is keeps some = absurd (cc)
 replying_does k ec (Some (caller, mark)) is keeps some =
-    item_does k ec (delivery_between k ec caller (transfer k ec).item (sequel.Replied caller)) (ap (delivery k ec) is ∙ ap (given_to k ec (transfer k ec).item) keeps)
+    item_does k ec (delivery_between k ec caller (transfer k ec).item (told_by caller mark) (sequel.Replied caller mark)) (ap (delivery k ec) is ∙ ap (given_to k ec (transfer k ec).item) keeps)
 
 state_does : (k : KernelState) (ec : ℕ) (s : State) → (context k ec).state ≡ s → acts_by s (option_and_then (state_in k.contexts) (edge_of s)) ≡ true →
-    (is_giving (Some s) ≡ true → IsSome (context k ec).caller) → is_sending (Some s) ≡ false → Does (deed_in k ec s)
-state_does k ec Fresh is acts giving sends = refl
-state_does k ec Ready is acts giving sends = ready_holds Does k ec (context k ec).recall (ap is_asking is) (own_does k ec)
-state_does k ec Parked is acts giving sends = absurd (cc)
-state_does k ec (Calling h) is acts giving sends = refl
-state_does k ec (Helping h) is acts giving sends = asking_holds Does k ec (ap is_asking is) (own_does k ec)
-state_does k ec (Exiting reason q0 q1) is acts giving sends = refl
-state_does k ec (Sending reason q0 q1 h) is acts giving sends = absurd (cc)
-state_does k ec (Granting None) is acts giving sends = taking_does k ec (context k ec).caller is refl (giving refl)
-state_does k ec (Granting (Some new)) is acts giving sends = item_does k ec (first_delivery k ec new) (ap (delivery k ec) is)
-state_does k ec Replying is acts giving sends = replying_does k ec (context k ec).caller is refl (giving refl)
-state_does k ec Dead is acts giving sends = absurd (cc)
+    (is_giving (Some s) ≡ true → IsSome (context k ec).caller) → Does (deed_in k ec s)
+state_does k ec Fresh is acts giving = refl
+state_does k ec Ready is acts giving = ready_holds Does k ec (context k ec).recall (ap is_asking is) (own_does k ec)
+state_does k ec Parked is acts giving = absurd (cc)
+state_does k ec (Calling h) is acts giving = refl
+state_does k ec (Helping h) is acts giving = asking_holds Does k ec (ap is_asking is) (own_does k ec)
+state_does k ec (Exiting reason q0 q1) is acts giving = exits_holds Does k ec reason q0 q1 (ap raised_exit is) (own_does k ec)
+state_does k ec (Sending reason q0 q1 h) is acts giving = exits_holds Does k ec reason q0 q1 (ap raised_exit is) (own_does k ec)
+state_does k ec (Granting None) is acts giving = taking_does k ec (context k ec).caller is refl (giving refl)
+state_does k ec (Granting (Some new)) is acts giving = item_does k ec (first_delivery k ec new) (ap (delivery k ec) is)
+state_does k ec Replying is acts giving = replying_does k ec (context k ec).caller is refl (giving refl)
+state_does k ec (Blocked sm) is acts giving = absurd (cc)
+state_does k ec Dead is acts giving = absurd (cc)
 
 deed_does : (k : KernelState) (ec : ℕ) (is_local : Bool) → acts k.contexts ec ≡ true → IsWell is_local (ec_in k.contexts ec) → Does (deed k ec)
 unfolding deed
@@ -169,7 +173,7 @@ deed_does k ec is_local does well = by_entry (ec_in k.contexts ec) refl does wel
     by_entry None at able its = absurd (cc)
     by_entry (Some x) at able its =
         let same : context k ec ≡ x = ap context_in at in
-        state_does k ec x.state (ap (λ (y : EcState). y.state) same) able (λ gives. subst (λ (y : EcState). IsSome y.caller) (sym same) (its.giving gives)) its.sends
+        state_does k ec x.state (ap (λ (y : EcState). y.state) same) able (λ gives. subst (λ (y : EcState). IsSome y.caller) (sym same) (its.giving gives))
 
 something : (d : Deed) → Does d → d ≢ Rests
 something d does is = let rests = ap is_rest is in absurd (cc)

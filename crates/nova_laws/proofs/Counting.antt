@@ -5,17 +5,18 @@ use Rattle.rv_model.specs.Step.{Once, Raised, Went}
 use Rattle.nova_model.specs.Boot.{Scenario, Image, boot, bare, with_image, with_images}
 use Rattle.nova_model.specs.Choice.{Candidate, choice, in_front}
 use Rattle.nova_model.specs.Creation.{object_of, transfer_of}
-use Rattle.nova_model.specs.Deeds.{changed, deed, done, gave, instruction, item_sign, reason_number, recalled, sign_of, skipped, stepped, transfer_after, with_context}
+use Rattle.nova_model.specs.Deeds.{changed, deed, done, gave, instruction, item_sign, reason_number, recalled, sign_of, skipped, stepped, transfer_after, with_context, woken_in}
 use Rattle.nova_model.specs.Deliveries.{delivery, taken_from, given_to}
 use Rattle.nova_model.specs.Runs.{after, run, trace}
 use Rattle.nova_model.specs.State.{KernelState, context, context_in, context_at, ec_in, entry, no_transfer, transfer, transfer_in}
 use Rattle.nova_model.specs.Turn.{charged, event_of, state_after, turn, turn_by}
 use Rattle.nova_model.specs.declared.context.EcState.{EcState}
 use Rattle.nova_model.specs.declared.context.Mark.{Mark}
+use Rattle.nova_model.specs.declared.context.Mark.TheVariants as mark
 use Rattle.nova_model.specs.declared.context.State.{State}
 use Rattle.nova_model.specs.declared.context.State.TheVariants.{Granting, Replying}
 use Rattle.nova_model.specs.declared.deed.Deed.{Deed}
-use Rattle.nova_model.specs.declared.deed.Deed.TheVariants.{Rests, Steps, Makes, Recalls, Opens, Gives, Skips, Finishes, Calls, Replies}
+use Rattle.nova_model.specs.declared.deed.Deed.TheVariants.{Rests, Steps, Sends, Makes, Recalls, Opens, Gives, Skips, Finishes, Calls, Replies, Ups}
 use Rattle.nova_model.specs.declared.event.Event.{Event}
 use Rattle.nova_model.specs.declared.event.EventKind.TheVariants.{Skip}
 use Rattle.nova_model.specs.declared.transfer.ItemEnd.{ItemEnd}
@@ -33,7 +34,6 @@ use Rattle.nova_laws.proofs.Chosen.{Acts, choice_acts}
 use Rattle.nova_laws.proofs.Fitting.{Fits, after_fits, boot_fits, entry_acts, gives_there}
 use Rattle.nova_laws.proofs.Giving.{IsFor, IsForEntry, Sound, after_for, boot_for, entry_rests, more_at, new_transfer, set_at}
 use Rattle.nova_laws.proofs.Opening.{Wants, deed_wants}
-use Rattle.nova_laws.proofs.Awaiting.{Serves, after_serves, boot_serves}
 
 -- HOW FAR THEY ARE
 
@@ -61,16 +61,20 @@ recalled_at : (k : KernelState) (other e : ℕ) (o : Option EcState) → at (rec
 recalled_at k other e None = refl
 recalled_at k other e (Some x) = refl
 
+woken_at : (k : KernelState) (e : ℕ) (whom : Option ℕ) → at (woken_in k whom).transfers e ≡ at k.transfers e
+woken_at k e None = refl
+woken_at k e (Some w) = refl
+
 pub finished_at : (k : KernelState) (ec item : ℕ) (end : ItemEnd) (words : Option ItemWords) (after : Sequel) →
     (done k ec (Finishes item end words after)).transfers ≡ slice_set k.transfers ec (Some (transfer_after item after))
 finished_at k ec item end None sequel.Item = refl
 finished_at k ec item end None sequel.Opened = refl
 finished_at k ec item end None sequel.Taken = refl
-finished_at k ec item end None (sequel.Replied caller) = refl
+finished_at k ec item end None (sequel.Replied caller mark) = refl
 finished_at k ec item end (Some words) sequel.Item = refl
 finished_at k ec item end (Some words) sequel.Opened = refl
 finished_at k ec item end (Some words) sequel.Taken = refl
-finished_at k ec item end (Some words) (sequel.Replied caller) = refl
+finished_at k ec item end (Some words) (sequel.Replied caller mark) = refl
 
 -- one that is neither a part nor an end leaves each
 abbrev pub is_of_item : Deed → Bool
@@ -84,8 +88,11 @@ leaves k ec e Steps apart = stepped_at k ec e (instruction k ec)
 leaves k ec e (Makes call target made) apart = at_more k.transfers (transfer_of (object_of made)) e (new_transfer (object_of made))
 leaves k ec e (Opens target domain) apart = at_more k.transfers None e refl
 leaves k ec e (Recalls other) apart = recalled_at (with_context k ec (changed (context k ec) (Recalls other))) other e _
-leaves k ec e (Replies caller true) apart = refl
-leaves k ec e (Replies caller false) apart = refl
+leaves k ec e (Replies caller mark.Call true) apart = refl
+leaves k ec e (Replies caller mark.Call false) apart = refl
+leaves k ec e (Replies caller mark.Exit true) apart = refl
+leaves k ec e (Replies caller mark.Exit false) apart = refl
+leaves k ec e (Ups sm whom) apart = woken_at _ e whom
 leaves k ec e (Gives child cursor) apart = absurd (cc)
 leaves k ec e (Skips reason place cursor) apart = absurd (cc)
 leaves k ec e (Finishes item end words after) apart = absurd (cc)
@@ -101,7 +108,8 @@ others_stay k ec e Steps other = leaves k ec e Steps refl
 others_stay k ec e (Makes call target made) other = leaves k ec e (Makes call target made) refl
 others_stay k ec e (Opens target domain) other = leaves k ec e (Opens target domain) refl
 others_stay k ec e (Recalls whose) other = leaves k ec e (Recalls whose) refl
-others_stay k ec e (Replies caller items) other = leaves k ec e (Replies caller items) refl
+others_stay k ec e (Replies caller mark items) other = leaves k ec e (Replies caller mark items) refl
+others_stay k ec e (Ups sm whom) other = leaves k ec e (Ups sm whom) refl
 others_stay k ec e d other = refl
 
 -- AND COUNTS ITS OWN
@@ -110,7 +118,7 @@ ends_none : (item : ℕ) (after : Sequel) → (transfer_after item after).childr
 ends_none item sequel.Item = refl
 ends_none item sequel.Opened = refl
 ends_none item sequel.Taken = refl
-ends_none item (sequel.Replied caller) = refl
+ends_none item (sequel.Replied caller mark) = refl
 
 end_counts : (item count : ℕ) (end : ItemEnd) → counted_by (item_sign item end).0 (item_sign item end).1 count ≡ 0
 end_counts item count (Given children) = refl
@@ -164,21 +172,24 @@ own_counts k ec (Opens target domain) wants there h =
     quiet_counts k ec (Opens target domain) refl (entry_rests k.objects (ec_in k.contexts ec) (transfer k ec) wants.0 (h ec))
 own_counts k ec (Calls handler ip identifier items) wants there h =
     quiet_counts k ec (Calls handler ip identifier items) refl (entry_rests k.objects (ec_in k.contexts ec) (transfer k ec) wants.0 (h ec))
-own_counts k ec (Replies caller true) wants there h =
-    quiet_counts k ec (Replies caller true) refl (entry_rests k.objects (ec_in k.contexts ec) (transfer k ec) wants.0 (h ec))
-own_counts k ec (Replies caller false) wants there h =
-    quiet_counts k ec (Replies caller false) refl (entry_rests k.objects (ec_in k.contexts ec) (transfer k ec) wants.0 (h ec))
+own_counts k ec (Replies caller mark true) wants there h =
+    quiet_counts k ec (Replies caller mark true) refl (entry_rests k.objects (ec_in k.contexts ec) (transfer k ec) wants.0 (h ec))
+own_counts k ec (Replies caller mark false) wants there h =
+    quiet_counts k ec (Replies caller mark false) refl (entry_rests k.objects (ec_in k.contexts ec) (transfer k ec) wants.0 (h ec))
+own_counts k ec (Sends handler ip identifier mtd reason q0 q1) wants there h =
+    quiet_counts k ec (Sends handler ip identifier mtd reason q0 q1) refl (entry_rests k.objects (ec_in k.contexts ec) (transfer k ec) wants.0 (h ec))
+own_counts k ec (Ups sm whom) wants there h =
+    quiet_counts k ec (Ups sm whom) refl (entry_rests k.objects (ec_in k.contexts ec) (transfer k ec) wants.0 (h ec))
 own_counts k ec d wants there h = quiet_counts k ec d refl (entry_rests k.objects (ec_in k.contexts ec) (transfer k ec) wants (h ec))
 
 -- TURNS
 
 record Stands (k : KernelState) : Type 0 where
   fits : Fits k
-  serves : Serves k.contexts
   sound : Sound k
 
 after_stands : (k : KernelState) (cpu : ℕ) → Stands k → Stands (after k cpu)
-after_stands k cpu h = record { fits = after_fits k cpu h.fits; serves = after_serves k cpu h.serves; sound = after_for k cpu h.serves h.sound }
+after_stands k cpu h = record { fits = after_fits k cpu h.fits; sound = after_for k cpu h.fits h.sound }
 
 done_counts : (k : KernelState) (a e : ℕ) (d : Deed) → Wants k a d → is_some (context_at k a) ≡ true → Stands k →
     (at (done k a d).transfers e).children ≡ (if a == e then counted_by (sign_of d).0 (sign_of d).1 (transfer k e).children else (transfer k e).children)
@@ -229,5 +240,5 @@ images_none k (image ∷ images) e = images_none (with_image k image) images e
 
 pub counts_children : (s : Scenario) (turns : List ℕ) (ec : ℕ) → (transfer (run (boot s) turns) ec).children ≡ counted_after ec 0 (trace (boot s) turns)
 counts_children s turns ec =
-    run_counts (boot s) turns ec (record { fits = boot_fits s; serves = boot_serves s; sound = boot_for s })
+    run_counts (boot s) turns ec (record { fits = boot_fits s; sound = boot_for s })
     ∙ ap (λ (t : Transfer). counted_after ec t.children (trace (boot s) turns)) (images_none (bare s.cpus s.ram s.consoles s.root) s.images ec ∙ bare_none s ec)

@@ -9,7 +9,7 @@ use Rattle.nova_model.specs.State.{KernelState, ec_in, entry, transfer, transfer
 use Rattle.nova_model.specs.Turn.{answer_of, event_of, turn, turn_by}
 use Rattle.nova_model.specs.Choice.{Candidate}
 use Rattle.nova_model.specs.declared.deed.Deed.{Deed}
-use Rattle.nova_model.specs.declared.deed.Deed.TheVariants.{Rests, Steps, Raises, Dies, Refuses, Makes, Recalls, Tells, Names, Opens, Gives, Skips, Finishes, Calls, Helps, Replies, Aborts}
+use Rattle.nova_model.specs.declared.deed.Deed.TheVariants.{Rests, Steps, Raises, Dies, Waits, Sends, Refuses, Makes, Recalls, Tells, Names, Opens, Gives, Skips, Finishes, Calls, Helps, Replies, Aborts, Ups, Downs, Blocks}
 use Rattle.nova_model.specs.declared.delegation.Derivation.{Derivation}
 use Rattle.nova_model.specs.declared.event.Event.{Event}
 use Rattle.nova_model.specs.declared.event.EventKind.TheVariants.{Made, Skip}
@@ -69,6 +69,8 @@ made Rests tells = absurd cc
 made Steps tells = absurd cc
 made (Raises reason q0 q1) tells = absurd cc
 made (Dies reason q0) tells = absurd cc
+made (Waits handler reason q0 q1) tells = absurd cc
+made (Sends handler ip identifier mtd reason q0 q1) tells = absurd cc
 made (Refuses call status) tells = absurd cc
 made (Makes call target new) tells = absurd cc
 made (Recalls ec) tells = absurd cc
@@ -77,9 +79,12 @@ made (Names pt identifier) tells = absurd cc
 made (Opens target domain) tells = absurd cc
 made (Calls handler ip identifier items) tells = absurd cc
 made (Helps handler) tells = absurd cc
-made (Replies caller true) tells = absurd cc
-made (Replies caller false) tells = absurd cc
-made (Aborts handler) tells = absurd cc
+made (Replies caller mark true) tells = absurd cc
+made (Replies caller mark false) tells = absurd cc
+made (Aborts handler mark) tells = absurd cc
+made (Ups sm whom) tells = absurd cc
+made (Downs sm) tells = absurd cc
+made (Blocks sm) tells = absurd cc
 
 record IsSkipped (d : Deed) : Type 0 where
   reason : Reason
@@ -99,6 +104,8 @@ skips Rests tells part = absurd cc
 skips Steps tells part = absurd cc
 skips (Raises reason q0 q1) tells part = absurd cc
 skips (Dies reason q0) tells part = absurd cc
+skips (Waits handler reason q0 q1) tells part = absurd cc
+skips (Sends handler ip identifier mtd reason q0 q1) tells part = absurd cc
 skips (Refuses call status) tells part = absurd cc
 skips (Makes call target new) tells part = absurd cc
 skips (Recalls ec) tells part = absurd cc
@@ -107,9 +114,12 @@ skips (Names pt identifier) tells part = absurd cc
 skips (Opens target domain) tells part = absurd cc
 skips (Calls handler ip identifier items) tells part = absurd cc
 skips (Helps handler) tells part = absurd cc
-skips (Replies caller true) tells part = absurd cc
-skips (Replies caller false) tells part = absurd cc
-skips (Aborts handler) tells part = absurd cc
+skips (Replies caller mark true) tells part = absurd cc
+skips (Replies caller mark false) tells part = absurd cc
+skips (Aborts handler mark) tells part = absurd cc
+skips (Ups sm whom) tells part = absurd cc
+skips (Downs sm) tells part = absurd cc
+skips (Blocks sm) tells part = absurd cc
 
 -- who is chosen has an entry
 has_entry : (s : Scenario) (turns : List ℕ) (cpu : ℕ) (c : Candidate) → choice (run (boot s) turns) cpu ≡ Some c → IsSome (transfer_at (run (boot s) turns) c.actor)

@@ -1,37 +1,44 @@
 -- Edges stay sound along all turns: one row a deed, and the fold over turns.
 use Rattle.std.proofs.Common.{◌≡◌, ℕ, List, [], ◌∷◌, length, refl, ap, sym, subst}
-use Rattle.std.specs.Prelude.{◌↔◌, ◌≢◌, Bool, true, false, if◌then◌else◌, option_and_then, Option, Some, None, IfSome, IsSome, is_some}
+use Rattle.std.specs.Prelude.{◌↔◌, ◌≢◌, Bool, true, false, if◌then◌else◌, option_and_then, Option, Some, None, Ok, IfSome, IsSome, is_some}
 use Rattle.rv_model.specs.Step.{Once, Raised, Went}
 use Rattle.nova_objects.specs.declared.object.EcKind.TheVariants.{Local, Global, Vcpu}
 use Rattle.nova_range.specs.declared.status.Status.TheVariants.{Success}
 use Rattle.nova_model.specs.Boot.{Image, Scenario, bare, boot, root_context, with_image, with_images}
 use Rattle.nova_model.specs.Choice.{Candidate, choice}
 use Rattle.nova_model.specs.Creation.{context_of}
-use Rattle.nova_model.specs.Deeds.{after_item, answered, completed, deed, done, followed, instruction, parked, recalled, serving, stepped, told, with_context}
-use Rattle.nova_model.specs.Edges.{AreEdges, IsNewEdge, acts, chase, circle, edge_of}
+use Rattle.nova_model.specs.Deeds.{after_item, answered, deed, done, followed, instruction, parked, recalled, resumed, serving, stepped, told, with_context}
+use Rattle.nova_model.specs.Edges.{AreEdges, IsNewEdge, acts, chase, circle, edge_of, state_in}
+use Rattle.nova_model.specs.Memory.{Memory}
 use Rattle.nova_model.specs.Runs.{after, run}
-use Rattle.nova_model.specs.State.{Contexts, KernelState, context, context_at, context_in, ec_in, ec_of, with_ec}
+use Rattle.nova_model.specs.Semaphores.{semaphore, waits, woken}
+use Rattle.nova_model.specs.State.{Contexts, KernelState, context, context_at, context_in, ec_in, ec_of, message, with_ec}
 use Rattle.nova_model.specs.Turn.{state_after, turn, turn_by}
 use Rattle.nova_model.specs.declared.context.EcState.{EcState}
-use Rattle.nova_model.specs.declared.context.State.TheVariants.{Calling, Granting, Ready}
+use Rattle.nova_model.specs.declared.context.Mark.{Mark}
+use Rattle.nova_model.specs.declared.context.Mark.TheVariants as mark
+use Rattle.nova_model.specs.declared.context.State.TheVariants.{Blocked, Calling, Granting, Ready}
 use Rattle.nova_model.specs.declared.deed.Deed.{Deed}
-use Rattle.nova_model.specs.declared.deed.Deed.TheVariants.{Rests, Steps, Raises, Dies, Refuses, Makes, Recalls, Tells, Names, Opens, Gives, Skips, Finishes, Calls, Helps, Replies, Aborts}
+use Rattle.nova_model.specs.declared.deed.Deed.TheVariants.{Rests, Steps, Raises, Dies, Waits, Sends, Refuses, Makes, Recalls, Tells, Names, Opens, Gives, Skips, Finishes, Calls, Helps, Replies, Aborts, Ups, Downs, Blocks}
 use Rattle.nova_model.specs.declared.new_object.NewObject.{NewObject}
 use Rattle.nova_model.specs.declared.new_object.NewObject.TheVariants as new
 use Rattle.nova_model.specs.declared.transfer.ItemWords.{ItemWords}
 use Rattle.nova_model.specs.declared.transfer.Sequel.{Sequel}
 use Rattle.nova_model.specs.declared.transfer.Sequel.TheVariants as sequel
+use Rattle.nova_model.specs.declared.root.Root.{Root}
 use Rattle.nova_ec.specs.Ways.{EndsAt, Leads}
+use Rattle.nova_sem.specs.Sound.{AreSound}
 use Rattle.nova_ec.proofs.Ends.{chases_end, circles_are_ways}
 use Rattle.nova_ec.proofs.Tables.{edges_kept, edges_more, edges_none, edges_set}
 use Rattle.nova_laws.specs.Links.{state_at}
 use Rattle.nova_laws.specs.Keeping.{IsKept}
+use Rattle.nova_laws.proofs.Blocking.{told_same, woken_blocked}
 use Rattle.nova_laws.proofs.Charges.{charge_leaves}
 use Rattle.nova_laws.proofs.Chosen.{Acts, choice_acts, chosen_does}
 use Rattle.nova_laws.proofs.Fitting.{Fits, after_fits, boot_fits, boot_run_fits, caller_there}
-use Rattle.nova_laws.proofs.Referring.{Asks, Follows, deed_asks}
-use Rattle.nova_laws.proofs.Serving.{IsActor, actor_of, help_edge, of_there, reached_there, send_reaches}
-use Rattle.nova_laws.proofs.Tabling.{set_there}
+use Rattle.nova_laws.proofs.Referring.{Asks, Follows, IsCallerOf, deed_asks}
+use Rattle.nova_laws.proofs.Serving.{IsActor, IsReached, actor_of, blocked_there, exit_reaches, exit_waits_edge, help_edge, of_there, reached_there, resumed_is, send_reaches}
+use Rattle.nova_laws.proofs.Tabling.{set_there, with_memory}
 
 -- ONE OF A TABLE
 
@@ -67,31 +74,60 @@ new_free n (new.Sc ec cpu priority quantum) = refl
 new_free n (new.Pt ec mtd ip) = refl
 new_free n (new.Sm count) = refl
 
-told_edges : (k : KernelState) (item : ℕ) (words : Option ItemWords) (follows : Sequel) → AreEdges (followed k follows).contexts →
-    AreEdges (followed (told k item words) follows).contexts
-told_edges k item None follows sound = sound
-told_edges k item (Some w) sequel.Item sound = sound
-told_edges k item (Some w) sequel.Opened sound = sound
-told_edges k item (Some w) sequel.Taken sound = sound
-told_edges k item (Some w) (sequel.Replied caller) sound = sound
-
-completed_edges : (k : KernelState) (caller : ℕ) → is_some (context_at k caller) ≡ true → AreEdges k.contexts → AreEdges (completed k caller).contexts
-completed_edges k caller there sound = free_on k.contexts caller (answered (context k caller) Success None) there refl refl sound
-
-finished_edges : (k : KernelState) (ec : ℕ) (follows : Sequel) → IsActor k.contexts ec → Follows k ec follows → Fits k → AreEdges k.contexts →
-    AreEdges (followed (with_context k ec (after_item (context k ec) follows)) follows).contexts
-finished_edges k ec sequel.Item actor asks fits sound = keeps_on k.contexts ec _ (ap is_some actor.there) refl refl sound
-finished_edges k ec sequel.Opened actor asks fits sound = free_on k.contexts ec _ (ap is_some actor.there) refl refl sound
-finished_edges k ec sequel.Taken actor asks fits sound = free_on k.contexts ec _ (ap is_some actor.there) refl refl sound
-finished_edges k ec (sequel.Replied caller) actor asks fits sound =
-    completed_edges (with_context k ec (parked (context k ec))) caller (set_there k.contexts ec _ caller (caller_there k ec caller actor asks fits.served))
+-- a handler parks, and its caller goes on
+replied_edges : (k : KernelState) (ec caller : ℕ) (its : Mark) (m : List ℕ) → IsActor k.contexts ec → IsCallerOf k ec caller its → Fits k → AreEdges k.contexts →
+    let one = with_ec k.contexts ec (parked (context k ec)) in AreEdges (with_ec one caller (resumed (ec_of one caller) its m))
+replied_edges k ec caller its m actor keeps fits sound =
+    let one = with_ec k.contexts ec (parked (context k ec)) in
+    let on = resumed_is (ec_of one caller) its m in
+    free_on one caller (resumed (ec_of one caller) its m) (set_there k.contexts ec _ caller (caller_there k ec caller its actor keeps fits.served)) on.cpu (ap edge_of on.ready)
     (free_on k.contexts ec _ (ap is_some actor.there) refl refl sound)
+
+finished_edges : (k : KernelState) (ec item : ℕ) (words : Option ItemWords) (follows : Sequel) → IsActor k.contexts ec → Follows k ec follows → Fits k → AreEdges k.contexts →
+    AreEdges (followed (told (with_context k ec (after_item (context k ec) follows)) item words) ec follows).contexts
+finished_edges k ec item words sequel.Item actor asks fits sound =
+    told_same (λ cs all. AreEdges cs) (with_context k ec (context k ec)) item words (keeps_on k.contexts ec _ (ap is_some actor.there) refl refl sound)
+finished_edges k ec item words sequel.Opened actor asks fits sound =
+    told_same (λ cs all. AreEdges cs) (with_context k ec (after_item (context k ec) sequel.Opened)) item words (free_on k.contexts ec _ (ap is_some actor.there) refl refl sound)
+finished_edges k ec item words sequel.Taken actor asks fits sound =
+    told_same (λ cs all. AreEdges cs) (with_context k ec (after_item (context k ec) sequel.Taken)) item words (free_on k.contexts ec _ (ap is_some actor.there) refl refl sound)
+finished_edges k ec item words (sequel.Replied caller its) actor asks fits sound =
+    let one = with_context k ec (parked (context k ec)) in
+    let m = message (told one item words) ec in
+    told_same (λ cs all. AreEdges (with_ec cs caller (resumed (ec_of cs caller) its m))) one item words (replied_edges k ec caller its m actor asks fits sound)
+
+-- one waits for a handler that takes its message, and the handler goes on
+sent_edges : (k : KernelState) (ec handler : ℕ) (its : Mark) (ip identifier : ℕ) (items : Bool) → IsActor k.contexts ec → IsReached k.contexts ec handler → AreEdges k.contexts →
+    let one = with_ec k.contexts ec (record (context k ec) { state = Calling handler }) in
+    AreEdges (with_ec one handler (serving (ec_of one handler) ec its ip identifier items))
+sent_edges k ec handler its ip identifier items actor reached sound =
+    let y : EcState = record (context k ec) { state = Calling handler } in
+    let one = with_ec k.contexts ec y in
+    free_on one handler (serving (ec_of one handler) ec its ip identifier items) (set_there k.contexts ec y handler (reached_there k.contexts ec handler reached)) refl (begins_free items)
+    (waits_on k.contexts ec handler y (ap is_some actor.there) refl refl reached.may sound)
+  where
+    begins_free : (t : Bool) → edge_of (if t then Granting None else Ready) ≡ None
+    begins_free true = refl
+    begins_free false = refl
+
+-- who is woken goes on
+upped_edges : (k : KernelState) (ec sm : ℕ) (whom : Option ℕ) → IsActor k.contexts ec → woken (semaphore k.semaphores sm) ≡ Ok whom → Fits k → AreEdges k.contexts →
+    AreEdges (done k ec (Ups sm whom)).contexts
+upped_edges k ec sm None actor wakes fits sound = free_on k.contexts ec _ (ap is_some actor.there) refl refl sound
+upped_edges k ec sm (Some w) actor wakes fits sound =
+    let one = with_ec k.contexts ec (answered (context k ec) Success None) in
+    let there = blocked_there k.contexts w sm (woken_blocked k sm w wakes fits.blocked) in
+    free_on one w (answered (ec_of one w) Success None) (set_there k.contexts ec _ w (ap is_some there)) refl refl (free_on k.contexts ec _ (ap is_some actor.there) refl refl sound)
 
 done_edges : (k : KernelState) (ec : ℕ) (d : Deed) → IsActor k.contexts ec → Asks k ec d → Fits k → AreEdges k.contexts → AreEdges (done k ec d).contexts
 done_edges k ec Rests actor asks fits sound = sound
 done_edges k ec Steps actor asks fits sound = stepped_edges k ec (instruction k ec) (ap is_some actor.there) sound
 done_edges k ec (Raises reason q0 q1) actor asks fits sound = free_on k.contexts ec _ (ap is_some actor.there) refl refl sound
 done_edges k ec (Dies reason q0) actor asks fits sound = free_on k.contexts ec _ (ap is_some actor.there) refl refl sound
+done_edges k ec (Waits handler reason q0 q1) actor asks fits sound =
+    waits_on k.contexts ec handler _ (ap is_some actor.there) refl refl (exit_waits_edge k.contexts ec handler asks) sound
+done_edges k ec (Sends handler ip identifier mtd reason q0 q1) actor asks fits sound =
+    sent_edges k ec handler mark.Exit ip identifier false actor (exit_reaches k.contexts ec handler asks.admits) sound
 done_edges k ec (Refuses call status) actor asks fits sound = free_on k.contexts ec _ (ap is_some actor.there) refl refl sound
 done_edges k ec (Makes call target made) actor asks fits sound =
     edges_more _ (context_of (length k.objects) made) (free_on k.contexts ec _ (ap is_some actor.there) refl refl sound) (new_free (length k.objects) made)
@@ -103,24 +139,20 @@ done_edges k ec (Opens target domain) actor asks fits sound =
     edges_more _ None (free_on k.contexts ec (record (context k ec) { state = Granting (Some domain) }) (ap is_some actor.there) refl refl sound) refl
 done_edges k ec (Gives child cursor) actor asks fits sound = sound
 done_edges k ec (Skips reason place cursor) actor asks fits sound = sound
-done_edges k ec (Finishes item end words follows) actor asks fits sound = told_edges _ item words follows (finished_edges k ec follows actor asks.1 fits sound)
+done_edges k ec (Finishes item end words follows) actor asks fits sound = finished_edges k ec item words follows actor asks.1 fits sound
 done_edges k ec (Calls handler ip identifier items) actor asks fits sound =
-    let reached = send_reaches k.contexts ec handler asks.flag asks.admits in
-    let y : EcState = record (context k ec) { state = Calling handler } in
-    let one = with_ec k.contexts ec y in
-    free_on one handler (serving (ec_of one handler) ec ip identifier items) (set_there k.contexts ec y handler (reached_there k.contexts ec handler reached)) refl (begins_free items)
-    (waits_on k.contexts ec handler y (ap is_some actor.there) refl refl reached.may sound)
-  where
-    begins_free : (t : Bool) → edge_of (if t then Granting None else Ready) ≡ None
-    begins_free true = refl
-    begins_free false = refl
+    sent_edges k ec handler mark.Call ip identifier items actor (send_reaches k.contexts ec handler asks.flag asks.admits) sound
 done_edges k ec (Helps handler) actor asks fits sound =
     waits_on k.contexts ec handler _ (ap is_some actor.there) refl refl (help_edge k.contexts ec handler asks.0 asks.1) sound
-done_edges k ec (Replies caller true) actor asks fits sound = free_on k.contexts ec _ (ap is_some actor.there) refl refl sound
-done_edges k ec (Replies caller false) actor asks fits sound =
-    completed_edges (with_context k ec (parked (context k ec))) caller (set_there k.contexts ec _ caller (caller_there k ec caller actor (_, asks) fits.served))
-    (free_on k.contexts ec _ (ap is_some actor.there) refl refl sound)
-done_edges k ec (Aborts handler) actor asks fits sound = free_on k.contexts ec _ (ap is_some actor.there) refl refl sound
+done_edges k ec (Replies caller mark.Call true) actor asks fits sound = free_on k.contexts ec _ (ap is_some actor.there) refl refl sound
+done_edges k ec (Replies caller mark.Exit true) actor asks fits sound = free_on k.contexts ec _ (ap is_some actor.there) refl refl sound
+done_edges k ec (Replies caller mark.Call false) actor asks fits sound = replied_edges k ec caller mark.Call (message k ec) actor asks fits sound
+done_edges k ec (Replies caller mark.Exit false) actor asks fits sound = replied_edges k ec caller mark.Exit _ actor asks fits sound
+done_edges k ec (Aborts handler mark.Call) actor asks fits sound = free_on k.contexts ec _ (ap is_some actor.there) refl refl sound
+done_edges k ec (Aborts handler mark.Exit) actor asks fits sound = free_on k.contexts ec _ (ap is_some actor.there) refl refl sound
+done_edges k ec (Ups sm whom) actor asks fits sound = upped_edges k ec sm whom actor asks.1 fits sound
+done_edges k ec (Downs sm) actor asks fits sound = free_on k.contexts ec _ (ap is_some actor.there) refl refl sound
+done_edges k ec (Blocks sm) actor asks fits sound = free_on k.contexts ec _ (ap is_some actor.there) refl refl sound
 
 -- A TURN
 
@@ -166,8 +198,26 @@ able s turns cpu = choice_acts (run (boot s) turns) cpu
 pub acting : (s : Scenario) (turns : List ℕ) (cpu : ℕ) → IfSome (choice (run (boot s) turns) cpu) (λ c. deed (run (boot s) turns) c.actor ≢ Rests)
 acting s turns cpu = chosen_does (run (boot s) turns) cpu _ (boot_run_fits s turns).served.well
 
+-- what turns keep
 pub keeps : (k : KernelState) (cpu : ℕ) → IsKept k → IsKept (after k cpu)
 keeps k cpu h =
-    let fits : Fits k = record { tables = h.tables; served = h.served } in
+    let fits : Fits k = record { tables = h.tables; served = h.served; blocked = h.blocked } in
     let now = after_fits k cpu fits in
-    record { tables = now.tables; served = now.served; edges = after_edges_sound k cpu fits h.edges }
+    record { tables = now.tables; served = now.served; edges = after_edges_sound k cpu fits h.edges; blocked = now.blocked }
+
+pub keeps_in_memory : (k : KernelState) (m : Memory) → IsKept k → IsKept (record k { memory = m })
+keeps_in_memory k m h = record { tables = with_memory k m h.tables; served = h.served; edges = h.edges; blocked = h.blocked }
+
+pub begins_kept : (cpus ram consoles : ℕ) (root : Root) → IsKept (bare cpus ram consoles root)
+begins_kept cpus ram consoles root =
+    let s : Scenario = record { cpus = cpus; ram = ram; consoles = consoles; root = root; images = [] } in
+    let fits = boot_fits s in record { tables = fits.tables; served = fits.served; edges = boot_edges s; blocked = fits.blocked }
+
+-- semaphores
+
+pub blocked_waits : (s : Scenario) (turns : List ℕ) (sm ec : ℕ) →
+    (state_in (run (boot s) turns).contexts ec ≡ Some (Blocked sm)) ↔ (waits (run (boot s) turns).semaphores sm ec ≡ true)
+blocked_waits s turns sm ec = let h = (boot_run_fits s turns).blocked in (h.waiting sm ec, h.blocked sm ec)
+
+pub sound_semaphores : (s : Scenario) (turns : List ℕ) → AreSound (run (boot s) turns).semaphores
+sound_semaphores s turns = (boot_run_fits s turns).blocked.sound

@@ -12,7 +12,7 @@ use Rattle.nova_model.specs.Turn.{event_of, answer_of, turn, turn_by}
 use Rattle.nova_model.specs.declared.context.State.{State}
 use Rattle.nova_model.specs.declared.context.State.TheVariants.{Granting, Replying}
 use Rattle.nova_model.specs.declared.deed.Deed.{Deed}
-use Rattle.nova_model.specs.declared.deed.Deed.TheVariants.{Rests, Steps, Raises, Dies, Refuses, Makes, Recalls, Tells, Names, Opens, Gives, Skips, Finishes, Calls, Helps, Replies, Aborts}
+use Rattle.nova_model.specs.declared.deed.Deed.TheVariants.{Rests, Steps, Raises, Dies, Waits, Sends, Refuses, Makes, Recalls, Tells, Names, Opens, Gives, Skips, Finishes, Calls, Helps, Replies, Aborts, Ups, Downs, Blocks}
 use Rattle.nova_model.specs.declared.event.Event.{Event}
 use Rattle.nova_model.specs.declared.event.EventKind.TheVariants.{Ended}
 use Rattle.nova_model.specs.declared.event.Turn.TheVariants.{Stepped}
@@ -57,6 +57,8 @@ deed_ends k ec =
       raises = λ reason q0 q1. tt;
       dies = λ reason q0. tt;
       refuses = λ number status. tt;
+      waits = λ pt reason q0 q1 is. tt;
+      sends = λ pt reason q0 q1 is. tt;
       aborts = λ handler is. tt;
       rows = λ asks c read. done_weaker IsWhole (EndsAs k ec) (row k ec (pd_of k ec) c) (whole_ends k ec) (row_whole k ec (pd_of k ec) c);
     })
@@ -82,6 +84,8 @@ ends Rests tells = absurd cc
 ends Steps tells = absurd cc
 ends (Raises reason q0 q1) tells = absurd cc
 ends (Dies reason q0) tells = absurd cc
+ends (Waits handler reason q0 q1) tells = absurd cc
+ends (Sends handler ip identifier mtd reason q0 q1) tells = absurd cc
 ends (Refuses call status) tells = absurd cc
 ends (Makes call target made) tells = absurd cc
 ends (Recalls ec) tells = absurd cc
@@ -92,9 +96,12 @@ ends (Gives child cursor) tells = absurd cc
 ends (Skips reason place cursor) tells = absurd cc
 ends (Calls handler ip identifier items) tells = absurd cc
 ends (Helps handler) tells = absurd cc
-ends (Replies caller true) tells = absurd cc
-ends (Replies caller false) tells = absurd cc
-ends (Aborts handler) tells = absurd cc
+ends (Replies caller mark true) tells = absurd cc
+ends (Replies caller mark false) tells = absurd cc
+ends (Aborts handler mark) tells = absurd cc
+ends (Ups sm whom) tells = absurd cc
+ends (Downs sm) tells = absurd cc
+ends (Blocks sm) tells = absurd cc
 
 -- of who is chosen
 chosen_ends : (s : Scenario) (turns : List ℕ) (cpu : ℕ) (c : Candidate) → (sign_of (deed (run (boot s) turns) c.actor)).0 ≡ Ended →

@@ -1,6 +1,6 @@
 -- Tables fit the objects, and callers stay with those who serve them: one row a deed, the charge, and the fold over turns.
 use Rattle.std.proofs.Common.{◌≡◌, ℕ, List, [], ◌∷◌, ◌++◌, length, refl, ap, ◌∙◌, sym, subst, inl, inr}
-use Rattle.std.specs.Prelude.{◌≢◌, Bool, true, false, slice_get, Option, Some, None, IfSome, is_some, option_map}
+use Rattle.std.specs.Prelude.{◌≢◌, Bool, true, false, slice_get, Option, Some, None, IfSome, Ok, is_some, option_map}
 use Rattle.rv_model.specs.Step.{Once, Raised, Went}
 use Rattle.nova_objects.specs.declared.object.EcKind.TheVariants.{Local, Global, Vcpu}
 use Rattle.nova_objects.specs.declared.object.Object.{Object}
@@ -9,31 +9,36 @@ use Rattle.nova_model.specs.Boot.{Image, Scenario, bare, boot, root_context, roo
 use Rattle.nova_model.specs.Calls.{is_parked}
 use Rattle.nova_model.specs.Choice.{Candidate, choice}
 use Rattle.nova_model.specs.Creation.{context_of, object_of, with_object}
-use Rattle.nova_model.specs.Deeds.{after_item, answered, changed, completed, deed, done, followed, instruction, parked, recalled, serving, stepped, told, with_context}
-use Rattle.nova_model.specs.Edges.{acts, acts_as}
+use Rattle.nova_model.specs.Deeds.{after_item, answered, changed, deed, done, followed, instruction, parked, recalled, resumed, serving, stepped, told, with_context, woken_in}
+use Rattle.nova_model.specs.Edges.{acts, acts_as, state_in}
 use Rattle.nova_model.specs.Runs.{after, run}
-use Rattle.nova_model.specs.State.{Contexts, KernelState, budget_at, context, context_at, context_in, ec_in, ec_of, entry, is_local_in, is_local_thread, pd_of}
+use Rattle.nova_model.specs.Semaphores.{semaphore, upped, woken}
+use Rattle.nova_model.specs.State.{Contexts, KernelState, budget_at, context, context_at, context_in, ec_in, ec_of, entry, is_local_in, is_local_thread, message, pd_of, with_ec}
 use Rattle.nova_model.specs.Turn.{budget_after, charged, counted, is_spent, paid_by, quantum_in, state_after, turn, turn_by}
 use Rattle.nova_model.specs.declared.budget.Budget.{Budget}
 use Rattle.nova_model.specs.declared.context.EcState.{EcState}
+use Rattle.nova_model.specs.declared.context.Mark.{Mark}
+use Rattle.nova_model.specs.declared.context.Mark.TheVariants as mark
 use Rattle.nova_model.specs.declared.context.State.{State}
 use Rattle.nova_model.specs.declared.context.State.TheVariants.{Calling, Fresh, Granting, Ready}
 use Rattle.nova_model.specs.declared.deed.Deed.{Deed}
-use Rattle.nova_model.specs.declared.deed.Deed.TheVariants.{Rests, Steps, Raises, Dies, Refuses, Makes, Recalls, Tells, Names, Opens, Gives, Skips, Finishes, Calls, Helps, Replies, Aborts}
+use Rattle.nova_model.specs.declared.deed.Deed.TheVariants.{Rests, Steps, Raises, Dies, Waits, Sends, Refuses, Makes, Recalls, Tells, Names, Opens, Gives, Skips, Finishes, Calls, Helps, Replies, Aborts, Ups, Downs, Blocks}
 use Rattle.nova_model.specs.declared.new_object.NewObject.{NewObject}
 use Rattle.nova_model.specs.declared.new_object.NewObject.TheVariants as new
 use Rattle.nova_model.specs.declared.transfer.ItemWords.{ItemWords}
 use Rattle.nova_model.specs.declared.transfer.Sequel.{Sequel}
 use Rattle.nova_model.specs.declared.transfer.Sequel.TheVariants as sequel
 use Rattle.nova_model.specs.declared.root.Root.{Root}
-use Rattle.nova_laws.specs.Links.{AreServed, IsLinked, is_giving, is_sending}
+use Rattle.nova_laws.specs.Links.{AreServed, IsLinked, is_giving, state_at}
 use Rattle.nova_laws.specs.Tables.{HasTables}
+use Rattle.nova_laws.specs.Waiting.{AreBlocked}
+use Rattle.nova_laws.proofs.Blocking.{bare_blocked, done_blocked, woken_blocked}
 use Rattle.nova_laws.proofs.Chosen.{Acts, choice_acts}
-use Rattle.nova_laws.proofs.Links.{IsNewborn, served_more}
+use Rattle.nova_laws.proofs.Links.{IsNewborn, is_taking, served_more}
 use Rattle.nova_laws.proofs.Referring.{Asks, Follows, IsCallerOf, TellsIn, deed_asks}
-use Rattle.nova_laws.proofs.Serving.{IsActor, acts_on, actor_of, awaited, replies_on, reached_there, send_reaches, sends_on, stays_on}
-use Rattle.nova_laws.proofs.Setting.{get_last, joined_other, set_length}
-use Rattle.nova_laws.proofs.Tabling.{changed_tag, contexts_length, edited, followed_fits, made_fits, named_fits, passed_fits, recalled_fits, replied_fits, set_there, stepped_fits, told_contexts, told_fits, transfer_there, with_delegations, with_memory, with_transfer_fits}
+use Rattle.nova_laws.proofs.Serving.{IsActor, acts_on, actor_of, awaited, blocked_there, exit_reaches, is_blocked, replies_on, reached_there, send_reaches, sends_on, stays_on, wakes_on}
+use Rattle.nova_laws.proofs.Setting.{entry_other, get_last, joined_other, set_length}
+use Rattle.nova_laws.proofs.Tabling.{changed_tag, contexts_length, downed_fits, edited, followed_fits, made_fits, named_fits, passed_fits, recalled_fits, replied_fits, set_there, stepped_fits, told_contexts, told_fits, transfer_there, upped_fits, with_delegations, with_memory, with_message_fits, with_transfer_fits, woken_fits}
 use Rattle.nova_laws.proofs.Tags.{map_set}
 
 -- A DEED AND TABLES
@@ -41,65 +46,85 @@ use Rattle.nova_laws.proofs.Tags.{map_set}
 abbrev Served : KernelState → Type 0
 Served k = AreServed (is_local_thread k) k.contexts
 
-pub caller_there : (k : KernelState) (ec caller : ℕ) → IsActor k.contexts ec → IsCallerOf k ec caller → Served k → is_some (context_at k caller) ≡ true
-caller_there k ec caller actor (mark, keeps) served = ap is_some (awaited (is_local_thread k) k.contexts ec caller mark actor keeps served).there
+pub caller_there : (k : KernelState) (ec caller : ℕ) (mark : Mark) → IsActor k.contexts ec → IsCallerOf k ec caller mark → Served k → is_some (context_at k caller) ≡ true
+caller_there k ec caller mark actor keeps served = ap is_some (awaited (is_local_thread k) k.contexts ec caller mark actor keeps served).there
 
 told_there : (k : KernelState) (ec : ℕ) (y : EcState) (words : Option ItemWords) → IsActor k.contexts ec → Served k → TellsIn k ec words →
     IfSome words (λ w. is_some (context_at (with_context k ec y) w.ec) ≡ true)
 told_there k ec y None actor served h = tt
 told_there k ec y (Some w) actor served (inl same) = set_there k.contexts ec y w.ec (rw (same, actor.there) refl)
-told_there k ec y (Some w) actor served (inr calls) = set_there k.contexts ec y w.ec (caller_there k ec w.ec actor calls served)
+told_there k ec y (Some w) actor served (inr calls) = set_there k.contexts ec y w.ec (caller_there k ec w.ec mark.Call actor calls served)
 
-followed_there : (k : KernelState) (ec : ℕ) (y : EcState) (follows : Sequel) (caller : ℕ) → IsActor k.contexts ec → Served k → Follows k ec follows →
-    follows ≡ sequel.Replied caller → is_some (context_at (with_context k ec y) caller) ≡ true
-followed_there k ec y follows caller actor served h is =
-    set_there k.contexts ec y caller (caller_there k ec caller actor (subst (Follows k ec) is h) served)
+followed_there : (k : KernelState) (ec : ℕ) (y : EcState) (follows : Sequel) (caller : ℕ) (mark : Mark) → IsActor k.contexts ec → Served k → Follows k ec follows →
+    follows ≡ sequel.Replied caller mark → is_some (context_at (with_context k ec y) caller) ≡ true
+followed_there k ec y follows caller mark actor served h is =
+    set_there k.contexts ec y caller (caller_there k ec caller mark actor (subst (Follows k ec) is h) served)
 
 -- an execution context changes, and goes on
 edits : (k : KernelState) (ec : ℕ) (d : Deed) → IsActor k.contexts ec → HasTables k → HasTables (with_context k ec (changed (context k ec) d))
 edits k ec d actor h = edited k ec (λ x. changed x d) (changed_tag d) (ap is_some actor.there) h
 
-followed_stays : (k : KernelState) (follows : Sequel) (n : ℕ) → is_some (context_at k n) ≡ true → is_some (context_at (followed k follows) n) ≡ true
-followed_stays k sequel.Item n there = there
-followed_stays k sequel.Opened n there = there
-followed_stays k sequel.Taken n there = there
-followed_stays k (sequel.Replied caller) n there = set_there k.contexts caller _ n there
+followed_stays : (k : KernelState) (ec : ℕ) (follows : Sequel) (n : ℕ) → is_some (context_at k n) ≡ true → is_some (context_at (followed k ec follows) n) ≡ true
+followed_stays k ec sequel.Item n there = there
+followed_stays k ec sequel.Opened n there = there
+followed_stays k ec sequel.Taken n there = there
+followed_stays k ec (sequel.Replied caller mark) n there = set_there k.contexts caller _ n there
 
-done_tables : (k : KernelState) (ec : ℕ) (d : Deed) → IsActor k.contexts ec → Asks k ec d → Served k → HasTables k → HasTables (done k ec d)
-done_tables k ec Rests actor asks served h = h
-done_tables k ec Steps actor asks served h = stepped_fits k ec (instruction k ec) (ap is_some actor.there) h
-done_tables k ec (Makes call target made) actor asks served h = made_fits _ (pd_of k ec) target made asks (edits k ec (Makes call target made) actor h)
-done_tables k ec (Recalls other) actor asks served h = recalled_fits _ other _ refl (edits k ec (Recalls other) actor h)
-done_tables k ec (Opens target domain) actor asks served h = made_fits _ (pd_of k ec) target new.Pd tt (edits k ec (Opens target domain) actor h)
-done_tables k ec (Gives child cursor) actor asks served h =
+-- who is woken is there
+waking_there : (k : KernelState) (ec sm : ℕ) (y : EcState) (whom : Option ℕ) → woken (semaphore k.semaphores sm) ≡ Ok whom → AreBlocked k.contexts k.semaphores →
+    IfSome whom (λ w. is_some (context_at (with_context k ec y) w) ≡ true)
+waking_there k ec sm y None wakes blocked = tt
+waking_there k ec sm y (Some w) wakes blocked =
+    set_there k.contexts ec y w (ap is_some (blocked_there k.contexts w sm (woken_blocked k sm w wakes blocked)))
+
+done_tables : (k : KernelState) (ec : ℕ) (d : Deed) → IsActor k.contexts ec → Asks k ec d → Served k → AreBlocked k.contexts k.semaphores → HasTables k → HasTables (done k ec d)
+done_tables k ec Rests actor asks served blocked h = h
+done_tables k ec Steps actor asks served blocked h = stepped_fits k ec (instruction k ec) (ap is_some actor.there) h
+done_tables k ec (Makes call target made) actor asks served blocked h = made_fits _ (pd_of k ec) target made asks (edits k ec (Makes call target made) actor h)
+done_tables k ec (Recalls other) actor asks served blocked h = recalled_fits _ other _ refl (edits k ec (Recalls other) actor h)
+done_tables k ec (Opens target domain) actor asks served blocked h = made_fits _ (pd_of k ec) target new.Pd tt (edits k ec (Opens target domain) actor h)
+done_tables k ec (Gives child cursor) actor asks served blocked h =
     with_transfer_fits (record k { delegations = _ }) ec _ (transfer_there k ec (ap is_some actor.there) h) (with_delegations k _ h)
-done_tables k ec (Skips reason place cursor) actor asks served h = with_transfer_fits k ec _ (transfer_there k ec (ap is_some actor.there) h) h
-done_tables k ec (Finishes item end words follows) actor asks served h =
+done_tables k ec (Skips reason place cursor) actor asks served blocked h = with_transfer_fits k ec _ (transfer_there k ec (ap is_some actor.there) h) h
+done_tables k ec (Finishes item end words follows) actor asks served blocked h =
     let y = after_item (context k ec) follows in
     let one = with_context k ec y in
     let kept = edits k ec (Finishes item end words follows) actor h in
     let two = told_fits one item words (told_there k ec y words actor served asks.0) kept in
-    let there : (caller : ℕ) → follows ≡ sequel.Replied caller → is_some (context_at (told one item words) caller) ≡ true =
-    (λ caller is. rw (told_contexts one item words) (followed_there k ec y follows caller actor served asks.1 is)) in
-    let three = followed_fits (told one item words) follows there two in
-    with_transfer_fits _ ec _ (transfer_there _ ec (followed_stays (told one item words) follows ec (rw (told_contexts one item words) (set_there k.contexts ec y ec (ap is_some actor.there)))) three) three
-done_tables k ec (Names pt identifier) actor asks served h = named_fits _ pt identifier asks (edits k ec (Names pt identifier) actor h)
-done_tables k ec (Calls handler ip identifier items) actor asks served h =
+    let there : (caller : ℕ) (its : Mark) → follows ≡ sequel.Replied caller its → is_some (context_at (told one item words) caller) ≡ true =
+    (λ caller its is. rw (told_contexts one item words) (followed_there k ec y follows caller its actor served asks.1 is)) in
+    let three = followed_fits (told one item words) ec follows there two in
+    let still : is_some (context_at (told one item words) ec) ≡ true = rw (told_contexts one item words) (set_there k.contexts ec y ec (ap is_some actor.there)) in
+    with_transfer_fits _ ec _ (transfer_there _ ec (followed_stays (told one item words) ec follows ec still) three) three
+done_tables k ec (Names pt identifier) actor asks served blocked h = named_fits _ pt identifier asks (edits k ec (Names pt identifier) actor h)
+done_tables k ec (Calls handler ip identifier items) actor asks served blocked h =
     let y : EcState = changed (context k ec) (Calls handler ip identifier items) in
     let one = with_context k ec y in
     let there = set_there k.contexts ec y handler (reached_there k.contexts ec handler (send_reaches k.contexts ec handler asks.flag asks.admits)) in
-    edited _ handler (λ x. serving x ec ip identifier items) (λ x. refl) there
+    edited _ handler (λ x. serving x ec mark.Call ip identifier items) (λ x. refl) there
     (passed_fits one ec handler there (edits k ec (Calls handler ip identifier items) actor h))
-done_tables k ec (Replies caller items) actor asks served h =
-    let y : EcState = changed (context k ec) (Replies caller items) in
-    replied_fits (with_context k ec y) ec caller items (set_there k.contexts ec y caller (caller_there k ec caller actor (_, asks) served))
-    (edits k ec (Replies caller items) actor h)
-done_tables k ec (Raises reason q0 q1) actor asks served h = edits k ec (Raises reason q0 q1) actor h
-done_tables k ec (Dies reason q0) actor asks served h = edits k ec (Dies reason q0) actor h
-done_tables k ec (Refuses call status) actor asks served h = edits k ec (Refuses call status) actor h
-done_tables k ec (Tells call value) actor asks served h = edits k ec (Tells call value) actor h
-done_tables k ec (Helps handler) actor asks served h = edits k ec (Helps handler) actor h
-done_tables k ec (Aborts handler) actor asks served h = edits k ec (Aborts handler) actor h
+done_tables k ec (Replies caller mark items) actor asks served blocked h =
+    let y : EcState = changed (context k ec) (Replies caller mark items) in
+    replied_fits (with_context k ec y) ec caller mark items (set_there k.contexts ec y caller (caller_there k ec caller mark actor asks served))
+    (edits k ec (Replies caller mark items) actor h)
+done_tables k ec (Sends handler ip identifier mtd reason q0 q1) actor asks served blocked h =
+    let y : EcState = changed (context k ec) (Sends handler ip identifier mtd reason q0 q1) in
+    let one = with_context k ec y in
+    let there = set_there k.contexts ec y handler (reached_there k.contexts ec handler (exit_reaches k.contexts ec handler asks.admits)) in
+    edited _ handler (λ x. serving x ec mark.Exit ip identifier false) (λ x. refl) there
+    (with_message_fits one handler _ there (edits k ec (Sends handler ip identifier mtd reason q0 q1) actor h))
+done_tables k ec (Ups sm whom) actor asks served blocked h =
+    let y = changed (context k ec) (Ups sm whom) in
+    woken_fits _ whom (waking_there k ec sm y whom asks.1 blocked) (upped_fits _ sm (edits k ec (Ups sm whom) actor h))
+done_tables k ec (Downs sm) actor asks served blocked h = downed_fits _ sm ec (edits k ec (Downs sm) actor h)
+done_tables k ec (Blocks sm) actor asks served blocked h = downed_fits _ sm ec (edits k ec (Blocks sm) actor h)
+done_tables k ec (Waits handler reason q0 q1) actor asks served blocked h = edits k ec (Waits handler reason q0 q1) actor h
+done_tables k ec (Raises reason q0 q1) actor asks served blocked h = edits k ec (Raises reason q0 q1) actor h
+done_tables k ec (Dies reason q0) actor asks served blocked h = edits k ec (Dies reason q0) actor h
+done_tables k ec (Refuses call status) actor asks served blocked h = edits k ec (Refuses call status) actor h
+done_tables k ec (Tells call value) actor asks served blocked h = edits k ec (Tells call value) actor h
+done_tables k ec (Helps handler) actor asks served blocked h = edits k ec (Helps handler) actor h
+done_tables k ec (Aborts handler mark) actor asks served blocked h = edits k ec (Aborts handler mark) actor h
 
 -- A DEED AND CALLERS
 
@@ -112,7 +137,7 @@ none_born is_local = record {
     serving = λ local there works. absurd (cc);
     kept = λ c mark keeps. absurd (cc);
     giving = λ gives. absurd (cc);
-    sends = refl;
+    taking = λ c its keeps is. absurd (cc);
   };
 }
 
@@ -121,8 +146,8 @@ state_same s t same = cc
 
 -- one without a caller, that begins by itself
 alone_born : (x : EcState) (s : State) → x.caller ≡ None → x.state ≡ s → ((h : ℕ) → s ≢ Calling h) → is_parked (Some s) ≡ false → is_giving (Some s) ≡ false →
-    is_sending (Some s) ≡ false → IsNewborn false (Some x)
-alone_born x s none is calls works gives sends = record {
+    is_taking (Some s) ≡ false → IsNewborn false (Some x)
+alone_born x s none is calls works gives takes = record {
   caller = none;
   calls = λ h calling. calls h (sym is ∙ state_same x.state (Calling h) calling);
   well = record {
@@ -130,7 +155,7 @@ alone_born x s none is calls works gives sends = record {
     serving = λ local there working. absurd (cc);
     kept = λ c mark keeps. absurd (cc);
     giving = λ giving. absurd (let not : is_giving (Some x.state) ≡ false = ap (λ (t : State). is_giving (Some t)) is ∙ gives in cc);
-    sends = ap (λ (t : State). is_sending (Some t)) is ∙ sends;
+    taking = λ c its keeps takes. absurd (cc);
   };
 }
 
@@ -144,7 +169,7 @@ born n (new.Ec pd cpu Local sp event) = record {
     serving = λ local there works. absurd (cc);
     kept = λ c mark keeps. absurd (cc);
     giving = λ gives. absurd (cc);
-    sends = refl;
+    taking = λ c its keeps is. absurd (cc);
   };
 }
 born n (new.Ec pd cpu Global sp event) = alone_born _ Fresh refl refl (λ h is. cc) refl refl refl
@@ -178,22 +203,24 @@ stepped_served k ec (Went regs store) there served = stays_on (is_local_thread k
 
 -- it goes on in a state of its own
 owns : (k : KernelState) (ec : ℕ) (y : EcState) → IsActor k.contexts ec → y.caller ≡ (context k ec).caller → y.cpu ≡ (context k ec).cpu →
-    ((h : ℕ) → y.state ≢ Calling h) → is_parked (Some y.state) ≡ false → is_giving (Some y.state) ≡ false → is_sending (Some y.state) ≡ false →
+    ((h : ℕ) → y.state ≢ Calling h) → is_parked (Some y.state) ≡ false → is_giving (Some y.state) ≡ false → is_taking (Some y.state) ≡ false →
     Served k → Served (with_context k ec y)
-owns k ec y actor caller cpu calls works gives sends served =
-    acts_on (is_local_thread k) k.contexts ec y actor caller cpu calls works (λ is. absurd (cc)) sends served
+owns k ec y actor caller cpu calls works gives takes served =
+    acts_on (is_local_thread k) k.contexts ec y actor caller cpu calls works (λ is. absurd (cc)) takes served
 
 -- what is told changes no context
 tells : (k : KernelState) (item : ℕ) (words : Option ItemWords) → Served k → Served (told k item words)
 tells k item None served = served
 tells k item (Some w) served = served
 
-replied_through : (k : KernelState) (item : ℕ) (words : Option ItemWords) (caller : ℕ) → Served (completed k caller) → Served (completed (told k item words) caller)
-replied_through k item None caller served = served
-replied_through k item (Some w) caller served = served
+-- whom it served goes on by what its message is
+replied_served : (k : KernelState) (ec caller : ℕ) (mark : Mark) (m : List ℕ) → IsActor k.contexts ec → IsCallerOf k ec caller mark → Served k →
+    AreServed (is_local_thread k)
+    (with_ec (with_ec k.contexts ec (parked (context k ec))) caller (resumed (ec_of (with_ec k.contexts ec (parked (context k ec))) caller) mark m))
+replied_served k ec caller mark m actor keeps served = replies_on (is_local_thread k) k.contexts ec caller mark m actor keeps served
 
 finished_served : (k : KernelState) (ec item : ℕ) (words : Option ItemWords) (follows : Sequel) → IsActor k.contexts ec → Follows k ec follows → Served k →
-    Served (followed (told (with_context k ec (after_item (context k ec) follows)) item words) follows)
+    Served (followed (told (with_context k ec (after_item (context k ec) follows)) item words) ec follows)
 finished_served k ec item words sequel.Item actor asks served =
     tells (with_context k ec (context k ec)) item words (stays_on (is_local_thread k) k.contexts ec (context k ec) (ap is_some actor.there) refl refl refl served)
 finished_served k ec item words sequel.Opened actor asks served =
@@ -202,48 +229,76 @@ finished_served k ec item words sequel.Opened actor asks served =
 finished_served k ec item words sequel.Taken actor asks served =
     let y : EcState = record (context k ec) { state = Ready } in
     tells (with_context k ec y) item words (owns k ec y actor refl refl (λ h is. cc) refl refl refl served)
-finished_served k ec item words (sequel.Replied caller) actor (mark, keeps) served =
-    replied_through (with_context k ec (parked (context k ec))) item words caller (replies_on (is_local_thread k) k.contexts ec caller mark actor keeps served)
+finished_served k ec item None (sequel.Replied caller mark) actor keeps served = replied_served k ec caller mark _ actor keeps served
+finished_served k ec item (Some w) (sequel.Replied caller mark) actor keeps served = replied_served k ec caller mark _ actor keeps served
 
-done_served : (k : KernelState) (ec : ℕ) (d : Deed) → IsActor k.contexts ec → Asks k ec d → HasTables k → Served k → Served (done k ec d)
-done_served k ec Rests actor asks h served = served
-done_served k ec Steps actor asks h served = stepped_served k ec (instruction k ec) (ap is_some actor.there) served
-done_served k ec (Raises reason q0 q1) actor asks h served = owns k ec _ actor refl refl (λ h is. cc) refl refl refl served
-done_served k ec (Dies reason q0) actor asks h served = owns k ec _ actor refl refl (λ h is. cc) refl refl refl served
-done_served k ec (Refuses call status) actor asks h served = owns k ec _ actor refl refl (λ h is. cc) refl refl refl served
-done_served k ec (Makes call target made) actor asks h served =
+-- who is woken goes on, and is another than the one who acts
+wakes : (k : KernelState) (ec sm : ℕ) (whom : Option ℕ) (y : EcState) → IsActor k.contexts ec → woken (semaphore k.semaphores sm) ≡ Ok whom →
+    AreBlocked k.contexts k.semaphores → Served (with_context k ec y) → Served (woken_in (record (with_context k ec y) { semaphores = upped k.semaphores sm }) whom)
+wakes k ec sm None y actor is blocked served = served
+wakes k ec sm (Some w) y actor is blocked served =
+    let waits = woken_blocked k sm w is blocked in
+    let apart : w ≢ ec = (λ same.
+    let at = ap (λ (n : ℕ). is_blocked (state_in k.contexts n)) (sym same) ∙ ap is_blocked waits in
+    let none = actor.unblocked in absurd (cc)) in
+    wakes_on (is_local_thread k) (with_ec k.contexts ec y) w sm (ap state_at (entry_other k.contexts ec w y apart) ∙ waits) served
+
+done_served : (k : KernelState) (ec : ℕ) (d : Deed) → IsActor k.contexts ec → Asks k ec d → AreBlocked k.contexts k.semaphores → HasTables k → Served k →
+    Served (done k ec d)
+done_served k ec Rests actor asks blocked h served = served
+done_served k ec Steps actor asks blocked h served = stepped_served k ec (instruction k ec) (ap is_some actor.there) served
+done_served k ec (Raises reason q0 q1) actor asks blocked h served = owns k ec _ actor refl refl (λ h is. cc) refl refl refl served
+done_served k ec (Dies reason q0) actor asks blocked h served = owns k ec _ actor refl refl (λ h is. cc) refl refl refl served
+done_served k ec (Refuses call status) actor asks blocked h served = owns k ec _ actor refl refl (λ h is. cc) refl refl refl served
+done_served k ec (Makes call target made) actor asks blocked h served =
     let y = answered (context k ec) Success None in
     more_served (with_context k ec y) (pd_of k ec) target made (set_length k.contexts ec (Some y) ∙ contexts_length k h) (owns k ec y actor refl refl (λ h is. cc) refl refl refl served)
-done_served k ec (Recalls other) actor asks h served =
+done_served k ec (Recalls other) actor asks blocked h served =
     let y = answered (context k ec) Success None in
     recalled_served (with_context k ec y) other _ refl (owns k ec y actor refl refl (λ h is. cc) refl refl refl served)
-done_served k ec (Tells call value) actor asks h served = owns k ec _ actor refl refl (λ h is. cc) refl refl refl served
-done_served k ec (Names pt identifier) actor asks h served = owns k ec _ actor refl refl (λ h is. cc) refl refl refl served
-done_served k ec (Opens target domain) actor asks h served =
+done_served k ec (Tells call value) actor asks blocked h served = owns k ec _ actor refl refl (λ h is. cc) refl refl refl served
+done_served k ec (Names pt identifier) actor asks blocked h served = owns k ec _ actor refl refl (λ h is. cc) refl refl refl served
+done_served k ec (Opens target domain) actor asks blocked h served =
     let y : EcState = record (context k ec) { state = Granting (Some domain) } in
     more_served (with_context k ec y) (pd_of k ec) target new.Pd (set_length k.contexts ec (Some y) ∙ contexts_length k h) (owns k ec y actor refl refl (λ h is. cc) refl refl refl served)
-done_served k ec (Gives child cursor) actor asks h served = served
-done_served k ec (Skips reason place cursor) actor asks h served = served
-done_served k ec (Finishes item end words follows) actor asks h served = finished_served k ec item words follows actor asks.1 served
-done_served k ec (Calls handler ip identifier items) actor asks h served =
-    sends_on (is_local_thread k) k.contexts ec handler ip identifier items actor (send_reaches k.contexts ec handler asks.flag asks.admits) served
-done_served k ec (Helps handler) actor asks h served = owns k ec _ actor refl refl (λ h is. cc) refl refl refl served
-done_served k ec (Replies caller true) actor asks h served =
+done_served k ec (Gives child cursor) actor asks blocked h served = served
+done_served k ec (Skips reason place cursor) actor asks blocked h served = served
+done_served k ec (Finishes item end words follows) actor asks blocked h served = finished_served k ec item words follows actor asks.1 served
+done_served k ec (Calls handler ip identifier items) actor asks blocked h served =
+    sends_on (is_local_thread k) k.contexts ec handler mark.Call ip identifier items (λ some. refl) actor (send_reaches k.contexts ec handler asks.flag asks.admits) served
+done_served k ec (Helps handler) actor asks blocked h served = owns k ec _ actor refl refl (λ h is. cc) refl refl refl served
+done_served k ec (Replies caller mark.Call true) actor asks blocked h served =
     acts_on (is_local_thread k) k.contexts ec _ actor refl refl (λ h is. cc) refl (λ gives. rw asks refl) refl served
-done_served k ec (Replies caller false) actor asks h served = replies_on (is_local_thread k) k.contexts ec caller _ actor asks served
-done_served k ec (Aborts handler) actor asks h served = owns k ec _ actor refl refl (λ h is. cc) refl refl refl served
+done_served k ec (Replies caller mark.Exit true) actor asks blocked h served =
+    acts_on (is_local_thread k) k.contexts ec _ actor refl refl (λ h is. cc) refl (λ gives. rw asks refl) refl served
+done_served k ec (Replies caller mark.Call false) actor asks blocked h served = replied_served k ec caller mark.Call (message k ec) actor asks served
+done_served k ec (Replies caller mark.Exit false) actor asks blocked h served = replied_served k ec caller mark.Exit (message k ec) actor asks served
+done_served k ec (Aborts handler mark.Call) actor asks blocked h served = owns k ec _ actor refl refl (λ h is. cc) refl refl refl served
+done_served k ec (Aborts handler mark.Exit) actor asks blocked h served = owns k ec _ actor refl refl (λ h is. cc) refl refl refl served
+done_served k ec (Waits handler reason q0 q1) actor asks blocked h served = owns k ec _ actor refl refl (λ h is. cc) refl refl refl served
+done_served k ec (Sends handler ip identifier mtd reason q0 q1) actor asks blocked h served =
+    sends_on (is_local_thread k) k.contexts ec handler mark.Exit ip identifier false (λ some. absurd (cc)) actor (exit_reaches k.contexts ec handler asks.admits) served
+done_served k ec (Ups sm whom) actor asks blocked h served =
+    wakes k ec sm whom (answered (context k ec) Success None) actor asks.1 blocked (owns k ec _ actor refl refl (λ h is. cc) refl refl refl served)
+done_served k ec (Downs sm) actor asks blocked h served = owns k ec _ actor refl refl (λ h is. cc) refl refl refl served
+done_served k ec (Blocks sm) actor asks blocked h served = owns k ec _ actor refl refl (λ h is. cc) refl refl refl served
 
 -- A TURN
 
 pub record Fits (k : KernelState) : Type 0 where
   pub tables : HasTables k
   pub served : AreServed (is_local_thread k) k.contexts
+  pub blocked : AreBlocked k.contexts k.semaphores
 
 pub gives_there : (k : KernelState) (ec : ℕ) → is_some (context_at k ec) ≡ true → Fits k → option_map is_some (slice_get k.transfers ec) ≡ Some true
 gives_there k ec there h = transfer_there k ec there h.tables
 
 done_fits : (k : KernelState) (ec : ℕ) (d : Deed) → IsActor k.contexts ec → Asks k ec d → Fits k → Fits (done k ec d)
-done_fits k ec d actor asks h = record { tables = done_tables k ec d actor asks h.served h.tables; served = done_served k ec d actor asks h.tables h.served }
+done_fits k ec d actor asks h = record {
+  tables = done_tables k ec d actor asks h.served h.blocked h.tables;
+  served = done_served k ec d actor asks h.blocked h.tables h.served;
+  blocked = done_blocked k ec d actor asks h.tables h.served h.blocked;
+}
 
 entry_budget : (o : Option (Option Budget)) (b new : Budget) → entry o ≡ Some b → IfSome o (λ e. is_some (Some new) ≡ is_some e)
 entry_budget None b new h = tt
@@ -274,11 +329,19 @@ paid_served : (k : KernelState) (cpu sc quantum : ℕ) (o : Option Budget) → S
 paid_served k cpu sc quantum None h = h
 paid_served k cpu sc quantum (Some b) h = h
 
+abbrev Waiting : KernelState → Type 0
+Waiting k = AreBlocked k.contexts k.semaphores
+
+paid_blocked : (k : KernelState) (cpu sc quantum : ℕ) (o : Option Budget) → Waiting k → Waiting (counted (paid_by k sc quantum o) cpu)
+paid_blocked k cpu sc quantum None h = h
+paid_blocked k cpu sc quantum (Some b) h = h
+
 charged_fits : (k : KernelState) (cpu sc : ℕ) → Fits k → Fits (charged k cpu sc)
 unfolding charged
 charged_fits k cpu sc h = record {
   tables = paid_tables k cpu sc (quantum_in (slice_get k.objects sc)) (budget_at k sc) refl h.tables;
   served = paid_served k cpu sc (quantum_in (slice_get k.objects sc)) (budget_at k sc) h.served;
+  blocked = paid_blocked k cpu sc (quantum_in (slice_get k.objects sc)) (budget_at k sc) h.blocked;
 }
 
 pub entry_acts : (cs : Contexts) (o : Option EcState) → acts_as cs (option_map (λ x. x.state) o) ≡ true → is_some o ≡ true
@@ -288,7 +351,8 @@ entry_acts cs (Some x) h = refl
 turn_by_fits : (k : KernelState) (cpu : ℕ) (c : Option Candidate) → IfSome c (Acts k) → Fits k → Fits (state_after k (turn_by k cpu c))
 turn_by_fits k cpu None acts h = h
 turn_by_fits k cpu (Some c) acts h =
-    charged_fits (done k c.actor (deed k c.actor)) cpu c.sc (done_fits k c.actor (deed k c.actor) (actor_of k.contexts c.actor acts) (deed_asks k c.actor) h)
+    charged_fits (done k c.actor (deed k c.actor)) cpu c.sc
+    (done_fits k c.actor (deed k c.actor) (actor_of k.contexts c.actor acts) (deed_asks k c.actor) h)
 
 pub after_fits : (k : KernelState) (cpu : ℕ) → Fits k → Fits (after k cpu)
 unfolding turn
@@ -300,7 +364,7 @@ run_fits k (cpu ∷ turns) h = run_fits (after k cpu) turns (after_fits k cpu h)
 
 images_fit : (k : KernelState) (images : List Image) → Fits k → Fits (with_images k images)
 images_fit k [] h = h
-images_fit k (image ∷ images) h = images_fit (with_image k image) images (record { tables = with_memory k _ h.tables; served = h.served })
+images_fit k (image ∷ images) h = images_fit (with_image k image) images (record { tables = with_memory k _ h.tables; served = h.served; blocked = h.blocked })
 
 no_link : (c h : ℕ) → IsLinked c None h None
 no_link c h = record { known = λ is. absurd (cc); waits = λ mark keeps lives. absurd (cc); cpu = λ mark keeps. refl }
@@ -317,6 +381,7 @@ pub boot_fits : (s : Scenario) → Fits (boot s)
 boot_fits s = images_fit (bare s.cpus s.ram s.consoles s.root) s.images (record {
   tables = record { contexts = refl; messages = refl; transfers = refl; budgets = refl; identifiers = refl; semaphores = refl; refer = (tt, ((refl, refl), (refl, tt))) };
   served = root_served s.root;
+  blocked = bare_blocked s.root;
 })
 
 pub boot_run_fits : (s : Scenario) (turns : List ℕ) → Fits (run (boot s) turns)

@@ -1,25 +1,28 @@
 -- Whoever gives has a range and a protection domain to give it to, and whoever doesn't is at the beginning: one row a deed, the charge,
 -- and the fold over turns.
 use Rattle.std.proofs.Common.{◌≡◌, ℕ, zero, suc, List, [], ◌∷◌, ◌++◌, length, refl, ap, ◌∙◌, sym, subst}
-use Rattle.std.specs.Prelude.{Bool, true, false, slice_get, slice_set, option_map, is_some, Option, Some, None, IfSome, IsSome}
+use Rattle.std.specs.Prelude.{Bool, true, false, slice_get, slice_set, option_map, is_some, Option, Some, None, IfSome, IsSome, Ok}
 use Rattle.rv_model.specs.Registers.{Registers}
 use Rattle.rv_model.specs.Step.{Once, Raised, Went}
 use Rattle.nova_objects.specs.declared.object.EcKind.{EcKind}
 use Rattle.nova_objects.specs.declared.object.EcKind.TheVariants.{Local, Global, Vcpu}
 use Rattle.nova_objects.specs.declared.object.Object.{Object}
 use Rattle.nova_objects.specs.declared.object.Object.TheVariants.{Pd, Ec, Sc, Pt, Sm}
+use Rattle.nova_range.specs.declared.mtd.Mtd.{Mtd}
+use Rattle.nova_range.specs.declared.status.Status.TheVariants.{Success}
 use Rattle.nova_model.specs.Boot.{Scenario, Image, boot, bare, with_image, with_images}
 use Rattle.nova_model.specs.Choice.{choice}
 use Rattle.nova_model.specs.Creation.{context_of, first_registers, first_state, object_of, transfer_of}
-use Rattle.nova_model.specs.Deeds.{after_item, changed, deed, done, instruction, parked, recalled, serving, stepped, with_context}
+use Rattle.nova_model.specs.Deeds.{after_item, answered, changed, deed, done, instruction, parked, recalled, resumed, serving, stepped, with_context}
 use Rattle.nova_model.specs.Runs.{after, run}
-use Rattle.nova_model.specs.State.{KernelState, Contexts, budget_at, context, context_in, ec_in, ec_of, entry, no_transfer, transfer_in, with_ec}
+use Rattle.nova_model.specs.Semaphores.{semaphore, woken}
+use Rattle.nova_model.specs.State.{KernelState, Contexts, budget_at, context, context_in, ec_in, ec_of, entry, is_local_thread, no_transfer, transfer_in, with_ec}
 use Rattle.nova_model.specs.Turn.{charged, counted, paid_by, quantum_in, state_after, turn, turn_by}
 use Rattle.nova_model.specs.declared.budget.Budget.{Budget}
 use Rattle.nova_model.specs.Choice.{Candidate}
 use Rattle.nova_model.specs.declared.context.EcState.{EcState}
 use Rattle.nova_model.specs.declared.context.State.{State}
-use Rattle.nova_model.specs.declared.context.State.TheVariants.{Parked, Calling, Granting, Replying}
+use Rattle.nova_model.specs.declared.context.State.TheVariants.{Blocked, Parked, Calling, Granting, Replying}
 use Rattle.nova_model.specs.declared.context.Mark.{Mark}
 use Rattle.nova_model.specs.declared.context.Mark.TheVariants as mark
 use Rattle.nova_model.specs.declared.transfer.ItemEnd.{ItemEnd}
@@ -28,15 +31,18 @@ use Rattle.nova_model.specs.declared.transfer.Sequel.{Sequel}
 use Rattle.nova_model.specs.declared.transfer.Sequel.TheVariants as sequel
 use Rattle.nova_model.specs.Edges.{acts, state_in}
 use Rattle.nova_model.specs.declared.deed.Deed.{Deed}
-use Rattle.nova_model.specs.declared.deed.Deed.TheVariants.{Rests, Steps, Raises, Dies, Refuses, Makes, Recalls, Tells, Names, Opens, Gives, Skips, Finishes, Calls, Helps, Replies, Aborts}
+use Rattle.nova_model.specs.declared.deed.Deed.TheVariants.{Rests, Steps, Raises, Dies, Waits, Sends, Refuses, Makes, Recalls, Tells, Names, Opens, Gives, Skips, Finishes, Calls, Helps, Replies, Aborts, Ups, Downs, Blocks}
 use Rattle.nova_model.specs.declared.new_object.NewObject.{NewObject}
 use Rattle.nova_model.specs.declared.new_object.NewObject.TheVariants as new
 use Rattle.nova_model.specs.declared.transfer.Transfer.{Transfer}
 use Rattle.nova_laws.specs.Giving.{is_giving}
+use Rattle.nova_laws.specs.Waiting.{AreBlocked}
 use Rattle.nova_laws.proofs.Setting.{get_kept}
 use Rattle.nova_laws.proofs.Opening.{GoesTo, HasRange, Wants, deed_wants}
 use Rattle.nova_laws.proofs.Chosen.{Acts, choice_acts}
-use Rattle.nova_laws.proofs.Awaiting.{Serves, after_serves, boot_serves, served_waits}
+use Rattle.nova_laws.proofs.Awaiting.{Serves, served_waits, serves_of}
+use Rattle.nova_laws.proofs.Blocking.{woken_blocked}
+use Rattle.nova_laws.proofs.Fitting.{Fits, after_fits, boot_fits}
 
 -- TABLES
 
@@ -234,7 +240,11 @@ ends_for k ec x gives still h =
     set_for k.objects k.contexts (slice_set k.transfers ec (Some no_transfer)) ec x (of_rest k.objects x.state x.regs x.caller _ still (set_none k.transfers ec))
     (begun_for k ec no_transfer gives h)
 
--- whom it served goes on
+-- whom it served goes on, and gives nothing
+pub resumed_quiet : (x : EcState) (mark : Mark) (m : List ℕ) → is_giving (resumed x mark m).state ≡ false
+resumed_quiet x mark.Call m = refl
+resumed_quiet x mark.Exit m = refl
+
 frees_for : (k : KernelState) (ec caller : ℕ) (mark : Mark) (y : EcState) → is_giving (context k ec).state ≡ true → acts k.contexts ec ≡ true → Serves k.contexts →
     (context k ec).caller ≡ Some (caller, mark) → is_giving y.state ≡ false → Sound k →
     AreFor k.objects (with_ec (with_ec k.contexts ec (parked (context k ec))) caller y) (slice_set k.transfers ec (Some no_transfer))
@@ -254,34 +264,64 @@ finished_for : (k : KernelState) (ec item : ℕ) (end : ItemEnd) (words : Option
 finished_for k ec item end None sequel.Item gives goes able serves h = next_for k ec _ gives h
 finished_for k ec item end None sequel.Opened gives goes able serves h = ends_for k ec (after_item (context k ec) sequel.Opened) gives refl h
 finished_for k ec item end None sequel.Taken gives goes able serves h = ends_for k ec (after_item (context k ec) sequel.Taken) gives refl h
-finished_for k ec item end None (sequel.Replied caller) gives goes able serves h = frees_for k ec caller goes.0 _ gives able serves goes.1 refl h
+finished_for k ec item end None (sequel.Replied caller mark) gives goes able serves h = frees_for k ec caller mark _ gives able serves goes (resumed_quiet (ec_of (with_ec k.contexts ec (parked (context k ec))) caller) mark _) h
 finished_for k ec item end (Some words) sequel.Item gives goes able serves h = next_for k ec _ gives h
 finished_for k ec item end (Some words) sequel.Opened gives goes able serves h = ends_for k ec (after_item (context k ec) sequel.Opened) gives refl h
 finished_for k ec item end (Some words) sequel.Taken gives goes able serves h = ends_for k ec (after_item (context k ec) sequel.Taken) gives refl h
-finished_for k ec item end (Some words) (sequel.Replied caller) gives goes able serves h = frees_for k ec caller goes.0 _ gives able serves goes.1 refl h
+finished_for k ec item end (Some words) (sequel.Replied caller mark) gives goes able serves h = frees_for k ec caller mark _ gives able serves goes (resumed_quiet (ec_of (with_ec k.contexts ec (parked (context k ec))) caller) mark _) h
 
 -- a call is sent, and its handler takes items or doesn't
 sent_for : (k : KernelState) (ec handler ip identifier : ℕ) (items : Bool) → is_giving (context k ec).state ≡ false → state_in k.contexts handler ≡ Some Parked → Sound k →
     Sound (done k ec (Calls handler ip identifier items))
 sent_for k ec handler ip identifier true rests idle h =
     let x = record (context k ec) { state = Calling handler } in
-    set_for k.objects (with_ec k.contexts ec x) k.transfers handler (serving (ec_of (with_ec k.contexts ec x) handler) ec ip identifier true) refl
+    set_for k.objects (with_ec k.contexts ec x) k.transfers handler (serving (ec_of (with_ec k.contexts ec x) handler) ec mark.Call ip identifier true) refl
     (stays_for k ec x rests refl h)
 sent_for k ec handler ip identifier false rests idle h =
     let x = record (context k ec) { state = Calling handler } in
-    rests_at k.objects (with_ec k.contexts ec x) k.transfers handler (serving (ec_of (with_ec k.contexts ec x) handler) ec ip identifier false)
+    rests_at k.objects (with_ec k.contexts ec x) k.transfers handler (serving (ec_of (with_ec k.contexts ec x) handler) ec mark.Call ip identifier false)
     (quiet_set k.contexts ec handler x refl (quiet_by k.contexts handler Parked idle refl)) refl (stays_for k ec x rests refl h)
 
-replied_for : (k : KernelState) (ec caller : ℕ) (items : Bool) → is_giving (context k ec).state ≡ false → (context k ec).caller ≡ Some (caller, mark.Call) →
-    acts k.contexts ec ≡ true → Serves k.contexts → Sound k → Sound (done k ec (Replies caller items))
-replied_for k ec caller true rests has able serves h =
-    set_for k.objects k.contexts k.transfers ec (changed (context k ec) (Replies caller true)) (ap is_some has) h
-replied_for k ec caller false rests has able serves h =
-    rests_at k.objects (with_ec k.contexts ec (parked (context k ec))) k.transfers caller _
-    (quiet_set k.contexts ec caller (parked (context k ec)) refl (quiet_by k.contexts caller (Calling ec) (served_waits k ec caller mark.Call able serves has) refl)) refl
+-- and so is an exit
+exit_sent_for : (k : KernelState) (ec handler ip identifier : ℕ) (mtd : Mtd) (reason q0 q1 : ℕ) → is_giving (context k ec).state ≡ false →
+    state_in k.contexts handler ≡ Some Parked → Sound k → Sound (done k ec (Sends handler ip identifier mtd reason q0 q1))
+exit_sent_for k ec handler ip identifier mtd reason q0 q1 rests idle h =
+    let x = record (context k ec) { state = Calling handler } in
+    rests_at k.objects (with_ec k.contexts ec x) k.transfers handler (serving (ec_of (with_ec k.contexts ec x) handler) ec mark.Exit ip identifier false)
+    (quiet_set k.contexts ec handler x refl (quiet_by k.contexts handler Parked idle refl)) refl (stays_for k ec x rests refl h)
+
+-- a reply completes at once
+completes_for : (k : KernelState) (ec caller : ℕ) (mark : Mark) (y : EcState) → is_giving (context k ec).state ≡ false → (context k ec).caller ≡ Some (caller, mark) →
+    acts k.contexts ec ≡ true → Serves k.contexts → is_giving y.state ≡ false → Sound k →
+    AreFor k.objects (with_ec (with_ec k.contexts ec (parked (context k ec))) caller y) k.transfers
+completes_for k ec caller mark y rests has able serves still h =
+    rests_at k.objects (with_ec k.contexts ec (parked (context k ec))) k.transfers caller y
+    (quiet_set k.contexts ec caller (parked (context k ec)) refl (quiet_by k.contexts caller (Calling ec) (served_waits k ec caller mark able serves has) refl)) still
     (stays_for k ec (parked (context k ec)) rests refl h)
 
-pub done_for : (k : KernelState) (ec : ℕ) (d : Deed) → Wants k ec d → acts k.contexts ec ≡ true → Serves k.contexts → Sound k → Sound (done k ec d)
+replied_for : (k : KernelState) (ec caller : ℕ) (mark : Mark) (items : Bool) → is_giving (context k ec).state ≡ false → (context k ec).caller ≡ Some (caller, mark) →
+    acts k.contexts ec ≡ true → Serves k.contexts → Sound k → Sound (done k ec (Replies caller mark items))
+replied_for k ec caller mark.Call true rests has able serves h =
+    set_for k.objects k.contexts k.transfers ec (changed (context k ec) (Replies caller mark.Call true)) (ap is_some has) h
+replied_for k ec caller mark.Exit true rests has able serves h =
+    set_for k.objects k.contexts k.transfers ec (changed (context k ec) (Replies caller mark.Exit true)) (ap is_some has) h
+replied_for k ec caller mark.Call false rests has able serves h = completes_for k ec caller mark.Call _ rests has able serves refl h
+replied_for k ec caller mark.Exit false rests has able serves h = completes_for k ec caller mark.Exit _ rests has able serves refl h
+
+-- who is woken gave nothing, and goes on
+woken_for : (k : KernelState) (ec sm : ℕ) (whom : Option ℕ) → is_giving (context k ec).state ≡ false → woken (semaphore k.semaphores sm) ≡ Ok whom →
+    AreBlocked k.contexts k.semaphores → Sound k → Sound (done k ec (Ups sm whom))
+woken_for k ec sm None rests wakes blocked h = stays_for k ec (answered (context k ec) Success None) rests refl h
+woken_for k ec sm (Some w) rests wakes blocked h =
+    let x = answered (context k ec) Success None in
+    rests_at k.objects (with_ec k.contexts ec x) k.transfers w _
+    (quiet_set k.contexts ec w x refl (quiet_by k.contexts w (Blocked sm) (woken_blocked k sm w wakes blocked) refl)) refl (stays_for k ec x rests refl h)
+
+-- whom each serves
+pub serves_in : (k : KernelState) → Fits k → Serves k.contexts
+serves_in k fits = serves_of (is_local_thread k) k.contexts fits.served
+
+pub done_for : (k : KernelState) (ec : ℕ) (d : Deed) → Wants k ec d → acts k.contexts ec ≡ true → Fits k → Sound k → Sound (done k ec d)
 done_for k ec Rests wants able serves h = h
 done_for k ec Steps wants able serves h = stepped_for k ec (instruction k ec) wants h
 done_for k ec (Raises reason q0 q1) wants able serves h = stays_for k ec (changed (context k ec) (Raises reason q0 q1)) wants refl h
@@ -300,11 +340,18 @@ done_for k ec (Gives child cursor) wants able serves h =
     give_for k.objects k.contexts k.transfers ec _ (entry_anywhere k.objects (ec_in k.contexts ec) _ _ wants (h ec)) h
 done_for k ec (Skips reason place cursor) wants able serves h =
     give_for k.objects k.contexts k.transfers ec _ (entry_anywhere k.objects (ec_in k.contexts ec) _ _ wants (h ec)) h
-done_for k ec (Finishes item end words after) wants able serves h = finished_for k ec item end words after wants.0 wants.1 able serves h
+done_for k ec (Finishes item end words after) wants able fits h = finished_for k ec item end words after wants.0 wants.1 able (serves_in k fits) h
 done_for k ec (Calls handler ip identifier items) wants able serves h = sent_for k ec handler ip identifier items wants.0 wants.1 h
 done_for k ec (Helps handler) wants able serves h = stays_for k ec (changed (context k ec) (Helps handler)) wants refl h
-done_for k ec (Replies caller items) wants able serves h = replied_for k ec caller items wants.0 wants.1 able serves h
-done_for k ec (Aborts handler) wants able serves h = stays_for k ec (changed (context k ec) (Aborts handler)) wants refl h
+done_for k ec (Replies caller mark items) wants able fits h = replied_for k ec caller mark items wants.0 wants.1 able (serves_in k fits) h
+done_for k ec (Aborts handler mark.Call) wants able serves h = stays_for k ec (changed (context k ec) (Aborts handler mark.Call)) wants refl h
+done_for k ec (Aborts handler mark.Exit) wants able serves h = stays_for k ec (changed (context k ec) (Aborts handler mark.Exit)) wants refl h
+done_for k ec (Waits handler reason q0 q1) wants able serves h = stays_for k ec (changed (context k ec) (Waits handler reason q0 q1)) wants refl h
+done_for k ec (Sends handler ip identifier mtd reason q0 q1) wants able serves h =
+    exit_sent_for k ec handler ip identifier mtd reason q0 q1 wants.0 wants.1 h
+done_for k ec (Ups sm whom) wants able fits h = woken_for k ec sm whom wants.0 wants.1 fits.blocked h
+done_for k ec (Downs sm) wants able serves h = stays_for k ec (changed (context k ec) (Downs sm)) wants refl h
+done_for k ec (Blocks sm) wants able serves h = stays_for k ec (changed (context k ec) (Blocks sm)) wants refl h
 
 -- TURNS
 
@@ -316,18 +363,18 @@ charged_for : (k : KernelState) (cpu sc : ℕ) → Sound k → Sound (charged k 
 unfolding charged
 charged_for k cpu sc h = paid_for k cpu sc (quantum_in (slice_get k.objects sc)) (budget_at k sc) h
 
-turn_by_for : (k : KernelState) (cpu : ℕ) (c : Option Candidate) → IfSome c (Acts k) → Serves k.contexts → Sound k → Sound (state_after k (turn_by k cpu c))
-turn_by_for k cpu None able serves h = h
-turn_by_for k cpu (Some c) able serves h =
-    charged_for (done k c.actor (deed k c.actor)) cpu c.sc (done_for k c.actor (deed k c.actor) (deed_wants k c.actor) able serves h)
+turn_by_for : (k : KernelState) (cpu : ℕ) (c : Option Candidate) → IfSome c (Acts k) → Fits k → Sound k → Sound (state_after k (turn_by k cpu c))
+turn_by_for k cpu None able fits h = h
+turn_by_for k cpu (Some c) able fits h =
+    charged_for (done k c.actor (deed k c.actor)) cpu c.sc (done_for k c.actor (deed k c.actor) (deed_wants k c.actor) able fits h)
 
-pub after_for : (k : KernelState) (cpu : ℕ) → Serves k.contexts → Sound k → Sound (after k cpu)
+pub after_for : (k : KernelState) (cpu : ℕ) → Fits k → Sound k → Sound (after k cpu)
 unfolding turn
-after_for k cpu serves h = turn_by_for k cpu (choice k cpu) (choice_acts k cpu) serves h
+after_for k cpu fits h = turn_by_for k cpu (choice k cpu) (choice_acts k cpu) fits h
 
-run_for : (k : KernelState) (turns : List ℕ) → Serves k.contexts → Sound k → Sound (run k turns)
-run_for k [] serves h = h
-run_for k (cpu ∷ turns) serves h = run_for (after k cpu) turns (after_serves k cpu serves) (after_for k cpu serves h)
+run_for : (k : KernelState) (turns : List ℕ) → Fits k → Sound k → Sound (run k turns)
+run_for k [] fits h = h
+run_for k (cpu ∷ turns) fits h = run_for (after k cpu) turns (after_fits k cpu fits) (after_for k cpu fits h)
 
 images_for : (k : KernelState) (images : List Image) → Sound k → Sound (with_images k images)
 images_for k [] h = h
@@ -343,4 +390,4 @@ pub boot_for : (s : Scenario) → Sound (boot s)
 boot_for s = images_for (bare s.cpus s.ram s.consoles s.root) s.images (bare_for s)
 
 pub boot_run_for : (s : Scenario) (turns : List ℕ) → Sound (run (boot s) turns)
-boot_run_for s turns = run_for (boot s) turns (boot_serves s) (boot_for s)
+boot_run_for s turns = run_for (boot s) turns (boot_fits s) (boot_for s)

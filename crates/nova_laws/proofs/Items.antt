@@ -12,6 +12,7 @@ use Rattle.nova_model.specs.Runs.{after}
 use Rattle.nova_model.specs.State.{KernelState, Contexts, context, context_in, ec_in, ec_of, transfer, transfer_in, with_ec}
 use Rattle.nova_model.specs.declared.context.EcState.{EcState}
 use Rattle.nova_model.specs.declared.context.Mark.{Mark}
+use Rattle.nova_model.specs.declared.context.Mark.TheVariants as mark
 use Rattle.nova_model.specs.declared.context.State.{State}
 use Rattle.nova_model.specs.declared.context.State.TheVariants.{Parked, Calling, Granting, Replying}
 use Rattle.nova_model.specs.declared.new_object.NewObject.{NewObject}
@@ -168,11 +169,14 @@ told_none k ec item w after able serves f = by_entry (ec_in k.contexts ec) refl
     by_replier : state_in k.contexts ec ≡ Some Replying → (c : Option (ℕ × Mark)) → (context k ec).caller ≡ c → given_to k ec (transfer k ec).item c ≡ Some f.present_item →
         NoSource k.contexts w.ec
     by_replier replying None has is = absurd (cc)
-    by_replier replying (Some (caller, mark)) has is =
+    by_replier replying (Some (caller, mark.Exit)) has is =
+        let none : None ≡ f.present_item.told = cc in
+        let both : None ≡ Some w.ec = none ∙ told in absurd (cc)
+    by_replier replying (Some (caller, mark.Call)) has is =
         let same : Some caller ≡ f.present_item.told = cc in
         let who : caller ≡ w.ec = let both : Some caller ≡ Some w.ec = same ∙ told in cc in
         subst (NoSource k.contexts) who
-        (waiting_none k.contexts ec caller serves (served_waits k ec caller mark able serves has) (λ taking. absurd (cc)))
+        (waiting_none k.contexts ec caller serves (served_waits k ec caller mark.Call able serves has) (λ taking. absurd (cc)))
 
     by_state : (s : State) → state_in k.contexts ec ≡ Some s → delivery k ec s ≡ Some f.present_item → NoSource k.contexts w.ec
     by_state (Granting (Some new)) is present =

@@ -10,7 +10,9 @@ pub mod Chosen
 pub mod Referring
 pub mod Tags
 pub mod Tabling
+pub mod Admitting
 pub mod Serving
+pub mod Blocking
 pub mod Fitting
 pub mod Donation
 pub mod Calling
@@ -43,4 +45,5 @@ pub mod Sharing
 pub mod Holding
 pub mod Asking
 pub mod Wording
+pub mod Raising
 pub mod Windows

@@ -6,9 +6,9 @@ use Rattle.nova_model.specs.Edges.{is_dead, is_free, state_in}
 use Rattle.nova_model.specs.State.{Contexts, ec_in, entry, with_ec}
 use Rattle.nova_model.specs.declared.context.EcState.{EcState}
 use Rattle.nova_model.specs.declared.context.Mark.{Mark}
-use Rattle.nova_model.specs.declared.context.Mark.TheVariants.{Call}
-use Rattle.nova_model.specs.declared.context.State.TheVariants.{Calling}
-use Rattle.nova_laws.specs.Links.{AreServed, IsLinked, IsWell, caller_at, cpu_at, is_giving, is_sending, state_at}
+use Rattle.nova_model.specs.declared.context.State.{State}
+use Rattle.nova_model.specs.declared.context.State.TheVariants.{Calling, Granting}
+use Rattle.nova_laws.specs.Links.{AreServed, IsLinked, IsWell, caller_at, cpu_at, is_giving, state_at}
 use Rattle.nova_laws.proofs.Setting.{entry_itself, entry_other, get_last, joined_other}
 
 pub place : (x y : ℕ) → (x ≡ y) ⊎ (x ≢ y)
@@ -50,6 +50,11 @@ well_set is_local cs e y there well new h = by_place (place h e)
 
 -- ONE GOES ON, AND KEEPS ITS CALLER
 
+-- one that takes the items of a call
+abbrev pub is_taking : Option State → Bool
+is_taking (Some (Granting None)) = true
+is_taking other = false
+
 -- it may begin to wait for another, or cease to be waited for, as told
 pub record GoesOn (cs : Contexts) (odd : Option ℕ) (x y : EcState) : Type 0 where
   pub caller : y.caller ≡ x.caller
@@ -60,7 +65,7 @@ pub record GoesOn (cs : Contexts) (odd : Option ℕ) (x y : EcState) : Type 0 wh
   pub works : is_free (Some y.state) ≡ false → is_free (Some x.state) ≡ false
   pub parks : is_parked (Some y.state) ≡ true → is_parked (Some x.state) ≡ true
   pub gives : is_giving (Some y.state) ≡ true → IsSome x.caller
-  pub sends : is_sending (Some y.state) ≡ false
+  pub takes : Some y.state ≡ Some (Granting None) → Some x.state ≡ Some (Granting None)
 
 abbrev IsOdd : ℕ → Option ℕ → ℕ → ℕ → Type 0
 IsOdd e odd c h = (c ≡ e) × (odd ≡ Some h)
@@ -88,7 +93,7 @@ moved_linked is_local cs e odd x y was on served c h plain =
     to : c ≢ e → h ≡ e → IsLinked c (ec_in cs c) e (Some y)
     to a b =
         let old : IsLinked c (ec_in cs c) e (Some x) = subst (λ (o : Option EcState). IsLinked c (ec_in cs c) e o) was (served.linked c e) in record {
-          known = λ is. on.caller ∙ old.known is;
+          known = λ is. let knows = old.known is in (knows.0, on.caller ∙ knows.1);
           waits = λ mark keeps lives. old.waits mark (sym on.caller ∙ keeps) (on.lives lives);
           cpu = λ mark keeps. old.cpu mark (sym on.caller ∙ keeps) ∙ ap Some (sym on.cpu);
         }
@@ -105,7 +110,7 @@ moved_linked is_local cs e odd x y was on served c h plain =
     itself a b =
         let old : IsLinked e (Some x) e (Some x) = subst (λ (o : Option EcState). IsLinked e o e o) was (served.linked e e) in
         let not_odd : odd ≡ Some e → ⊥ = (λ is_odd. plain (a, is_odd ∙ ap Some (sym b))) in record {
-          known = λ is. on.caller ∙ old.known (calls e is not_odd);
+          known = λ is. let knows = old.known (calls e is not_odd) in (knows.0, on.caller ∙ knows.1);
           waits = λ mark keeps lives.
               frees e (old.waits mark (sym on.caller ∙ keeps) (on.lives lives)) (ap is_dead (ap state_at was) ∙ on.lives lives) not_odd;
           cpu = λ mark keeps. refl;
@@ -117,7 +122,7 @@ moved_well is_local cs odd x y on old = record {
   serving = λ local there works. rw on.caller (old.serving local refl (on.works works));
   kept = λ c mark keeps. old.kept c mark (sym on.caller ∙ keeps);
   giving = λ gives. rw on.caller (on.gives gives);
-  sends = on.sends;
+  taking = λ c mark keeps is. old.taking c mark (sym on.caller ∙ keeps) (on.takes is);
 }
 
 well_at : (is_local : ℕ → Bool) (cs : Contexts) (e : ℕ) (x : EcState) → ec_in cs e ≡ Some x → AreServed is_local cs → IsWell (is_local e) (Some x)
@@ -154,7 +159,7 @@ serving_linked cs a h x y was on linked c g = linked_set cs h y (rw was refl) c 
       | inr differs ↦
           let old : IsLinked c (ec_in cs c) h (Some x) =
           subst (λ (o : Option EcState). IsLinked c (ec_in cs c) h o) was (linked c h (λ odd. differs odd.0)) in record {
-            known = λ is. absurd (differs (on.before c Call (old.known is)));
+            known = λ is. let knows = old.known is in absurd (differs (on.before c knows.0 knows.1));
             waits = λ mark keeps lives. absurd (differs (on.after c mark keeps));
             cpu = λ mark keeps. absurd (differs (on.after c mark keeps));
           }
@@ -196,13 +201,13 @@ served_exchange is_local cs c h x y z w e served =
 
 -- ONE JOINS
 
-more_other : (cs : Contexts) (o : Option EcState) (h : ℕ) → h ≢ length cs → ec_in (cs ++ o ∷ []) h ≡ ec_in cs h
+pub more_other : (cs : Contexts) (o : Option EcState) (h : ℕ) → h ≢ length cs → ec_in (cs ++ o ∷ []) h ≡ ec_in cs h
 more_other cs o h other = ap entry (joined_other cs o h other)
 
-more_itself : (cs : Contexts) (o : Option EcState) → ec_in (cs ++ o ∷ []) (length cs) ≡ o
+pub more_itself : (cs : Contexts) (o : Option EcState) → ec_in (cs ++ o ∷ []) (length cs) ≡ o
 more_itself cs o = ap entry (get_last cs o)
 
-past : (cs : Contexts) → ec_in cs (length cs) ≡ None
+pub past : (cs : Contexts) → ec_in cs (length cs) ≡ None
 past [] = refl
 past (c ∷ cs) = past cs
 
@@ -222,7 +227,7 @@ joined_linked is_local is_new cs o served new c h = by_place (place c (length cs
   where
     to : IsLinked c (ec_in cs c) (length cs) None → IsLinked c (ec_in cs c) (length cs) o
     to old = record {
-      known = λ is. absurd (let none = old.known is in cc);
+      known = λ is. absurd (let none = (old.known is).1 in cc);
       waits = λ mark keeps lives. absurd (let none = new.caller in cc);
       cpu = λ mark keeps. absurd (let none = new.caller in cc);
     }

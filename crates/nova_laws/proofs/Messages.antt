@@ -29,7 +29,7 @@ use Rattle.nova_model.specs.declared.new_object.NewObject.TheVariants as new
 use Rattle.nova_model.specs.declared.transfer.Delivery.{Delivery}
 use Rattle.nova_model.specs.declared.transfer.ItemWords.{ItemWords}
 use Rattle.nova_model.specs.declared.transfer.Sequel.{Sequel}
-use Rattle.nova_forest.proofs.Walk.{IfDone, deed_holds}
+use Rattle.nova_forest.proofs.Walk.{IfDone, deed_holds, sm_ctrl_holds}
 use Rattle.nova_laws.specs.Giving.{source_in}
 use Rattle.nova_laws.proofs.Giving.{more_at}
 use Rattle.nova_laws.proofs.Rows.{call_holds, makes_hold, named_holds, reply_holds, unless_holds}
@@ -118,7 +118,7 @@ pub record IsFinish (k : KernelState) (ec item : ℕ) (words : Option ItemWords)
 abbrev pub Shows : KernelState → ℕ → Deed → Type 0
 Shows k ec (Finishes item end words after) = IsFinish k ec item words after
 Shows k ec (Calls handler ip identifier some) = (has_counts (message k ec) ≡ true) × (some ≡ has_items (message k ec))
-Shows k ec (Replies caller some) = (has_counts (message k ec) ≡ true) × (some ≡ has_items (message k ec))
+Shows k ec (Replies caller mark some) = (has_counts (message k ec) ≡ true) × (some ≡ has_items (message k ec))
 Shows k ec other = Unit {0}
 
 domain_shows : (k : KernelState) (ec target : ℕ) (first : Option (Range × Rights)) → Shows k ec (new_domain k target first)
@@ -127,7 +127,7 @@ domain_shows k ec target (Some range) = tt
 
 row_shows : (k : KernelState) (ec domain : ℕ) (c : Call) → IfDone (Shows k ec) (row k ec domain c)
 row_shows k ec domain (asks.Call portal flag) = call_holds (Shows k ec) k ec domain portal flag (λ pt is. (is.counts, refl)) (λ pt is. tt)
-row_shows k ec domain asks.Reply = reply_holds (Shows k ec) k ec (λ caller is. (is.counts, refl))
+row_shows k ec domain asks.Reply = reply_holds (Shows k ec) k ec (λ caller mark is. (is.counts, refl))
 row_shows k ec domain (asks.CreatePd target pd first) =
     named_holds (Shows k ec) (maker k domain target pd) (λ owner. new_domain k target first) (λ owner. domain_shows k ec target first)
 row_shows k ec domain (asks.CreateEc target pd cpu kind sp event) =
@@ -139,6 +139,8 @@ row_shows k ec domain (asks.EcCtrl other) = named_holds (Shows k ec) (named k do
 row_shows k ec domain (asks.ScCtrl sc) =
     named_holds (Shows k ec) (named k domain is_sc control_right sc) (λ n. Tells SC_CTRL (ticks_in (budget_at k n))) (λ n. tt)
 row_shows k ec domain (asks.PtCtrl pt identifier) = named_holds (Shows k ec) (named k domain is_pt control_right pt) (λ n. Names n identifier) (λ n. tt)
+row_shows k ec domain (asks.SmCtrl sm action) =
+    sm_ctrl_holds (Shows k ec) k domain sm action (λ n whom is wakes. tt) (λ n is answers. tt) (λ n is answers. tt)
 row_shows k ec domain other = tt
 
 pub deed_shows : (k : KernelState) (ec : ℕ) → Shows k ec (deed k ec)
@@ -149,6 +151,8 @@ deed_shows k ec =
       raises = λ reason q0 q1. tt;
       dies = λ reason q0. tt;
       refuses = λ number status. tt;
+      waits = λ pt reason q0 q1 is. tt;
+      sends = λ pt reason q0 q1 is. tt;
       aborts = λ handler is. tt;
       rows = λ asks c is. row_shows k ec (pd_of k ec) c;
     })

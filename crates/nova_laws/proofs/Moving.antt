@@ -49,6 +49,8 @@ deed_moves k ec =
       raises = λ reason q0 q1. tt;
       dies = λ reason q0. tt;
       refuses = λ number status. tt;
+      waits = λ pt reason q0 q1 is. tt;
+      sends = λ pt reason q0 q1 is. tt;
       aborts = λ handler is. tt;
       rows = λ asks c read. done_weaker IsWhole (Moves k ec) (row k ec (pd_of k ec) c) (whole_moves k ec) (row_whole k ec (pd_of k ec) c);
     })

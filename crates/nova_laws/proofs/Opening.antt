@@ -14,25 +14,27 @@ use Rattle.nova_range.specs.declared.rights.Rights.{Rights}
 use Rattle.nova_range.specs.declared.status.Status.TheVariants.{Aborted, BadCpu, BadPar, Timeout}
 use Rattle.nova_range.specs.declared.word.WordFault.{WordFault}
 use Rattle.nova_model.specs.Capabilities.{is_ec, is_sc, is_pt, named, control_right}
-use Rattle.nova_model.specs.Calls.{admitted, is_parked, is_same_cpu}
+use Rattle.nova_model.specs.Calls.{admitted, exit_admitted, is_parked, is_same_cpu}
 use Rattle.nova_model.specs.Deeds.{deed, deed_in}
 use Rattle.nova_model.specs.Deliveries.{delivery, delivers, given_to, sequel_of, taken_from}
 use Rattle.nova_model.specs.Edges.{circle, cpu_in, is_dead, state_in}
-use Rattle.nova_model.specs.Hypercalls.{handler_of, is_virtual, maker, new_domain, row, ticks_in}
+use Rattle.nova_model.specs.Hypercalls.{is_virtual, maker, new_domain, row, ticks_in}
+use Rattle.nova_model.specs.Portals.{handler_of}
+use Rattle.nova_model.specs.Semaphores.{semaphore, woken}
 use Rattle.nova_model.specs.State.{KernelState, budget_at, context, pd_of, transfer}
 use Rattle.nova_model.specs.Transfers.{read_as}
 use Rattle.nova_model.specs.declared.context.State.{State}
 use Rattle.nova_model.specs.declared.context.State.TheVariants.{Parked, Granting, Replying}
 use Rattle.nova_model.specs.declared.admit.Admit.TheVariants.{Refused, Help, Send}
+use Rattle.nova_model.specs.declared.admit.ExitAdmit.TheVariants as exit
 use Rattle.nova_model.specs.declared.context.Mark.{Mark}
-use Rattle.nova_model.specs.declared.context.Mark.TheVariants as mark
 use Rattle.nova_model.specs.declared.transfer.Delivery.{Delivery}
 use Rattle.nova_model.specs.declared.transfer.Sequel.{Sequel}
 use Rattle.nova_model.specs.declared.transfer.Sequel.TheVariants as sequel
 use Rattle.nova_model.specs.declared.deed.Deed.{Deed}
-use Rattle.nova_model.specs.declared.deed.Deed.TheVariants.{Rests, Recalls, Tells, Names, Opens, Gives, Skips, Finishes, Calls, Replies}
+use Rattle.nova_model.specs.declared.deed.Deed.TheVariants.{Rests, Sends, Recalls, Tells, Names, Opens, Gives, Skips, Finishes, Calls, Replies, Ups}
 use Rattle.nova_model.specs.declared.new_object.NewObject.TheVariants.{Sm}
-use Rattle.nova_forest.proofs.Walk.{IfDone, Delivers, delivered_holds, own_holds}
+use Rattle.nova_forest.proofs.Walk.{IfDone, Delivers, delivered_holds, own_holds, sm_ctrl_holds}
 use Rattle.nova_laws.specs.Giving.{is_giving}
 use Rattle.nova_laws.proofs.Rows.{call_holds, makes_hold, named_holds, reply_holds, unless_holds}
 use Rattle.nova_laws.proofs.Tabling.{all_get}
@@ -43,7 +45,7 @@ HasRange r = IsSome (read_as (meaning_of (reg r 12)))
 
 -- a reply goes to the caller that is served
 abbrev pub GoesTo : KernelState → ℕ → Sequel → Type 0
-GoesTo k ec (sequel.Replied caller) = (mark : Mark) × ((context k ec).caller ≡ Some (caller, mark))
+GoesTo k ec (sequel.Replied caller mark) = (context k ec).caller ≡ Some (caller, mark)
 GoesTo k ec other = Unit {0}
 
 abbrev pub Wants : KernelState → ℕ → Deed → Type 0
@@ -53,7 +55,9 @@ Wants k ec (Gives child cursor) = is_giving (context k ec).state ≡ true
 Wants k ec (Skips reason place cursor) = is_giving (context k ec).state ≡ true
 Wants k ec (Finishes item end words after) = (is_giving (context k ec).state ≡ true) × GoesTo k ec after
 Wants k ec (Calls handler ip identifier items) = (is_giving (context k ec).state ≡ false) × (state_in k.contexts handler ≡ Some Parked)
-Wants k ec (Replies caller items) = (is_giving (context k ec).state ≡ false) × ((context k ec).caller ≡ Some (caller, mark.Call))
+Wants k ec (Replies caller mark items) = (is_giving (context k ec).state ≡ false) × ((context k ec).caller ≡ Some (caller, mark))
+Wants k ec (Sends handler ip identifier mtd reason q0 q1) = (is_giving (context k ec).state ≡ false) × (state_in k.contexts handler ≡ Some Parked)
+Wants k ec (Ups sm whom) = (is_giving (context k ec).state ≡ false) × (woken (semaphore k.semaphores sm) ≡ Ok whom)
 Wants k ec other = is_giving (context k ec).state ≡ false
 
 -- WHAT A CALL WAS READ FROM
@@ -170,10 +174,26 @@ admits_parked k ec handler flag is =
     by_processor true true o h = absurd (cc)
     by_processor true false o h = by_state o h
 
+-- and so is an exit
+exit_parked : (k : KernelState) (ec handler : ℕ) → exit_admitted k.contexts ec handler ≡ exit.Sends → state_in k.contexts handler ≡ Some Parked
+exit_parked k ec handler is =
+    by_processor (is_same_cpu (cpu_in k.contexts handler) (cpu_in k.contexts ec)) (is_dead (state_in k.contexts handler) || circle k.contexts handler ec) (state_in k.contexts handler) is
+  where
+    by_state : (o : Option State) → (if is_parked o then exit.Sends else exit.Waits) ≡ exit.Sends → o ≡ Some Parked
+    by_state (Some Parked) h = refl
+    by_state None h = absurd (cc)
+    by_state (Some other) h = absurd (cc)
+
+    by_processor : (same ended : Bool) (o : Option State) →
+        (if not same then exit.Dies else if ended then exit.Dies else if is_parked o then exit.Sends else exit.Waits) ≡ exit.Sends → o ≡ Some Parked
+    by_processor false ended o h = absurd (cc)
+    by_processor true true o h = absurd (cc)
+    by_processor true false o h = by_state o h
+
 row_wants : (k : KernelState) (ec domain : ℕ) (c : Call) → is_giving (context k ec).state ≡ false → HasRangeFor (context k ec).regs c → IfDone (Wants k ec) (row k ec domain c)
 row_wants k ec domain (asks.Call portal flag) rests range =
     call_holds (Wants k ec) k ec domain portal flag (λ pt is. (rests, admits_parked k ec (handler_of k pt) flag is.admits)) (λ pt is. rests)
-row_wants k ec domain asks.Reply rests range = reply_holds (Wants k ec) k ec (λ caller is. (rests, is.serves))
+row_wants k ec domain asks.Reply rests range = reply_holds (Wants k ec) k ec (λ caller mark is. (rests, is.serves))
 row_wants k ec domain (asks.CreatePd target pd first) rests range =
     named_holds (Wants k ec) (maker k domain target pd) (λ owner. new_domain k target first)
     (λ owner. new_domain_wants k ec target first rests (first_range (context k ec).regs target pd first range))
@@ -188,6 +208,8 @@ row_wants k ec domain (asks.ScCtrl sc) rests range =
     named_holds (Wants k ec) (named k domain is_sc control_right sc) (λ n. Tells SC_CTRL (ticks_in (budget_at k n))) (λ n. rests)
 row_wants k ec domain (asks.PtCtrl pt identifier) rests range =
     named_holds (Wants k ec) (named k domain is_pt control_right pt) (λ n. Names n identifier) (λ n. rests)
+row_wants k ec domain (asks.SmCtrl sm action) rests range =
+    sm_ctrl_holds (Wants k ec) k domain sm action (λ n whom is wakes. (rests, wakes)) (λ n is answers. rests) (λ n is answers. rests)
 row_wants k ec domain other rests range = tt
 
 -- an item ends so
@@ -202,7 +224,7 @@ delivery_goes k ec Replying v is = by_caller (context k ec).caller refl is
   where
     by_caller : (o : Option (ℕ × Mark)) → (context k ec).caller ≡ o → given_to k ec (transfer k ec).item o ≡ Some v → GoesTo k ec v.last
     by_caller None at e = absurd (cc)
-    by_caller (Some (caller, mark)) at e = let last : sequel.Replied caller ≡ v.last = cc in subst (GoesTo k ec) last (mark, at)
+    by_caller (Some (caller, mark)) at e = let last : sequel.Replied caller mark ≡ v.last = cc in subst (GoesTo k ec) last at
 delivery_goes k ec other v is = absurd (cc)
 
 sequel_goes : (k : KernelState) (ec item : ℕ) (v : Delivery) → GoesTo k ec v.last → GoesTo k ec (sequel_of v item)
@@ -236,6 +258,8 @@ own_wants k ec rests = own_holds (Wants k ec) k ec rests (none_there k ec (conte
   raises = λ reason q0 q1. rests;
   dies = λ reason q0. rests;
   refuses = λ number status. rests;
+  waits = λ pt reason q0 q1 is. rests;
+  sends = λ pt reason q0 q1 is. (rests, exit_parked k ec (handler_of k pt) is.admits);
   aborts = λ handler is. rests;
   rows = λ asks c is. row_wants k ec (pd_of k ec) c rests (call_range (context k ec).regs c is);
 })

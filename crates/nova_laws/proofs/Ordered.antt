@@ -4,7 +4,7 @@ use Rattle.std.specs.Prelude.{◌==◌, Bool, true, false, slice_get, Option, So
 use Rattle.nova_model.specs.Boot.{Scenario, Image, boot, bare, with_image, with_images}
 use Rattle.nova_model.specs.Choice.{Candidate, choice}
 use Rattle.nova_model.specs.Deeds.{deed, done}
-use Rattle.nova_model.specs.Deliveries.{delivery, delivery_between, first_delivery}
+use Rattle.nova_model.specs.Deliveries.{delivery, delivery_between, first_delivery, told_by}
 use Rattle.nova_model.specs.Edges.{acts}
 use Rattle.nova_model.specs.Runs.{after, run}
 use Rattle.nova_model.specs.State.{KernelState, budget_at, context, context_in, ec_in, message, transfer}
@@ -22,12 +22,12 @@ use Rattle.nova_laws.specs.Giving.{IsAtItem, is_giving, source, source_in}
 use Rattle.nova_laws.proofs.Charges.{charge_leaves}
 use Rattle.nova_laws.proofs.Chosen.{Acts, choice_acts}
 use Rattle.nova_laws.proofs.Counting.{at, is_of_item, leaves, others_stay}
-use Rattle.nova_laws.proofs.Giving.{IsFor, IsForEntry, Sound, after_for, boot_for, entry_rests}
+use Rattle.nova_laws.proofs.Fitting.{Fits, after_fits, boot_fits}
+use Rattle.nova_laws.proofs.Giving.{IsFor, IsForEntry, Sound, after_for, boot_for, entry_rests, serves_in}
 use Rattle.nova_laws.proofs.Items.{Bound, Bounded, BoundedEntry}
 use Rattle.nova_laws.proofs.Messages.{deed_shows, few_items, words_in}
 use Rattle.nova_laws.proofs.Opening.{Wants, deed_wants}
 use Rattle.nova_laws.proofs.Progress.{done_bound, done_keeps}
-use Rattle.nova_laws.proofs.Awaiting.{Serves, after_serves, boot_serves}
 
 -- TURNS
 
@@ -41,14 +41,15 @@ charged_bound k cpu sc h = paid_bound k cpu sc (quantum_in (slice_get k.objects 
 
 -- what always holds
 pub record Stands (k : KernelState) : Type 0 where
-  pub serves : Serves k.contexts
+  pub fits : Fits k
   pub sound : Sound k
   pub bound : Bound k
 
 chosen_bound : (k : KernelState) (ec : ℕ) → acts k.contexts ec ≡ true → Stands k → Bound (done k ec (deed k ec))
 chosen_bound k ec able h =
-    done_bound k ec (deed k ec) (deed_wants k ec) (deed_shows k ec) able h.serves h.sound
-    (done_keeps k ec (deed k ec) (deed_wants k ec) (deed_shows k ec) able h.serves) h.bound
+    let serves = serves_in k h.fits in
+    done_bound k ec (deed k ec) (deed_wants k ec) (deed_shows k ec) able serves h.sound
+    (done_keeps k ec (deed k ec) (deed_wants k ec) (deed_shows k ec) able serves) h.bound
 
 turn_by_bound : (k : KernelState) (cpu : ℕ) (c : Option Candidate) → IfSome c (Acts k) → Stands k → Bound (state_after k (turn_by k cpu c))
 turn_by_bound k cpu None able h = h.bound
@@ -62,7 +63,7 @@ run_stands : (k : KernelState) (turns : List ℕ) → Stands k → Stands (run k
 run_stands k [] h = h
 run_stands k (cpu ∷ turns) h =
     run_stands (after k cpu) turns
-    (record { serves = after_serves k cpu h.serves; sound = after_for k cpu h.serves h.sound; bound = after_bound k cpu h })
+    (record { fits = after_fits k cpu h.fits; sound = after_for k cpu h.fits h.sound; bound = after_bound k cpu h })
 
 images_bound : (k : KernelState) (images : List Image) → Bound k → Bound (with_images k images)
 images_bound k [] h = h
@@ -77,7 +78,7 @@ bare_bound s (suc (suc (suc e))) = tt
 pub boot_run_stands : (s : Scenario) (turns : List ℕ) → Stands (run (boot s) turns)
 boot_run_stands s turns =
     run_stands (boot s) turns
-    (record { serves = boot_serves s; sound = boot_for s; bound = images_bound (bare s.cpus s.ram s.consoles s.root) s.images (bare_bound s) })
+    (record { fits = boot_fits s; sound = boot_for s; bound = images_bound (bare s.cpus s.ram s.consoles s.root) s.images (bare_bound s) })
 
 -- THE PRESENT ITEM
 
@@ -87,7 +88,7 @@ stands_at k ec gives h = by_entry (ec_in k.contexts ec) refl (h.sound ec) (h.bou
     by_taker : (c : Option (ℕ × Mark)) → (context k ec).state ≡ Granting None → (context k ec).caller ≡ c → IsSome c → Bounded k.messages ec (Granting None) c (transfer k ec) → IsAtItem k ec
     by_taker None is has some bound = absurd (cc)
     by_taker (Some (caller, mark)) is has some bound = record {
-      item = delivery_between k caller ec (transfer k ec).item sequel.Taken;
+      item = delivery_between k caller ec (transfer k ec).item (Some ec) sequel.Taken;
       present = ap (delivery k ec) is ∙ rw has refl;
       among = bound;
       most = few_items (message k caller);
@@ -96,7 +97,7 @@ stands_at k ec gives h = by_entry (ec_in k.contexts ec) refl (h.sound ec) (h.bou
     by_replier : (c : Option (ℕ × Mark)) → (context k ec).state ≡ Replying → (context k ec).caller ≡ c → IsSome c → Bounded k.messages ec Replying c (transfer k ec) → IsAtItem k ec
     by_replier None is has some bound = absurd (cc)
     by_replier (Some (caller, mark)) is has some bound = record {
-      item = delivery_between k ec caller (transfer k ec).item (sequel.Replied caller);
+      item = delivery_between k ec caller (transfer k ec).item (told_by caller mark) (sequel.Replied caller mark);
       present = ap (delivery k ec) is ∙ rw has refl;
       among = bound;
       most = few_items (message k ec);
@@ -130,7 +131,7 @@ words_of_turn k cpu ec thread of h = by_choice (choice k cpu) (choice_acts k cpu
     by_entry c able None is =
         let none = sym (ap (λ (y : Option EcState). source_in ec (context_in y).state (context_in y).caller) is) ∙ of in absurd (cc)
     by_entry c able (Some x) is =
-        done_keeps k c.actor (deed k c.actor) (deed_wants k c.actor) (deed_shows k c.actor) able h.serves ec thread x is
+        done_keeps k c.actor (deed k c.actor) (deed_wants k c.actor) (deed_shows k c.actor) able (serves_in k h.fits) ec thread x is
         (sym (ap (λ (y : Option EcState). source_in ec (context_in y).state (context_in y).caller) is) ∙ of)
 
     by_choice : (o : Option Candidate) → IfSome o (Acts k) → message (state_after k (turn_by k cpu o)) thread ≡ message k thread

@@ -9,15 +9,16 @@ use Rattle.nova_model.specs.Boot.{Image, Scenario, bare, boot, with_image, with_
 use Rattle.nova_model.specs.Capabilities.{is_schedulable}
 use Rattle.nova_model.specs.Choice.{Candidate, choice}
 use Rattle.nova_model.specs.Creation.{budget_of, object_of, stamp_past}
-use Rattle.nova_model.specs.Deeds.{after_item, deed, done, instruction, recalled, stepped, with_context}
+use Rattle.nova_model.specs.Deeds.{after_item, deed, done, instruction, recalled, stepped, with_context, woken_in}
 use Rattle.nova_model.specs.Hypercalls.{schedules}
 use Rattle.nova_model.specs.Runs.{after, run}
 use Rattle.nova_model.specs.State.{KernelState, budget_at, context, entry, pd_of}
 use Rattle.nova_model.specs.Turn.{budget_after, charged, counted, is_spent, paid, paid_by, quantum_in, stamp_after, state_after, turn, turn_by}
 use Rattle.nova_model.specs.declared.budget.Budget.{Budget}
 use Rattle.nova_model.specs.declared.context.EcState.{EcState}
+use Rattle.nova_model.specs.declared.context.Mark.TheVariants as mark
 use Rattle.nova_model.specs.declared.deed.Deed.{Deed}
-use Rattle.nova_model.specs.declared.deed.Deed.TheVariants.{Rests, Steps, Makes, Opens, Recalls, Finishes, Replies}
+use Rattle.nova_model.specs.declared.deed.Deed.TheVariants.{Rests, Steps, Makes, Opens, Recalls, Finishes, Replies, Ups}
 use Rattle.nova_model.specs.declared.new_object.NewObject.{NewObject}
 use Rattle.nova_model.specs.declared.new_object.NewObject.TheVariants as new
 use Rattle.nova_forest.specs.Made.{IsBoundBy}
@@ -43,6 +44,11 @@ recalled_adds : (k : KernelState) (ec other : ℕ) (x : EcState) (o : Option EcS
 recalled_adds k ec other x None = AddsNone refl refl refl
 recalled_adds k ec other x (Some y) = AddsNone refl refl refl
 
+woken_adds : (k s : KernelState) (ec : ℕ) (whom : Option ℕ) → Adds k s ec → Adds k (woken_in s whom) ec
+woken_adds k s ec None h = h
+woken_adds k s ec (Some w) (AddsNone objects budgets next) = AddsNone objects budgets next
+woken_adds k s ec (Some w) (AddsOne made bound objects budgets next) = AddsOne made bound objects budgets next
+
 done_adds : (k : KernelState) (ec : ℕ) (d : Deed) → IsAllowed k ec d → Adds k (done k ec d) ec
 done_adds k ec Rests allowed = AddsNone refl refl refl
 done_adds k ec Steps allowed = stepped_adds k ec (instruction k ec)
@@ -50,10 +56,13 @@ done_adds k ec (Makes call target made) asked = AddsOne made asked.bound refl re
 done_adds k ec (Opens target number) allowed = AddsOne new.Pd tt refl refl refl
 done_adds k ec (Recalls other) allowed = recalled_adds k ec other _ _
 done_adds k ec (Finishes item end words follows) allowed =
-    let is = ended_is (with_context k ec (after_item (context k ec) follows)) item words follows in
+    let is = ended_is (with_context k ec (after_item (context k ec) follows)) ec item words follows in
     AddsNone (ap (λ (s : KernelState). s.objects) is) (ap (λ (s : KernelState). s.budgets) is) (ap (λ (s : KernelState). s.next_stamp) is)
-done_adds k ec (Replies caller true) allowed = AddsNone refl refl refl
-done_adds k ec (Replies caller false) allowed = AddsNone refl refl refl
+done_adds k ec (Replies caller mark.Call true) allowed = AddsNone refl refl refl
+done_adds k ec (Replies caller mark.Call false) allowed = AddsNone refl refl refl
+done_adds k ec (Replies caller mark.Exit true) allowed = AddsNone refl refl refl
+done_adds k ec (Replies caller mark.Exit false) allowed = AddsNone refl refl refl
+done_adds k ec (Ups sm whom) allowed = woken_adds k _ ec whom (AddsNone refl refl refl)
 done_adds k ec other allowed = AddsNone refl refl refl
 
 -- it leaves the counts of turns
@@ -69,15 +78,22 @@ recalled_counts : (k : KernelState) (ec other : ℕ) (x : EcState) (o : Option E
 recalled_counts k ec other x None = record { processors = refl; turns = refl }
 recalled_counts k ec other x (Some y) = record { processors = refl; turns = refl }
 
+woken_counts : (k s : KernelState) (whom : Option ℕ) → KeepsCounts k s → KeepsCounts k (woken_in s whom)
+woken_counts k s None h = h
+woken_counts k s (Some w) h = record { processors = h.processors; turns = h.turns }
+
 done_counts : (k : KernelState) (ec : ℕ) (d : Deed) → KeepsCounts k (done k ec d)
 done_counts k ec Rests = record { processors = refl; turns = refl }
 done_counts k ec Steps = stepped_counts k ec (instruction k ec)
 done_counts k ec (Recalls other) = recalled_counts k ec other _ _
 done_counts k ec (Finishes item end words follows) =
-    let is = ended_is (with_context k ec (after_item (context k ec) follows)) item words follows in
+    let is = ended_is (with_context k ec (after_item (context k ec) follows)) ec item words follows in
     record { processors = ap (λ (s : KernelState). s.stirs.processors) is; turns = ap (λ (s : KernelState). s.turns) is }
-done_counts k ec (Replies caller true) = record { processors = refl; turns = refl }
-done_counts k ec (Replies caller false) = record { processors = refl; turns = refl }
+done_counts k ec (Replies caller mark.Call true) = record { processors = refl; turns = refl }
+done_counts k ec (Replies caller mark.Call false) = record { processors = refl; turns = refl }
+done_counts k ec (Replies caller mark.Exit true) = record { processors = refl; turns = refl }
+done_counts k ec (Replies caller mark.Exit false) = record { processors = refl; turns = refl }
+done_counts k ec (Ups sm whom) = woken_counts k _ whom (record { processors = refl; turns = refl })
 done_counts k ec other = record { processors = refl; turns = refl }
 
 -- what is there stays

@@ -10,8 +10,9 @@ use Rattle.nova_model.specs.Turn.{charged, counted, paid_by, quantum_in, state_a
 use Rattle.nova_model.specs.declared.budget.Budget.{Budget}
 use Rattle.nova_model.specs.Choice.{Candidate}
 use Rattle.nova_model.specs.declared.context.EcState.{EcState}
+use Rattle.nova_model.specs.declared.context.Mark.TheVariants.{Call, Exit}
 use Rattle.nova_model.specs.declared.deed.Deed.{Deed}
-use Rattle.nova_model.specs.declared.deed.Deed.TheVariants.{Rests, Steps, Makes, Recalls, Names, Opens, Gives, Skips, Finishes, Replies}
+use Rattle.nova_model.specs.declared.deed.Deed.TheVariants.{Rests, Steps, Makes, Recalls, Names, Opens, Gives, Skips, Finishes, Replies, Ups}
 use Rattle.nova_laws.proofs.Charges.{ended_is}
 
 stepped_cpus : (k : KernelState) (ec : ℕ) (o : Once) → (stepped k ec o).cpus ≡ k.cpus
@@ -31,9 +32,13 @@ done_cpus k ec (Names pt identifier) = refl
 done_cpus k ec (Opens target domain) = refl
 done_cpus k ec (Gives child cursor) = refl
 done_cpus k ec (Skips reason place cursor) = refl
-done_cpus k ec (Finishes item end words follows) = ap (λ (s : KernelState). s.cpus) (ended_is (with_context k ec (after_item (context k ec) follows)) item words follows)
-done_cpus k ec (Replies caller true) = refl
-done_cpus k ec (Replies caller false) = refl
+done_cpus k ec (Finishes item end words follows) = ap (λ (s : KernelState). s.cpus) (ended_is (with_context k ec (after_item (context k ec) follows)) ec item words follows)
+done_cpus k ec (Replies caller Call true) = refl
+done_cpus k ec (Replies caller Call false) = refl
+done_cpus k ec (Replies caller Exit true) = refl
+done_cpus k ec (Replies caller Exit false) = refl
+done_cpus k ec (Ups sm None) = refl
+done_cpus k ec (Ups sm (Some w)) = refl
 done_cpus k ec other = refl
 
 paid_cpus : (k : KernelState) (cpu sc quantum : ℕ) (o : Option Budget) → (counted (paid_by k sc quantum o) cpu).cpus ≡ k.cpus

@@ -4,13 +4,16 @@ use Rattle.std.specs.Prelude.{◌≢◌, Bool, true, false, nat_lt, if◌then◌
 use Rattle.std.proofs.lemmas.Bool.Decides.{nat_tests}
 use Rattle.rv_model.specs.Step.{Once, Raised, Went, Store}
 use Rattle.nova_objects.specs.declared.object.Object.TheVariants.{Pd}
+use Rattle.nova_range.specs.declared.mtd.Mtd.{Mtd}
+use Rattle.nova_range.specs.declared.status.Status.TheVariants.{Success}
 use Rattle.nova_utcb.specs.Messages.{counted_items, has_counts, has_items}
 use Rattle.nova_model.specs.AddressSpaces.{stored_among, words_at}
 use Rattle.nova_model.specs.Creation.{context_of, object_of}
-use Rattle.nova_model.specs.Deeds.{address_space, after_item, changed, done, instruction, parked, recalled, serving, stepped, transfer_after, with_context}
+use Rattle.nova_model.specs.Deeds.{address_space, after_item, answered, changed, done, instruction, parked, recalled, serving, stepped, transfer_after, with_context, woken_in}
 use Rattle.nova_model.specs.Deliveries.{delivery, given_to, sequel_of, taken_from}
 use Rattle.nova_model.specs.Edges.{acts, state_in}
 use Rattle.nova_model.specs.Runs.{after}
+use Rattle.nova_model.specs.Semaphores.{upped}
 use Rattle.nova_model.specs.State.{KernelState, context, context_in, ec_in, ec_of, message, no_transfer, transfer, with_ec}
 use Rattle.nova_model.specs.declared.context.EcState.{EcState}
 use Rattle.nova_model.specs.declared.context.Mark.{Mark}
@@ -18,7 +21,7 @@ use Rattle.nova_model.specs.declared.context.Mark.TheVariants as mark
 use Rattle.nova_model.specs.declared.context.State.{State}
 use Rattle.nova_model.specs.declared.context.State.TheVariants.{Parked, Calling, Granting, Replying}
 use Rattle.nova_model.specs.declared.deed.Deed.{Deed}
-use Rattle.nova_model.specs.declared.deed.Deed.TheVariants.{Rests, Steps, Raises, Dies, Refuses, Makes, Recalls, Tells, Names, Opens, Gives, Skips, Finishes, Calls, Helps, Replies, Aborts}
+use Rattle.nova_model.specs.declared.deed.Deed.TheVariants.{Rests, Steps, Raises, Dies, Waits, Sends, Refuses, Makes, Recalls, Tells, Names, Opens, Gives, Skips, Finishes, Calls, Helps, Replies, Aborts, Ups, Downs, Blocks}
 use Rattle.nova_model.specs.declared.transfer.Delivery.{Delivery}
 use Rattle.nova_model.specs.declared.transfer.ItemEnd.{ItemEnd}
 use Rattle.nova_model.specs.declared.transfer.ItemWords.{ItemWords}
@@ -27,7 +30,7 @@ use Rattle.nova_model.specs.declared.transfer.Sequel.TheVariants as sequel
 use Rattle.nova_model.specs.declared.transfer.Transfer.{Transfer}
 use Rattle.nova_laws.specs.Giving.{is_giving, source_in}
 use Rattle.nova_laws.proofs.Counting.{at}
-use Rattle.nova_laws.proofs.Giving.{Sound, entry_rests, quiet_by}
+use Rattle.nova_laws.proofs.Giving.{Sound, entry_rests, quiet_by, resumed_quiet}
 use Rattle.nova_laws.proofs.Messages.{IsFinish, NoSource, Shows, more_words, other_words, some_items, words_in}
 use Rattle.nova_laws.proofs.Opening.{Wants}
 use Rattle.nova_laws.proofs.Awaiting.{Serves, not_parked, not_served, not_dead, caller_there, served_waits}
@@ -59,18 +62,22 @@ finished_keeps : (k : KernelState) (ec item : ℕ) (end : ItemEnd) (words : Opti
 finished_keeps k ec item end None sequel.Item f able serves e g x is of = refl
 finished_keeps k ec item end None sequel.Opened f able serves e g x is of = refl
 finished_keeps k ec item end None sequel.Taken f able serves e g x is of = refl
-finished_keeps k ec item end None (sequel.Replied caller) f able serves e g x is of = refl
+finished_keeps k ec item end None (sequel.Replied caller mark) f able serves e g x is of = refl
 finished_keeps k ec item end (Some w) sequel.Item f able serves e g x is of = writes k w.ec _ (told_none k ec item w sequel.Item able serves f) e g x is of
 finished_keeps k ec item end (Some w) sequel.Opened f able serves e g x is of = writes k w.ec _ (told_none k ec item w sequel.Opened able serves f) e g x is of
 finished_keeps k ec item end (Some w) sequel.Taken f able serves e g x is of = writes k w.ec _ (told_none k ec item w sequel.Taken able serves f) e g x is of
-finished_keeps k ec item end (Some w) (sequel.Replied caller) f able serves e g x is of =
-    writes k w.ec _ (told_none k ec item w (sequel.Replied caller) able serves f) e g x is of
+finished_keeps k ec item end (Some w) (sequel.Replied caller mark) f able serves e g x is of =
+    writes k w.ec _ (told_none k ec item w (sequel.Replied caller mark) able serves f) e g x is of
 
 caller_none : (k : KernelState) (ec caller : ℕ) (mark : Mark) → acts k.contexts ec ≡ true → Serves k.contexts → is_giving (context k ec).state ≡ false →
     (context k ec).caller ≡ Some (caller, mark) → NoSource k.contexts caller
 caller_none k ec caller mark able serves quiet has =
     waiting_none k.contexts ec caller serves (served_waits k ec caller mark able serves has)
     (λ taking. (let gives = ap is_giving (state_of k.contexts ec (Granting None) taking) in absurd (cc)))
+
+woken_words : (k : KernelState) (whom : Option ℕ) → (woken_in k whom).messages ≡ k.messages
+woken_words k None = refl
+woken_words k (Some w) = refl
 
 pub done_keeps : (k : KernelState) (ec : ℕ) (d : Deed) → Wants k ec d → Shows k ec d → acts k.contexts ec ≡ true → Serves k.contexts → Keeps k (done k ec d).messages
 done_keeps k ec Steps wants shows able serves e g x is of = stepped_keeps k ec (instruction k ec) (own_none k ec able serves wants) e g x is of
@@ -81,10 +88,15 @@ done_keeps k ec (Recalls other) wants shows able serves e g x is of =
 done_keeps k ec (Finishes item end words after) wants shows able serves e g x is of = finished_keeps k ec item end words after shows able serves e g x is of
 done_keeps k ec (Calls handler ip identifier items) wants shows able serves e g x is of =
     writes k handler _ (parked_none k.contexts handler serves wants.1) e g x is of
-done_keeps k ec (Replies caller true) wants shows able serves e g x is of =
+done_keeps k ec (Replies caller mark.Call true) wants shows able serves e g x is of =
     writes k caller _ (caller_none k ec caller mark.Call able serves wants.0 wants.1) e g x is of
-done_keeps k ec (Replies caller false) wants shows able serves e g x is of =
+done_keeps k ec (Replies caller mark.Call false) wants shows able serves e g x is of =
     writes k caller _ (caller_none k ec caller mark.Call able serves wants.0 wants.1) e g x is of
+done_keeps k ec (Replies caller mark.Exit true) wants shows able serves e g x is of = refl
+done_keeps k ec (Replies caller mark.Exit false) wants shows able serves e g x is of = refl
+done_keeps k ec (Sends handler ip identifier mtd reason q0 q1) wants shows able serves e g x is of =
+    writes k handler _ (parked_none k.contexts handler serves wants.1) e g x is of
+done_keeps k ec (Ups sm whom) wants shows able serves e g x is of = ap (λ (ms : List (Option (List ℕ))). words_in ms g) (woken_words _ whom)
 done_keeps k ec d wants shows able serves e g x is of = refl
 
 -- WHERE WHOEVER GIVES IS
@@ -120,7 +132,7 @@ last_ends k ec Replying v is last = by_caller (context k ec).caller is
   where
     by_caller : (o : Option (ℕ × Mark)) → given_to k ec (transfer k ec).item o ≡ Some v → ⊥
     by_caller None e = absurd (cc)
-    by_caller (Some (caller, mark)) e = let same : sequel.Replied caller ≡ v.last = cc in absurd (cc)
+    by_caller (Some (caller, mark)) e = let same : sequel.Replied caller mark ≡ v.last = cc in absurd (cc)
 last_ends k ec other v is last = absurd (cc)
 
 next_below : (k : KernelState) (ec item : ℕ) (v : Delivery) → delivery k ec (context k ec).state ≡ Some v → sequel.Item ≡ sequel_of v item → item + 1 < v.items
@@ -177,13 +189,13 @@ finished_bound : (k : KernelState) (ec item : ℕ) (end : ItemEnd) (words : Opti
 finished_bound k ec item end None sequel.Item f keeps h = next_bound k ec item None _ f keeps h
 finished_bound k ec item end None sequel.Opened f keeps h = ends_bound k ec (after_item (context k ec) sequel.Opened) _ refl keeps h
 finished_bound k ec item end None sequel.Taken f keeps h = ends_bound k ec (after_item (context k ec) sequel.Taken) _ refl keeps h
-finished_bound k ec item end None (sequel.Replied caller) f keeps h =
-    rests_bounded _ (with_ec k.contexts ec (parked (context k ec))) _ caller _ refl (ends_bound k ec (parked (context k ec)) _ refl keeps h)
+finished_bound k ec item end None (sequel.Replied caller mark) f keeps h =
+    rests_bounded _ (with_ec k.contexts ec (parked (context k ec))) _ caller _ (resumed_quiet (ec_of (with_ec k.contexts ec (parked (context k ec))) caller) mark _) (ends_bound k ec (parked (context k ec)) _ refl keeps h)
 finished_bound k ec item end (Some w) sequel.Item f keeps h = next_bound k ec item (Some w) _ f keeps h
 finished_bound k ec item end (Some w) sequel.Opened f keeps h = ends_bound k ec (after_item (context k ec) sequel.Opened) _ refl keeps h
 finished_bound k ec item end (Some w) sequel.Taken f keeps h = ends_bound k ec (after_item (context k ec) sequel.Taken) _ refl keeps h
-finished_bound k ec item end (Some w) (sequel.Replied caller) f keeps h =
-    rests_bounded _ (with_ec k.contexts ec (parked (context k ec))) _ caller _ refl (ends_bound k ec (parked (context k ec)) _ refl keeps h)
+finished_bound k ec item end (Some w) (sequel.Replied caller mark) f keeps h =
+    rests_bounded _ (with_ec k.contexts ec (parked (context k ec))) _ caller _ (resumed_quiet (ec_of (with_ec k.contexts ec (parked (context k ec))) caller) mark _) (ends_bound k ec (parked (context k ec)) _ refl keeps h)
 
 -- its own change, after which it gives nothing
 quiets : (k : KernelState) (ec : ℕ) (x : EcState) → is_giving x.state ≡ false → Bound k → Bound (with_context k ec x)
@@ -210,28 +222,50 @@ sent_bound k ec handler ip identifier true idle apart shows sound keeps h =
     let none = ap (λ (t : Transfer). t.item) (entry_rests k.objects (ec_in k.contexts handler) (transfer k handler) quiet (sound handler)) in
     let words = other_words k.messages handler ec _ (λ same. apart (sym same)) in
     let some = some_items (message k ec) shows.0 (sym shows.1) in
-    set_bounded ns (with_ec k.contexts ec x) k.transfers handler (serving (ec_of (with_ec k.contexts ec x) handler) ec ip identifier true)
+    set_bounded ns (with_ec k.contexts ec x) k.transfers handler (serving (ec_of (with_ec k.contexts ec x) handler) ec mark.Call ip identifier true)
     (subst (λ (m : List ℕ). (at k.transfers handler).item < counted_items m) (sym words) (omega (arith, none, some)))
     (rests_bounded ns k.contexts k.transfers ec x refl (reword k.messages ns k.contexts k.transfers keeps h))
 sent_bound k ec handler ip identifier false idle apart shows sound keeps h =
     let x = record (context k ec) { state = Calling handler } in
     let ns = (done k ec (Calls handler ip identifier false)).messages in
-    rests_bounded ns (with_ec k.contexts ec x) k.transfers handler (serving (ec_of (with_ec k.contexts ec x) handler) ec ip identifier false) refl
+    rests_bounded ns (with_ec k.contexts ec x) k.transfers handler (serving (ec_of (with_ec k.contexts ec x) handler) ec mark.Call ip identifier false) refl
     (rests_bounded ns k.contexts k.transfers ec x refl (reword k.messages ns k.contexts k.transfers keeps h))
 
-replied_bound : (k : KernelState) (ec caller : ℕ) (items : Bool) → is_giving (context k ec).state ≡ false → caller ≢ ec →
-    (has_counts (message k ec) ≡ true) × (items ≡ has_items (message k ec)) → Sound k → Keeps k (done k ec (Replies caller items)).messages → Bound k →
-    Bound (done k ec (Replies caller items))
-replied_bound k ec caller true quiet apart shows sound keeps h =
-    let ns = (done k ec (Replies caller true)).messages in
+-- an exit is sent, and its handler gives nothing
+exit_sent_bound : (k : KernelState) (ec handler ip identifier : ℕ) (mtd : Mtd) (reason q0 q1 : ℕ) → Keeps k (done k ec (Sends handler ip identifier mtd reason q0 q1)).messages →
+    Bound k → Bound (done k ec (Sends handler ip identifier mtd reason q0 q1))
+exit_sent_bound k ec handler ip identifier mtd reason q0 q1 keeps h =
+    let x = record (context k ec) { state = Calling handler } in
+    let ns = (done k ec (Sends handler ip identifier mtd reason q0 q1)).messages in
+    rests_bounded ns (with_ec k.contexts ec x) k.transfers handler (serving (ec_of (with_ec k.contexts ec x) handler) ec mark.Exit ip identifier false) refl
+    (rests_bounded ns k.contexts k.transfers ec x refl (reword k.messages ns k.contexts k.transfers keeps h))
+
+-- who is woken gives nothing
+woken_bound : (k : KernelState) (whom : Option ℕ) → Bound k → Bound (woken_in k whom)
+woken_bound k None h = h
+woken_bound k (Some w) h = quiets k w _ refl h
+
+replied_bound : (k : KernelState) (ec caller : ℕ) (mark : Mark) (items : Bool) → is_giving (context k ec).state ≡ false → caller ≢ ec →
+    (has_counts (message k ec) ≡ true) × (items ≡ has_items (message k ec)) → Sound k → Keeps k (done k ec (Replies caller mark items)).messages → Bound k →
+    Bound (done k ec (Replies caller mark items))
+replied_bound k ec caller mark.Exit true quiet apart shows sound keeps h =
+    let none = ap (λ (t : Transfer). t.item) (entry_rests k.objects (ec_in k.contexts ec) (transfer k ec) quiet (sound ec)) in
+    let some = some_items (message k ec) shows.0 (sym shows.1) in
+    set_bounded k.messages k.contexts k.transfers ec (changed (context k ec) (Replies caller mark.Exit true)) (omega (arith, none, some)) h
+replied_bound k ec caller mark.Call true quiet apart shows sound keeps h =
+    let ns = (done k ec (Replies caller mark.Call true)).messages in
     let none = ap (λ (t : Transfer). t.item) (entry_rests k.objects (ec_in k.contexts ec) (transfer k ec) quiet (sound ec)) in
     let words = other_words k.messages caller ec _ (λ same. apart (sym same)) in
     let some = some_items (message k ec) shows.0 (sym shows.1) in
-    set_bounded ns k.contexts k.transfers ec (changed (context k ec) (Replies caller true))
+    set_bounded ns k.contexts k.transfers ec (changed (context k ec) (Replies caller mark.Call true))
     (subst (λ (m : List ℕ). (at k.transfers ec).item < counted_items m) (sym words) (omega (arith, none, some)))
     (reword k.messages ns k.contexts k.transfers keeps h)
-replied_bound k ec caller false quiet apart shows sound keeps h =
-    let ns = (done k ec (Replies caller false)).messages in
+replied_bound k ec caller mark.Call false quiet apart shows sound keeps h =
+    let ns = (done k ec (Replies caller mark.Call false)).messages in
+    rests_bounded ns (with_ec k.contexts ec (parked (context k ec))) k.transfers caller _ refl
+    (rests_bounded ns k.contexts k.transfers ec (parked (context k ec)) refl (reword k.messages ns k.contexts k.transfers keeps h))
+replied_bound k ec caller mark.Exit false quiet apart shows sound keeps h =
+    let ns = (done k ec (Replies caller mark.Exit false)).messages in
     rests_bounded ns (with_ec k.contexts ec (parked (context k ec))) k.transfers caller _ refl
     (rests_bounded ns k.contexts k.transfers ec (parked (context k ec)) refl (reword k.messages ns k.contexts k.transfers keeps h))
 
@@ -271,6 +305,15 @@ done_bound k ec (Finishes item end words after) wants shows able serves sound ke
 done_bound k ec (Calls handler ip identifier items) wants shows able serves sound keeps h =
     sent_bound k ec handler ip identifier items wants.1 (parked_apart k ec handler able wants.1) shows sound keeps h
 done_bound k ec (Helps handler) wants shows able serves sound keeps h = quiets k ec (changed (context k ec) (Helps handler)) refl h
-done_bound k ec (Replies caller items) wants shows able serves sound keeps h =
-    replied_bound k ec caller items wants.0 (caller_apart k ec caller mark.Call able serves wants.1) shows sound keeps h
-done_bound k ec (Aborts handler) wants shows able serves sound keeps h = quiets k ec (changed (context k ec) (Aborts handler)) refl h
+done_bound k ec (Replies caller mark items) wants shows able serves sound keeps h =
+    replied_bound k ec caller mark items wants.0 (caller_apart k ec caller mark able serves wants.1) shows sound keeps h
+done_bound k ec (Aborts handler mark.Call) wants shows able serves sound keeps h = quiets k ec (changed (context k ec) (Aborts handler mark.Call)) refl h
+done_bound k ec (Aborts handler mark.Exit) wants shows able serves sound keeps h = quiets k ec (changed (context k ec) (Aborts handler mark.Exit)) refl h
+done_bound k ec (Waits handler reason q0 q1) wants shows able serves sound keeps h = quiets k ec (changed (context k ec) (Waits handler reason q0 q1)) refl h
+done_bound k ec (Sends handler ip identifier mtd reason q0 q1) wants shows able serves sound keeps h =
+    exit_sent_bound k ec handler ip identifier mtd reason q0 q1 keeps h
+done_bound k ec (Ups sm whom) wants shows able serves sound keeps h =
+    woken_bound (record (with_context k ec (answered (context k ec) Success None)) { semaphores = upped k.semaphores sm }) whom
+    (quiets k ec (answered (context k ec) Success None) refl h)
+done_bound k ec (Downs sm) wants shows able serves sound keeps h = quiets k ec (changed (context k ec) (Downs sm)) refl h
+done_bound k ec (Blocks sm) wants shows able serves sound keeps h = quiets k ec (changed (context k ec) (Blocks sm)) refl h

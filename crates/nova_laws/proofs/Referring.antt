@@ -8,37 +8,42 @@ use Rattle.nova_objects.specs.declared.object.EcKind.{EcKind}
 use Rattle.nova_objects.specs.declared.object.EcKind.TheVariants.{Local, Global, Vcpu}
 use Rattle.nova_objects.specs.declared.object.Object.{Object}
 use Rattle.nova_objects.specs.declared.object.Object.TheVariants.{Pd, Ec, Sc, Pt, Sm}
+use Rattle.nova_range.specs.declared.mtd.Mtd.{Mtd}
 use Rattle.nova_range.specs.declared.range.Range.{Range}
 use Rattle.nova_range.specs.declared.rights.Rights.{Rights}
 use Rattle.nova_range.specs.declared.status.Status.{Status}
 use Rattle.nova_range.specs.declared.status.Status.TheVariants.{BadCap, BadCpu, BadPar}
 use Rattle.nova_utcb.specs.Messages.{has_counts}
-use Rattle.nova_model.specs.Calls.{admitted}
-use Rattle.nova_model.specs.Capabilities.{allowed, bind_portal_right, bind_scheduling_right, call_right, capability, control_right, create_right, is_held, is_ec, is_local, is_pd, is_pt, is_sc, is_schedulable, named, or_bad_cap}
+use Rattle.nova_model.specs.Calls.{admitted, exit_admitted}
+use Rattle.nova_model.specs.Capabilities.{allowed, bind_portal_right, bind_scheduling_right, call_right, capability, control_right, create_right, is_held, is_ec, is_local, is_pd, is_pt, is_sc, is_schedulable, is_sm, down_right, event_right, named, or_bad_cap, up_right}
 use Rattle.nova_model.specs.Creation.{object_of}
 use Rattle.nova_model.specs.Deeds.{deed}
 use Rattle.nova_model.specs.Delegations.{allows}
 use Rattle.nova_model.specs.Deliveries.{delivery, flag, given_to, sequel_of, taken_from, words_for}
-use Rattle.nova_model.specs.Hypercalls.{and_then, called, create_ec, handler_in, handler_of, ip_in, is_scheduled, maker, makes, new_domain, replied, row, ticks_in, unless}
+use Rattle.nova_model.specs.Hypercalls.{and_then, called, create_ec, is_scheduled, maker, makes, new_domain, replied, row, ticks_in, unless}
+use Rattle.nova_model.specs.Portals.{descriptor, handler_in, handler_of, ip_in, ip_of, mtd_in}
+use Rattle.nova_model.specs.Semaphores.{answer_of, semaphore, woken}
 use Rattle.nova_model.specs.State.{KernelState, budget_at, context, is_local_thread, is_thread_kind, message, pd_of, processor_in, processor_of, transfer}
 use Rattle.nova_model.specs.declared.admit.Admit.{Admit}
 use Rattle.nova_model.specs.declared.admit.Admit.TheVariants.{Refused, Help, Send}
+use Rattle.nova_model.specs.declared.admit.ExitAdmit.TheVariants as exit
 use Rattle.nova_model.specs.declared.context.Mark.{Mark}
 use Rattle.nova_model.specs.declared.context.Mark.TheVariants as came
 use Rattle.nova_model.specs.declared.context.State.{State}
 use Rattle.nova_model.specs.declared.context.State.TheVariants.{Granting, Replying}
 use Rattle.nova_model.specs.declared.deed.Deed.{Deed}
-use Rattle.nova_model.specs.declared.deed.Deed.TheVariants.{Makes, Names, Recalls, Tells, Finishes, Calls, Helps, Replies}
+use Rattle.nova_model.specs.declared.deed.Deed.TheVariants.{Waits, Sends, Makes, Names, Recalls, Tells, Finishes, Calls, Helps, Replies, Ups, Downs, Blocks}
 use Rattle.nova_model.specs.declared.delegation.Derivation.{Derivation}
 use Rattle.nova_model.specs.declared.new_object.NewObject.{NewObject}
 use Rattle.nova_model.specs.declared.new_object.NewObject.TheVariants as new
+use Rattle.nova_model.specs.declared.semaphore.Down.TheVariants as down
 use Rattle.nova_model.specs.declared.transfer.Delivery.{Delivery}
 use Rattle.nova_model.specs.declared.transfer.ItemWords.{ItemWords}
 use Rattle.nova_model.specs.declared.transfer.Sequel.{Sequel}
 use Rattle.nova_model.specs.declared.transfer.Sequel.TheVariants as sequel
 use Rattle.nova_laws.specs.Tables.{IsOf, Refers, cpu_of}
 use Rattle.nova_laws.proofs.Rows.{named_holds, unless_holds}
-use Rattle.nova_forest.proofs.Walk.{IfDone, deed_holds}
+use Rattle.nova_forest.proofs.Walk.{IfDone, IsExit, deed_holds, sm_ctrl_holds}
 
 -- a call that its handler, that of a portal, takes
 pub record IsSent (k : KernelState) (ec handler ip : ℕ) : Type 0 where
@@ -48,19 +53,25 @@ pub record IsSent (k : KernelState) (ec handler ip : ℕ) : Type 0 where
   pub flag : Bool
   pub admits : admitted k.contexts ec handler flag ≡ Send
 
--- it is the caller of this one
-abbrev pub IsCallerOf : KernelState → ℕ → ℕ → Type 0
-IsCallerOf k ec caller = (mark : Mark) × ((context k ec).caller ≡ Some (caller, mark))
+-- an exit that its handler, that of a portal, takes
+pub record IsExitSent (k : KernelState) (ec handler ip : ℕ) (mtd : Mtd) : Type 0 where
+  pub portal : ℕ
+  pub leads : slice_get k.objects portal ≡ Some (Pt handler mtd.0 ip)
+  pub admits : exit_admitted k.contexts ec handler ≡ exit.Sends
+
+-- it is the caller of this one, and came so
+abbrev pub IsCallerOf : KernelState → ℕ → ℕ → Mark → Type 0
+IsCallerOf k ec caller mark = (context k ec).caller ≡ Some (caller, mark)
 
 -- who is told what came of an item, and what follows its end
 abbrev pub TellsFor : KernelState → ℕ → Option ℕ → Type 0
-TellsFor k ec told = IfSome told (λ n. (n ≡ ec) ⊎ IsCallerOf k ec n)
+TellsFor k ec told = IfSome told (λ n. (n ≡ ec) ⊎ IsCallerOf k ec n came.Call)
 
 abbrev pub TellsIn : KernelState → ℕ → Option ItemWords → Type 0
-TellsIn k ec words = IfSome words (λ w. (w.ec ≡ ec) ⊎ IsCallerOf k ec w.ec)
+TellsIn k ec words = IfSome words (λ w. (w.ec ≡ ec) ⊎ IsCallerOf k ec w.ec came.Call)
 
 abbrev pub Follows : KernelState → ℕ → Sequel → Type 0
-Follows k ec (sequel.Replied caller) = IsCallerOf k ec caller
+Follows k ec (sequel.Replied caller mark) = IsCallerOf k ec caller mark
 Follows k ec other = Unit {0}
 
 -- what a deed refers to
@@ -70,7 +81,12 @@ Asks k ec (Names pt identifier) = IsOf k.objects is_pt pt
 Asks k ec (Finishes item end words after) = TellsIn k ec words × Follows k ec after
 Asks k ec (Calls handler ip identifier items) = IsSent k ec handler ip
 Asks k ec (Helps handler) = (flag : Bool) × (admitted k.contexts ec handler flag ≡ Help)
-Asks k ec (Replies caller items) = (context k ec).caller ≡ Some (caller, came.Call)
+Asks k ec (Replies caller mark items) = IsCallerOf k ec caller mark
+Asks k ec (Waits handler reason q0 q1) = exit_admitted k.contexts ec handler ≡ exit.Waits
+Asks k ec (Sends handler ip identifier mtd reason q0 q1) = IsExitSent k ec handler ip mtd
+Asks k ec (Ups sm whom) = IsOf k.objects is_sm sm × (woken (semaphore k.semaphores sm) ≡ Ok whom)
+Asks k ec (Downs sm) = IsOf k.objects is_sm sm × (answer_of (semaphore k.semaphores sm) ≡ down.Done)
+Asks k ec (Blocks sm) = IsOf k.objects is_sm sm × (answer_of (semaphore k.semaphores sm) ≡ down.Blocked)
 Asks k ec other = Unit {0}
 
 named_is : (k : KernelState) (domain : ℕ) (is : Object → Bool) (right selector : ℕ) → IfDone (IsOf k.objects is) (named k domain is right selector)
@@ -166,12 +182,12 @@ opens_asks k ec target (Some range) = tt
 
 -- calls and replies
 
-portal_at : (o : Option Object) → option_map is_pt o ≡ Some true → (mtd : ℕ) × (o ≡ Some (Pt (handler_in o) mtd (ip_in o)))
+portal_at : (o : Option Object) → option_map is_pt o ≡ Some true → o ≡ Some (Pt (handler_in o) (mtd_in o) (ip_in o))
 portal_at None h = absurd (cc)
 portal_at (Some Pd) h = absurd (cc)
 portal_at (Some (Ec pd cpu kind event)) h = absurd (cc)
 portal_at (Some (Sc ec cpu priority quantum)) h = absurd (cc)
-portal_at (Some (Pt ec mtd ip)) h = (mtd, refl)
+portal_at (Some (Pt ec mtd ip)) h = refl
 portal_at (Some Sm) h = absurd (cc)
 
 called_asks : (k : KernelState) (ec : ℕ) (flag : Bool) (r : Result ℕ Status) → IfDone (IsOf k.objects is_pt) r →
@@ -182,14 +198,26 @@ called_asks k ec flag (Ok pt) is = by_admit (admitted k.contexts ec (handler_of 
     by_admit : (a : Admit) → admitted k.contexts ec (handler_of k pt) flag ≡ a → IfDone (Asks k ec) (called k ec pt a)
     by_admit (Refused status) admits = tt
     by_admit Help admits = (flag, admits)
-    by_admit Send admits =
-        let at = portal_at (slice_get k.objects pt) is in
-        record { portal = pt; mtd = at.0; leads = at.1; flag = flag; admits = admits }
+    by_admit Send admits = record { portal = pt; mtd = mtd_in (slice_get k.objects pt); leads = portal_at (slice_get k.objects pt) is; flag = flag; admits = admits }
 
 replied_asks : (k : KernelState) (ec : ℕ) (o : Option (ℕ × Mark)) → (context k ec).caller ≡ o → IfDone (Asks k ec) (replied k ec o)
-replied_asks k ec (Some (caller, came.Call)) is = is
-replied_asks k ec (Some (caller, came.Exit)) is = tt
+replied_asks k ec (Some (caller, mark)) is = is
 replied_asks k ec None is = tt
+
+-- exits and semaphores
+
+-- what a capability names is of its kind
+names_kind : (k : KernelState) (domain : ℕ) (is : Object → Bool) (right selector n : ℕ) → named k domain is right selector ≡ Ok n → IsOf k.objects is n
+names_kind k domain is right selector n names = subst (IfDone (IsOf k.objects is)) names (named_is k domain is right selector)
+
+exit_asks : (k : KernelState) (ec pt reason q0 q1 : ℕ) → IsExit k ec pt reason q0 q1 exit.Sends → IsExitSent k ec (handler_of k pt) (ip_of k pt) (descriptor k pt)
+exit_asks k ec pt reason q0 q1 e = record {
+  portal = pt;
+  leads = portal_at (slice_get k.objects pt) (names_kind k (pd_of k ec) is_pt event_right _ pt e.portal);
+  admits = e.admits;
+}
+
+-- rows
 
 row_asks : (k : KernelState) (ec domain : ℕ) (c : Call) → IfDone (Asks k ec) (row k ec domain c)
 row_asks k ec domain (call.Call portal flag) = unless_holds (Asks k ec) (not (has_counts (message k ec))) BadPar _
@@ -211,6 +239,10 @@ row_asks k ec domain (call.ScCtrl sc) =
     named_asks k ec is_sc (named k domain is_sc control_right sc) (λ n. Tells SC_CTRL (ticks_in (budget_at k n))) (named_is k domain is_sc control_right sc) (λ n is. tt)
 row_asks k ec domain (call.PtCtrl pt identifier) =
     named_asks k ec is_pt (named k domain is_pt control_right pt) (λ n. Names n identifier) (named_is k domain is_pt control_right pt) (λ n is. is)
+row_asks k ec domain (call.SmCtrl sm action) = sm_ctrl_holds (Asks k ec) k domain sm action
+    (λ n whom is wakes. (names_kind k domain is_sm up_right sm n is, wakes))
+    (λ n is answers. (names_kind k domain is_sm down_right sm n is, answers))
+    (λ n is answers. (names_kind k domain is_sm down_right sm n is, answers))
 row_asks k ec domain other = tt
 
 -- ends of items
@@ -236,7 +268,8 @@ taken_goes k ec item (Some (caller, mark)) = (inl refl, tt)
 
 given_goes : (k : KernelState) (ec item : ℕ) (o : Option (ℕ × Mark)) → (context k ec).caller ≡ o → IfSome (given_to k ec item o) (Goes k ec)
 given_goes k ec item None is = tt
-given_goes k ec item (Some (caller, mark)) is = (inr (mark, is), (mark, is))
+given_goes k ec item (Some (caller, came.Call)) is = (inr is, is)
+given_goes k ec item (Some (caller, came.Exit)) is = (tt, is)
 
 delivery_goes : (k : KernelState) (ec : ℕ) (s : State) → IfSome (delivery k ec s) (Goes k ec)
 delivery_goes k ec (Granting (Some new)) = (tt, tt)
@@ -255,6 +288,8 @@ deed_asks k ec =
       raises = λ reason q0 q1. tt;
       dies = λ reason q0. tt;
       refuses = λ number status. tt;
+      waits = λ pt reason q0 q1 e. e.admits;
+      sends = λ pt reason q0 q1 e. exit_asks k ec pt reason q0 q1 e;
       aborts = λ handler is. tt;
       rows = λ asks c read. row_asks k ec (pd_of k ec) c;
     })

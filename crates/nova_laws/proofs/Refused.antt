@@ -1,20 +1,25 @@
 -- A turn whose event answers a hypercall with another status than SUCCESS is that of a refusal.
 use Rattle.std.proofs.Common.{◌≡◌, ℕ, ap, ◌∙◌, sym, subst, refl}
-use Rattle.std.specs.Prelude.{◌≢◌, ◌==◌, Bool, true, false, if◌then◌else◌, slice_index, slice_set, Option, Some, None, IsSome}
+use Rattle.std.specs.Prelude.{◌≢◌, ◌==◌, Bool, true, false, if◌then◌else◌, slice_index, slice_set, Option, Some, None, IsSome, Result, Ok, Err}
 use Rattle.nova_range.specs.Statuses.{status_code}
 use Rattle.nova_range.specs.declared.status.Status.{Status}
 use Rattle.nova_model.specs.Choice.{choice}
 use Rattle.nova_model.specs.Deeds.{answered, deed, deed_in, done, sign_of, with_context}
 use Rattle.nova_model.specs.Deliveries.{delivers, delivery}
+use Rattle.nova_model.specs.Exits.{exit_at, exit_portal, exit_to, exits}
+use Rattle.nova_model.specs.Calls.{exit_admitted}
+use Rattle.nova_model.specs.Portals.{handler_of}
 use Rattle.nova_model.specs.Runs.{after}
 use Rattle.nova_model.specs.State.{KernelState, Contexts, context, context_at, context_in, ec_in, ec_of, transfer}
 use Rattle.nova_model.specs.Turn.{charged, event_of, answer_of, turn, turn_by, state_after}
 use Rattle.nova_model.specs.Choice.{Candidate}
+use Rattle.nova_model.specs.declared.admit.ExitAdmit.{ExitAdmit}
+use Rattle.nova_model.specs.declared.admit.ExitAdmit.TheVariants as exit
 use Rattle.nova_model.specs.declared.context.EcState.{EcState}
 use Rattle.nova_model.specs.declared.context.State.{State}
-use Rattle.nova_model.specs.declared.context.State.TheVariants.{Fresh, Ready, Parked, Calling, Helping, Exiting, Sending, Granting, Replying, Dead}
+use Rattle.nova_model.specs.declared.context.State.TheVariants.{Fresh, Ready, Parked, Calling, Helping, Exiting, Sending, Granting, Replying, Blocked, Dead}
 use Rattle.nova_model.specs.declared.deed.Deed.{Deed}
-use Rattle.nova_model.specs.declared.deed.Deed.TheVariants.{Rests, Steps, Raises, Dies, Refuses, Makes, Recalls, Tells, Names, Opens, Gives, Skips, Finishes, Calls, Helps, Replies, Aborts}
+use Rattle.nova_model.specs.declared.deed.Deed.TheVariants.{Rests, Steps, Raises, Dies, Waits, Sends, Refuses, Makes, Recalls, Tells, Names, Opens, Gives, Skips, Finishes, Calls, Helps, Replies, Aborts, Ups, Downs, Blocks}
 use Rattle.nova_model.specs.declared.event.Event.{Event}
 use Rattle.nova_model.specs.declared.event.EventKind.TheVariants.{Answer}
 use Rattle.nova_model.specs.declared.event.Turn.TheVariants.{Stepped}
@@ -45,13 +50,18 @@ refuses (Finishes item (Skipped skip) words follows) answers failed = absurd cc
 refuses (Finishes item (Translated word) words follows) answers failed = absurd cc
 refuses (Calls handler ip identifier items) answers failed = absurd cc
 refuses (Helps handler) answers failed = absurd cc
-refuses (Replies caller true) answers failed = absurd cc
-refuses (Replies caller false) answers failed = absurd (failed refl)
-refuses (Aborts handler) answers failed = absurd cc
+refuses (Replies caller mark true) answers failed = absurd cc
+refuses (Replies caller mark false) answers failed = absurd (failed refl)
+refuses (Aborts handler mark) answers failed = absurd cc
 refuses Rests answers failed = absurd cc
 refuses Steps answers failed = absurd cc
 refuses (Raises reason q0 q1) answers failed = absurd cc
 refuses (Dies reason q0) answers failed = absurd cc
+refuses (Waits handler reason q0 q1) answers failed = absurd cc
+refuses (Sends handler ip identifier mtd reason q0 q1) answers failed = absurd cc
+refuses (Ups sm whom) answers failed = absurd (failed refl)
+refuses (Downs sm) answers failed = absurd (failed refl)
+refuses (Blocks sm) answers failed = absurd cc
 
 -- and it makes a hypercall, whose state is asking
 abbrev AsksFirst : State → Deed → Type 0
@@ -66,14 +76,28 @@ gives_first : (k : KernelState) (ec : ℕ) (s : State) (o : Option Delivery) →
 gives_first k ec s o is =
     delivers_holds (AsksFirst s) k ec o is tt (record { gives = λ d x g. tt; skips = λ d reason place g. tt; finishes = λ v end answer present ends. tt })
 
+-- an exit is no hypercall
+exits_first : (k : KernelState) (ec reason q0 q1 : ℕ) (s : State) → AsksFirst s (exits k ec reason q0 q1)
+exits_first k ec reason q0 q1 s = by_portal (exit_portal k ec reason)
+  where
+    by_admit : (pt : ℕ) (a : ExitAdmit) → AsksFirst s (exit_to k pt reason q0 q1 a)
+    by_admit pt exit.Dies = tt
+    by_admit pt exit.Waits = tt
+    by_admit pt exit.Sends = tt
+
+    by_portal : (o : Result ℕ Status) → AsksFirst s (exit_at k ec reason q0 q1 o)
+    by_portal (Err status) = tt
+    by_portal (Ok pt) = by_admit pt (exit_admitted k.contexts ec (handler_of k pt))
+
 state_first : (k : KernelState) (ec : ℕ) (s : State) → (context k ec).state ≡ s → AsksFirst s (deed_in k ec s)
 state_first k ec Fresh is = tt
 state_first k ec Ready is = asks_first Ready _ refl
 state_first k ec Parked is = tt
 state_first k ec (Calling h) is = tt
 state_first k ec (Helping h) is = asks_first (Helping h) _ refl
-state_first k ec (Exiting reason q0 q1) is = tt
-state_first k ec (Sending reason q0 q1 h) is = tt
+state_first k ec (Exiting reason q0 q1) is = exits_first k ec reason q0 q1 (Exiting reason q0 q1)
+state_first k ec (Sending reason q0 q1 h) is = exits_first k ec reason q0 q1 (Sending reason q0 q1 h)
+state_first k ec (Blocked sm) is = tt
 state_first k ec (Granting new) is = gives_first k ec (Granting new) (delivery k ec (Granting new)) (ap (delivery k ec) is)
 state_first k ec Replying is = gives_first k ec Replying (delivery k ec Replying) (ap (delivery k ec) is)
 state_first k ec Dead is = tt

@@ -11,17 +11,17 @@ use Rattle.nova_utcb.specs.Messages.{has_counts, has_items}
 use Rattle.nova_model.specs.Capabilities.{is_ec, is_sc, is_pt, named, call_right, control_right}
 use Rattle.nova_model.specs.Calls.{admitted}
 use Rattle.nova_range.specs.declared.status.Status.{Status}
-use Rattle.nova_model.specs.Hypercalls.{and_then, call, called, handler_of, identifier, ip_of, is_virtual, maker, makes, new_domain, reply, replied, row, ticks_in, unless}
+use Rattle.nova_model.specs.Hypercalls.{and_then, call, called, is_virtual, maker, makes, new_domain, reply, replied, row, ticks_in, unless}
+use Rattle.nova_model.specs.Portals.{handler_of, identifier, ip_of}
 use Rattle.nova_model.specs.State.{KernelState, budget_at, context, is_local_thread, message}
 use Rattle.nova_model.specs.declared.admit.Admit.{Admit}
 use Rattle.nova_model.specs.declared.admit.Admit.TheVariants.{Refused, Help, Send}
 use Rattle.nova_model.specs.declared.context.Mark.{Mark}
-use Rattle.nova_model.specs.declared.context.Mark.TheVariants as mark
 use Rattle.nova_model.specs.declared.deed.Deed.{Deed}
 use Rattle.nova_model.specs.declared.deed.Deed.TheVariants.{Makes, Recalls, Tells, Names, Gives, Skips, Finishes, Calls, Helps, Replies}
 use Rattle.nova_model.specs.declared.new_object.NewObject.{NewObject}
 use Rattle.nova_model.specs.declared.new_object.NewObject.TheVariants.{Sm}
-use Rattle.nova_forest.proofs.Walk.{IfDone}
+use Rattle.nova_forest.proofs.Walk.{IfDone, sm_ctrl_holds}
 
 -- what holds of each object that is made
 pub makes_hold : (P : Deed → Type 0) (number target : ℕ) → ((made : NewObject) → P (Makes number target made)) →
@@ -73,20 +73,19 @@ call_holds P k ec domain selector flag sends helps = by_counts (has_counts (mess
     by_counts false counts = tt
     by_counts true counts = by_portal counts (named k domain is_pt call_right selector) refl
 
--- a reply goes to whom its maker serves
-pub record IsReplying (k : KernelState) (ec caller : ℕ) : Type 0 where
+-- a reply goes to whom its maker serves, who came so
+pub record IsReplying (k : KernelState) (ec caller : ℕ) (mark : Mark) : Type 0 where
   pub local : is_local_thread k ec ≡ true
   pub counts : has_counts (message k ec) ≡ true
-  pub serves : (context k ec).caller ≡ Some (caller, mark.Call)
+  pub serves : (context k ec).caller ≡ Some (caller, mark)
 
 pub reply_holds : (P : Deed → Type 0) (k : KernelState) (ec : ℕ) →
-    ((caller : ℕ) → IsReplying k ec caller → P (Replies caller (has_items (message k ec)))) → IfDone P (reply k ec)
+    ((caller : ℕ) (mark : Mark) → IsReplying k ec caller mark → P (Replies caller mark (has_items (message k ec)))) → IfDone P (reply k ec)
 reply_holds P k ec replies = by_local (is_local_thread k ec) refl
   where
     by_caller : is_local_thread k ec ≡ true → has_counts (message k ec) ≡ true → (o : Option (ℕ × Mark)) → (context k ec).caller ≡ o → IfDone P (replied k ec o)
     by_caller local counts None serves = tt
-    by_caller local counts (Some (caller, mark.Call)) serves = replies caller (record { local = local; counts = counts; serves = serves })
-    by_caller local counts (Some (caller, other)) serves = tt
+    by_caller local counts (Some (caller, mark)) serves = replies caller mark (record { local = local; counts = counts; serves = serves })
 
     by_counts : is_local_thread k ec ≡ true → (t : Bool) → has_counts (message k ec) ≡ t → IfDone P (unless (not t) BadPar (replied k ec (context k ec).caller))
     by_counts local false counts = tt
@@ -118,7 +117,7 @@ new_domain_whole k target (Some range) = refl
 
 pub row_whole : (k : KernelState) (ec domain : ℕ) (c : Call) → IfDone IsWhole (row k ec domain c)
 row_whole k ec domain (asks.Call portal flag) = call_holds IsWhole k ec domain portal flag (λ pt is. refl) (λ pt is. refl)
-row_whole k ec domain asks.Reply = reply_holds IsWhole k ec (λ caller is. refl)
+row_whole k ec domain asks.Reply = reply_holds IsWhole k ec (λ caller mark is. refl)
 row_whole k ec domain (asks.CreatePd target pd first) =
     named_holds IsWhole (maker k domain target pd) (λ owner. new_domain k target first) (λ owner. new_domain_whole k target first)
 row_whole k ec domain (asks.CreateEc target pd cpu kind sp event) =
@@ -131,4 +130,6 @@ row_whole k ec domain (asks.EcCtrl other) = named_holds IsWhole (named k domain 
 row_whole k ec domain (asks.ScCtrl sc) =
     named_holds IsWhole (named k domain is_sc control_right sc) (λ n. Tells SC_CTRL (ticks_in (budget_at k n))) (λ n. refl)
 row_whole k ec domain (asks.PtCtrl pt identifier) = named_holds IsWhole (named k domain is_pt control_right pt) (λ n. Names n identifier) (λ n. refl)
+row_whole k ec domain (asks.SmCtrl sm action) =
+    sm_ctrl_holds IsWhole k domain sm action (λ n whom is wakes. refl) (λ n is answers. refl) (λ n is answers. refl)
 row_whole k ec domain other = tt

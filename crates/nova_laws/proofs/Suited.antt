@@ -4,11 +4,11 @@ use Rattle.std.proofs.Common.{◌≡◌, ℕ, ◌+◌, List, refl, ap, ◌∙◌
 use Rattle.std.specs.Prelude.{Bool, true, slice_get, Option, Some, None, IfSome, IsSome, is_some, option_map}
 use Rattle.nova_objects.specs.declared.object.Object.{Object}
 use Rattle.nova_objects.specs.declared.object.Object.TheVariants.{Pd, Ec, Sc, Pt, Sm}
-use Rattle.nova_model.specs.Capabilities.{is_ec, is_pt, is_sc}
+use Rattle.nova_model.specs.Capabilities.{is_ec, is_pt, is_sc, is_sm}
 use Rattle.nova_model.specs.Runs.{run}
 use Rattle.nova_model.specs.State.{KernelState, budget_at, context_at, entry, is_thread_kind}
 use Rattle.nova_model.specs.declared.context.EcState.{EcState}
-use Rattle.nova_laws.specs.Tables.{HasTables, IsContext, IsOf, Refers, Suits, cpu_of, has_words, is_sm, tag, tag_of}
+use Rattle.nova_laws.specs.Tables.{HasTables, IsContext, IsOf, Refers, Suits, cpu_of, has_words, tag, tag_of}
 use Rattle.nova_laws.proofs.Fitting.{boot_run_fits}
 use Rattle.nova_laws.proofs.Tabling.{all_get, kinds_at, tags_at}
 

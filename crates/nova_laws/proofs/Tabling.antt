@@ -9,22 +9,26 @@ use Rattle.nova_objects.specs.declared.object.Object.{Object}
 use Rattle.nova_objects.specs.declared.object.Object.TheVariants.{Pd, Ec, Sc, Pt, Sm}
 use Rattle.nova_range.specs.declared.status.Status.TheVariants.{Success}
 use Rattle.nova_model.specs.AddressSpaces.{AddressSpace, stored_among, words_at}
-use Rattle.nova_model.specs.Capabilities.{is_ec, is_local, is_pt, is_sc}
+use Rattle.nova_model.specs.Capabilities.{is_ec, is_local, is_pt, is_sc, is_sm}
 use Rattle.nova_model.specs.Creation.{budget_of, context_of, count_of, identifier_of, idle_semaphore, object_of, transfer_of, with_object, words_of}
-use Rattle.nova_model.specs.Deeds.{address_space, answered, changed, completed, followed, messages_after, passed, recalled, replied_to, stepped, told, with_context, with_transfer}
+use Rattle.nova_model.specs.Deeds.{address_space, answered, brought, changed, completed, followed, messages_after, passed, recalled, replied_to, resumed, stepped, told, with_context, with_transfer, woken_in}
 use Rattle.nova_model.specs.Delegations.{Delegations}
 use Rattle.nova_model.specs.Memory.{Memory}
-use Rattle.nova_model.specs.State.{Contexts, KernelState, context, context_at, context_in, ec_in, entry, with_ec, with_message}
+use Rattle.nova_model.specs.Semaphores as semaphores
+use Rattle.nova_model.specs.Semaphores.{Semaphores, changed_by, downed, lowered, raised, semaphore_at, upped}
+use Rattle.nova_model.specs.State.{Contexts, KernelState, Semaphore, context, context_at, context_in, ec_in, entry, message, with_ec, with_message}
 use Rattle.nova_model.specs.declared.context.EcState.{EcState}
+use Rattle.nova_model.specs.declared.context.Mark.{Mark}
+use Rattle.nova_model.specs.declared.context.Mark.TheVariants as mark
 use Rattle.nova_model.specs.declared.deed.Deed.{Deed}
-use Rattle.nova_model.specs.declared.deed.Deed.TheVariants.{Rests, Steps, Raises, Dies, Refuses, Makes, Recalls, Tells, Names, Opens, Gives, Skips, Finishes, Calls, Helps, Replies, Aborts}
+use Rattle.nova_model.specs.declared.deed.Deed.TheVariants.{Rests, Steps, Raises, Dies, Waits, Sends, Refuses, Makes, Recalls, Tells, Names, Opens, Gives, Skips, Finishes, Calls, Helps, Replies, Aborts, Ups, Downs, Blocks}
 use Rattle.nova_model.specs.declared.new_object.NewObject.{NewObject}
 use Rattle.nova_model.specs.declared.new_object.NewObject.TheVariants as new
 use Rattle.nova_model.specs.declared.transfer.ItemWords.{ItemWords}
 use Rattle.nova_model.specs.declared.transfer.Sequel.{Sequel}
 use Rattle.nova_model.specs.declared.transfer.Sequel.TheVariants as sequel
 use Rattle.nova_model.specs.declared.transfer.Transfer.{Transfer}
-use Rattle.nova_laws.specs.Tables.{HasTables, IsOf, Refers, cpu_of, has_words, is_sm, tag, tag_of, tags_from}
+use Rattle.nova_laws.specs.Tables.{HasTables, IsOf, Refers, cpu_of, has_words, tag, tag_of, tags_from}
 use Rattle.nova_laws.proofs.Setting.{get_kept}
 use Rattle.nova_laws.proofs.Tags.{get_map, get_tags, map_more, map_set, tags_length, tags_more}
 
@@ -52,6 +56,8 @@ changed_tag Rests x = refl
 changed_tag Steps x = refl
 changed_tag (Raises reason q0 q1) x = refl
 changed_tag (Dies reason q0) x = refl
+changed_tag (Waits handler reason q0 q1) x = refl
+changed_tag (Sends handler ip identifier mtd reason q0 q1) x = refl
 changed_tag (Refuses call status) x = refl
 changed_tag (Makes call target made) x = refl
 changed_tag (Recalls ec) x = refl
@@ -63,12 +69,16 @@ changed_tag (Skips reason place cursor) x = refl
 changed_tag (Finishes item end words sequel.Item) x = refl
 changed_tag (Finishes item end words sequel.Opened) x = refl
 changed_tag (Finishes item end words sequel.Taken) x = refl
-changed_tag (Finishes item end words (sequel.Replied caller)) x = refl
+changed_tag (Finishes item end words (sequel.Replied caller mark)) x = refl
 changed_tag (Calls handler ip identifier items) x = refl
 changed_tag (Helps handler) x = refl
-changed_tag (Replies caller true) x = refl
-changed_tag (Replies caller false) x = refl
-changed_tag (Aborts handler) x = refl
+changed_tag (Replies caller mark true) x = refl
+changed_tag (Replies caller mark false) x = refl
+changed_tag (Aborts handler mark.Call) x = refl
+changed_tag (Aborts handler mark.Exit) x = refl
+changed_tag (Ups sm woken) x = refl
+changed_tag (Downs sm) x = refl
+changed_tag (Blocks sm) x = refl
 
 pub with_memory : (k : KernelState) (m : Memory) → HasTables k → HasTables (record k { memory = m })
 with_memory k m h = record {
@@ -183,7 +193,7 @@ words_there k ec there h =
     ∙ thread_has_words k.objects (slice_get k.objects ec) (tagged (slice_get k.contexts ec) (slice_get k.objects ec) (0 + ec) (tags_at k ec h) there)
     (all_get (Refers k.objects) k.objects ec h.refer)
 
-with_message_fits : (k : KernelState) (ec : ℕ) (m : List ℕ) → is_some (context_at k ec) ≡ true → HasTables k → HasTables (with_message k ec m)
+pub with_message_fits : (k : KernelState) (ec : ℕ) (m : List ℕ) → is_some (context_at k ec) ≡ true → HasTables k → HasTables (with_message k ec m)
 with_message_fits k ec m there h = record {
   contexts = h.contexts;
   messages = map_set is_some k.messages ec (Some m) (there_by (slice_get k.messages ec) m (words_there k ec there h)) ∙ h.messages;
@@ -221,12 +231,26 @@ set_there (c ∷ cs) (suc e) y (suc n) there = set_there cs e y n there
 pub passed_fits : (k : KernelState) (from to : ℕ) → is_some (context_at k to) ≡ true → HasTables k → HasTables (passed k from to)
 passed_fits k from to there h = with_message_fits k to _ there h
 
-pub completed_fits : (k : KernelState) (caller : ℕ) → is_some (context_at k caller) ≡ true → HasTables k → HasTables (completed k caller)
-completed_fits k caller there h = edited k caller (λ x. answered x Success None) (λ x. refl) there h
+resumed_tag : (mark : Mark) (m : List ℕ) (x : EcState) → tag (Some (resumed x mark m)) ≡ tag (Some x)
+resumed_tag mark.Call m x = refl
+resumed_tag mark.Exit m x = refl
 
-pub replied_fits : (k : KernelState) (ec caller : ℕ) (items : Bool) → is_some (context_at k caller) ≡ true → HasTables k → HasTables (replied_to k ec caller items)
-replied_fits k ec caller true there h = passed_fits k ec caller there h
-replied_fits k ec caller false there h = completed_fits (passed k ec caller) caller there (passed_fits k ec caller there h)
+pub completed_fits : (k : KernelState) (ec caller : ℕ) (mark : Mark) → is_some (context_at k caller) ≡ true → HasTables k → HasTables (completed k ec caller mark)
+completed_fits k ec caller mark there h = edited k caller (λ x. resumed x mark (message k ec)) (resumed_tag mark (message k ec)) there h
+
+brought_fits : (k : KernelState) (ec caller : ℕ) (mark : Mark) → is_some (context_at k caller) ≡ true → HasTables k → HasTables (brought k ec caller mark)
+brought_fits k ec caller mark.Call there h = passed_fits k ec caller there h
+brought_fits k ec caller mark.Exit there h = h
+
+pub brought_contexts : (k : KernelState) (ec caller : ℕ) (mark : Mark) → (brought k ec caller mark).contexts ≡ k.contexts
+brought_contexts k ec caller mark.Call = refl
+brought_contexts k ec caller mark.Exit = refl
+
+pub replied_fits : (k : KernelState) (ec caller : ℕ) (mark : Mark) (items : Bool) → is_some (context_at k caller) ≡ true → HasTables k →
+    HasTables (replied_to k ec caller mark items)
+replied_fits k ec caller mark true there h = brought_fits k ec caller mark there h
+replied_fits k ec caller mark false there h =
+    completed_fits (brought k ec caller mark) ec caller mark (rw (brought_contexts k ec caller mark) there) (brought_fits k ec caller mark there h)
 
 pub told_fits : (k : KernelState) (item : ℕ) (words : Option ItemWords) → IfSome words (λ w. is_some (context_at k w.ec) ≡ true) → HasTables k → HasTables (told k item words)
 told_fits k item None there h = h
@@ -236,12 +260,45 @@ pub told_contexts : (k : KernelState) (item : ℕ) (words : Option ItemWords) �
 told_contexts k item None = refl
 told_contexts k item (Some w) = refl
 
-pub followed_fits : (k : KernelState) (after : Sequel) → ((caller : ℕ) → after ≡ sequel.Replied caller → is_some (context_at k caller) ≡ true) → HasTables k →
-    HasTables (followed k after)
-followed_fits k sequel.Item there h = h
-followed_fits k sequel.Opened there h = h
-followed_fits k sequel.Taken there h = h
-followed_fits k (sequel.Replied caller) there h = completed_fits k caller (there caller refl) h
+pub followed_fits : (k : KernelState) (ec : ℕ) (after : Sequel) → ((caller : ℕ) (mark : Mark) → after ≡ sequel.Replied caller mark → is_some (context_at k caller) ≡ true) →
+    HasTables k → HasTables (followed k ec after)
+followed_fits k ec sequel.Item there h = h
+followed_fits k ec sequel.Opened there h = h
+followed_fits k ec sequel.Taken there h = h
+followed_fits k ec (sequel.Replied caller mark) there h = completed_fits k ec caller mark (there caller mark refl) h
+
+-- semaphores rise and are lowered, and who is woken goes on
+entry_semaphore : (o : Option (Option Semaphore)) (s new : Semaphore) → entry o ≡ Some s → IfSome o (λ e. is_some (Some new) ≡ is_some e)
+entry_semaphore None s new h = tt
+entry_semaphore (Some e) s new h = sym (ap is_some h)
+
+same_semaphores : (change : Semaphore → Semaphore) (all : Semaphores) (sm : ℕ) → map is_some (semaphores.changed change all sm) ≡ map is_some all
+same_semaphores change all sm = by_entry (semaphore_at all sm) refl
+  where
+    by_entry : (o : Option Semaphore) → semaphore_at all sm ≡ o → map is_some (changed_by change all sm o) ≡ map is_some all
+    by_entry None is = refl
+    by_entry (Some s) is = map_set is_some all sm (Some (change s)) (entry_semaphore (slice_get all sm) s (change s) is)
+
+semaphores_fit : (k : KernelState) (change : Semaphore → Semaphore) (sm : ℕ) → HasTables k → HasTables (record k { semaphores = semaphores.changed change k.semaphores sm })
+semaphores_fit k change sm h = record {
+  contexts = h.contexts;
+  messages = h.messages;
+  transfers = h.transfers;
+  budgets = h.budgets;
+  identifiers = h.identifiers;
+  semaphores = same_semaphores change k.semaphores sm ∙ h.semaphores;
+  refer = h.refer;
+}
+
+pub upped_fits : (k : KernelState) (sm : ℕ) → HasTables k → HasTables (record k { semaphores = upped k.semaphores sm })
+upped_fits k sm h = semaphores_fit k raised sm h
+
+pub downed_fits : (k : KernelState) (sm ec : ℕ) → HasTables k → HasTables (record k { semaphores = downed k.semaphores sm ec })
+downed_fits k sm ec h = semaphores_fit k (lowered ec) sm h
+
+pub woken_fits : (k : KernelState) (whom : Option ℕ) → IfSome whom (λ w. is_some (context_at k w) ≡ true) → HasTables k → HasTables (woken_in k whom)
+woken_fits k None there h = h
+woken_fits k (Some w) there h = edited k w (λ x. answered x Success None) (λ x. refl) there h
 
 -- ONE OBJECT MORE
 

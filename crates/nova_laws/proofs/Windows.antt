@@ -5,12 +5,13 @@ use Rattle.std.specs.Prelude.{◌≢◌, ◌<◌, ◌≤◌, ◌+◌, ◌%◌, �
 use Rattle.nova_utcb.specs.Messages.{has_counts, items}
 use Rattle.nova_range.specs.RangeWords.{word_of}
 use Rattle.nova_model.specs.Deeds.{deed, deed_in}
-use Rattle.nova_model.specs.Deliveries.{answered_by, delegated, delivered, delivers, delivery, delivery_between, finished, first_delivery, flag, given_to, is_busy, part_deed, parted, range_given, sequel_of, taken_from, words_for}
+use Rattle.nova_model.specs.Deliveries.{answered_by, delegated, delivered, delivers, delivery, delivery_between, finished, first_delivery, flag, given_to, is_busy, part_deed, parted, range_given, sequel_of, taken_from, told_by, words_for}
 use Rattle.nova_model.specs.Hypercalls.{row}
 use Rattle.nova_model.specs.State.{KernelState, context, message, pd_of, transfer}
 use Rattle.nova_model.specs.Transfers.{Part, dest_of, job_of, next_part}
 use Rattle.nova_model.specs.Translations.{translated}
 use Rattle.nova_model.specs.declared.context.Mark.{Mark}
+use Rattle.nova_model.specs.declared.context.Mark.TheVariants.{Call, Exit}
 use Rattle.nova_model.specs.declared.context.State.{State}
 use Rattle.nova_model.specs.declared.context.State.TheVariants.{Granting, Replying}
 use Rattle.nova_model.specs.declared.deed.Deed.{Deed}
@@ -37,9 +38,9 @@ some_are_counted true n some = refl
 some_are_counted false n some = absurd (omega arith)
 
 pub items_taken : (k : KernelState) (ec caller : ℕ) (mark : Mark) → (context k ec).state ≡ Granting None → (context k ec).caller ≡ Some (caller, mark) →
-    GoesBetween k ec caller ec Taken
+    GoesBetween k ec caller ec (Some ec) Taken
 items_taken k ec caller mark is keeps = record {
-  item = delivery_between k caller ec (transfer k ec).item Taken;
+  item = delivery_between k caller ec (transfer k ec).item (Some ec) Taken;
   present = ap (delivery k ec) is ∙ ap (taken_from k ec (transfer k ec).item) keeps;
   range = refl;
   second = refl;
@@ -52,10 +53,10 @@ items_taken k ec caller mark is keeps = record {
   follows = refl;
 }
 
-pub items_replied : (k : KernelState) (ec caller : ℕ) (mark : Mark) → (context k ec).state ≡ Replying → (context k ec).caller ≡ Some (caller, mark) →
-    GoesBetween k ec ec caller (Replied caller)
-items_replied k ec caller mark is keeps = record {
-  item = delivery_between k ec caller (transfer k ec).item (Replied caller);
+replied_by : (k : KernelState) (ec caller : ℕ) (mark : Mark) → (context k ec).state ≡ Replying → (context k ec).caller ≡ Some (caller, mark) →
+    GoesBetween k ec ec caller (told_by caller mark) (Replied caller mark)
+replied_by k ec caller mark is keeps = record {
+  item = delivery_between k ec caller (transfer k ec).item (told_by caller mark) (Replied caller mark);
   present = ap (delivery k ec) is ∙ ap (given_to k ec (transfer k ec).item) keeps;
   range = refl;
   second = refl;
@@ -67,6 +68,14 @@ items_replied k ec caller mark is keeps = record {
   told = refl;
   follows = refl;
 }
+
+pub items_replied : (k : KernelState) (ec caller : ℕ) → (context k ec).state ≡ Replying → (context k ec).caller ≡ Some (caller, Call) →
+    GoesBetween k ec ec caller (Some caller) (Replied caller Call)
+items_replied k ec caller is keeps = replied_by k ec caller Call is keeps
+
+pub items_resumed : (k : KernelState) (ec caller : ℕ) → (context k ec).state ≡ Replying → (context k ec).caller ≡ Some (caller, Exit) →
+    GoesBetween k ec ec caller None (Replied caller Exit)
+items_resumed k ec caller is keeps = replied_by k ec caller Exit is keeps
 
 pub range_created : (k : KernelState) (ec domain : ℕ) → (context k ec).state ≡ Granting (Some domain) → GoesToItself k ec domain
 range_created k ec domain is = record {
@@ -185,6 +194,8 @@ own_tells k ec rests = walk.own_holds (EndTells k ec) k ec rests tt (record {
   raises = λ reason q0 q1. tt;
   dies = λ reason q0. tt;
   refuses = λ number status. tt;
+  waits = λ pt reason q0 q1 is. tt;
+  sends = λ pt reason q0 q1 is. tt;
   aborts = λ handler is. tt;
   rows = λ asks c read. done_weaker IsWhole (EndTells k ec) (row k ec (pd_of k ec) c) (whole_tells k ec) (row_whole k ec (pd_of k ec) c);
 })

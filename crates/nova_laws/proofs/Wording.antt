@@ -1,25 +1,29 @@
 -- Whose message words a turn writes, and how: one row a deed, the charge, and the fold over turns.
-use Rattle.std.proofs.Common.{◌≡◌, ℕ, List, [], ◌∷◌, ◌++◌, length, inl, inr, refl, ap, ◌∙◌, sym, subst, arith}
+use Rattle.std.proofs.Common.{◌≡◌, ℕ, List, [], ◌∷◌, ◌++◌, length, inl, inr, refl, ap, ap₂, ◌∙◌, sym, subst, arith}
 use Rattle.std.proofs.lemmas.Bool.Decides.{nat_tests}
 use Rattle.std.specs.Prelude.{◌<◌, ◌≢◌, ◌⊎◌, ◌%◌, ◌/◌, ◌==◌, ◌&&◌, nat_lt, if◌then◌else◌, Bool, true, false, slice_get, slice_set, Option, Some, None, IfSome}
 use Rattle.rv_model.specs.Registers.{Registers}
 use Rattle.rv_model.specs.Step.{Once, Raised, Went, Store}
+use Rattle.nova_range.specs.declared.mtd.Mtd.{Mtd}
 use Rattle.nova_objects.specs.declared.object.EcKind.TheVariants.{Local, Global, Vcpu}
 use Rattle.nova_objects.specs.declared.object.Object.{Object}
 use Rattle.nova_objects.specs.declared.object.Object.TheVariants.{Pd, Ec, Sc, Pt, Sm}
-use Rattle.nova_utcb.specs.Messages.{copied, is_given, range_place, second_place, stored, with_item, word}
+use Rattle.nova_utcb.specs.Messages.{copied, exit_word, exited, is_given, range_place, second_place, stored, with_item, word}
 use Rattle.nova_utcb.proofs.Ruled.{length_ruled}
 use Rattle.nova_model.specs.AddressSpaces.{AddressSpace, message_size, own_page, stored_among}
 use Rattle.nova_model.specs.Boot.{Image, Scenario, bare, boot, with_image, with_images}
 use Rattle.nova_model.specs.Choice.{Candidate, choice}
 use Rattle.nova_model.specs.Creation.{object_of, words_of}
-use Rattle.nova_model.specs.Deeds.{address_space, after_item, deed, done, followed, instruction, messages_after, recalled, stepped, told, with_context}
+use Rattle.nova_model.specs.Deeds.{address_space, after_item, deed, done, followed, instruction, messages_after, recalled, stepped, told, with_context, woken_in}
 use Rattle.nova_model.specs.Runs.{after, run}
-use Rattle.nova_model.specs.State.{KernelState, context, entry, is_thread, message, message_in, no_words, own_words}
+use Rattle.nova_model.specs.State.{KernelState, context, context_in, entry, is_thread, message, message_in, no_words, own_words}
 use Rattle.nova_model.specs.Turn.{answer_of, event_of, state_after, turn, turn_by}
 use Rattle.nova_model.specs.declared.context.EcState.{EcState}
+use Rattle.nova_model.specs.declared.context.Mark.TheVariants as mark
+use Rattle.nova_model.specs.declared.context.State.{State}
+use Rattle.nova_model.specs.declared.context.State.TheVariants.{Calling}
 use Rattle.nova_model.specs.declared.deed.Deed.{Deed}
-use Rattle.nova_model.specs.declared.deed.Deed.TheVariants.{Rests, Steps, Makes, Recalls, Opens, Finishes, Calls, Replies}
+use Rattle.nova_model.specs.declared.deed.Deed.TheVariants.{Rests, Steps, Sends, Makes, Recalls, Opens, Finishes, Calls, Replies, Ups}
 use Rattle.nova_model.specs.declared.event.Event.{Event}
 use Rattle.nova_model.specs.declared.event.Turn.TheVariants.{Stepped}
 use Rattle.nova_model.specs.declared.transfer.ItemEnd.{ItemEnd}
@@ -28,6 +32,7 @@ use Rattle.nova_model.specs.declared.transfer.Sequel.{Sequel}
 use Rattle.nova_model.specs.declared.transfer.Sequel.TheVariants as sequel
 use Rattle.nova_laws.specs.Words.{HasWritten, IsAmongWords, IsStepped, Stores, Stays, words_at, written_by}
 use Rattle.nova_laws.proofs.Charges.{charge_leaves}
+use Rattle.nova_laws.proofs.Giving.{set_at}
 use Rattle.nova_laws.proofs.Referring.{Asks, IsCallerOf, deed_asks}
 use Rattle.nova_laws.proofs.Refused.{turn_chosen}
 use Rattle.nova_laws.proofs.Setting.{entry_itself, entry_joined, entry_kept, entry_other, entry_set, set_length}
@@ -36,15 +41,19 @@ abbrev Messages : Type 0
 Messages = List (Option (List ℕ))
 
 -- what follows the end of an item leaves message words
-followed_words : (k : KernelState) (follows : Sequel) → (followed k follows).messages ≡ k.messages
-followed_words k sequel.Item = refl
-followed_words k sequel.Opened = refl
-followed_words k sequel.Taken = refl
-followed_words k (sequel.Replied caller) = refl
+followed_words : (k : KernelState) (ec : ℕ) (follows : Sequel) → (followed k ec follows).messages ≡ k.messages
+followed_words k ec sequel.Item = refl
+followed_words k ec sequel.Opened = refl
+followed_words k ec sequel.Taken = refl
+followed_words k ec (sequel.Replied caller mark) = refl
 
 recalled_words : (k : KernelState) (other : ℕ) (o : Option EcState) → (recalled k other o).messages ≡ k.messages
 recalled_words k other None = refl
 recalled_words k other (Some x) = refl
+
+woken_words : (k : KernelState) (whom : Option ℕ) → (woken_in k whom).messages ≡ k.messages
+woken_words k None = refl
+woken_words k (Some w) = refl
 
 -- THE WORDS OF OTHERS
 
@@ -71,13 +80,17 @@ done_words k ec n (Makes call target made) words differs is = entry_kept k.messa
 done_words k ec n (Recalls other) words differs is = ap (λ (ms : Messages). entry (slice_get ms n)) (recalled_words (with_context k ec _) other _) ∙ is
 done_words k ec n (Opens target domain) words differs is = entry_kept k.messages None n words is
 done_words k ec n (Finishes item end None follows) words differs is =
-    ap (λ (ms : Messages). entry (slice_get ms n)) (followed_words (with_context k ec (after_item (context k ec) follows)) follows) ∙ is
+    ap (λ (ms : Messages). entry (slice_get ms n)) (followed_words (with_context k ec (after_item (context k ec) follows)) ec follows) ∙ is
 done_words k ec n (Finishes item end (Some w) follows) words differs is =
-    ap (λ (ms : Messages). entry (slice_get ms n)) (followed_words (told (with_context k ec (after_item (context k ec) follows)) item (Some w)) follows)
+    ap (λ (ms : Messages). entry (slice_get ms n)) (followed_words (told (with_context k ec (after_item (context k ec) follows)) item (Some w)) ec follows)
     ∙ set_words k.messages w.ec n _ words differs is
 done_words k ec n (Calls handler ip identifier items) words differs is = set_words k.messages handler n _ words differs is
-done_words k ec n (Replies caller true) words differs is = set_words k.messages caller n _ words differs is
-done_words k ec n (Replies caller false) words differs is = set_words k.messages caller n _ words differs is
+done_words k ec n (Sends handler ip identifier mtd reason q0 q1) words differs is = set_words k.messages handler n _ words differs is
+done_words k ec n (Replies caller mark.Call true) words differs is = set_words k.messages caller n _ words differs is
+done_words k ec n (Replies caller mark.Call false) words differs is = set_words k.messages caller n _ words differs is
+done_words k ec n (Replies caller mark.Exit true) words differs is = is
+done_words k ec n (Replies caller mark.Exit false) words differs is = is
+done_words k ec n (Ups sm whom) words differs is = ap (λ (ms : Messages). entry (slice_get ms n)) (woken_words _ whom) ∙ is
 done_words k ec n other words differs is = is
 
 -- THE WORDS THAT ARE WRITTEN
@@ -132,6 +145,10 @@ steps_words k ec (Went regs None) words came is =
 steps_words k ec (Went regs (Some s)) words came is =
     let h = stores_words k ec regs s words came is in record { now = h.0; there = h.1; written = h.2 }
 
+-- an exit leaves the registers of who raised it
+regs_stay : (k : KernelState) (ec : ℕ) (s : State) → (context (with_context k ec (record (context k ec) { state = s })) ec).regs ≡ (context k ec).regs
+regs_stay k ec s = set_at (λ (o : Option EcState). (context_in o).regs ≡ (context k ec).regs) k.contexts ec ec (record (context k ec) { state = s }) refl (λ same. refl)
+
 done_writes : (k : KernelState) (ec n : ℕ) (d : Deed) (words : List ℕ) → written_by ec d ≡ Some n → words_at k n ≡ Some words → HasWritten k (done k ec d) ec n d words
 done_writes k ec n Steps words writes is =
     let same : ec ≡ n = number_same ec n writes in
@@ -144,18 +161,25 @@ done_writes k ec n (Calls handler ip identifier items) words writes is =
       there = ap (λ (m : ℕ). words_at (done k ec (Calls handler ip identifier items)) m) (sym same) ∙ put_words k.messages handler _ words here;
       written = ap (copied (message k ec)) (message_is k handler words here);
     }
-done_writes k ec n (Replies caller true) words writes is =
+done_writes k ec n (Sends handler ip identifier mtd reason q0 q1) words writes is =
+    let same : handler ≡ n = number_same handler n writes in
+    let here : words_at k handler ≡ Some words = ap (words_at k) same ∙ is in record {
+      now = exited mtd q0 q1 (context (with_context k ec (record (context k ec) { state = Calling handler })) ec).regs (message k handler);
+      there = ap (λ (m : ℕ). words_at (done k ec (Sends handler ip identifier mtd reason q0 q1)) m) (sym same) ∙ put_words k.messages handler _ words here;
+      written = ap₂ (exited mtd q0 q1) (regs_stay k ec (Calling handler)) (message_is k handler words here);
+    }
+done_writes k ec n (Replies caller mark.Call true) words writes is =
     let same : caller ≡ n = number_same caller n writes in
     let here : words_at k caller ≡ Some words = ap (words_at k) same ∙ is in record {
       now = copied (message k ec) (message k caller);
-      there = ap (λ (m : ℕ). words_at (done k ec (Replies caller true)) m) (sym same) ∙ put_words k.messages caller _ words here;
+      there = ap (λ (m : ℕ). words_at (done k ec (Replies caller mark.Call true)) m) (sym same) ∙ put_words k.messages caller _ words here;
       written = ap (copied (message k ec)) (message_is k caller words here);
     }
-done_writes k ec n (Replies caller false) words writes is =
+done_writes k ec n (Replies caller mark.Call false) words writes is =
     let same : caller ≡ n = number_same caller n writes in
     let here : words_at k caller ≡ Some words = ap (words_at k) same ∙ is in record {
       now = copied (message k ec) (message k caller);
-      there = ap (λ (m : ℕ). words_at (done k ec (Replies caller false)) m) (sym same) ∙ put_words k.messages caller _ words here;
+      there = ap (λ (m : ℕ). words_at (done k ec (Replies caller mark.Call false)) m) (sym same) ∙ put_words k.messages caller _ words here;
       written = ap (copied (message k ec)) (message_is k caller words here);
     }
 done_writes k ec n (Finishes item end (Some w) follows) words writes is =
@@ -164,11 +188,12 @@ done_writes k ec n (Finishes item end (Some w) follows) words writes is =
     let one = with_context k ec (after_item (context k ec) follows) in record {
       now = with_item (message k w.ec) item w.first w.second;
       there =
-          ap (λ (ms : Messages). entry (slice_get ms n)) (followed_words (told one item (Some w)) follows)
+          ap (λ (ms : Messages). entry (slice_get ms n)) (followed_words (told one item (Some w)) ec follows)
           ∙ ap (λ (m : ℕ). words_at (told one item (Some w)) m) (sym same)
           ∙ put_words k.messages w.ec _ words here;
       written = ap (λ (m : List ℕ). with_item m item w.first w.second) (message_is k w.ec words here);
     }
+done_writes k ec n (Replies caller mark.Exit items) words writes is = absurd (cc)
 done_writes k ec n other words writes is = absurd (cc)
 
 -- LENGTHS
@@ -179,6 +204,10 @@ AreSized ms = (n : ℕ) (m : List ℕ) → entry (slice_get ms n) ≡ Some m →
 copied_length : (from to : List ℕ) → length (copied from to) ≡ length to
 unfolding copied
 copied_length from to = length_ruled (λ i stays. if is_given from i then word from i else stays) to
+
+exited_length : (mtd : Mtd) (q0 q1 : ℕ) (r : Registers) (m : List ℕ) → length (exited mtd q0 q1 r m) ≡ length m
+unfolding exited
+exited_length mtd q0 q1 r m = length_ruled (exit_word mtd q0 q1 r) m
 
 set_sized : (ms : Messages) (e : ℕ) (m : List ℕ) → length m ≡ 128 → AreSized ms → AreSized (slice_set ms e (Some m))
 set_sized ms e m size sized n words is = elim (entry_set ms e n m words is) [
@@ -248,11 +277,17 @@ done_sized k ec (Makes call target made) sized = joined_sized k.messages (words_
 done_sized k ec (Recalls other) sized = subst AreSized (sym (recalled_words (with_context k ec _) other _)) sized
 done_sized k ec (Opens target domain) sized = joined_sized k.messages None sized tt
 done_sized k ec (Finishes item end words follows) sized =
-    subst AreSized (sym (followed_words (told (with_context k ec (after_item (context k ec) follows)) item words) follows))
+    subst AreSized (sym (followed_words (told (with_context k ec (after_item (context k ec) follows)) item words) ec follows))
     (told_sized (with_context k ec (after_item (context k ec) follows)) item words sized)
 done_sized k ec (Calls handler ip identifier items) sized = passed_sized k ec handler sized
-done_sized k ec (Replies caller true) sized = passed_sized k ec caller sized
-done_sized k ec (Replies caller false) sized = passed_sized k ec caller sized
+done_sized k ec (Sends handler ip identifier mtd reason q0 q1) sized =
+    let r = (context (with_context k ec (record (context k ec) { state = Calling handler })) ec).regs in
+    set_sized k.messages handler (exited mtd q0 q1 r (message k handler)) (exited_length mtd q0 q1 r (message k handler) ∙ message_sized k handler sized) sized
+done_sized k ec (Replies caller mark.Call true) sized = passed_sized k ec caller sized
+done_sized k ec (Replies caller mark.Call false) sized = passed_sized k ec caller sized
+done_sized k ec (Replies caller mark.Exit true) sized = sized
+done_sized k ec (Replies caller mark.Exit false) sized = sized
+done_sized k ec (Ups sm whom) sized = subst AreSized (sym (woken_words _ whom)) sized
 done_sized k ec other sized = sized
 
 -- TURNS
@@ -323,7 +358,7 @@ one_writes k cpu e n words steps writes is = by_choice (choice k cpu) refl steps
         subst (λ (m : ℕ). HasWritten k (after k cpu) m n (deed k m) words) who (charged_writes k (done k c.actor (deed k c.actor)) (after k cpu) c.actor n (deed k c.actor) words (turn_messages k cpu c chosen) own)
 
 pub told_own : (k : KernelState) (ec item : ℕ) (end : ItemEnd) (words : ItemWords) (follows : Sequel) → deed k ec ≡ Finishes item end (Some words) follows →
-    (words.ec ≡ ec) ⊎ IsCallerOf k ec words.ec
+    (words.ec ≡ ec) ⊎ IsCallerOf k ec words.ec mark.Call
 told_own k ec item end words follows is = (subst (Asks k ec) is (deed_asks k ec)).0
 
 pub sized : (s : Scenario) (turns : List ℕ) (n : ℕ) → IfSome (words_at (run (boot s) turns) n) (λ m. length m ≡ 128)

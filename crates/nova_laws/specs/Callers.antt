@@ -2,13 +2,14 @@
 use Rattle.std.specs.Prelude.{ℕ, ◌≡◌, ◌≢◌, Some, None}
 use Rattle.nova_model.specs.Edges.{caller_in, cpu_in, state_in}
 use Rattle.nova_model.specs.State.{Contexts}
-use Rattle.nova_model.specs.declared.context.Mark.TheVariants.{Call}
+use Rattle.nova_model.specs.declared.context.Mark.{Mark}
 use Rattle.nova_model.specs.declared.context.State.TheVariants.{Calling}
 
--- a handler keeps one caller, which called it and is there on its processor; that one waits for its reply, and no other does
+-- a handler keeps one caller, which came by a call or by an exit and is there on its processor; that one waits for its reply, and no other does
 pub record HasOneCaller (cs : Contexts) (h : ℕ) : Type 0 where
   pub caller : ℕ
-  pub keeps : caller_in cs h ≡ Some (caller, Call)
+  pub mark : Mark
+  pub keeps : caller_in cs h ≡ Some (caller, mark)
   pub processor : cpu_in cs caller ≡ cpu_in cs h
   pub waits : state_in cs caller ≡ Some (Calling h)
   pub only : (other : ℕ) → state_in cs other ≡ Some (Calling h) → other ≡ caller

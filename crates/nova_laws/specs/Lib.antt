@@ -11,4 +11,5 @@ pub mod Asked
 pub mod Words
 pub mod Links
 pub mod Keeping
+pub mod Waiting
 pub mod Windows

@@ -7,7 +7,7 @@ use Rattle.nova_model.specs.declared.context.EcState.{EcState}
 use Rattle.nova_model.specs.declared.context.Mark.{Mark}
 use Rattle.nova_model.specs.declared.context.Mark.TheVariants.{Call}
 use Rattle.nova_model.specs.declared.context.State.{State}
-use Rattle.nova_model.specs.declared.context.State.TheVariants.{Calling, Granting, Replying, Sending}
+use Rattle.nova_model.specs.declared.context.State.TheVariants.{Calling, Granting, Replying}
 
 -- of an entry: what the execution context is about to do, its caller, and its processor
 abbrev pub state_at : Option EcState → Option State
@@ -25,25 +25,21 @@ is_giving (Some (Granting None)) = true
 is_giving (Some Replying) = true
 is_giving other = false
 
--- one whose exit waits for a handler
-abbrev pub is_sending : Option State → Bool
-is_sending (Some (Sending reason q0 q1 h)) = true
-is_sending other = false
-
--- one and another: who calls the other is kept as its caller, whom a handler keeps waits for it while it lives, and both are on one processor
+-- one and another: who waits for a reply of the other is kept as its caller, whom a handler keeps waits for it while it lives, and both are on one
+-- processor
 pub record IsLinked (c : ℕ) (x : Option EcState) (h : ℕ) (y : Option EcState) : Type 0 where
-  pub known : state_at x ≡ Some (Calling h) → caller_at y ≡ Some (c, Call)
+  pub known : state_at x ≡ Some (Calling h) → (mark : Mark) × (caller_at y ≡ Some (c, mark))
   pub waits : (mark : Mark) → caller_at y ≡ Some (c, mark) → is_dead (state_at y) ≡ false → state_at x ≡ Some (Calling h)
   pub cpu : (mark : Mark) → caller_at y ≡ Some (c, mark) → cpu_at x ≡ cpu_at y
 
 -- of each by itself: only a local thread is parked, and then without a caller; a local thread that is at work has one; a caller is kept by a local
--- thread alone, and called; one that takes or gives items has a caller; and no exit is sent
+-- thread alone; one that takes or gives items has a caller, and one that takes them was called
 pub record IsWell (is_local : Bool) (y : Option EcState) : Type 0 where
   pub parked : is_parked (state_at y) ≡ true → (caller_at y ≡ None) × (is_local ≡ true)
   pub serving : is_local ≡ true → IsSome y → is_free (state_at y) ≡ false → IsSome (caller_at y)
-  pub kept : (c : ℕ) (mark : Mark) → caller_at y ≡ Some (c, mark) → (mark ≡ Call) × (is_local ≡ true)
+  pub kept : (c : ℕ) (mark : Mark) → caller_at y ≡ Some (c, mark) → is_local ≡ true
   pub giving : is_giving (state_at y) ≡ true → IsSome (caller_at y)
-  pub sends : is_sending (state_at y) ≡ false
+  pub taking : (c : ℕ) (mark : Mark) → caller_at y ≡ Some (c, mark) → state_at y ≡ Some (Granting None) → mark ≡ Call
 
 -- so each with each, where these numbers are of local threads
 pub record AreServed (is_local : ℕ → Bool) (cs : Contexts) : Type 0 where

@@ -3,14 +3,10 @@ use Rattle.std.specs.Prelude.{◌≡◌, ℕ, ◌+◌, Bool, true, false, List, 
 use Rattle.std.specs.List.{AllByRecursion}
 use Rattle.nova_objects.specs.declared.object.Object.{Object}
 use Rattle.nova_objects.specs.declared.object.Object.TheVariants.{Pd, Ec, Sc, Pt, Sm}
-use Rattle.nova_model.specs.Capabilities.{is_ec, is_local, is_pt, is_sc}
+use Rattle.nova_model.specs.Capabilities.{is_ec, is_local, is_pt, is_sc, is_sm}
 use Rattle.nova_model.specs.Edges.{cpu_in}
 use Rattle.nova_model.specs.State.{KernelState, budget_at, context_at, entry, is_thread_kind}
 use Rattle.nova_model.specs.declared.context.EcState.{EcState}
-
-abbrev pub is_sm : Object → Bool
-is_sm Sm = true
-is_sm _ = false
 
 -- a thread, which has message words
 abbrev pub has_words : Object → Bool

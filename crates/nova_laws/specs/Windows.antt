@@ -14,9 +14,9 @@ use Rattle.nova_model.specs.declared.transfer.Job.{Job}
 use Rattle.nova_model.specs.declared.transfer.Sequel.{Sequel}
 use Rattle.nova_model.specs.declared.transfer.Sequel.TheVariants.{Item, Opened}
 
--- the present item of `ec` is one of the message of a sender; it goes to the windows in the message of a receiver, who is told what came of it,
--- and after the last one this follows
-pub record GoesBetween (k : KernelState) (ec sender receiver : ℕ) (last : Sequel) : Type 0 where
+-- the present item of `ec` is one of the message of a sender; it goes to the windows in the message of a receiver; this one is told what came of it, or
+-- nobody, and after the last one this follows
+pub record GoesBetween (k : KernelState) (ec sender receiver : ℕ) (whom : Option ℕ) (last : Sequel) : Type 0 where
   pub item : Delivery
   pub present : delivery k ec (context k ec).state ≡ Some item
   pub range : item.range_word ≡ slice_index (message k sender) (126 - 2 * (transfer k ec).item)
@@ -26,7 +26,7 @@ pub record GoesBetween (k : KernelState) (ec sender receiver : ℕ) (last : Sequ
   pub delegations : item.delegations ≡ slice_index (message k receiver) 2
   pub giver : item.giver ≡ pd_of k sender
   pub taker : item.receiver ≡ pd_of k receiver
-  pub told : item.told ≡ Some receiver
+  pub told : item.told ≡ whom
   pub follows : item.last ≡ last
 
 -- the only item of a creator is a delegation, of the range in its x12 to that range, from its protection domain to this one; nobody is told,

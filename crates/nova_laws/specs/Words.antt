@@ -2,22 +2,24 @@
 use Rattle.std.specs.Prelude.{ℕ, ◌≡◌, ◌<◌, ◌/◌, ◌%◌, true, List, Option, Some, None, slice_get}
 use Rattle.rv_model.specs.Registers.{Registers}
 use Rattle.rv_model.specs.Step.{Store, Went}
-use Rattle.nova_utcb.specs.Messages.{copied, stored, with_item}
+use Rattle.nova_utcb.specs.Messages.{copied, exited, stored, with_item}
 use Rattle.nova_model.specs.Deeds.{instruction}
-use Rattle.nova_model.specs.State.{KernelState, entry, is_thread, message}
+use Rattle.nova_model.specs.State.{KernelState, context, entry, is_thread, message}
+use Rattle.nova_model.specs.declared.context.Mark.TheVariants as mark
 use Rattle.nova_model.specs.declared.deed.Deed.{Deed}
-use Rattle.nova_model.specs.declared.deed.Deed.TheVariants.{Steps, Finishes, Calls, Replies}
+use Rattle.nova_model.specs.declared.deed.Deed.TheVariants.{Steps, Sends, Finishes, Calls, Replies}
 
 -- the message words of a thread, where they are there
 abbrev pub words_at : KernelState → ℕ → Option (List ℕ)
 words_at k n = entry (slice_get k.messages n)
 
--- whose a deed of this execution context writes: an instruction its own, a call its handler's, a reply its caller's, and the end of an item
--- those of the one who is told
+-- whose a deed of this execution context writes: an instruction its own, a call or an exit that is sent its handler's, a reply to a call its caller's, and
+-- the end of an item those of the one who is told. A reply to an exit writes nobody's.
 abbrev pub written_by : ℕ → Deed → Option ℕ
 written_by ec Steps = Some ec
 written_by ec (Calls handler ip identifier items) = Some handler
-written_by ec (Replies caller items) = Some caller
+written_by ec (Sends handler ip identifier mtd reason q0 q1) = Some handler
+written_by ec (Replies caller mark.Call items) = Some caller
 written_by ec (Finishes item end (Some words) follows) = Some words.ec
 written_by ec other = None
 
@@ -33,11 +35,13 @@ pub data IsStepped (k : KernelState) (ec : ℕ) (old now : List ℕ) : Type 0 wh
       now ≡ stored old (s.address % 4096) s.width s.value → IsStepped k ec old now
   Stays : ((regs : Registers) (s : Store) → instruction k ec ≡ Went regs (Some s) → IsAmongWords k ec s → ⊥) → now ≡ old → IsStepped k ec old now
 
--- how: by the store of the instruction, by a copy of the counts and the counted words of its own, or by an item's two words
+-- how: by the store of the instruction, by a copy of the counts and the counted words of its own, by the exit's message of the groups that the portal's
+-- descriptor names, from its registers, or by an item's two words
 abbrev pub AreWritten : KernelState → ℕ → Deed → List ℕ → List ℕ → Type 0
 AreWritten k ec Steps old now = IsStepped k ec old now
 AreWritten k ec (Calls handler ip identifier items) old now = now ≡ copied (message k ec) old
-AreWritten k ec (Replies caller items) old now = now ≡ copied (message k ec) old
+AreWritten k ec (Sends handler ip identifier mtd reason q0 q1) old now = now ≡ exited mtd q0 q1 (context k ec).regs old
+AreWritten k ec (Replies caller mark.Call items) old now = now ≡ copied (message k ec) old
 AreWritten k ec (Finishes item end (Some words) follows) old now = now ≡ with_item old item words.first words.second
 AreWritten k ec other old now = now ≡ old
 

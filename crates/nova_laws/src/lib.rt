@@ -5,12 +5,14 @@ mod callers;
 mod choice;
 mod edges;
 mod events;
+mod keeping;
 mod making;
 mod orders;
 mod quiet;
 mod refusals;
 mod rounds;
 mod scheduling;
+mod semaphores;
 mod tables;
 mod transfers;
 mod words;
@@ -19,6 +21,7 @@ pub use callers::a_handler_at_work_has_one_caller;
 pub use choice::the_best_is_chosen;
 pub use edges::edges_form_no_circle;
 pub use events::{a_trace_has_an_event_a_turn, an_event_names_the_chosen};
+pub use keeping::turns_keep_what_they_find;
 pub use making::a_schedule_is_made_as_asked;
 pub use orders::round_robin_runs_out;
 pub use quiet::quiet_is_every_processor_idle;
@@ -28,6 +31,7 @@ pub use scheduling::{
     each_has_at_most_one_scheduling_context, stamps_are_given_once, the_chosen_pays,
     ticks_count_turns, what_is_left_is_within_its_quantum,
 };
+pub use semaphores::{the_blocked_wait_at_their_semaphores, the_first_is_woken};
 pub use tables::tables_go_with_objects;
 pub use transfers::{
     a_child_is_what_range_and_derivation_share, a_creator_gives_a_range_to_a_domain,

@@ -1,10 +1,10 @@
 // Laws of the kernel's tables.
 ghost use Rattle.std.specs.Prelude.{ℕ, List, IfSome, IsSome, slice_get};
 ghost use Rattle.nova_model.specs.Boot.{Scenario, boot};
-ghost use Rattle.nova_model.specs.Capabilities.{is_ec, is_pt, is_sc};
+ghost use Rattle.nova_model.specs.Capabilities.{is_ec, is_pt, is_sc, is_sm};
 ghost use Rattle.nova_model.specs.Runs.{run};
 ghost use Rattle.nova_model.specs.State.{budget_at, context_at, entry};
-ghost use Rattle.nova_laws.specs.Tables.{IsOf, Suits, has_words, is_sm};
+ghost use Rattle.nova_laws.specs.Tables.{IsOf, Suits, has_words};
 
 /// Whatever list of turns is taken from whatever boot state, what goes with each object is there, and
 /// entries of tables are there only where the object of their number is of that kind.

@@ -6,6 +6,7 @@ ghost use Rattle.nova_model.specs.Runs.{after, run, trace};
 ghost use Rattle.nova_model.specs.State.{KernelState, context, message, no_transfer, transfer, transfer_at};
 ghost use Rattle.nova_model.specs.Turn.{answer_of, turn};
 ghost use Rattle.nova_model.specs.declared.context.Mark.{Mark};
+ghost use Rattle.nova_model.specs.declared.context.Mark.TheVariants.{Call, Exit};
 ghost use Rattle.nova_model.specs.declared.context.State.TheVariants.{Granting, Replying};
 ghost use Rattle.nova_model.specs.declared.deed.Deed.TheVariants.{Finishes, Gives, Skips};
 ghost use Rattle.nova_model.specs.declared.delegation.Derivation.{Derivation};
@@ -97,18 +98,23 @@ pub fn items_are_given_in_order()
 /// Item i is two words of a message, words 126 - 2i and 127 - 2i. A handler that takes items takes those
 /// of its caller's message, and one that replies gives those of its own, from the sender's protection
 /// domain to the receiver's. Translations go to the window in word 1 of the receiver's message, and
-/// delegations to that in word 2; the receiver is told what came of each. After the last item the handler
+/// delegations to that in word 2; the receiver is told what came of each, where it takes the items or
+/// called. Who came by an exit is told nothing of the items of the reply. After the last item the handler
 /// goes on, or the reply completes. A creator delegates one range, that of the word in its x12, to that
 /// range itself, and nobody is told.
 pub fn items_go_to_the_windows_of_the_receiver()
     ensures taken { (k : KernelState) (ec caller : ℕ) (mark : Mark)
         → (context k ec).state ≡ Granting None
         → (context k ec).caller ≡ Some (caller, mark)
-        → GoesBetween k ec caller ec Taken }
-    ensures replied { (k : KernelState) (ec caller : ℕ) (mark : Mark)
+        → GoesBetween k ec caller ec (Some ec) Taken }
+    ensures replied { (k : KernelState) (ec caller : ℕ)
         → (context k ec).state ≡ Replying
-        → (context k ec).caller ≡ Some (caller, mark)
-        → GoesBetween k ec ec caller (Replied caller) }
+        → (context k ec).caller ≡ Some (caller, Call)
+        → GoesBetween k ec ec caller (Some caller) (Replied caller Call) }
+    ensures resumed { (k : KernelState) (ec caller : ℕ)
+        → (context k ec).state ≡ Replying
+        → (context k ec).caller ≡ Some (caller, Exit)
+        → GoesBetween k ec ec caller None (Replied caller Exit) }
     ensures created { (k : KernelState) (ec domain : ℕ) → (context k ec).state ≡ Granting (Some domain) → GoesToItself k ec domain }
 {}
 
@@ -116,7 +122,8 @@ pub fn items_go_to_the_windows_of_the_receiver()
 /// a delegation, and 0 for a translation. The first word is 0 where the item was skipped as a whole, or
 /// made no child. Where it made children it is the range word of where the item goes, with the item's
 /// rights; and where it was translated it is the answer, the word that the item's end tells. There are
-/// words exactly where somebody is told; the next item follows, or what follows the last.
+/// words exactly where somebody is told, which is nobody for a first range and for a reply to an exit
+/// (`items_go_to_the_windows_of_the_receiver`); the next item follows, or what follows the last.
 pub fn words_tell_what_came_of_an_item()
     ensures tells { (k : KernelState) (ec item : ℕ) (end : ItemEnd) (words : ItemWords) (follows : Sequel)
         → deed k ec ≡ Finishes item end (Some words) follows → TellsOfItem k ec item end words }

@@ -2,8 +2,9 @@
 use Rattle.std.specs.Prelude.{ℕ, ◌+◌, ◌==◌, ◌&&◌, Bool, true, false, not, if◌then◌else◌, List, slice_set, Option, Some, None}
 use Rattle.rv_model.specs.Registers.{Registers, with_reg}
 use Rattle.rv_model.specs.Step.{Once, Raised, Went, Store, one, next, environment_call}
-use Rattle.nova_calls.specs.declared.numbers.TheConstants.{CALL, REPLY, CREATE_PD, EC_CTRL, PT_CTRL}
-use Rattle.nova_utcb.specs.Messages.{copied, with_item}
+use Rattle.nova_calls.specs.declared.numbers.TheConstants.{CALL, REPLY, CREATE_PD, EC_CTRL, PT_CTRL, SM_CTRL}
+use Rattle.nova_utcb.specs.Messages.{copied, exited, with_item, written_back}
+use Rattle.nova_range.specs.declared.mtd.Mtd.{Mtd}
 use Rattle.nova_range.specs.Statuses.{status_code}
 use Rattle.nova_range.specs.declared.status.Status.{Status}
 use Rattle.nova_range.specs.declared.status.Status.TheVariants.{Success, Aborted}
@@ -13,13 +14,16 @@ use Rattle.nova_model.specs.Creation.{with_object}
 use Rattle.nova_model.specs.Hypercalls.{hypercall}
 use Rattle.nova_model.specs.Delegations.{added}
 use Rattle.nova_model.specs.Deliveries.{delivery, delivers}
+use Rattle.nova_model.specs.Exits.{exits}
+use Rattle.nova_model.specs.Semaphores.{upped, downed}
 use Rattle.nova_model.specs.State.{KernelState, with_ec, context_at, context, message, with_message, own_words, pd_of, is_thread, no_transfer, transfer}
 use Rattle.nova_model.specs.declared.context.EcState.{EcState}
-use Rattle.nova_model.specs.declared.context.Mark.TheVariants.{Call}
+use Rattle.nova_model.specs.declared.context.Mark.{Mark}
+use Rattle.nova_model.specs.declared.context.Mark.TheVariants as mark
 use Rattle.nova_model.specs.declared.context.State.{State}
-use Rattle.nova_model.specs.declared.context.State.TheVariants.{Fresh, Ready, Parked, Calling, Helping, Exiting, Sending, Granting, Replying, Dead}
+use Rattle.nova_model.specs.declared.context.State.TheVariants.{Fresh, Ready, Parked, Calling, Helping, Exiting, Sending, Granting, Replying, Blocked, Dead}
 use Rattle.nova_model.specs.declared.deed.Deed.{Deed}
-use Rattle.nova_model.specs.declared.deed.Deed.TheVariants.{Rests, Steps, Raises, Dies, Refuses, Makes, Recalls, Tells, Names, Opens, Gives, Skips, Finishes, Calls, Helps, Replies, Aborts}
+use Rattle.nova_model.specs.declared.deed.Deed.TheVariants.{Rests, Steps, Raises, Dies, Waits, Sends, Refuses, Makes, Recalls, Tells, Names, Opens, Gives, Skips, Finishes, Calls, Helps, Replies, Aborts, Ups, Downs, Blocks}
 use Rattle.nova_model.specs.declared.event.EventKind.{EventKind}
 use Rattle.nova_model.specs.declared.event.EventKind.TheVariants as event
 use Rattle.nova_model.specs.declared.new_object.NewObject.TheVariants as new
@@ -65,19 +69,25 @@ abbrev pub ready : KernelState → ℕ → Bool → Deed
 ready k ec true = Raises recall 0 0
 ready k ec false = stepping k ec (instruction k ec)
 
--- the deed of an execution context that acts in its state. One that helps makes its call again from its registers. No exit is sent yet, whatever
--- portals there are.
+-- the mark with which a handler keeps its caller; one without a caller has none, and reads as that of a call
+abbrev pub mark_in : Option (ℕ × Mark) → Mark
+mark_in (Some (caller, mark)) = mark
+mark_in None = mark.Call
+
+-- the deed of an execution context that acts in its state. One that helps makes its call again from its registers, and an exit that waits is looked up
+-- again. One that waits for a reply acts where its handler is dead, which keeps it as its caller.
 abbrev pub deed_in : KernelState → ℕ → State → Deed
 deed_in k ec Fresh = Raises startup 0 0
 deed_in k ec Ready = ready k ec (context k ec).recall
-deed_in k ec (Exiting reason q0 q1) = Dies reason q0
+deed_in k ec (Exiting reason q0 q1) = exits k ec reason q0 q1
 deed_in k ec Parked = Rests
 deed_in k ec Dead = Rests
+deed_in k ec (Blocked sm) = Rests
 deed_in k ec (Granting new) = delivers k (transfer k ec) (delivery k ec (Granting new))
 deed_in k ec Replying = delivers k (transfer k ec) (delivery k ec Replying)
-deed_in k ec (Calling handler) = Aborts handler
+deed_in k ec (Calling handler) = Aborts handler (mark_in (context k handler).caller)
 deed_in k ec (Helping handler) = hypercall k ec (pd_of k ec) (context k ec).regs
-deed_in k ec (Sending reason q0 q1 handler) = Rests
+deed_in k ec (Sending reason q0 q1 handler) = exits k ec reason q0 q1
 
 unfoldable pub deed : KernelState → ℕ → Deed
 deed k ec = deed_in k ec (context k ec).state
@@ -104,7 +114,12 @@ abbrev pub after_item : EcState → Sequel → EcState
 after_item x sequel.Item = x
 after_item x sequel.Opened = answered x Success None
 after_item x sequel.Taken = record x { state = Ready }
-after_item x (sequel.Replied caller) = parked x
+after_item x (sequel.Replied caller mark) = parked x
+
+-- one whose handler is dead: a call ends with ABORTED, and an exit ends who raised it
+abbrev pub aborted : EcState → Mark → EcState
+aborted x mark.Call = answered x Aborted None
+aborted x mark.Exit = record x { state = Dead }
 
 -- what a deed other than an instruction makes of the execution context itself. An exit leaves the registers, and a recall is answered by
 -- its exit.
@@ -113,6 +128,8 @@ changed x Rests = x
 changed x Steps = x
 changed x (Raises reason q0 q1) = record x { state = Exiting reason q0 q1; recall = x.recall && not (reason == recall) }
 changed x (Dies reason q0) = record x { state = Dead }
+changed x (Waits handler reason q0 q1) = record x { state = Sending reason q0 q1 handler }
+changed x (Sends handler ip identifier mtd reason q0 q1) = record x { state = Calling handler }
 changed x (Refuses call status) = answered x status None
 changed x (Makes call target new) = answered x Success None
 changed x (Recalls ec) = answered x Success None
@@ -124,9 +141,12 @@ changed x (Skips reason place cursor) = x
 changed x (Finishes item end words after) = after_item x after
 changed x (Calls handler ip identifier items) = record x { state = Calling handler }
 changed x (Helps handler) = record x { state = Helping handler }
-changed x (Replies caller true) = record x { state = Replying }
-changed x (Replies caller false) = parked x
-changed x (Aborts handler) = answered x Aborted None
+changed x (Replies caller mark true) = record x { state = Replying }
+changed x (Replies caller mark false) = parked x
+changed x (Aborts handler mark) = aborted x mark
+changed x (Ups sm woken) = answered x Success None
+changed x (Downs sm) = answered x Success None
+changed x (Blocks sm) = record x { state = Blocked sm }
 
 abbrev pub with_context : KernelState → ℕ → EcState → KernelState
 with_context k ec x = record k { contexts = with_ec k.contexts ec x }
@@ -139,34 +159,55 @@ recalled k ec (Some x) = with_context k ec (record x { recall = true })
 abbrev pub passed : KernelState → ℕ → ℕ → KernelState
 passed k from to = with_message k to (copied (message k from) (message k to))
 
--- a handler at the beginning of a call: where its portal says, with the portal's identifier in x10; it takes items first, where there are any
+-- a handler at the beginning of a call or an exit: where its portal says, with the portal's identifier in x10; it takes items first, where there are any
 abbrev pub entered : Registers → ℕ → ℕ → Registers
 entered r ip identifier = record (with_reg r 10 identifier) { pc = ip }
 
-abbrev pub serving : EcState → ℕ → ℕ → ℕ → Bool → EcState
-serving x caller ip identifier items =
-    record x { state = if items then Granting None else Ready; regs = entered x.regs ip identifier; caller = Some (caller, Call) }
+abbrev pub serving : EcState → ℕ → Mark → ℕ → ℕ → Bool → EcState
+serving x caller mark ip identifier items =
+    record x { state = if items then Granting None else Ready; regs = entered x.regs ip identifier; caller = Some (caller, mark) }
 
 abbrev pub sent : KernelState → ℕ → ℕ → ℕ → ℕ → Bool → KernelState
 sent k caller handler ip identifier items =
-    with_context (passed k caller handler) handler (serving (context k handler) caller ip identifier items)
+    with_context (passed k caller handler) handler (serving (context k handler) caller mark.Call ip identifier items)
 
--- a call ends with success
-abbrev pub completed : KernelState → ℕ → KernelState
-completed k caller = with_context k caller (answered (context k caller) Success None)
+-- an exit is sent: its handler finds the message of the groups that the portal's descriptor names
+abbrev pub exit_sent : KernelState → ℕ → ℕ → ℕ → ℕ → Mtd → ℕ → ℕ → KernelState
+exit_sent k ec handler ip identifier mtd q0 q1 =
+    with_context (with_message k handler (exited mtd q0 q1 (context k ec).regs (message k handler))) handler
+    (serving (context k handler) ec mark.Exit ip identifier false)
 
-abbrev pub replied_to : KernelState → ℕ → ℕ → Bool → KernelState
-replied_to k ec caller true = passed k ec caller
-replied_to k ec caller false = completed (passed k ec caller) caller
+-- what a reply with this message makes of the caller: a call ends with success; after an exit the groups that the message names are written back
+abbrev pub resumed : EcState → Mark → List ℕ → EcState
+resumed x mark.Call m = answered x Success None
+resumed x mark.Exit m = record x { regs = written_back m x.regs; state = Ready }
+
+-- a reply of one execution context to another completes
+abbrev pub completed : KernelState → ℕ → ℕ → Mark → KernelState
+completed k ec caller mark = with_context k caller (resumed (context k caller) mark (message k ec))
+
+-- a reply to a call brings the caller its message, and one to an exit doesn't; without items it completes at once
+abbrev pub brought : KernelState → ℕ → ℕ → Mark → KernelState
+brought k ec caller mark.Call = passed k ec caller
+brought k ec caller mark.Exit = k
+
+abbrev pub replied_to : KernelState → ℕ → ℕ → Mark → Bool → KernelState
+replied_to k ec caller mark true = brought k ec caller mark
+replied_to k ec caller mark false = completed (brought k ec caller mark) ec caller mark
 
 -- the words of an item that ended are written, and a reply whose last it was completes
 abbrev pub told : KernelState → ℕ → Option ItemWords → KernelState
 told k item None = k
 told k item (Some w) = with_message k w.ec (with_item (message k w.ec) item w.first w.second)
 
-abbrev pub followed : KernelState → Sequel → KernelState
-followed k (sequel.Replied caller) = completed k caller
-followed k other = k
+abbrev pub followed : KernelState → ℕ → Sequel → KernelState
+followed k ec (sequel.Replied caller mark) = completed k ec caller mark
+followed k ec other = k
+
+-- who is woken at a semaphore has done its call
+abbrev pub woken_in : KernelState → Option ℕ → KernelState
+woken_in k None = k
+woken_in k (Some ec) = with_context k ec (answered (context k ec) Success None)
 
 -- what it does to the rest, where the execution context is of protection domain `domain`
 abbrev pub spread : KernelState → ℕ → ℕ → Deed → KernelState
@@ -175,8 +216,12 @@ spread k ec domain (Recalls whose) = recalled k whose (context_at k whose)
 spread k ec domain (Names pt identifier) = record k { identifiers = slice_set k.identifiers pt (Some identifier) }
 spread k ec domain (Opens target number) = with_object k domain target new.Pd
 spread k ec domain (Calls handler ip identifier items) = sent k ec handler ip identifier items
-spread k ec domain (Replies caller items) = replied_to k ec caller items
-spread k ec domain (Finishes item end words after) = followed (told k item words) after
+spread k ec domain (Replies caller mark items) = replied_to k ec caller mark items
+spread k ec domain (Sends handler ip identifier mtd reason q0 q1) = exit_sent k ec handler ip identifier mtd q0 q1
+spread k ec domain (Ups sm woken) = woken_in (record k { semaphores = upped k.semaphores sm }) woken
+spread k ec domain (Downs sm) = record k { semaphores = downed k.semaphores sm ec }
+spread k ec domain (Blocks sm) = record k { semaphores = downed k.semaphores sm ec }
+spread k ec domain (Finishes item end words after) = followed (told k item words) ec after
 spread k ec domain other = k
 
 -- an instruction that goes on: the next registers, and at most one store
@@ -238,6 +283,11 @@ abbrev pub parent_id : Option ℕ → ℕ
 parent_id None = 0
 parent_id (Some id) = id
 
+-- a call is 0, and an exit 1
+abbrev pub mark_number : Mark → ℕ
+mark_number mark.Call = 0
+mark_number mark.Exit = 1
+
 -- the event of an item that ended
 abbrev pub item_sign : ℕ → ItemEnd → EventKind × ℕ × ℕ
 item_sign item (Given children) = (event.Ended, item, children)
@@ -250,6 +300,8 @@ sign_of Rests = (event.Step, 0, 0)
 sign_of Steps = (event.Step, 0, 0)
 sign_of (Raises reason q0 q1) = (event.Raise, reason, q0)
 sign_of (Dies reason q0) = (event.Died, reason, q0)
+sign_of (Waits handler reason q0 q1) = (event.Help, handler, mark_number mark.Exit)
+sign_of (Sends handler ip identifier mtd reason q0 q1) = (event.Sent, reason, handler)
 sign_of (Refuses call status) = (event.Answer, call, status_code status)
 sign_of (Makes call target new) = (event.Answer, call, status_code Success)
 sign_of (Recalls ec) = (event.Answer, EC_CTRL, status_code Success)
@@ -260,10 +312,13 @@ sign_of (Gives child cursor) = (event.Made, child.id, parent_id child.parent)
 sign_of (Skips reason place cursor) = (event.Skip, reason_number reason, place)
 sign_of (Finishes item end words after) = item_sign item end
 sign_of (Calls handler ip identifier items) = (event.Begin, CALL, handler)
-sign_of (Helps handler) = (event.Help, handler, 0)
-sign_of (Replies caller true) = (event.Begin, REPLY, caller)
-sign_of (Replies caller false) = (event.Answer, REPLY, status_code Success)
-sign_of (Aborts handler) = (event.Abort, handler, 0)
+sign_of (Helps handler) = (event.Help, handler, mark_number mark.Call)
+sign_of (Replies caller mark true) = (event.Begin, REPLY, caller)
+sign_of (Replies caller mark false) = (event.Answer, REPLY, status_code Success)
+sign_of (Aborts handler mark) = (event.Abort, handler, mark_number mark)
+sign_of (Ups sm woken) = (event.Answer, SM_CTRL, status_code Success)
+sign_of (Downs sm) = (event.Answer, SM_CTRL, status_code Success)
+sign_of (Blocks sm) = (event.Begin, SM_CTRL, sm)
 
 -- memory may be wanted where an object or a derivation is made
 abbrev pub is_making : Deed → Bool

@@ -10,6 +10,7 @@ use Rattle.nova_model.specs.State.{KernelState, context, pd_of, message, transfe
 use Rattle.nova_model.specs.Transfers.{Part, job_of, dest_of, overlap_base, next_part}
 use Rattle.nova_model.specs.Translations.{translated}
 use Rattle.nova_model.specs.declared.context.Mark.{Mark}
+use Rattle.nova_model.specs.declared.context.Mark.TheVariants as mark
 use Rattle.nova_model.specs.declared.context.State.{State}
 use Rattle.nova_model.specs.declared.context.State.TheVariants.{Granting, Replying}
 use Rattle.nova_model.specs.declared.deed.Deed.{Deed}
@@ -47,27 +48,31 @@ first_delivery k ec new = record {
 }
 
 -- between two threads: an item of the message of `from`, to the windows in that of `to`
-abbrev pub delivery_between : KernelState → ℕ → ℕ → ℕ → Sequel → Delivery
-delivery_between k from to item last = record {
+abbrev pub delivery_between : KernelState → ℕ → ℕ → ℕ → Option ℕ → Sequel → Delivery
+delivery_between k from to item told last = record {
   range_word = (item_at (message k from) item).0;
   second_word = (item_at (message k from) item).1;
   giver = pd_of k from;
   receiver = pd_of k to;
   translations = translation_window (message k to);
   delegations = delegation_window (message k to);
-  told = Some to;
+  told = told;
   items = counted_items (message k from);
   last = last;
 }
 
--- a handler takes the items of its caller's message, and gives those of its own
+-- a handler takes the items of its caller's message, and gives those of its own. One who came by an exit is told nothing of the items of the reply.
 abbrev pub taken_from : KernelState → ℕ → ℕ → Option (ℕ × Mark) → Option Delivery
 taken_from k ec item None = None
-taken_from k ec item (Some (caller, mark)) = Some (delivery_between k caller ec item sequel.Taken)
+taken_from k ec item (Some (caller, mark)) = Some (delivery_between k caller ec item (Some ec) sequel.Taken)
+
+abbrev pub told_by : ℕ → Mark → Option ℕ
+told_by caller mark.Call = Some caller
+told_by caller mark.Exit = None
 
 abbrev pub given_to : KernelState → ℕ → ℕ → Option (ℕ × Mark) → Option Delivery
 given_to k ec item None = None
-given_to k ec item (Some (caller, mark)) = Some (delivery_between k ec caller item (sequel.Replied caller))
+given_to k ec item (Some (caller, mark)) = Some (delivery_between k ec caller item (told_by caller mark) (sequel.Replied caller mark))
 
 -- the present item of an execution context in a state in which items are given
 abbrev pub delivery : KernelState → ℕ → State → Option Delivery

@@ -1,36 +1,42 @@
 -- The table of hypercalls: for each number its refusals in their order, each with its condition, and else the deed.
 -- (NOVA specification, hypercalls; the numbers and statuses are this project's.)
-use Rattle.std.specs.Prelude.{ℕ, ◌==◌, Bool, true, false, not, nat_lt, if◌then◌else◌, [], ◌∷◌, length, slice_get, Option, Some, None, option_map, Result, Ok, Err}
+use Rattle.std.specs.Prelude.{ℕ, ◌==◌, Bool, true, false, not, nat_lt, if◌then◌else◌, [], ◌∷◌, length, Option, Some, None, option_map, Result, Ok, Err}
 use Rattle.std.specs.List.{find, list_any}
 use Rattle.rv_model.specs.Registers.{Registers, reg}
 use Rattle.nova_calls.specs.Hypercalls.{call_of}
 use Rattle.nova_calls.specs.declared.call.Call.{Call}
-use Rattle.nova_calls.specs.declared.numbers.TheConstants.{CALL, REPLY, CREATE_PD, CREATE_EC, CREATE_SC, CREATE_PT, CREATE_SM, LOOKUP, EC_CTRL, SC_CTRL, PT_CTRL}
+use Rattle.nova_calls.specs.declared.numbers.TheConstants.{CALL, REPLY, CREATE_PD, CREATE_EC, CREATE_SC, CREATE_PT, CREATE_SM, LOOKUP, EC_CTRL, SC_CTRL, PT_CTRL, SM_CTRL}
 use Rattle.nova_calls.specs.declared.call.Call.TheVariants as asks
-use Rattle.nova_calls.specs.declared.call.Call.TheVariants.{CreatePd, CreateEc, CreateSc, CreatePt, CreateSm, Lookup, EcCtrl, ScCtrl, PtCtrl}
+use Rattle.nova_calls.specs.declared.call.Call.TheVariants.{CreatePd, CreateEc, CreateSc, CreatePt, CreateSm, Lookup, EcCtrl, ScCtrl, PtCtrl, SmCtrl}
+use Rattle.nova_calls.specs.declared.call.SmAction.{SmAction}
+use Rattle.nova_calls.specs.declared.call.SmAction.TheVariants as act
 use Rattle.nova_utcb.specs.Messages.{has_counts, has_items}
 use Rattle.nova_objects.specs.declared.object.Object.{Object}
-use Rattle.nova_objects.specs.declared.object.Object.TheVariants.{Sc, Pt}
+use Rattle.nova_objects.specs.declared.object.Object.TheVariants.{Sc}
 use Rattle.nova_objects.specs.declared.object.EcKind.{EcKind}
 use Rattle.nova_objects.specs.declared.object.EcKind.TheVariants.{Local, Global, Vcpu}
 use Rattle.nova_range.specs.RangeWords.{word_of}
 use Rattle.nova_range.specs.declared.range.Range.{Range}
 use Rattle.nova_range.specs.declared.rights.Rights.{Rights}
 use Rattle.nova_range.specs.declared.status.Status.{Status}
-use Rattle.nova_range.specs.declared.status.Status.TheVariants.{BadHyp, BadCap, BadPar, BadCpu}
-use Rattle.nova_model.specs.Capabilities.{create_right, control_right, call_right, bind_scheduling_right, bind_portal_right, is_pd, is_ec, is_local, is_schedulable, is_sc, is_pt, is_held, named}
+use Rattle.nova_range.specs.declared.status.Status.TheVariants.{BadHyp, BadCap, BadPar, BadCpu, Overflow}
+use Rattle.nova_model.specs.Capabilities.{create_right, control_right, call_right, bind_scheduling_right, bind_portal_right, is_pd, is_ec, is_local, is_schedulable, is_sc, is_pt, is_sm, up_right, down_right, is_held, named}
 use Rattle.nova_model.specs.Calls.{admitted}
+use Rattle.nova_model.specs.Portals.{handler_of, ip_of, identifier}
+use Rattle.nova_model.specs.Semaphores.{semaphore, woken, answer_of}
 use Rattle.nova_model.specs.Delegations.{covers, range_of}
-use Rattle.nova_model.specs.State.{KernelState, entry, context, message, budget_at, processor_of, is_local_thread}
+use Rattle.nova_model.specs.State.{KernelState, context, message, budget_at, processor_of, is_local_thread}
 use Rattle.nova_model.specs.declared.admit.Admit.{Admit}
 use Rattle.nova_model.specs.declared.admit.Admit.TheVariants.{Refused, Help, Send}
 use Rattle.nova_model.specs.declared.budget.Budget.{Budget}
 use Rattle.nova_model.specs.declared.context.Mark.{Mark}
-use Rattle.nova_model.specs.declared.context.Mark.TheVariants as mark
 use Rattle.nova_model.specs.declared.deed.Deed.{Deed}
-use Rattle.nova_model.specs.declared.deed.Deed.TheVariants.{Refuses, Makes, Recalls, Tells, Names, Opens, Calls, Helps, Replies}
+use Rattle.nova_model.specs.declared.deed.Deed.TheVariants.{Refuses, Makes, Recalls, Tells, Names, Opens, Calls, Helps, Replies, Ups, Downs, Blocks}
 use Rattle.nova_model.specs.declared.new_object.NewObject.{NewObject}
 use Rattle.nova_model.specs.declared.new_object.NewObject.TheVariants as new
+use Rattle.nova_model.specs.declared.semaphore.Down.{Down}
+use Rattle.nova_model.specs.declared.semaphore.Down.TheVariants.{Done, Blocked}
+use Rattle.nova_model.specs.declared.semaphore.Overflow as too
 
 -- what comes next, unless the answer is there already
 abbrev pub and_then : {A B : Type 0} → Result A Status → (A → Result B Status) → Result B Status
@@ -107,28 +113,6 @@ ticks_in (Some b) = b.ticks
 abbrev pub looked_up : KernelState → ℕ → Range → ℕ
 looked_up k domain range = word_of (option_map (λ d. (range_of d, d.rights)) (find (covers range.kind domain range.base) k.delegations.list))
 
--- the handler of a portal, where it begins, and the portal's identifier
-abbrev pub handler_in : Option Object → ℕ
-handler_in (Some (Pt ec mtd ip)) = ec
-handler_in other = 0
-
-abbrev pub ip_in : Option Object → ℕ
-ip_in (Some (Pt ec mtd ip)) = ip
-ip_in other = 0
-
-abbrev pub handler_of : KernelState → ℕ → ℕ
-handler_of k pt = handler_in (slice_get k.objects pt)
-
-abbrev pub ip_of : KernelState → ℕ → ℕ
-ip_of k pt = ip_in (slice_get k.objects pt)
-
-abbrev pub number_in : Option ℕ → ℕ
-number_in (Some number) = number
-number_in None = 0
-
-abbrev pub identifier : KernelState → ℕ → ℕ
-identifier k pt = number_in (entry (slice_get k.identifiers pt))
-
 -- call: BAD_PAR where the caller's message counts more words than there are; BAD_CAP where the selector names no portal with call; then what comes
 -- of it at the handler
 abbrev pub called : KernelState → ℕ → ℕ → Admit → Result Deed Status
@@ -142,15 +126,29 @@ call k ec domain selector flag =
     and_then (named k domain is_pt call_right selector) (λ pt. called k ec pt (admitted k.contexts ec (handler_of k pt) flag)))
 
 -- reply: BAD_PAR where a local thread doesn't ask, or where its message counts more words than there are; else it goes to the caller, whom a local
--- thread that is at work has. No exit is sent yet, so each caller called.
+-- thread that is at work has
 abbrev pub replied : KernelState → ℕ → Option (ℕ × Mark) → Result Deed Status
-replied k ec (Some (caller, mark.Call)) = Ok (Replies caller (has_items (message k ec)))
-replied k ec other = Err BadPar
+replied k ec (Some (caller, mark)) = Ok (Replies caller mark (has_items (message k ec)))
+replied k ec None = Err BadPar
 
 abbrev pub reply : KernelState → ℕ → Result Deed Status
 reply k ec =
     unless (not (is_local_thread k ec)) BadPar (
     unless (not (has_counts (message k ec))) BadPar (replied k ec (context k ec).caller))
+
+-- sm_ctrl: BAD_CAP where the selector names no semaphore with the right to it. An up is OVERFLOW at the greatest counter with nobody waiting; a down
+-- lowers the counter, or waits.
+abbrev pub upped_by : ℕ → Result (Option ℕ) too.Overflow → Result Deed Status
+upped_by sm (Ok whom) = Ok (Ups sm whom)
+upped_by sm (Err e) = Err Overflow
+
+abbrev pub downed_by : ℕ → Down → Deed
+downed_by sm Done = Downs sm
+downed_by sm Blocked = Blocks sm
+
+abbrev pub sm_ctrl : KernelState → ℕ → ℕ → SmAction → Result Deed Status
+sm_ctrl k domain selector act.Up = and_then (named k domain is_sm up_right selector) (λ sm. upped_by sm (woken (semaphore k.semaphores sm)))
+sm_ctrl k domain selector act.Down = and_then (named k domain is_sm down_right selector) (λ sm. Ok (downed_by sm (answer_of (semaphore k.semaphores sm))))
 
 -- the rows. lookup has no refusal. ec_ctrl, sc_ctrl, pt_ctrl: BAD_CAP where the selector names no such object with control. A call that is not built
 -- yet has none.
@@ -166,11 +164,12 @@ row k ec domain (Lookup range) = Ok (Tells LOOKUP (looked_up k domain range))
 row k ec domain (EcCtrl whose) = and_then (named k domain is_ec control_right whose) (λ n. Ok (Recalls n))
 row k ec domain (ScCtrl sc) = and_then (named k domain is_sc control_right sc) (λ n. Ok (Tells SC_CTRL (ticks_in (budget_at k n))))
 row k ec domain (PtCtrl pt identifier) = and_then (named k domain is_pt control_right pt) (λ n. Ok (Names n identifier))
+row k ec domain (SmCtrl sm action) = sm_ctrl k domain sm action
 row k ec domain other = Err BadHyp
 
 -- the numbers that are built
 abbrev pub is_built : ℕ → Bool
-is_built number = list_any (λ n. n == number) (CALL ∷ REPLY ∷ CREATE_PD ∷ CREATE_EC ∷ CREATE_SC ∷ CREATE_PT ∷ CREATE_SM ∷ LOOKUP ∷ EC_CTRL ∷ SC_CTRL ∷ PT_CTRL ∷ [])
+is_built number = list_any (λ n. n == number) (CALL ∷ REPLY ∷ CREATE_PD ∷ CREATE_EC ∷ CREATE_SC ∷ CREATE_PT ∷ CREATE_SM ∷ LOOKUP ∷ EC_CTRL ∷ SC_CTRL ∷ PT_CTRL ∷ SM_CTRL ∷ [])
 
 -- a number that is not built is BAD_HYP, whatever its arguments are; else the arguments are read
 abbrev pub asked : KernelState → ℕ → ℕ → Registers → Result Deed Status

@@ -6,6 +6,9 @@ pub mod Edges
 pub mod Calls
 pub mod Choice
 pub mod Capabilities
+pub mod Portals
+pub mod Semaphores
+pub mod Exits
 pub mod Creation
 pub mod Hypercalls
 pub mod Deeds

@@ -103,7 +103,7 @@ with_message k ec m = record k { messages = slice_set k.messages ec (Some m) }
 abbrev pub budget_at : KernelState → ℕ → Option Budget
 budget_at k sc = entry (slice_get k.budgets sc)
 
--- the protection domain of an execution context, its processor, and whether it is a thread
+-- the protection domain of an execution context, its processor, its event base, and whether it is a thread
 abbrev pub pd_in : Option Object → ℕ
 pd_in (Some (Ec pd cpu kind event)) = pd
 pd_in other = 0
@@ -111,6 +111,10 @@ pd_in other = 0
 abbrev pub processor_in : Option Object → ℕ
 processor_in (Some (Ec pd cpu kind event)) = cpu
 processor_in other = 0
+
+abbrev pub event_base_in : Option Object → ℕ
+event_base_in (Some (Ec pd cpu kind event)) = event
+event_base_in other = 0
 
 abbrev pub is_thread_kind : EcKind → Bool
 is_thread_kind Local = true
@@ -126,6 +130,10 @@ pd_of k ec = pd_in (slice_get k.objects ec)
 
 abbrev pub processor_of : KernelState → ℕ → ℕ
 processor_of k ec = processor_in (slice_get k.objects ec)
+
+-- the selector of the portal for its exits of reason 0; those of the other reasons follow
+abbrev pub event_base : KernelState → ℕ → ℕ
+event_base k ec = event_base_in (slice_get k.objects ec)
 
 abbrev pub is_thread : KernelState → ℕ → Bool
 is_thread k ec = is_thread_in (slice_get k.objects ec)

@@ -10,3 +10,14 @@ pub enum Admit {
     /// The handler takes it.
     Send,
 }
+
+/// What comes of an exit at the handler of its portal.
+#[derive(Clone, Copy)]
+pub enum ExitAdmit {
+    /// No reply can come: who raised it dies.
+    Dies,
+    /// The handler is busy: the exit waits for it.
+    Waits,
+    /// The handler takes it.
+    Sends,
+}

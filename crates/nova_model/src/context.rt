@@ -22,6 +22,8 @@ pub enum State {
     Granting(Option<u32>),
     /// It gives the items of its reply.
     Replying,
+    /// It waits at this semaphore.
+    Blocked(u32),
     /// It ended.
     Dead,
 }

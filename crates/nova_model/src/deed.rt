@@ -1,7 +1,8 @@
+use crate::context::Mark;
 use crate::delegation::Derivation;
 use crate::new_object::NewObject;
 use crate::transfer::{ItemEnd, ItemWords, Reason, Sequel};
-use nova_range::Status;
+use nova_range::{Mtd, Status};
 
 /// What an execution context does in its turn, and nothing of how it was found out. All that the turn
 /// does to others is in it, but for the store of an instruction: `Steps` stands for the instruction at
@@ -18,10 +19,28 @@ pub enum Deed {
         q0: u32,
         q1: u32,
     },
-    /// It ends at an exit that isn't sent.
+    /// It ends at an exit for which no handler is found.
     Dies {
         reason: u32,
         q0: u32,
+    },
+    /// Its exit found this handler busy, and waits for it.
+    Waits {
+        handler: u32,
+        reason: u32,
+        q0: u32,
+        q1: u32,
+    },
+    /// Its exit is sent to a handler, which begins at an instruction pointer with a portal's identifier,
+    /// and finds the exit's message by a descriptor.
+    Sends {
+        handler: u32,
+        ip: u32,
+        identifier: u32,
+        mtd: Mtd,
+        reason: u32,
+        q0: u32,
+        q1: u32,
     },
     /// Its hypercall is refused.
     Refuses {
@@ -86,13 +105,29 @@ pub enum Deed {
     Helps {
         handler: u32,
     },
-    /// It replies to its caller, and gives the items of the reply first where there are any.
+    /// It replies to its caller, who came by a call or by an exit, and gives the items of the reply first
+    /// where there are any.
     Replies {
         caller: u32,
+        mark: Mark,
         items: bool,
     },
-    /// The handler that it called is dead, so its call ends.
+    /// The handler for which it waits is dead: its call ends, or it ends by its exit.
     Aborts {
         handler: u32,
+        mark: Mark,
+    },
+    /// Its up of a semaphore wakes the first that waits there, or raises the counter where nobody waits.
+    Ups {
+        sm: u32,
+        woken: Option<u32>,
+    },
+    /// Its down of a semaphore lowers the counter.
+    Downs {
+        sm: u32,
+    },
+    /// Its down of a semaphore whose counter is 0: it waits there.
+    Blocks {
+        sm: u32,
     },
 }

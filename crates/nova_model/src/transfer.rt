@@ -1,3 +1,4 @@
+use crate::context::Mark;
 use nova_range::{Kind, Rights};
 
 /// A delegation item that is being given: what is left of it. Source and destination are places of
@@ -79,8 +80,8 @@ pub enum Sequel {
     Opened,
     /// A handler has taken the items of a call.
     Taken,
-    /// The reply to this caller completes.
-    Replied(u32),
+    /// The reply to this caller completes, who came by a call or by an exit.
+    Replied(u32, Mark),
 }
 
 /// The present item of an execution context that gives items, and where it goes.
@@ -97,7 +98,7 @@ pub struct Delivery {
     pub translations: u32,
     pub delegations: u32,
     /// The execution context that finds in its message words what came of an item; nobody for a first
-    /// range.
+    /// range, and for a reply to an exit.
     pub told: Option<u32>,
     /// How many items there are.
     pub items: u32,

@@ -3,11 +3,12 @@ use Rattle.std.proofs.Common.{◌≡◌, ℕ, zero, suc, ◌+◌, ◌-◌, ◌<�
 use Rattle.std.specs.Prelude.{◌==◌, ◌^◌, eqb, Bool, true, false, if◌then◌else◌, slice_index, slice_set, Option, Some, None}
 use Rattle.std.specs.declared.result.Result.TheVariants.{Ok, Err}
 use Rattle.nova_model.specs.State.{Semaphore}
-use Rattle.nova_sem.specs.Semaphores.{Semaphores, has, waits, semaphore, semaphore_at, greatest, raised, raised_with, woken, woken_of, lowered, answer_of, changed_by, upped, downed}
+use Rattle.nova_model.specs.Semaphores.{Semaphores, has, waits, semaphore, semaphore_at, semaphore_in, greatest, raised, raised_with, woken, woken_of, lowered, answer_of, changed_by, upped, downed}
 use Rattle.nova_sem.specs.Sound.{AreOnce, IsFree}
 use Rattle.nova_sem.specs.Links.{linked, led_to, shown, shown_in, all_shown, counter_at, IsEnded, AreLinked}
 use Rattle.nova_sem.specs.declared.counter.Counter.{Counter}
-use Rattle.nova_sem.specs.declared.answers.Down.TheVariants.{Done, Blocked}
+use Rattle.nova_model.specs.declared.semaphore.Down.TheVariants.{Done, Blocked}
+use Rattle.nova_sem.proofs.Tables.{length_set}
 use Rattle.nova_sem.proofs.Sound.{has_append, once_append, up_sound, down_sound, recounted, count_sound}
 use Rattle.nova_sem.proofs.Chains.{led_in, linked_length, linked_apart, led_apart, linked_more, led_more, few}
 use Rattle.nova_sem.proofs.Steps.{shown_at, semaphore_is, IsStep, IsLeft, step_shown, step_linked}
@@ -165,11 +166,6 @@ last_more links ec first (suc n) last once ends within =
     ∙ ap (λ (x : ℕ). led_to (slice_set links x ec) first (suc n)) (ends n refl)
     ∙ led_more links ec first n once (subst (λ (x : ℕ). x < length links) (ends n refl) (within (omega arith))))
 
-length_set : (xs : List ℕ) (i v : ℕ) → length (slice_set xs i v) ≡ length xs
-length_set [] i v = refl
-length_set (x ∷ xs) zero v = refl
-length_set (x ∷ xs) (suc i) v = ap suc (length_set xs i v)
-
 length_relinked : (links : List ℕ) (last ec : ℕ) (t : Bool) → length (if t then links else slice_set links last ec) ≡ length links
 length_relinked links last ec true = refl
 length_relinked links last ec false = length_set links last ec
@@ -302,6 +298,10 @@ count_at links counters sm c there = ap (λ (s : Semaphore). s.waiting) (semapho
 pub waiting_at : (links : List ℕ) (counters : List (Option Counter)) (sm : ℕ) (c : Counter) → counter_at counters sm ≡ Some c → c.waiting ≡ length (semaphore (all_shown links counters) sm).waiting
 waiting_at links counters sm c there =
     sym (linked_length links c.first c.waiting) ∙ sym (ap length (count_at links counters sm c there))
+
+pub nobody_at_none : (links : List ℕ) (counters : List (Option Counter)) (sm : ℕ) → counter_at counters sm ≡ None → 0 ≡ length (semaphore (all_shown links counters) sm).waiting
+nobody_at_none links counters sm none =
+    sym (ap (λ (o : Option Semaphore). length (semaphore_in o).waiting) (shown_at links counters sm ∙ ap (shown_in links) none))
 
 pub answer_done : (links : List ℕ) (c : Counter) → 0 < c.count → answer_of (shown links c) ≡ Done
 answer_done links c lt = let some : (c.count == 0) ≡ false = grind (arith, lt) in rw some refl

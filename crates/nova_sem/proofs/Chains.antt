@@ -4,7 +4,7 @@ use Rattle.std.specs.Prelude.{true, false, eqb, take, replicate, slice_index, sl
 use Rattle.std.specs.List.{IsDistinct, AllByRecursion}
 use Rattle.std.proofs.lemmas.List.{get_or-set_same, get_or-set_other}
 use Rattle.std.proofs.lemmas.Map.Steps.{length-le_from_distinct_below}
-use Rattle.nova_sem.specs.Semaphores.{has}
+use Rattle.nova_model.specs.Semaphores.{has}
 use Rattle.nova_sem.specs.Sound.{AreOnce}
 use Rattle.nova_sem.specs.Links.{linked, led_to}
 

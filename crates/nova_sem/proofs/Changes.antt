@@ -1,10 +1,11 @@
 -- A change of one semaphore leaves every other.
-use Rattle.std.proofs.Common.{◌≡◌, ℕ, refl}
-use Rattle.std.specs.Prelude.{[], Option, Some, None}
+use Rattle.std.proofs.Common.{◌≡◌, ℕ, refl, arith}
+use Rattle.std.specs.Prelude.{Option, Some, None, option_map}
 use Rattle.nova_model.specs.State.{Semaphore}
-use Rattle.nova_sem.specs.Semaphores.{Semaphores, semaphore_at, changed, changed_by, raised, lowered}
+use Rattle.nova_model.specs.Creation.{idle_semaphore}
+use Rattle.nova_model.specs.Semaphores.{Semaphores, semaphore_at, changed, changed_by, raised, lowered}
 use Rattle.nova_sem.specs.Sound.{ChangesOne, ChangesAreOfOne}
-use Rattle.nova_sem.proofs.Tables.{set_other, added_other}
+use Rattle.nova_sem.proofs.Tables.{set_other, more_other}
 
 pub changed_other : (change : Semaphore → Semaphore) (all : Semaphores) (sm : ℕ) → ChangesOne all sm (changed change all sm)
 changed_other change all sm other h = by_entry (semaphore_at all sm)
@@ -15,7 +16,7 @@ changed_other change all sm other h = by_entry (semaphore_at all sm)
 
 pub changes_are_of_one : ChangesAreOfOne
 changes_are_of_one = record {
-  add = λ all sm count le other h. added_other all sm other (record { count = count; waiting = [] }) le h;
+  add = λ all count other lt. more_other all (option_map idle_semaphore count) other (λ same. absurd (omega (arith, lt, same)));
   up = λ all sm. changed_other raised all sm;
   down = λ all sm ec. changed_other (lowered ec) all sm;
 }

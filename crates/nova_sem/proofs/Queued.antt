@@ -4,7 +4,7 @@ use Rattle.std.specs.Prelude.{◌==◌, ◌-◌, Bool, true, false, if◌then◌
 use Rattle.std.specs.declared.result.Result.TheVariants.{Ok, Err}
 use Rattle.std.proofs.lemmas.List.{append-nil}
 use Rattle.nova_model.specs.State.{Semaphore}
-use Rattle.nova_sem.specs.Semaphores.{greatest, woken_of, raised_with}
+use Rattle.nova_model.specs.Semaphores.{greatest, woken_of, raised_with}
 use Rattle.nova_sem.specs.Sound.{Call, Up, DownBy, called, after, comes, goes, woken_one, all_that_come, all_that_go, FirstInFirstOut}
 
 up_step : (count : ℕ) (ecs : List ℕ) → ecs ++ [] ≡ woken_one (woken_of count ecs) ++ (raised_with count ecs).waiting

@@ -1,11 +1,12 @@
 -- An execution context waits once, at one semaphore, and only where the counter is 0.
-use Rattle.std.proofs.Common.{◌≡◌, ℕ, ◌≤◌, List, [], ◌∷◌, ◌++◌, length, refl, ap, sym, subst, ◌∙◌, arith, inl, inr}
-use Rattle.std.specs.Prelude.{◌==◌, ◌||◌, ◌⊎◌, ◌-◌, if◌then◌else◌, Bool, true, false, eqb, Option, Some, None}
+use Rattle.std.proofs.Common.{◌≡◌, ℕ, List, [], ◌∷◌, ◌++◌, length, refl, ap, sym, subst, ◌∙◌, arith, inl, inr}
+use Rattle.std.specs.Prelude.{◌==◌, ◌||◌, ◌⊎◌, ◌-◌, if◌then◌else◌, Bool, true, false, eqb, Option, Some, None, option_map}
 use Rattle.nova_model.specs.State.{Semaphore}
-use Rattle.nova_sem.specs.Semaphores.{Semaphores, semaphore_at, semaphore, semaphore_in, has, waits, changed, changed_by, raised, raised_with, lowered, added, upped, downed}
+use Rattle.nova_model.specs.Creation.{idle_semaphore}
+use Rattle.nova_model.specs.Semaphores.{Semaphores, semaphore_at, semaphore, semaphore_in, has, waits, changed, changed_by, raised, raised_with, lowered, upped, downed}
 use Rattle.nova_sem.specs.Sound.{AreOnce, AreSound, IsFree, ChangesOne, EachWaitsAlone}
-use Rattle.nova_sem.proofs.Tables.{set_same, added_same}
-use Rattle.nova_sem.proofs.Changes.{changed_other, changes_are_of_one}
+use Rattle.nova_sem.proofs.Tables.{set_same, more_same, more_other}
+use Rattle.nova_sem.proofs.Changes.{changed_other}
 
 pub has_append : (ecs : List ℕ) (ec x : ℕ) → has (ecs ++ ec ∷ []) x ≡ has ecs x || eqb x ec
 has_append [] ec x = by_same (eqb x ec)
@@ -158,16 +159,26 @@ count_sound all sm count are none =
       idle = λ ec is. let nobody : has [] ec ≡ true = ap (λ (ecs : List ℕ). has ecs ec) (sym none) ∙ is in absurd cc;
     })
 
-pub add_sound : (all : Semaphores) (sm count : ℕ) → length all ≤ sm → AreSound all → AreSound (added all sm count)
-add_sound all sm count le are =
-    let now : semaphore (added all sm count) sm ≡ record { count = count; waiting = [] } =
-    ap semaphore_in (added_same all sm (record { count = count; waiting = [] }) le) in
-    sound_at all (added all sm count) sm are (record {
-      others = changes_are_of_one.add all sm count le;
-      once = subst (λ (s : Semaphore). AreOnce s.waiting) (sym now) tt;
-      from = λ ec is. let nobody : has [] ec ≡ true = ap (λ (s : Semaphore). has s.waiting ec) (sym now) ∙ is in absurd cc;
-      idle = λ ec is. let nobody : has [] ec ≡ true = ap (λ (s : Semaphore). has s.waiting ec) (sym now) ∙ is in absurd cc;
+-- at a new entry nobody waits
+pub nobody_at : (all : Semaphores) (count : Option ℕ) → (semaphore (all ++ option_map idle_semaphore count ∷ []) (length all)).waiting ≡ []
+nobody_at all count =
+    ap (λ (o : Option Semaphore). (semaphore_in o).waiting) (more_same all (option_map idle_semaphore count)) ∙ by_count count
+  where
+    by_count : (o : Option ℕ) → (semaphore_in (option_map idle_semaphore o)).waiting ≡ []
+    by_count None = refl
+    by_count (Some n) = refl
+
+pub add_sound : (all : Semaphores) (count : Option ℕ) → AreSound all → AreSound (all ++ option_map idle_semaphore count ∷ [])
+add_sound all count are =
+    sound_at all (all ++ option_map idle_semaphore count ∷ []) (length all) are (record {
+      others = more_other all (option_map idle_semaphore count);
+      once = subst AreOnce (sym (nobody_at all count)) tt;
+      from = λ ec is. absurd (nobody ec is);
+      idle = λ ec is. absurd (nobody ec is);
     })
+  where
+    nobody : (ec : ℕ) → ¬ (waits (all ++ option_map idle_semaphore count ∷ []) (length all) ec ≡ true)
+    nobody ec is = let none : has [] ec ≡ true = ap (λ (ecs : List ℕ). has ecs ec) (sym (nobody_at all count)) ∙ is in absurd cc
 
 pub each_waits_alone : EachWaitsAlone
 each_waits_alone = record {

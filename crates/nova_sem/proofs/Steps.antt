@@ -2,11 +2,11 @@
 use Rattle.std.proofs.Common.{◌≡◌, ℕ, zero, suc, ◌<◌, List, [], ◌∷◌, length, refl, ap, sym, subst, ◌∙◌, arith}
 use Rattle.std.specs.Prelude.{◌==◌, Bool, true, false, slice_set, Option, Some, None}
 use Rattle.nova_model.specs.State.{Semaphore, entry}
-use Rattle.nova_sem.specs.Semaphores.{Semaphores, has, waits, semaphore, semaphore_in, semaphore_at, changed, changed_by}
+use Rattle.nova_model.specs.Semaphores.{Semaphores, has, waits, semaphore, semaphore_in, semaphore_at, changed, changed_by}
 use Rattle.nova_sem.specs.Sound.{AreSound}
 use Rattle.nova_sem.specs.Links.{linked, led_to, shown, shown_in, all_shown, counter_at, IsEnded, AreLinked}
 use Rattle.nova_sem.specs.declared.counter.Counter.{Counter}
-use Rattle.nova_sem.proofs.Tables.{set_same, set_other}
+use Rattle.nova_sem.proofs.Tables.{set_same, set_other, length_set}
 use Rattle.nova_sem.proofs.Changes.{changed_other}
 
 pub shown_at : (links : List ℕ) (counters : List (Option Counter)) (sm : ℕ) → semaphore_at (all_shown links counters) sm ≡ shown_in links (counter_at counters sm)
@@ -105,6 +105,7 @@ step_linked change links more counters sm c to are sound step =
       ended = step_ended change links more counters sm c to are step;
       within = λ other ec is. subst (λ (n : ℕ). ec < n) (sym step.lengths) (step_within change links more counters sm c to are step other ec (ap (λ (l : Semaphores). waits l other ec) (sym all) ∙ is));
       few = let same = step.lengths in let few = are.few in omega (arith, same, few);
+      room = let same = step.lengths in let room = are.room in let set = length_set counters sm (Some to) in omega (arith, same, room, set);
       sound = subst AreSound (sym all) sound;
     }
 

@@ -1,16 +1,17 @@
 -- Who waits where, after each change.
-use Rattle.std.proofs.Common.{◌≡◌, ℕ, zero, suc, List, [], ◌∷◌, ◌++◌, length, refl, ap, sym, subst, ◌∙◌, arith}
-use Rattle.std.specs.Prelude.{◌==◌, ◌||◌, ◌-◌, ◌≤◌, eqb, Bool, true, false, if◌then◌else◌, Option, Some, None, IsSome, Result}
+use Rattle.std.proofs.Common.{◌≡◌, ℕ, List, [], ◌∷◌, ◌++◌, length, refl, ap, sym, subst, ◌∙◌, arith}
+use Rattle.std.specs.Prelude.{◌==◌, ◌||◌, ◌-◌, eqb, Bool, true, false, if◌then◌else◌, Option, Some, None, IsSome, option_map, Result}
 use Rattle.std.specs.declared.result.Result.TheVariants.{Ok, Err}
 use Rattle.nova_model.specs.State.{Semaphore}
-use Rattle.nova_sem.specs.Semaphores.{Semaphores, semaphore_at, semaphore, semaphore_in, has, waits, greatest, changed, changed_by, woken, woken_of, raised, raised_with, lowered, upped, added}
+use Rattle.nova_model.specs.Creation.{idle_semaphore}
+use Rattle.nova_model.specs.Semaphores.{Semaphores, semaphore_at, semaphore, semaphore_in, has, waits, greatest, changed, changed_by, woken, woken_of, raised, raised_with, lowered, upped}
 use Rattle.nova_sem.specs.Sound.{AreOnce, AreSound, IsFree}
 use Rattle.nova_sem.specs.Waiting.{AllWaitAsBefore, OnlyTheWokenGoes, OnlyTheBlockedComes}
-use Rattle.nova_sem.specs.declared.answers.Overflow.{Overflow}
-use Rattle.nova_sem.specs.declared.answers.Down.TheVariants.{Done, Blocked}
-use Rattle.nova_sem.proofs.Tables.{set_same, added_same, added_other}
+use Rattle.nova_model.specs.declared.semaphore.Overflow.{Overflow}
+use Rattle.nova_model.specs.declared.semaphore.Down.TheVariants.{Done, Blocked}
+use Rattle.nova_sem.proofs.Tables.{set_same, more_other}
 use Rattle.nova_sem.proofs.Changes.{changed_other}
-use Rattle.nova_sem.proofs.Sound.{has_append}
+use Rattle.nova_sem.proofs.Sound.{has_append, nobody_at}
 
 -- one that the change leaves where it was
 changed_waits : (change : Semaphore → Semaphore) (all : Semaphores) (sm ec : ℕ) → has (change (semaphore all sm)).waiting ec ≡ has (semaphore all sm).waiting ec →
@@ -121,23 +122,26 @@ lowered_blocked : (s : Semaphore) (ec : ℕ) (t : Bool) → (if t then Blocked e
 lowered_blocked s ec true is = has_last s.waiting ec
 lowered_blocked s ec false is = absurd cc
 
-nothing_past : (all : Semaphores) (sm : ℕ) → length all ≤ sm → semaphore_at all sm ≡ None
-nothing_past [] sm le = refl
-nothing_past (o ∷ all) zero le = absurd (omega arith)
-nothing_past (o ∷ all) (suc sm) le = nothing_past all sm (omega arith)
+nothing_past : (all : Semaphores) → semaphore_at all (length all) ≡ None
+nothing_past [] = refl
+nothing_past (o ∷ all) = nothing_past all
 
-added_waits : (all : Semaphores) (sm count : ℕ) → length all ≤ sm → AllWaitAsBefore all (added all sm count)
-added_waits all sm count le a x = by_place (a == sm) refl
+-- a new entry wakes and blocks nobody
+pub added_waits : (all : Semaphores) (count : Option ℕ) → AllWaitAsBefore all (all ++ option_map idle_semaphore count ∷ [])
+added_waits all count a x = by_place (a == length all) refl
   where
-    by_place : (t : Bool) → (a == sm) ≡ t → waits (added all sm count) a x ≡ waits all a x
+    more : Semaphores
+    more = all ++ option_map idle_semaphore count ∷ []
+
+    by_place : (t : Bool) → (a == length all) ≡ t → waits more a x ≡ waits all a x
     by_place true place =
-        let here : a ≡ sm = grind (arith, place) in
-        ap (λ (n : ℕ). waits (added all sm count) n x) here
-        ∙ ap (λ (o : Option Semaphore). has (semaphore_in o).waiting x) (added_same all sm (record { count = count; waiting = [] }) le)
-        ∙ sym (ap (λ (o : Option Semaphore). has (semaphore_in o).waiting x) (nothing_past all sm le))
+        let here : a ≡ length all = grind (arith, place) in
+        ap (λ (n : ℕ). waits more n x) here
+        ∙ ap (λ (ecs : List ℕ). has ecs x) (nobody_at all count)
+        ∙ sym (ap (λ (o : Option Semaphore). has (semaphore_in o).waiting x) (nothing_past all))
         ∙ ap (λ (n : ℕ). waits all n x) (sym here)
     by_place false place =
-        ap (λ (o : Option Semaphore). has (semaphore_in o).waiting x) (added_other all sm a (record { count = count; waiting = [] }) le (λ e. absurd (grind (arith, place, e))))
+        ap (λ (o : Option Semaphore). has (semaphore_in o).waiting x) (more_other all (option_map idle_semaphore count) a (λ e. absurd (grind (arith, place, e))))
 
 pub only_the_blocked_comes : OnlyTheBlockedComes
 only_the_blocked_comes = record {

@@ -1,7 +1,7 @@
 -- How a queue is kept: the first and the last that wait, how many they are, and by number of an execution context who waits after it.
 use Rattle.std.specs.Prelude.{◌≡◌, ◌<◌, ◌≤◌, ◌-◌, ◌^◌, ℕ, zero, suc, true, List, [], ◌∷◌, map, length, slice_get, slice_index, Option, Some, None}
 use Rattle.nova_model.specs.State.{Semaphore, entry}
-use Rattle.nova_sem.specs.Semaphores.{Semaphores, waits}
+use Rattle.nova_model.specs.Semaphores.{Semaphores, waits}
 use Rattle.nova_sem.specs.Sound.{AreSound}
 use Rattle.nova_sem.specs.declared.counter.Counter.{Counter}
 
@@ -26,6 +26,10 @@ shown_in links (Some c) = Some (shown links c)
 abbrev pub all_shown : List ℕ → List (Option Counter) → Semaphores
 all_shown links counters = map (shown_in links) counters
 
+-- a counter at which nobody waits
+abbrev pub new_counter : ℕ → Counter
+new_counter count = record { count = count; waiting = 0; first = 0; last = 0 }
+
 -- the counter of a number
 abbrev pub counter_at : List (Option Counter) → ℕ → Option Counter
 counter_at counters sm = entry (slice_get counters sm)
@@ -38,4 +42,5 @@ pub record AreLinked (links : List ℕ) (counters : List (Option Counter)) : Typ
   pub ended : (sm : ℕ) (c : Counter) → counter_at counters sm ≡ Some c → IsEnded links c
   pub within : (sm ec : ℕ) → waits (all_shown links counters) sm ec ≡ true → ec < length links
   pub few : length links ≤ 2 ^ 32 - 1
+  pub room : length counters ≤ length links
   pub sound : AreSound (all_shown links counters)

@@ -1,92 +1,9 @@
--- Semaphores: counters, and the execution contexts that wait at them.
-use Rattle.std.specs.Prelude.{ℕ, ◌+◌, ◌-◌, ◌^◌, ◌==◌, eqb, Bool, if◌then◌else◌, List, [], ◌∷◌, ◌++◌, length, replicate, slice_get, slice_set, Option, Some, None, Result}
-use Rattle.std.specs.List.{list_any}
-use Rattle.std.specs.declared.result.Result.TheVariants.{Ok, Err}
-use Rattle.nova_model.specs.State.{Semaphore, entry}
-use Rattle.nova_sem.specs.declared.answers.Overflow.{Overflow}
-use Rattle.nova_sem.specs.declared.answers.Down.{Down}
-use Rattle.nova_sem.specs.declared.answers.Down.TheVariants.{Done, Blocked}
+-- The table of semaphores: an entry for each number, and the room that was made.
+use Rattle.std.specs.Prelude.{ℕ}
+use Rattle.nova_model.specs.Semaphores.{Semaphores}
 
--- by number a semaphore or nothing
-abbrev pub Semaphores : Type 0
-Semaphores = List (Option Semaphore)
-
--- and below which number there is room for semaphores, and for execution contexts that wait
+-- by number a semaphore or nothing; for how many more entries there is room; and below which number execution contexts may wait
 pub record SemsState : Type 0 where
   pub all : Semaphores
-  pub numbers : ℕ
+  pub spare : ℕ
   pub contexts : ℕ
-
--- the semaphore of a number
-abbrev pub semaphore_at : Semaphores → ℕ → Option Semaphore
-semaphore_at all sm = entry (slice_get all sm)
-
--- where there is none the counter is 0, and nobody waits
-abbrev pub semaphore_in : Option Semaphore → Semaphore
-semaphore_in (Some s) = s
-semaphore_in None = record { count = 0; waiting = [] }
-
-abbrev pub semaphore : Semaphores → ℕ → Semaphore
-semaphore all sm = semaphore_in (semaphore_at all sm)
-
--- whether an execution context is one of these
-abbrev pub has : List ℕ → ℕ → Bool
-has ecs ec = list_any (eqb ec) ecs
-
--- whether it waits at a semaphore
-abbrev pub waits : Semaphores → ℕ → ℕ → Bool
-waits all sm ec = has (semaphore all sm).waiting ec
-
--- the greatest counter
-abbrev pub greatest : ℕ
-greatest = 2 ^ 32 - 1
-
--- one semaphore changes
-abbrev pub changed_by : (Semaphore → Semaphore) → Semaphores → ℕ → Option Semaphore → Semaphores
-changed_by change all sm None = all
-changed_by change all sm (Some s) = slice_set all sm (Some (change s))
-
-abbrev pub changed : (Semaphore → Semaphore) → Semaphores → ℕ → Semaphores
-changed change all sm = changed_by change all sm (semaphore_at all sm)
-
--- UP
-
--- the first that waits goes; where nobody waits the counter rises by one, unless it is at its greatest
-abbrev pub raised_with : ℕ → List ℕ → Semaphore
-raised_with count [] = record { count = if count == greatest then count else count + 1; waiting = [] }
-raised_with count (ec ∷ ecs) = record { count = count; waiting = ecs }
-
-abbrev pub raised : Semaphore → Semaphore
-raised s = raised_with s.count s.waiting
-
-abbrev pub upped : Semaphores → ℕ → Semaphores
-upped = changed raised
-
--- who is woken: the first that waits. Nobody is where nobody waits, and that at the greatest counter is an overflow
-abbrev pub woken_of : ℕ → List ℕ → Result (Option ℕ) Overflow
-woken_of count [] = if count == greatest then Err (record {}) else Ok None
-woken_of count (ec ∷ ecs) = Ok (Some ec)
-
-abbrev pub woken : Semaphore → Result (Option ℕ) Overflow
-woken s = woken_of s.count s.waiting
-
--- DOWN
-
--- a counter above 0 is lowered by one; at 0 the execution context waits, last of all
-abbrev pub lowered : ℕ → Semaphore → Semaphore
-lowered ec s = if s.count == 0 then record s { waiting = s.waiting ++ ec ∷ [] } else record s { count = s.count - 1 }
-
-abbrev pub downed : Semaphores → ℕ → ℕ → Semaphores
-downed all sm ec = changed (lowered ec) all sm
-
-abbrev pub answer_of : Semaphore → Down
-answer_of s = if s.count == 0 then Blocked else Done
-
--- A NEW ONE
-
--- entries up to a number: nothing stands where nothing was added
-abbrev pub padded : {T : Type 0} → ℕ → List (Option T) → List (Option T)
-padded n xs = xs ++ replicate (n - length xs) None
-
-abbrev pub added : Semaphores → ℕ → ℕ → Semaphores
-added all sm count = padded sm all ++ Some (record { count = count; waiting = [] }) ∷ []

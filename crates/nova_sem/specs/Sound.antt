@@ -1,9 +1,10 @@
 -- Who waits, in plain terms, and whom a change is of.
-use Rattle.std.specs.Prelude.{◌≡◌, ◌≤◌, ◌==◌, ℕ, true, false, if◌then◌else◌, List, [], ◌∷◌, ◌++◌, length, Option, Some, None, Result, ⊤}
+use Rattle.std.specs.Prelude.{◌≡◌, ◌<◌, ◌==◌, ℕ, true, false, if◌then◌else◌, List, [], ◌∷◌, ◌++◌, length, Option, Some, None, option_map, Result, ⊤}
 use Rattle.std.specs.declared.result.Result.TheVariants.{Ok, Err}
 use Rattle.nova_model.specs.State.{Semaphore}
-use Rattle.nova_sem.specs.Semaphores.{Semaphores, semaphore_at, semaphore, has, waits, woken, raised, lowered, upped, downed, added}
-use Rattle.nova_sem.specs.declared.answers.Overflow.{Overflow}
+use Rattle.nova_model.specs.Creation.{idle_semaphore}
+use Rattle.nova_model.specs.Semaphores.{Semaphores, semaphore_at, semaphore, has, waits, woken, raised, lowered, upped, downed}
+use Rattle.nova_model.specs.declared.semaphore.Overflow.{Overflow}
 
 -- none is there twice
 abbrev pub AreOnce : List ℕ → Type 0
@@ -23,7 +24,7 @@ IsFree all ec = (sm : ℕ) → waits all sm ec ≡ false
 -- that is so of no semaphores, and each change keeps it
 pub record EachWaitsAlone : Type 0 where
   pub none : AreSound []
-  pub add : (all : Semaphores) (sm count : ℕ) → length all ≤ sm → AreSound all → AreSound (added all sm count)
+  pub add : (all : Semaphores) (count : Option ℕ) → AreSound all → AreSound (all ++ option_map idle_semaphore count ∷ [])
   pub up : (all : Semaphores) (sm : ℕ) → AreSound all → AreSound (upped all sm)
   pub down : (all : Semaphores) (sm ec : ℕ) → IsFree all ec → AreSound all → AreSound (downed all sm ec)
 
@@ -31,8 +32,10 @@ pub record EachWaitsAlone : Type 0 where
 abbrev pub ChangesOne : Semaphores → ℕ → Semaphores → Type 0
 ChangesOne all sm after = (other : ℕ) → ¬ (other ≡ sm) → semaphore_at after other ≡ semaphore_at all other
 
+-- a new entry leaves those that were there, and an up and a down leave every other
 pub record ChangesAreOfOne : Type 0 where
-  pub add : (all : Semaphores) (sm count : ℕ) → length all ≤ sm → ChangesOne all sm (added all sm count)
+  pub add : (all : Semaphores) (count : Option ℕ) (other : ℕ) → other < length all →
+      semaphore_at (all ++ option_map idle_semaphore count ∷ []) other ≡ semaphore_at all other
   pub up : (all : Semaphores) (sm : ℕ) → ChangesOne all sm (upped all sm)
   pub down : (all : Semaphores) (sm ec : ℕ) → ChangesOne all sm (downed all sm ec)
 

@@ -1,9 +1,10 @@
 -- Who waits where, after each change.
-use Rattle.std.specs.Prelude.{◌≡◌, ◌≤◌, ℕ, true, [], length, Some, IsSome}
+use Rattle.std.specs.Prelude.{◌≡◌, ℕ, true, [], ◌∷◌, ◌++◌, Option, Some, IsSome, option_map}
 use Rattle.std.specs.declared.result.Result.TheVariants.{Ok}
-use Rattle.nova_sem.specs.Semaphores.{Semaphores, semaphore_at, semaphore, waits, woken, answer_of, upped, downed, added}
+use Rattle.nova_model.specs.Creation.{idle_semaphore}
+use Rattle.nova_model.specs.Semaphores.{Semaphores, semaphore_at, semaphore, waits, woken, answer_of, upped, downed}
 use Rattle.nova_sem.specs.Sound.{AreSound, IsFree}
-use Rattle.nova_sem.specs.declared.answers.Down.TheVariants.{Done, Blocked}
+use Rattle.nova_model.specs.declared.semaphore.Down.TheVariants.{Done, Blocked}
 
 -- everyone waits where it did
 abbrev pub AllWaitAsBefore : Semaphores → Semaphores → Type 0
@@ -23,4 +24,4 @@ pub record OnlyTheBlockedComes : Type 0 where
   pub blocked : (all : Semaphores) (sm ec : ℕ) → IsSome (semaphore_at all sm) → answer_of (semaphore all sm) ≡ Blocked → waits (downed all sm ec) sm ec ≡ true
   pub down : (all : Semaphores) (sm ec : ℕ) → OthersWaitAsBefore all ec (downed all sm ec)
   pub done : (all : Semaphores) (sm ec : ℕ) → answer_of (semaphore all sm) ≡ Done → AllWaitAsBefore all (downed all sm ec)
-  pub add : (all : Semaphores) (sm count : ℕ) → length all ≤ sm → AllWaitAsBefore all (added all sm count)
+  pub add : (all : Semaphores) (count : Option ℕ) → AllWaitAsBefore all (all ++ option_map idle_semaphore count ∷ [])

@@ -11,7 +11,7 @@ pub fn each_waits_alone()
     ensures { EachWaitsAlone }
 {}
 
-/// A new semaphore, an up and a down change no other semaphore.
+/// A new entry, an up and a down change no other semaphore.
 pub fn changes_are_of_one()
     ensures { ChangesAreOfOne }
 {}

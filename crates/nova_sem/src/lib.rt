@@ -1,12 +1,11 @@
 //! Semaphores: counters with the execution contexts that wait at them, first in and first out.
 #![tactic(auto)]
 
-mod answers;
 mod counter;
 pub mod laws;
 pub mod sems;
 #[cfg(test)]
 mod tests;
 
-pub use answers::{Down, Overflow};
+pub use nova_model::{Down, Overflow};
 pub use sems::Sems;

@@ -1,24 +1,25 @@
-ghost use Rattle.std.specs.Prelude.{◌≡◌, ◌+◌, ◌-◌, ◌^◌, ◌<◌, ◌≤◌, [], length, is_some, slice_index, slice_set, vec_capacity, IsSome, IfOk, OnOk, OnErr, Some, if◌then◌else◌, ◌==◌};
-ghost use Rattle.nova_sem.specs.Semaphores.{semaphore_at, semaphore, woken, upped, answer_of, downed, padded, added};
+ghost use Rattle.std.specs.Prelude.{◌≡◌, ◌+◌, ◌-◌, ◌^◌, ◌<◌, ◌≤◌, [], ◌∷◌, ◌++◌, length, max, is_some, option_map, slice_index, slice_set, IfOk, IfSome, OnOk, OnErr, if◌then◌else◌, ◌==◌};
+ghost use Rattle.nova_model.specs.Creation.{idle_semaphore};
+ghost use Rattle.nova_model.specs.Semaphores.{semaphore_at, semaphore, woken, upped, answer_of, downed};
 ghost use Rattle.nova_sem.specs.Sound.{IsFree};
-ghost use Rattle.nova_sem.specs.Links.{counter_at};
+ghost use Rattle.nova_sem.specs.Links.{counter_at, new_counter};
 
-use crate::answers::{Down, Overflow};
 use crate::counter::Counter;
+use nova_model::{Down, Overflow};
 use std::alloc::{AllocError, Global};
 use std::marker::Model;
 
-/// The semaphores of a machine, by number. At each of them execution contexts wait in the order in which they came.
+/// The table of semaphores, by number: an entry holds the semaphore of its number or nothing. At each semaphore execution contexts
+/// wait in the order in which they came. There is room for an execution context of any number of the table to wait.
 #[derive(Drop)]
 pub struct Sems {
     counters: Vec<Option<Counter>>,
-    reserved: usize,
+    spare: usize,
     links: Vec<u32>,
-    alloc: Global,
 }
 
 impl Model for Sems {
-    ghost use Rattle.std.specs.Prelude.{◌≤◌, length, vec_capacity};
+    ghost use Rattle.std.specs.Prelude.{◌+◌, ◌≤◌, length, vec_len, vec_capacity};
     ghost use Rattle.nova_sem.specs.Semaphores.{SemsState};
     ghost use Rattle.nova_sem.specs.Links.{all_shown, AreLinked};
 
@@ -26,34 +27,31 @@ impl Model for Sems {
 
     ghost view = { λ s. record {
       all = all_shown s.links.items s.counters.items;
-      numbers = s.reserved;
+      spare = s.spare;
       contexts = length s.links.items;
     } };
 
-    ghost invariant = { λ s. AreLinked s.links.items s.counters.items × (s.reserved ≤ vec_capacity s.counters) };
+    ghost invariant = { λ s. AreLinked s.links.items s.counters.items × (vec_len s.counters + s.spare ≤ vec_capacity s.counters) };
 }
 
-/// Puts nothing at each number before `n` that the table hasn't reached, in room that was made.
-fn pad(counters: &mut Vec<Option<Counter>>, n: usize)
-    requires { n ≤ vec_capacity counters.old }
-    ensures padded { counters.new.items ≡ padded n counters.old.items }
-    ensures capacity { vec_capacity counters.new ≡ vec_capacity counters.old }
+/// The counter of a semaphore; none where no semaphore has the number.
+fn counter_at(counters: &[Option<Counter>], sm: u32) -> Option<Counter>
+    ensures counter { result ≡ counter_at counters.now sm }
+    ensures number { IfSome result (λ counter. sm < length counters.now) }
 {
-    for _ in counters.len()..n {
-        counters.push_reserved(None);
-    }
+    *counters.get(sm as usize)?
 }
 
-/// The counter of a semaphore that is there.
-fn counter_of(counters: &[Option<Counter>], sm: u32) -> Counter
-    requires { IsSome (counter_at counters.now sm) }
-    ensures counter { counter_at counters.now sm ≡ Some result }
-    ensures number { sm < length counters.now }
+/// The counter of a new semaphore, at which nobody waits.
+fn idle_counter(count: Option<u32>) -> Option<Counter>
+    ensures { result ≡ option_map new_counter count }
 {
-    let Some(counter) = counters[sm as usize] else {
-        unreachable!();
-    };
-    counter
+    count.map(|count| Counter {
+        count,
+        waiting: 0,
+        first: 0,
+        last: 0,
+    })
 }
 
 /// The first that waits goes.
@@ -99,61 +97,56 @@ fn link(links: &mut Vec<u32>, counter: Counter, ec: u32)
 impl Sems {
     /// No semaphores, and room for none and for nobody that waits.
     pub fn new(alloc: Global) -> Sems
-        ensures { result ≡ record { all = []; numbers = 0; contexts = 0 } }
+        ensures { result ≡ record { all = []; spare = 0; contexts = 0 } }
     {
         Sems {
             counters: Vec::new(alloc),
-            reserved: 0,
+            spare: 0,
             links: Vec::new(alloc),
-            alloc,
         }
     }
 
-    /// Makes room for a semaphore of a number. Room that was made before stays. It refuses for want of memory alone, and then
-    /// nothing has changed.
-    pub fn reserve(&mut self, sm: u32) -> Result<(), AllocError>
-        ensures kept { self.new.all ≡ self.old.all }
-        ensures contexts { self.new.contexts ≡ self.old.contexts }
-        ensures room { OnOk result (sm < self.new.numbers) }
-        ensures keeps { self.old.numbers ≤ self.new.numbers }
+    /// Makes room for `n` more entries, counted from those that are there. It refuses for want of memory alone, and then nothing has
+    /// changed.
+    pub fn reserve(&mut self, n: usize) -> Result<(), AllocError>
+        ensures ok { OnOk result (self.new ≡ record self.old { spare = max self.old.spare n }) }
         ensures err { OnErr result (self.new ≡ self.old) }
     {
-        let numbers = sm as usize + 1;
-        self.counters
-            .reserve(numbers.saturating_sub(self.counters.len()))?;
-        self.reserved = self.reserved.max(numbers);
+        self.counters.reserve(n)?;
+        self.spare = self.spare.max(n);
         Ok(())
     }
 
-    /// Adds a semaphore with its counter in room that was made. Its number is greater than those of all before. Nobody waits there.
-    pub fn add(&mut self, sm: u32, count: u32)
-        requires number { length self.old.all ≤ sm }
-        requires room { sm < self.old.numbers }
-        ensures added { self.new.all ≡ added self.old.all sm count }
-        ensures numbers { self.new.numbers ≡ self.old.numbers }
-        ensures contexts { self.new.contexts ≡ self.old.contexts }
-    {
-        pad(&mut self.counters, sm as usize);
-        self.counters.push_reserved(Some(Counter {
-            count,
-            waiting: 0,
-            first: 0,
-            last: 0,
-        }));
-    }
-
-    /// Makes room for an execution context to wait: called when one of this number is made. Room that was made before stays. It
-    /// refuses for want of memory alone, and then nothing has changed.
-    pub fn room_for_ec(&mut self, ec: u32) -> Result<(), AllocError>
-        requires { ec < 2 ^ 32 - 1 }
+    /// Makes room for the execution context of the next number to wait. It refuses for want of memory alone, and then nothing has
+    /// changed.
+    pub fn room_for_ec(&mut self) -> Result<(), AllocError>
+        requires few { length self.old.all < 2 ^ 32 - 1 }
         ensures kept { self.new.all ≡ self.old.all }
-        ensures numbers { self.new.numbers ≡ self.old.numbers }
-        ensures room { OnOk result (ec < self.new.contexts) }
+        ensures spare { self.new.spare ≡ self.old.spare }
+        ensures room { OnOk result (length self.new.all < self.new.contexts) }
         ensures keeps { self.old.contexts ≤ self.new.contexts }
         ensures err { OnErr result (self.new ≡ self.old) }
     {
-        let contexts = self.links.len().max(ec as usize + 1);
+        let contexts = self.links.len().max(self.counters.len() + 1);
         self.links.resize(contexts, 0)
+    }
+
+    /// Adds the entry of the next number in reserved room: a semaphore with its counter, at which nobody waits, or nothing. There is
+    /// room for the execution context of that number to wait.
+    pub fn add(&mut self, count: Option<u32>)
+        requires room { 0 < self.old.spare }
+        requires waiting { length self.old.all < self.old.contexts }
+        ensures { self.new ≡ record { all = self.old.all ++ option_map idle_semaphore count ∷ []; spare = self.old.spare - 1; contexts = self.old.contexts } }
+    {
+        self.counters.push_reserved(idle_counter(count));
+        self.spare -= 1;
+    }
+
+    /// Each number of an entry may wait.
+    pub fn keeps_room(&self)
+        ensures { length self.now.all ≤ self.now.contexts }
+    {
+        let _spare = self.spare;
     }
 
     /// Whether a semaphore of the number is there.
@@ -163,32 +156,54 @@ impl Sems {
         matches!(self.counters.get(sm as usize), Some(Some(_)))
     }
 
-    /// The counter of a semaphore.
+    /// The counter of a semaphore; 0 where no semaphore has the number.
     pub fn count(&self, sm: u32) -> u32
-        requires { IsSome (semaphore_at self.now.all sm) }
         ensures { result ≡ (semaphore self.now.all sm).count }
     {
-        counter_of(&self.counters, sm).count
+        match counter_at(&self.counters, sm) {
+            Some(counter) => counter.count,
+            None => 0,
+        }
     }
 
-    /// How many execution contexts wait at a semaphore.
+    /// How many execution contexts wait at a semaphore; none where no semaphore has the number.
     pub fn waiting(&self, sm: u32) -> u32
-        requires { IsSome (semaphore_at self.now.all sm) }
         ensures { result ≡ length (semaphore self.now.all sm).waiting }
     {
-        counter_of(&self.counters, sm).waiting
+        match counter_at(&self.counters, sm) {
+            Some(counter) => counter.waiting,
+            None => 0,
+        }
+    }
+
+    /// What an up would come to, with nothing changed.
+    pub fn peek_up(&self, sm: u32) -> Result<Option<u32>, Overflow>
+        ensures { result ≡ woken (semaphore self.now.all sm) }
+    {
+        let Some(counter) = counter_at(&self.counters, sm) else {
+            return Ok(None);
+        };
+        if counter.waiting > 0 {
+            return Ok(Some(counter.first));
+        }
+        if counter.count == u32::MAX {
+            return Err(Overflow);
+        }
+        Ok(None)
     }
 
     /// An up of a semaphore: the first that waits is woken. Where nobody waits the counter rises by one and nobody is woken. At
-    /// 2^32 - 1 that is refused as an overflow, and then nothing has changed. It takes no memory.
+    /// 2^32 - 1 that is refused as an overflow, and then nothing has changed. Where no semaphore has the number nobody is woken, and
+    /// nothing changes. It takes no memory.
     pub fn up(&mut self, sm: u32) -> Result<Option<u32>, Overflow>
-        requires { IsSome (semaphore_at self.old.all sm) }
         ensures woken { result ≡ woken (semaphore self.old.all sm) }
         ensures upped { self.new.all ≡ upped self.old.all sm }
-        ensures numbers { self.new.numbers ≡ self.old.numbers }
+        ensures spare { self.new.spare ≡ self.old.spare }
         ensures contexts { self.new.contexts ≡ self.old.contexts }
     {
-        let counter = counter_of(&self.counters, sm);
+        let Some(counter) = counter_at(&self.counters, sm) else {
+            return Ok(None);
+        };
         if counter.waiting == 0 {
             let Some(count) = counter.count.checked_add(1) else {
                 return Err(Overflow);
@@ -200,18 +215,31 @@ impl Sems {
         Ok(Some(counter.first))
     }
 
+    /// What a down would come to, with nothing changed.
+    pub fn peek_down(&self, sm: u32) -> Down
+        ensures { result ≡ answer_of (semaphore self.now.all sm) }
+    {
+        if self.count(sm) == 0 {
+            Down::Blocked
+        } else {
+            Down::Done
+        }
+    }
+
     /// A down of a semaphore by an execution context that waits nowhere and for which room was made. A counter above 0 is lowered
-    /// by one. At 0 the execution context waits, last of all. It takes no memory.
+    /// by one. At 0 the execution context waits, last of all. Where no semaphore has the number the answer is that of a counter at 0,
+    /// and nothing changes. It takes no memory.
     pub fn down(&mut self, sm: u32, ec: u32) -> Down
-        requires there { IsSome (semaphore_at self.old.all sm) }
         requires room { ec < self.old.contexts }
         requires free { IsFree self.old.all ec }
         ensures answer { result ≡ answer_of (semaphore self.old.all sm) }
         ensures downed { self.new.all ≡ downed self.old.all sm ec }
-        ensures numbers { self.new.numbers ≡ self.old.numbers }
+        ensures spare { self.new.spare ≡ self.old.spare }
         ensures contexts { self.new.contexts ≡ self.old.contexts }
     {
-        let counter = counter_of(&self.counters, sm);
+        let Some(counter) = counter_at(&self.counters, sm) else {
+            return Down::Blocked;
+        };
         if counter.count > 0 {
             self.counters[sm as usize] = Some(Counter {
                 count: counter.count - 1,
@@ -224,18 +252,16 @@ impl Sems {
         Down::Blocked
     }
 
-    /// The same semaphores once more, with the same room to wait. It refuses for want of memory alone.
+    /// The same entries in memory of their own, with the same room to wait and no spare room. It refuses for want of memory alone.
     pub fn copy(&self) -> Result<Sems, AllocError>
-        ensures all { IfOk result (λ s. s.all ≡ self.now.all) }
-        ensures contexts { IfOk result (λ s. s.contexts ≡ self.now.contexts) }
+        ensures { IfOk result (λ s. s ≡ record { all = self.now.all; spare = 0; contexts = self.now.contexts }) }
     {
-        let counters = Vec::from_slice(self.alloc, &self.counters)?;
-        let links = Vec::from_slice(self.alloc, &self.links)?;
+        let counters = Vec::from_slice(*self.counters.allocator(), self.counters.as_slice())?;
+        let links = Vec::from_slice(*self.links.allocator(), self.links.as_slice())?;
         Ok(Sems {
-            reserved: counters.len(),
             counters,
+            spare: 0,
             links,
-            alloc: self.alloc,
         })
     }
 }

@@ -1,4 +1,4 @@
-use Rattle.nova_ec.proofs.Changes.{changes_keep, deeds_keep, serving_keeps, parking_keeps, answering_keeps}
+use Rattle.nova_ec.proofs.Changes.{changes_keep, deeds_keep, serving_keeps, parking_keeps, answering_keeps, resuming_keeps}
 use Rattle.nova_ec.proofs.laws.changes_keep.Goals as goal
 
 pub returns-clause-changes : goal.returns-clause-changes
@@ -15,3 +15,6 @@ returns-clause-parking c = parking_keeps
 
 pub returns-clause-answering : goal.returns-clause-answering
 returns-clause-answering c = answering_keeps
+
+pub returns-clause-resuming : goal.returns-clause-resuming
+returns-clause-resuming c = resuming_keeps

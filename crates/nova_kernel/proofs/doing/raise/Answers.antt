@@ -14,7 +14,7 @@ returns c =
     let x : EcState = ec_of t.items c.args.ec in
     let is : c.stays_recalled-is_recalled.result ≡ (x.recall && not (c.args.reason == recall)) =
     c.stays_recalled-is_recalled.ensures ∙ ap (λ (y : EcState). y.recall && not (c.args.reason == recall)) c.context.ensures.context in
-    c.set_state.ensures
+    c.raise.ensures
     ∙ ap (λ (u : EcTable). with_items u (with_ec u.items c.args.ec (record (ec_of u.items c.args.ec) { state = Exiting c.args.reason c.args.q0 c.args.q1 }))) c.set_recall.ensures
     ∙ set_twice t c.args.ec (record x { recall = c.stays_recalled-is_recalled.result }) (λ y. record y { state = Exiting c.args.reason c.args.q0 c.args.q1 }) c.requires
     ∙ ap (λ (b : Bool). with_items t (with_ec t.items c.args.ec (record x { state = Exiting c.args.reason c.args.q0 c.args.q1; recall = b }))) is

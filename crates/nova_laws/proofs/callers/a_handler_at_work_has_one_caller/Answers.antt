@@ -1,4 +1,4 @@
-use Rattle.nova_laws.proofs.Calling.{working, waiting, callers_there, callers_known, portals_lead, others_alone}
+use Rattle.nova_laws.proofs.Calling.{working, waiting, callers_there, callers_known, called_ones_taken, portals_lead, others_alone}
 use Rattle.nova_laws.proofs.callers.a_handler_at_work_has_one_caller.Goals as goal
 
 pub returns-clause-at_work : goal.returns-clause-at_work
@@ -12,6 +12,9 @@ returns-clause-callers c = callers_there
 
 pub returns-clause-calling : goal.returns-clause-calling
 returns-clause-calling c = callers_known
+
+pub returns-clause-taking : goal.returns-clause-taking
+returns-clause-taking c = called_ones_taken
 
 pub returns-clause-handlers : goal.returns-clause-handlers
 returns-clause-handlers c = portals_lead

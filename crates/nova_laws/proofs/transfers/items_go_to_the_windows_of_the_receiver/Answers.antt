@@ -1,4 +1,4 @@
-use Rattle.nova_laws.proofs.Windows.{items_taken, items_replied, range_created}
+use Rattle.nova_laws.proofs.Windows.{items_taken, items_replied, items_resumed, range_created}
 use Rattle.nova_laws.proofs.transfers.items_go_to_the_windows_of_the_receiver.Goals as goal
 
 pub returns-clause-taken : goal.returns-clause-taken
@@ -6,6 +6,9 @@ returns-clause-taken c = items_taken
 
 pub returns-clause-replied : goal.returns-clause-replied
 returns-clause-replied c = items_replied
+
+pub returns-clause-resumed : goal.returns-clause-resumed
+returns-clause-resumed c = items_resumed
 
 pub returns-clause-created : goal.returns-clause-created
 returns-clause-created c = range_created

@@ -1,3 +1,4 @@
+use Rattle.nova_laws.proofs.Raising.{raised_keep}
 use Rattle.nova_laws.proofs.Wording.{others_keep, one_writes, told_own, sized}
 use Rattle.nova_laws.proofs.words.a_turn_writes_the_words_of_one.Goals as goal
 
@@ -6,6 +7,9 @@ returns-clause-others c = others_keep
 
 pub returns-clause-writes : goal.returns-clause-writes
 returns-clause-writes c = one_writes
+
+pub returns-clause-raised : goal.returns-clause-raised
+returns-clause-raised c = raised_keep
 
 pub returns-clause-told : goal.returns-clause-told
 returns-clause-told c = told_own

@@ -9,7 +9,8 @@ use Rattle.nova_kernel.proofs.kernel.Kernel.new.Goals as goal
 
 pub invariant_of-result : goal.invariant_of-result
 invariant_of-result c = (
-  subst IsCounted (sym c.in_ok-parts.ensures.shown) (IsCounted_bare c.args.cpus c.args.ram c.args.consoles c.args.root c.requires.consoles),
+  subst IsCounted (sym c.in_ok-parts.ensures.shown) (IsCounted_bare c.args.cpus c.args.ram c.args.consoles c.args.root c.requires.consoles
+      (c.turns_keep_what_they_find.ensures.begins c.args.cpus c.args.ram c.args.consoles c.args.root)),
   queued_same (bare c.args.cpus c.args.ram c.args.consoles c.args.root) (shown c.in_ok-parts.parts) (root_schedule c.args.cpus c.args.root)
       c.in_ok-parts.parts.queues.all (queued_bare c.args.cpus c.args.ram c.args.consoles c.args.root) c.in_ok-parts.ensures.shown c.in_ok-parts.ensures.queues,
 )

@@ -11,5 +11,5 @@ pub returns-in-Item-clause-followed : goal.returns-in-Item-clause-followed
 returns-in-Item-clause-followed c =
     let k : KernelState = shown c.args.self.now in
     sym
-    (ap (λ (s : Sequel). followed (with_context k c.args.ec (after_item (context k c.args.ec) s)) s) c.in-Item.is
+    (ap (λ (s : Sequel). followed (with_context k c.args.ec (after_item (context k c.args.ec) s)) c.args.ec s) c.in-Item.is
     ∙ ap (λ (cs : Contexts). record k { contexts = cs }) (with_ec-same k.contexts c.args.ec (context k c.args.ec) (there_at k.contexts c.args.ec c.requires.there)))

@@ -1,0 +1,52 @@
+ghost use Rattle.std.specs.Prelude.{◌≡◌, None, if◌then◌else◌};
+ghost use Rattle.nova_model.specs.Edges.{edge_of, acts_by};
+ghost use Rattle.nova_model.specs.declared.context.State.TheVariants.{Granting, Ready};
+
+use nova_model::State;
+
+/// The handler that an execution context in this state waits for.
+pub(crate) fn edge_of(state: State) -> Option<u32>
+    ensures { result ≡ edge_of state }
+{
+    match state {
+        State::Calling(handler) | State::Helping(handler) | State::Sending(_, _, _, handler) => {
+            Some(handler)
+        }
+        State::Fresh
+        | State::Ready
+        | State::Parked
+        | State::Exiting(..)
+        | State::Granting(_)
+        | State::Replying
+        | State::Blocked(_)
+        | State::Dead => None,
+    }
+}
+
+/// Whether an execution context in the first state acts, where its handler is in the second.
+pub(crate) fn acts_by(state: State, handler: Option<State>) -> bool
+    ensures { result ≡ acts_by state handler }
+{
+    match state {
+        State::Fresh | State::Ready | State::Exiting(..) | State::Granting(_) | State::Replying =>
+            true,
+        State::Parked | State::Blocked(_) | State::Dead => false,
+        State::Calling(_) => matches!(handler, Some(State::Dead)),
+        State::Helping(_) | State::Sending(..) => {
+            matches!(handler, Some(State::Parked | State::Dead))
+        }
+    }
+}
+
+/// What a handler is about to do at the beginning of a call or an exit: it takes the items first, where
+/// there are any.
+pub(crate) fn entry_state(items: bool) -> State
+    ensures state { result ≡ (if items then Granting None else Ready) }
+    ensures edge { edge_of result ≡ None }
+{
+    if items {
+        State::Granting(None)
+    } else {
+        State::Ready
+    }
+}

@@ -1,0 +1,13 @@
+//! Exits of execution contexts: how one is raised, whom it reaches, its message, and the reply that
+//! writes back.
+#![tactic(auto)]
+
+mod exits;
+pub mod laws;
+mod replies;
+#[cfg(test)]
+mod tests;
+
+pub use exits::{admit, die, raise, send, wait};
+pub use nova_model::ExitAdmit;
+pub use replies::write_back;

@@ -1,0 +1,40 @@
+-- The words of one whose exit is sent stay.
+use Rattle.std.proofs.Common.{◌≡◌, ℕ, List, ap, ◌∙◌, sym, subst}
+use Rattle.std.specs.Prelude.{◌≢◌, true, Option, Some, None, IfSome}
+use Rattle.nova_range.specs.declared.mtd.Mtd.{Mtd}
+use Rattle.nova_model.specs.Choice.{Candidate, choice}
+use Rattle.nova_model.specs.Deeds.{deed}
+use Rattle.nova_model.specs.Edges.{acts, state_in}
+use Rattle.nova_model.specs.Runs.{after}
+use Rattle.nova_model.specs.State.{KernelState}
+use Rattle.nova_model.specs.Turn.{answer_of, event_of, turn, turn_by}
+use Rattle.nova_model.specs.declared.context.State.TheVariants.{Parked}
+use Rattle.nova_model.specs.declared.deed.Deed.TheVariants.{Sends}
+use Rattle.nova_model.specs.declared.event.Event.{Event}
+use Rattle.nova_model.specs.declared.event.Turn.TheVariants.{Stepped}
+use Rattle.nova_laws.specs.Words.{words_at, written_by}
+use Rattle.nova_laws.proofs.Awaiting.{not_parked}
+use Rattle.nova_laws.proofs.Chosen.{Acts, choice_acts}
+use Rattle.nova_laws.proofs.Opening.{Wants, deed_wants}
+use Rattle.nova_laws.proofs.Wording.{others_keep}
+
+-- who is chosen acts, and so the event names one that acts
+named_acts : (k : KernelState) (cpu : ℕ) (e : Event) → answer_of (turn k cpu) ≡ Stepped e → acts k.contexts e.ec ≡ true
+unfolding turn
+named_acts k cpu e steps = by_choice (choice k cpu) (choice_acts k cpu) steps
+  where
+    by_choice : (o : Option Candidate) → IfSome o (Acts k) → answer_of (turn_by k cpu o) ≡ Stepped e → acts k.contexts e.ec ≡ true
+    by_choice None able h = absurd (cc)
+    by_choice (Some c) able h =
+        let same : event_of cpu c (deed k c.actor) ≡ e = cc in
+        subst (λ (f : Event). acts k.contexts f.ec ≡ true) same able
+
+pub raised_keep : (k : KernelState) (cpu : ℕ) (e : Event) (handler ip identifier : ℕ) (mtd : Mtd) (reason q0 q1 : ℕ) (words : List ℕ) → answer_of (turn k cpu) ≡ Stepped e →
+    deed k e.ec ≡ Sends handler ip identifier mtd reason q0 q1 → words_at k e.ec ≡ Some words → words_at (after k cpu) e.ec ≡ Some words
+raised_keep k cpu e handler ip identifier mtd reason q0 q1 words steps sends there =
+    let idle : state_in k.contexts handler ≡ Some Parked = (subst (Wants k e.ec) sends (deed_wants k e.ec)).1 in
+    let able = named_acts k cpu e steps in
+    let apart : handler ≢ e.ec = λ same. absurd (not_parked k.contexts e.ec able (subst (λ (n : ℕ). state_in k.contexts n ≡ Some Parked) same idle)) in
+    let writer : written_by e.ec (deed k e.ec) ≡ Some handler = ap (written_by e.ec) sends in
+    let differs : written_by e.ec (deed k e.ec) ≢ Some e.ec = λ writes. absurd (apart (let both : Some handler ≡ Some e.ec = sym writer ∙ writes in cc)) in
+    others_keep k cpu e e.ec words steps differs there
