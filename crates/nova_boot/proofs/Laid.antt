@@ -7,7 +7,8 @@ use Rattle.std.proofs.lemmas.List.Elements.{All-set}
 use Rattle.std.proofs.lemmas.Option.{slice_get-get_or}
 use Rattle.byteorder.specs.Endian.{little_bytes}
 use Rattle.nova_model.specs.Boot.{laid}
-use Rattle.nova_model.specs.Memory.{Memory, read, written, written_in, replaced}
+use Rattle.nova_model.specs.Memory.{Memory, read, written, written_in}
+use Rattle.nova_guest.specs.Frames.{replaced}
 use Rattle.nova_frames.specs.Store.{AreWhole, AreApart}
 use Rattle.nova_boot.specs.Laid.{byte_at, IsLaid}
 

@@ -6,10 +6,9 @@ use Rattle.std.proofs.lemmas.Bool.{eqb-true, eq-eqb}
 use Rattle.std.proofs.lemmas.Nat.{and_le_l, and_assoc, and_comm, pow_pos}
 use Rattle.nova_range.specs.Ranges.{IsRange, HasPlace, IsWithin}
 use Rattle.nova_range.specs.RangeWords.{HasWord}
-use Rattle.nova_range.specs.Rights.{IsRights}
+use Rattle.nova_range.specs.Rights.{IsRights, allows}
 use Rattle.nova_range.specs.declared.range.Range.{Range}
 use Rattle.nova_range.specs.declared.rights.Rights.{Rights}
-use Rattle.nova_model.specs.Delegations.{allows}
 use Rattle.nova_model.specs.Transfers.{common_rights}
 use Rattle.nova_model.specs.Translations.{smaller, seen_through}
 use Rattle.nova_model.specs.declared.delegation.Derivation.{Derivation}

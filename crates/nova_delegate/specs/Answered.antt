@@ -5,7 +5,8 @@ use Rattle.nova_range.specs.Ranges.{HasPlace, IsWithin}
 use Rattle.nova_range.specs.RangeWords.{meaning_of}
 use Rattle.nova_range.specs.declared.range.Range.{Range}
 use Rattle.nova_range.specs.declared.rights.Rights.{Rights}
-use Rattle.nova_model.specs.Delegations.{allows, range_of}
+use Rattle.nova_model.specs.Delegations.{range_of}
+use Rattle.nova_range.specs.Rights.{allows}
 use Rattle.nova_model.specs.Lines.{line}
 use Rattle.nova_model.specs.Transfers.{read_as}
 use Rattle.nova_model.specs.Translations.{smaller, seen_through}

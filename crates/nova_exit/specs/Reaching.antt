@@ -3,7 +3,8 @@ use Rattle.std.specs.Prelude.{ℕ, ◌≡◌, ◌≢◌, ◌≤◌, ◌⊎◌, �
 use Rattle.rv_model.specs.Registers.{Registers, reg}
 use Rattle.nova_range.specs.declared.mtd.TheConstants.Mtd.{PC, LOW, HIGH}
 use Rattle.nova_utcb.specs.Files.{IsFile}
-use Rattle.nova_utcb.specs.Messages.{groups_in, names, word}
+use Rattle.nova_utcb.specs.Messages.{groups_in, word}
+use Rattle.nova_range.specs.Mtds.{names}
 use Rattle.nova_model.specs.State.{Contexts, ec_in}
 use Rattle.nova_model.specs.Edges.{state_in, cpu_in, circle}
 use Rattle.nova_model.specs.declared.context.EcState.{EcState}

@@ -19,10 +19,11 @@ use Rattle.nova_model.specs.Capabilities.{is_held, is_pd, is_ec, is_sc, is_pt, n
 use Rattle.nova_model.specs.Creation.{object_of}
 use Rattle.nova_model.specs.Deeds.{deed}
 use Rattle.nova_model.specs.Deliveries.{is_busy}
-use Rattle.nova_model.specs.Delegations.{Delegations, allows, covers, has_place, is_same_kind, range_of}
+use Rattle.nova_model.specs.Delegations.{Delegations, covers, has_place, is_same_kind, range_of}
+use Rattle.nova_range.specs.Rights.{allows}
 use Rattle.nova_model.specs.Forest.{IsAligned, IsForest, IsFitting}
 use Rattle.nova_model.specs.Calls.{admitted}
-use Rattle.nova_model.specs.Hypercalls.{and_then, unless, maker, makes, new_domain, call, called, reply, replied, row, is_scheduled, is_virtual, ticks_in}
+use Rattle.nova_model.specs.Hypercalls.{and_then, unless, maker, makes, new_domain, call, called, reply, replied, row, is_scheduled, ticks_in}
 use Rattle.nova_model.specs.Portals.{handler_of}
 use Rattle.nova_model.specs.State.{KernelState, budget_at, context, is_local_thread, message, pd_of, processor_of}
 use Rattle.nova_model.specs.Transfers.{child_of}
@@ -208,8 +209,8 @@ row_free k ec asks.Reply selector = reply_free k ec
 row_free k ec (asks.CreatePd target pd first) selector =
     maker_free k (pd_of k ec) target pd (IsAllowed k ec) (λ o. Ok (new_domain k target first))
     (λ o free named. new_domain_free k ec target first (record { free = free; selector = selector; creator = named.creator; place = tt; bound = tt }))
-row_free k ec (asks.CreateEc target pd cpu kind sp event) selector = unless_free k ec (is_virtual kind) BadPar _
-    (makes_free k ec CREATE_EC target pd _ selector (λ o. made_context k (pd_of k ec) o cpu kind sp event (not (nat_lt cpu k.cpus))))
+row_free k ec (asks.CreateEc target pd cpu kind sp event) selector =
+    makes_free k ec CREATE_EC target pd _ selector (λ o. made_context k (pd_of k ec) o cpu kind sp event (not (nat_lt cpu k.cpus)))
 row_free k ec (asks.CreateSc target pd its quantum priority) (selector, turns) =
     makes_free k ec CREATE_SC target pd _ selector (λ o.
     made_schedule k (pd_of k ec) o quantum priority turns (named k (pd_of k ec) is_schedulable bind_scheduling_right its)

@@ -27,6 +27,7 @@ use Rattle.nova_model.specs.declared.transfer.Sequel.{Sequel}
 use Rattle.nova_model.specs.declared.transfer.Sequel.TheVariants as sequel
 use Rattle.nova_forest.specs.Made.{IsSame, Grows, Leaves, MakesObject, GivesChild, GrowsBy}
 use Rattle.nova_forest.proofs.Allowed.{IsAllowed, IsAsked, deed_allowed, ids_below}
+use Rattle.nova_forest.proofs.Stirred.{acted}
 
 unchanged : (k : KernelState) → IsSame k k
 unchanged k = record { objects = refl; delegations = refl }
@@ -130,7 +131,9 @@ charged_grows old new ec cpu sc g = counted_grows old new ec cpu sc (quantum_in 
 
 turn_by_grows : (k : KernelState) (cpu : ℕ) (c : Option Candidate) → GrowsBy k c (state_after k (turn_by k cpu c))
 turn_by_grows k cpu None = unchanged k
-turn_by_grows k cpu (Some c) = charged_grows k (done k c.actor (deed k c.actor)) c.actor cpu c.sc (deed_grows k c.actor)
+turn_by_grows k cpu (Some c) =
+    let now = done k c.actor (deed k c.actor) in
+    charged_grows k (acted k c.actor) c.actor cpu c.sc (grows_same k now (acted k c.actor) c.actor refl refl (deed_grows k c.actor))
 
 pub turn_grows : (k : KernelState) (cpu : ℕ) → GrowsBy k (choice k cpu) (after k cpu)
 unfolding turn

@@ -6,7 +6,13 @@ pub mod Jobs
 pub mod Walk
 pub mod Selectors
 pub mod Allowed
+pub mod Stirred
 pub mod Growth
 pub mod Boots
 pub mod Changes
 pub mod Lines
+pub mod Extremes
+pub mod Scopes
+pub mod Busy
+pub mod Leaves
+pub mod Courses

@@ -51,12 +51,12 @@ parent_is_found f d forest i = by_parent d.parent (all_at (λ (a : Derivation). 
         let own : with_id f.list has.0.id ≡ Some has.0 = member_found f.list has.0 forest.rising (in_from_contains f.list has.0 has.1) in
         ap is_some (sym (ap (with_id f.list) has.2) ∙ own)
 
-line_none : (n : ℕ) (list : List Derivation) → line_by n list None ≡ []
+pub line_none : (n : ℕ) (list : List Derivation) → line_by n list None ≡ []
 line_none zero list = refl
 line_none (suc n) list = refl
 
 -- any greater length will do
-line_enough : (f : Delegations) → IsForest f → (n m : ℕ) (d : Derivation) → IsIn f.list d → d.id < n → d.id < m → line_by n f.list (Some d) ≡ line_by m f.list (Some d)
+pub line_enough : (f : Delegations) → IsForest f → (n m : ℕ) (d : Derivation) → IsIn f.list d → d.id < n → d.id < m → line_by n f.list (Some d) ≡ line_by m f.list (Some d)
 line_enough f forest zero m d i a b = absurd (omega arith)
 line_enough f forest (suc n) zero d i a b = absurd (omega arith)
 line_enough f forest (suc n) (suc m) d i a b =

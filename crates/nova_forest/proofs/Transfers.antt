@@ -11,7 +11,8 @@ use Rattle.nova_range.specs.declared.range.Kind.TheVariants.{Mem, Obj}
 use Rattle.nova_range.specs.Ranges.{IsRange, overlaps}
 use Rattle.nova_range.proofs.Multiples.{coarse, end_within}
 use Rattle.nova_range.specs.declared.rights.Rights.{Rights}
-use Rattle.nova_model.specs.Delegations.{Delegations, allows, is_same_kind, range_of, meets, is_held_in, base_of}
+use Rattle.nova_model.specs.Delegations.{Delegations, is_same_kind, range_of, meets, is_held_in, base_of}
+use Rattle.nova_range.specs.Rights.{allows}
 use Rattle.nova_model.specs.Forest.{AreApart, IsAligned, IsAlignedFor, IsForest, IsFitting, IsWithin}
 use Rattle.nova_model.specs.Transfers.{source_of, dest_of, is_left, next_source, common_rights, child_of, child_range, judged}
 use Rattle.nova_model.specs.declared.delegation.Derivation.{Derivation}

@@ -1,3 +1,4 @@
 pub mod Made
 pub mod Changes
 pub mod Within
+pub mod Courses

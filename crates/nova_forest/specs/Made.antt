@@ -8,7 +8,8 @@ use Rattle.nova_range.specs.declared.range.Kind.TheVariants.{Obj}
 use Rattle.nova_range.specs.declared.range.Range.{Range}
 use Rattle.nova_range.specs.declared.rights.Rights.{Rights}
 use Rattle.nova_model.specs.Capabilities.{bind_portal_right, bind_scheduling_right, create_right, is_held, is_local, is_schedulable, rights_to}
-use Rattle.nova_model.specs.Delegations.{allows, range_of, is_held_in, added}
+use Rattle.nova_model.specs.Delegations.{range_of, is_held_in, added}
+use Rattle.nova_range.specs.Rights.{allows}
 use Rattle.nova_model.specs.Deliveries.{delivery}
 use Rattle.nova_model.specs.Forest.{IsForest, IsFitting}
 use Rattle.nova_model.specs.Hypercalls.{is_scheduled}

@@ -1,6 +1,7 @@
 -- What a derivation may be used for, against what those may that it comes from.
 use Rattle.std.specs.Prelude.{◌≡◌, ℕ, ◌+◌, ◌^◌, ◌<◌, ◌≤◌, true, List, [], ◌∷◌, is_some, Option, Some, None}
-use Rattle.nova_model.specs.Delegations.{allows, parent_of}
+use Rattle.nova_model.specs.Delegations.{parent_of}
+use Rattle.nova_range.specs.Rights.{allows}
 use Rattle.nova_model.specs.Lines.{line}
 use Rattle.nova_model.specs.declared.delegation.Derivation.{Derivation}
 

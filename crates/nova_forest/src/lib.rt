@@ -3,6 +3,8 @@
 //! are the laws.
 #![tactic(auto)]
 
+pub mod revokes;
+
 ghost use Rattle.std.specs.Prelude.{ℕ, List, Contains};
 ghost use Rattle.nova_model.specs.Boot.{Scenario, boot};
 ghost use Rattle.nova_model.specs.Choice.{choice};

@@ -7,7 +7,8 @@ use Rattle.std.proofs.lemmas.Grind.{common_steps, elements}
 use Rattle.std.proofs.lemmas.Option.{slice_get-get_or, gets}
 use Rattle.byteorder.specs.Endian.{little_from, little_number, little_bytes}
 use Rattle.byteorder.specs.Numbers.{little_from-bytes, length-bytes_low_first}
-use Rattle.nova_model.specs.Memory.{Memory, read, written, replaced}
+use Rattle.nova_model.specs.Memory.{Memory, read, written}
+use Rattle.nova_guest.specs.Frames.{replaced}
 use Rattle.nova_frames.specs.Store.{AreWhole, AreApart}
 
 -- the number that was stored there

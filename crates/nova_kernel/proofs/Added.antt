@@ -1,8 +1,6 @@
 -- What the lists show of an object that is added.
-use Rattle.std.proofs.Common.{◌≡◌, ℕ, List, [], ◌∷◌, ◌++◌, refl}
-use Rattle.std.specs.Prelude.{None, map, option_map, option_and_then}
-use Rattle.std.proofs.lemmas.List.{map-append}
-use Rattle.nova_objects.specs.declared.object.Object.{Object}
+use Rattle.std.proofs.Common.{◌≡◌, ℕ, refl}
+use Rattle.std.specs.Prelude.{None, option_map, option_and_then}
 use Rattle.nova_objects.specs.declared.object.EcKind.{EcKind}
 use Rattle.nova_objects.specs.declared.object.EcKind.TheVariants.{Local, Global, Vcpu}
 use Rattle.nova_model.specs.Creation.{first_state, context_of}
@@ -10,10 +8,6 @@ use Rattle.nova_model.specs.Edges.{edge_of}
 use Rattle.nova_model.specs.declared.context.EcState.{EcState}
 use Rattle.nova_model.specs.declared.new_object.NewObject.{NewObject}
 use Rattle.nova_model.specs.declared.new_object.NewObject.TheVariants as new
-use Rattle.nova_kernel.specs.Birth.{guest_of}
-
-pub guests-added : (objects : List Object) (o : Object) → map guest_of (objects ++ o ∷ []) ≡ map guest_of objects ++ guest_of o ∷ []
-guests-added objects o = map-append guest_of objects (o ∷ [])
 
 -- an execution context that is made waits for no other
 waits-for_none : (kind : EcKind) → edge_of (first_state kind) ≡ None
@@ -28,4 +22,4 @@ made_alone number (new.Sc ec cpu priority quantum) = refl
 made_alone number (new.Pt ec mtd ip) = refl
 made_alone number (new.Sm count) = refl
 
-pub ruleset added = (made_alone, guests-added)
+pub ruleset added = (made_alone)

@@ -4,7 +4,7 @@ use Rattle.std.specs.Prelude.{Option, Some, None, slice_get, slice_index, length
 use Rattle.std.specs.List.{AllByRecursion, range_with_len}
 use Rattle.std.proofs.lemmas.List.{length-replicate}
 use Rattle.std.proofs.Math.Pow.{pow_mono}
-use Rattle.nova_model.specs.State.{budget_at, transfer_at}
+use Rattle.nova_model.specs.State.{budget_at, entry, transfer_at}
 use Rattle.nova_model.specs.Boot.{bare, root_derivations, console_derivation, object_derivation}
 use Rattle.nova_model.specs.declared.delegation.Derivation.{Derivation}
 use Rattle.nova_model.specs.declared.root.Root.{Root}
@@ -15,6 +15,7 @@ use Rattle.nova_model.specs.Boot.{laid}
 use Rattle.nova_frames.specs.Store.{FrameStore}
 use Rattle.std.proofs.lemmas.List.{length-set}
 use Rattle.nova_kernel.specs.Parts.{IsAtItem, IsCounted, IsGivenWithin, IsPaidWithin}
+use Rattle.nova_kernel.specs.Stirs.{IsStirredWithin}
 use Rattle.nova_forest.proofs.Boots.{bare_forest}
 
 -- an object is no page
@@ -48,6 +49,12 @@ ticks-bare cpus ram consoles root (suc zero) = omega arith
 ticks-bare cpus ram consoles root (suc (suc zero)) = omega arith
 ticks-bare cpus ram consoles root (suc (suc (suc n))) = omega arith
 
+guests-bare : (cpus ram consoles : ℕ) (root : Root) (g : ℕ) → IsStirredWithin 0 (entry (slice_get (bare cpus ram consoles root).stirs.guests g))
+guests-bare cpus ram consoles root zero = omega arith
+guests-bare cpus ram consoles root (suc zero) = omega arith
+guests-bare cpus ram consoles root (suc (suc zero)) = omega arith
+guests-bare cpus ram consoles root (suc (suc (suc n))) = omega arith
+
 children-bare : (cpus ram consoles : ℕ) (root : Root) (ec : ℕ) → IsGivenWithin 0 (transfer_at (bare cpus ram consoles root) ec)
 children-bare cpus ram consoles root zero = omega arith
 children-bare cpus ram consoles root (suc zero) = omega arith
@@ -68,9 +75,10 @@ IsCounted_bare cpus ram consoles root few kept = record {
     stamps = omega arith;
     ticks = ticks-bare cpus ram consoles root;
     stirs = zeros cpus;
+    guests = guests-bare cpus ram consoles root;
   };
   numbered = record { objects = omega arith; derivations = omega arith };
-  tables = record { contexts = refl; messages = refl; transfers = refl; budgets = refl; identifiers = refl; semaphores = refl };
+  tables = record { contexts = refl; messages = refl; transfers = refl; budgets = refl; identifiers = refl; semaphores = refl; guests = refl };
   children = children-bare cpus ram consoles root;
   items = items-bare cpus ram consoles root;
   forest = bare_forest cpus ram consoles root;

@@ -1,11 +1,12 @@
 -- Bounds of what is counted, table by table: they stay where an entry joins or changes.
 use Rattle.std.proofs.Common.{◌≡◌, ℕ, zero, suc, ◌+◌, ◌≤◌, List, [], ◌∷◌, ◌++◌, length, refl, ap, sym, ◌∙◌, arith}
-use Rattle.std.specs.Prelude.{◌<◌, Option, Some, None, IsSome, slice_get, slice_set}
+use Rattle.std.specs.Prelude.{◌<◌, Bool, true, false, Option, Some, None, IsSome, option_map, slice_get, slice_set}
 use Rattle.std.proofs.lemmas.List.{length-append}
-use Rattle.nova_model.specs.Creation.{budget_of, stamp_past, transfer_of}
+use Rattle.nova_model.specs.Creation.{budget_of, stir_count_of, stamp_past, transfer_of}
 use Rattle.nova_model.specs.Deeds.{transfer_after, gave, skipped}
 use Rattle.nova_model.specs.State.{KernelState, entry, transfer_in}
 use Rattle.nova_objects.specs.declared.object.Object.{Object}
+use Rattle.nova_objects.specs.declared.object.EcKind.TheVariants.{Local, Global, Vcpu}
 use Rattle.nova_objects.specs.declared.object.Object.TheVariants.{Pd, Ec, Sc, Pt, Sm}
 use Rattle.nova_model.specs.declared.new_object.NewObject.{NewObject}
 use Rattle.nova_model.specs.declared.new_object.NewObject.TheVariants as new
@@ -15,6 +16,7 @@ use Rattle.nova_model.specs.declared.transfer.Transfer.{Transfer}
 use Rattle.nova_model.specs.declared.budget.Budget.{Budget}
 use Rattle.nova_kernel.specs.Acts.{IsSequel}
 use Rattle.nova_kernel.specs.Parts.{IsAtItem, IsGivenWithin, IsPaidWithin}
+use Rattle.nova_kernel.specs.Stirs.{IsStirredWithin, risen, risen_from}
 
 -- tables
 
@@ -108,6 +110,39 @@ next-given turns item Item = omega arith
 next-given turns item Opened = omega arith
 next-given turns item Taken = omega arith
 next-given turns item (Replied caller mark) = omega arith
+
+-- stir counts of virtual CPUs
+
+pub inputs-more : (turns n : ℕ) (xs : List (Option ℕ)) (o : Option ℕ) → IsStirredWithin turns o → IsStirredWithin turns (entry (slice_get xs n)) →
+    IsStirredWithin turns (entry (slice_get (xs ++ o ∷ []) n))
+inputs-more turns zero [] o new old = new
+inputs-more turns (suc n) [] o new old = omega arith
+inputs-more turns zero (x ∷ xs) o new old = old
+inputs-more turns (suc n) (x ∷ xs) o new old = inputs-more turns n xs o new old
+
+pub none-stirred : (turns : ℕ) (o : Object) → IsStirredWithin turns (stir_count_of o)
+none-stirred turns Pd = omega arith
+none-stirred turns (Ec pd cpu Local event) = omega arith
+none-stirred turns (Ec pd cpu Global event) = omega arith
+none-stirred turns (Ec pd cpu Vcpu event) = omega arith
+none-stirred turns (Sc ec cpu priority quantum) = omega arith
+none-stirred turns (Pt ec mtd ip) = omega arith
+none-stirred turns Sm = omega arith
+
+risen-within : (turns : ℕ) (stirs : Bool) (o : Option ℕ) → IsStirredWithin turns o → IsStirredWithin (turns + 1) (option_map (risen stirs) o)
+risen-within turns true (Some count) h = omega arith
+risen-within turns false (Some count) h = omega arith
+risen-within turns stirs None h = omega arith
+
+pub inputs-risen : (turns g n : ℕ) (stirs : ℕ → Bool) (xs : List (Option ℕ)) → IsStirredWithin turns (entry (slice_get xs n)) →
+    IsStirredWithin (turns + 1) (entry (slice_get (risen_from stirs g xs) n))
+inputs-risen turns g n stirs [] h = omega arith
+inputs-risen turns g zero stirs (x ∷ xs) h = risen-within turns (stirs g) x h
+inputs-risen turns g (suc n) stirs (x ∷ xs) h = inputs-risen turns (g + 1) n stirs xs h
+
+pub length-risen : (g : ℕ) (stirs : ℕ → Bool) (xs : List (Option ℕ)) → length (risen_from stirs g xs) ≡ length xs
+length-risen g stirs [] = refl
+length-risen g stirs (x ∷ xs) = ap suc (length-risen (g + 1) stirs xs)
 
 -- budgets
 

@@ -12,6 +12,7 @@ use Rattle.nova_sched.specs.Queues.{Schedule, charged, charged_by, queued_at}
 use Rattle.nova_sched.specs.declared.queued.Queued.{Queued}
 use Rattle.nova_kernel.specs.Schedules.{AreQueued, budgets_of, leads, wanted, wanted_with}
 use Rattle.nova_kernel.proofs.Budgets.{budgets_set}
+use Rattle.nova_kernel.specs.Stirs.{risen_in}
 use Rattle.nova_kernel.proofs.Joins.{get_set_other, get_set_same}
 
 -- what the queues hold of a scheduling context is what the state says
@@ -152,3 +153,7 @@ pub charge_queued : (k mid new : KernelState) (s between after : Schedule) (cpu 
 charge_queued k mid new s between after cpu sc queued there paid counts charges same =
     subst (λ (x : KernelState). AreQueued x after) (sym (charged_from k mid new cpu sc paid counts))
     (charged_there k s after cpu sc queued there (same ∙ charges))
+
+-- stir counts are nothing to the queues
+pub queued_risen : (k : KernelState) (rises : ℕ → Bool) (s : Schedule) → AreQueued k s → AreQueued (risen_in k rises) s
+queued_risen k rises s q = record { cpus = q.cpus; numbers = q.numbers; stamp = q.stamp; entries = q.entries; homes = q.homes }

@@ -20,7 +20,10 @@ pub mod Booted
 pub mod Quiet
 pub mod Placed
 pub mod Added
+pub mod GuestTables
+pub mod Stirred
 pub mod Below
 pub mod Rooted
 pub mod Granted
 pub mod Told
+pub mod Views

@@ -4,6 +4,7 @@ use Rattle.std.specs.Prelude.{Option, Some, option_map, true, Result, Ok, Err, O
 use Rattle.nova_model.specs.Choice.{choice}
 use Rattle.nova_model.specs.Deeds.{deed, done, is_making}
 use Rattle.nova_model.specs.Delegations.{Delegations}
+use Rattle.nova_model.specs.Inputs.{stirred}
 use Rattle.nova_model.specs.State.{KernelState}
 use Rattle.nova_model.specs.Turn.{state_after, turn, turn_by}
 use Rattle.nova_model.specs.Choice.{Candidate}
@@ -25,7 +26,7 @@ making-turn : (k : KernelState) (cpu : ℕ) (c : Candidate) → choice k cpu ≡
 unfolding turn
 making-turn k cpu c chosen making =
     subst (λ (o : Option Candidate). HasMade k (state_after k (turn_by k cpu o))) (sym chosen)
-    (subst (λ (f : Delegations). k.delegations.next < f.next) (sym (delegations-charged (done k c.actor (deed k c.actor)) cpu c.sc))
+    (subst (λ (f : Delegations). k.delegations.next < f.next) (sym (delegations-charged (stirred k c.actor (deed k c.actor) (done k c.actor (deed k c.actor))) cpu c.sc))
     (done-making k c.actor (deed k c.actor) making))
 
 making-told : (k : KernelState) (cpu : ℕ) (chosen : Chosen) → IsTold k cpu chosen → is_making (deed k chosen.actor) ≡ true → IsMaking k cpu

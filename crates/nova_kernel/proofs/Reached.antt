@@ -1,18 +1,21 @@
 -- What an instruction over the bus is for the state of the kernel.
 use Rattle.std.proofs.Common.{◌≡◌, ℕ, List, refl, ap, ap₂, ◌∙◌, subst}
-use Rattle.std.specs.Prelude.{Bool, if◌then◌else◌, slice_get, Option, Some, None}
+use Rattle.std.specs.Prelude.{Bool, if◌then◌else◌, slice_get, Option, Some, None, option_and_then}
 use Rattle.rv_model.specs.Step.{Once, Raised, Went, Store, one}
 use Rattle.rv_core.specs.Steps.{space_of}
 use Rattle.rv_core.specs.declared.outcome.Outcome.{Outcome}
 use Rattle.nova_ec.specs.Tables.{EcTable, Steps as Steps_of}
-use Rattle.nova_model.specs.AddressSpaces.{AddressSpace, space, space_through, after_store, words_after_store}
+use Rattle.nova_range.specs.Rights.{write_right}
+use Rattle.nova_model.specs.AddressSpaces.{AddressSpace, frame_for, space, space_through, after_store, words_after_store}
 use Rattle.nova_model.specs.Deeds.{address_space, instruction, stepped, done}
 use Rattle.nova_model.specs.Delegations.{Delegations}
+use Rattle.nova_model.specs.Inputs.{store_of}
 use Rattle.nova_model.specs.Memory.{Memory}
 use Rattle.nova_model.specs.State.{KernelState, Contexts, entry, ec_of, message_in, with_ec, context, pd_of, is_thread}
 use Rattle.nova_model.specs.declared.deed.Deed.TheVariants.{Steps}
 use Rattle.nova_model.specs.declared.delegation.Derivation.{Derivation}
 use Rattle.nova_kernel.specs.Acts.{outcome_of}
+use Rattle.nova_kernel.specs.Stirs.{frame_at, written_by}
 use Rattle.nova_kernel.specs.Reach.{ReachState, reached, fetched, loaded, takes, stored}
 
 -- the state with what an instruction reaches, and with another table of execution contexts
@@ -95,5 +98,21 @@ pub steps-there : (k : KernelState) (t t' : EcTable) (ec : ℕ) (reach reach' : 
     (outcome ≡ outcome_of (instruction k ec)) × (reaching k reach' t'.items ≡ done k ec Steps)
 steps-there k t t' ec reach reach' outcome is r h =
     reaching-steps k t t' ec reach reach' outcome (instruction k ec) is r
+    (subst (λ (a : AddressSpace). Steps_of stored (one (context k ec).regs (space a)) t ec reach outcome t' reach') (space-reached k ec reach r)
+    (subst (λ (cs : Contexts). Steps_of stored (one (ec_of cs ec).regs (space (reached reach))) t ec reach outcome t' reach') is h))
+
+-- the frame that the instruction stored to
+reaching-written : (k : KernelState) (t t' : EcTable) (ec : ℕ) (reach reach' : ReachState) (outcome : Outcome) (o : Once) → IsReached k ec reach →
+    reach.written ≡ None → Steps_of stored o t ec reach outcome t' reach' → reach'.written ≡ option_and_then (frame_at k ec) (store_of o)
+reaching-written k t t' ec reach reach' outcome (Raised reason q0 q1) r none h = ap (λ (s : ReachState). s.written) h.2 ∙ none
+reaching-written k t t' ec reach reach' outcome (Went regs None) r none h = ap (λ (s : ReachState). s.written) h.2 ∙ none
+reaching-written k t t' ec reach reach' outcome (Went regs (Some store)) r none h =
+    ap (λ (s : ReachState). s.written) h.2 ∙ ap (λ (a : AddressSpace). frame_for a write_right store.address) (space-reached k ec reach r)
+
+pub written-there : (k : KernelState) (t t' : EcTable) (ec : ℕ) (reach reach' : ReachState) (outcome : Outcome) → t.items ≡ k.contexts → IsReached k ec reach →
+    reach.written ≡ None → Steps_of stored (one (ec_of t.items ec).regs (space_of fetched loaded takes reach)) t ec reach outcome t' reach' →
+    reach'.written ≡ written_by k ec
+written-there k t t' ec reach reach' outcome is r none h =
+    reaching-written k t t' ec reach reach' outcome (instruction k ec) r none
     (subst (λ (a : AddressSpace). Steps_of stored (one (context k ec).regs (space a)) t ec reach outcome t' reach') (space-reached k ec reach r)
     (subst (λ (cs : Contexts). Steps_of stored (one (ec_of cs ec).regs (space (reached reach))) t ec reach outcome t' reach') is h))

@@ -1,5 +1,5 @@
 -- What the parts of a turn answer and leave.
-use Rattle.std.specs.Prelude.{ℕ, ◌≡◌, ◌<◌, ◌≤◌, ◌+◌, ◌^◌, Bool, true, false, if◌then◌else◌, length, Option, Some, None, Ok, IsSome, IfSome}
+use Rattle.std.specs.Prelude.{ℕ, ◌≡◌, ◌<◌, ◌≤◌, ◌+◌, ◌^◌, ◌&&◌, Bool, true, false, not, if◌then◌else◌, length, Option, Some, None, Ok, IsSome, IfSome}
 use Rattle.rv_core.specs.declared.outcome.Outcome.{Outcome}
 use Rattle.rv_core.specs.declared.outcome.Outcome.TheVariants.{Next, Raise}
 use Rattle.rv_model.specs.Step.{Once, Raised, Went}
@@ -13,6 +13,9 @@ use Rattle.nova_model.specs.Deliveries.{is_busy}
 use Rattle.nova_model.specs.Edges.{caller_in}
 use Rattle.nova_model.specs.State.{KernelState, context, context_at, message, transfer}
 use Rattle.nova_model.specs.declared.admit.Admit.TheVariants.{Send, Help}
+use Rattle.nova_model.specs.declared.context.EcState.{EcState}
+use Rattle.nova_model.specs.declared.context.State.{State}
+use Rattle.nova_model.specs.declared.context.State.TheVariants.{Ready}
 use Rattle.nova_model.specs.declared.admit.ExitAdmit.TheVariants as exit
 use Rattle.nova_model.specs.declared.semaphore.Down.TheVariants.{Done, Blocked}
 use Rattle.nova_model.specs.declared.transfer.Delivery.{Delivery}
@@ -30,6 +33,18 @@ use Rattle.nova_model.specs.declared.deed.Deed.TheVariants.{Rests, Steps, Waits,
 abbrev pub outcome_of : Once → Outcome
 outcome_of (Raised reason q0 q1) = Raise reason q0 q1
 outcome_of (Went regs store) = Next
+
+-- an instruction is next of one that is ready, unless a recall is asked for
+abbrev pub is_ready : State → Bool
+is_ready Ready = true
+is_ready other = false
+
+abbrev pub is_ready_at : Option EcState → Bool
+is_ready_at (Some x) = is_ready x.state
+is_ready_at None = false
+
+abbrev pub is_executing : EcState → Bool
+is_executing x = is_ready x.state && not x.recall
 
 -- the words of an item that ended are written to one who is there
 abbrev pub IsToldThere : KernelState → Option ItemWords → Type 0
@@ -76,6 +91,11 @@ is_over Steps = true
 is_over (Gives child cursor) = true
 is_over (Skips reason place cursor) = true
 is_over other = false
+
+-- an instruction went on
+abbrev pub is_step : Deed → Bool
+is_step Steps = true
+is_step other = false
 
 -- what a deed makes of its execution context is all that it does to contexts, message words and semaphores, but for a recall
 abbrev pub is_alone : Deed → Bool

@@ -2,6 +2,7 @@
 use Rattle.std.specs.Prelude.{ℕ, slice_get, Option, Some, None}
 use Rattle.nova_model.specs.Choice.{Candidate}
 use Rattle.nova_model.specs.Deeds.{deed, done}
+use Rattle.nova_model.specs.Inputs.{stirred}
 use Rattle.nova_model.specs.State.{KernelState}
 use Rattle.nova_model.specs.Turn.{Step, charged, event_by}
 use Rattle.nova_kernel.specs.Schedules.{actor_of}
@@ -22,4 +23,4 @@ led k (Some sc) = led_by sc (actor_of k.contexts (slice_get k.objects sc))
 
 -- the turn of such a choice
 abbrev pub taken_by : KernelState → ℕ → Chosen → Step
-taken_by k cpu c = record { kernel = charged (done k c.actor (deed k c.actor)) cpu c.sc; event = event_by cpu c.sc c.actor (deed k c.actor) }
+taken_by k cpu c = record { kernel = charged (stirred k c.actor (deed k c.actor) (done k c.actor (deed k c.actor))) cpu c.sc; event = event_by cpu c.sc c.actor (deed k c.actor) }

@@ -11,7 +11,6 @@ pub use Rattle.nova_model.specs.Turn
 pub use Rattle.nova_model.specs.Runs
 pub use Rattle.nova_model.specs.Boot
 pub mod Views
-pub mod Birth
 pub mod Messages
 pub mod Parts
 pub mod ObjectTypes
@@ -19,3 +18,5 @@ pub mod Acts
 pub mod Schedules
 pub mod Choices
 pub mod Reach
+pub mod Stirs
+pub mod GuestTables

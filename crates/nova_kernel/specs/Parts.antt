@@ -1,7 +1,7 @@
 -- What the kernel's lists show of its state, and what always holds of them.
-use Rattle.std.specs.Prelude.{IsSome, slice_index, ℕ, ◌+◌, ◌*◌, ◌^◌, ◌<◌, ◌≤◌, ◌≡◌, length, vec_len, vec_capacity, Option, Some, None}
+use Rattle.std.specs.Prelude.{IsSome, slice_get, slice_index, ℕ, ◌+◌, ◌*◌, ◌^◌, ◌<◌, ◌≤◌, ◌≡◌, length, vec_len, vec_capacity, Option, Some, None}
 use Rattle.nova_model.specs.Forest.{IsForest}
-use Rattle.nova_model.specs.State.{KernelState, context_at, budget_at, transfer_at}
+use Rattle.nova_model.specs.State.{KernelState, context_at, budget_at, entry, transfer_at}
 use Rattle.nova_laws.specs.Keeping.{IsKept}
 use Rattle.nova_model.specs.declared.deed.Deed.{Deed}
 use Rattle.nova_model.specs.declared.deed.Deed.TheVariants.{Makes, Opens}
@@ -12,8 +12,8 @@ use Rattle.nova_model.specs.declared.new_object.NewObject.TheVariants.{Sc}
 use Rattle.nova_nodes.specs.NodesStates.{room}
 use Rattle.nova_sched.specs.Queues.{QueuesState, Schedule}
 use Rattle.nova_sched.specs.Queues as queues
-use Rattle.nova_kernel.specs.Birth.{guests_at_birth}
 use Rattle.nova_kernel.specs.Schedules.{budgets_of}
+use Rattle.nova_kernel.specs.Stirs.{IsStirredWithin}
 use Rattle.nova_kernel.specs.declared.parts.Parts.{Parts}
 
 -- the state that the lists show
@@ -32,7 +32,7 @@ shown p = record {
   turns = p.turns;
   cpus = p.cpus;
   consoles = p.reach.consoles;
-  stirs = record { guests = guests_at_birth p.objects.items; processors = p.stirs.items };
+  stirs = record { guests = p.guests.counts; processors = p.stirs.items };
 }
 
 -- each list has room for one more, that of derivations for one of a protection domain
@@ -45,6 +45,7 @@ pub record HasRoom (pd : ℕ) (p : Parts) : Type 0 where
   pub identifiers : vec_len p.identifiers < vec_capacity p.identifiers
   pub semaphores : 0 < p.semaphores.spare
   pub waiting : length p.semaphores.all < p.semaphores.contexts
+  pub guests : 0 < p.guests.spare
 
 -- and a scheduling context has room in the queue of its processor
 abbrev pub HasQueue : NewObject → ℕ → QueuesState → Type 0
@@ -70,6 +71,7 @@ pub record AreTables (k : KernelState) : Type 0 where
   pub budgets : length k.budgets ≡ length k.objects
   pub identifiers : length k.identifiers ≡ length k.objects
   pub semaphores : length k.semaphores ≡ length k.objects
+  pub guests : length k.stirs.guests ≡ length k.objects
 
 -- the numbers that were given: at boot 3 to objects and at most 20 to derivations, and in a turn at most one of each
 pub record IsNumbered (turns : ℕ) (k : KernelState) : Type 0 where
@@ -91,21 +93,26 @@ abbrev pub IsAtItem : Option Transfer → Type 0
 IsAtItem (Some t) = t.item < 62
 IsAtItem None = Unit {0}
 
--- what turns are charged to is bounded by the turns that were taken, and stamps by a number
-pub record IsChargedWithin (most : ℕ) (k : KernelState) : Type 0 where
+-- what turns are charged to is bounded by the turns that were taken, stamps by a number, and stir counts of virtual CPUs by another
+pub record IsChargedWithin (most inputs : ℕ) (k : KernelState) : Type 0 where
   pub turns : k.turns ≤ 2 ^ 31
   pub processors : length k.stirs.processors ≡ k.cpus
   pub stamps : k.next_stamp ≤ most
   pub ticks : (sc : ℕ) → IsPaidWithin k.turns (budget_at k sc)
   pub stirs : (cpu : ℕ) → slice_index k.stirs.processors cpu ≤ k.turns
+  pub guests : (g : ℕ) → IsStirredWithin inputs (entry (slice_get k.stirs.guests g))
 
 -- a turn takes at most two stamps: one for a scheduling context that is made, and one for a quantum that begins anew
 abbrev pub IsCharged : KernelState → Type 0
-IsCharged k = IsChargedWithin (2 * k.turns + 1) k
+IsCharged k = IsChargedWithin (2 * k.turns + 1) k.turns k
 
--- after a deed, before its turn is charged
+-- after a deed, before what it is for virtual CPUs is counted
+abbrev pub IsToBeStirred : KernelState → Type 0
+IsToBeStirred k = IsChargedWithin (2 * k.turns + 2) k.turns k
+
+-- and after that, one input at most for each of them, before its turn is charged
 abbrev pub IsToBeCharged : KernelState → Type 0
-IsToBeCharged k = IsChargedWithin (2 * k.turns + 2) k
+IsToBeCharged k = IsChargedWithin (2 * k.turns + 2) (k.turns + 1) k
 
 -- what always holds: bounds of what is counted, an entry of each table for each object, delegations that are a sound forest, and what each turn keeps of
 -- the state that it finds
@@ -118,7 +125,7 @@ pub record IsCounted (k : KernelState) : Type 0 where
   pub forest : IsForest k.delegations
   pub kept : IsKept k
 
--- an act leaves each execution context and each scheduling context there, and lets none pay; it gives at most one number to an object and to
+-- a deed leaves each execution context and each scheduling context there, lets none pay, and counts no input; it gives at most one number to an object and to
 -- a derivation, at most one stamp, and counts at most one child
 pub record KeepsCounts (old new : KernelState) : Type 0 where
   pub contexts : (ec : ℕ) → IsSome (context_at old ec) → IsSome (context_at new ec)
@@ -130,6 +137,7 @@ pub record KeepsCounts (old new : KernelState) : Type 0 where
   pub turns : new.turns ≡ old.turns
   pub cpus : new.cpus ≡ old.cpus
   pub processors : new.stirs.processors ≡ old.stirs.processors
+  pub guests : (g turns : ℕ) → IsStirredWithin turns (entry (slice_get old.stirs.guests g)) → IsStirredWithin turns (entry (slice_get new.stirs.guests g))
   pub objects : length new.objects ≤ length old.objects + 1
   pub derivations : new.delegations.next ≤ old.delegations.next + 1
   pub tables : AreTables old → AreTables new

@@ -2,18 +2,19 @@
 use Rattle.std.specs.Prelude.{◌≡◌, true, false, ◌-◌, ℕ, ◌+◌, ◌^◌, ◌≤◌, Bool, List, length, slice_get, if◌then◌else◌, Option, Some, None}
 use Rattle.std.specs.List.{AllByRecursion, find}
 use Rattle.rv_model.specs.Step.{Store}
+use Rattle.nova_range.specs.Rights.{write_right}
 use Rattle.nova_range.specs.declared.range.Kind.TheVariants.{Mem, Obj}
 use Rattle.nova_range.specs.declared.range.Range.{Range}
 use Rattle.nova_model.specs.Memory.{Memory}
 use Rattle.nova_model.specs.Delegations.{covers, is_memory}
-use Rattle.nova_model.specs.AddressSpaces.{AddressSpace, space, space_through, after_store, words_after_store}
+use Rattle.nova_model.specs.AddressSpaces.{AddressSpace, frame_for, space, space_through, after_store, words_after_store}
 use Rattle.nova_model.specs.State.{entry, message_in}
 use Rattle.nova_model.specs.declared.delegation.Derivation.{Derivation}
 use Rattle.nova_nodes.specs.NodesStates.{NodesState}
 use Rattle.nova_kernel.specs.Messages.{MessageTable}
 
--- the derivations, the memory, the message words of all, the execution context that acts, its protection domain, whether it is a thread, how many
--- consoles there are, and how many more bytes the log takes
+-- the derivations, the memory, the message words of all, the execution context that acts, its protection domain, whether it is a thread, the frame that the
+-- last store went to, how many consoles there are, and how many more bytes the log takes
 pub record ReachState : Type 0 where
   pub nodes : NodesState
   pub memory : Memory
@@ -21,6 +22,7 @@ pub record ReachState : Type 0 where
   pub ec : ℕ
   pub pd : ℕ
   pub is_thread : Bool
+  pub written : Option ℕ
   pub consoles : ℕ
   pub room : ℕ
 
@@ -60,6 +62,7 @@ abbrev pub stored : Store → ReachState → ReachState
 stored store s = record s {
   memory = after_store (reached s) store s.memory;
   messages = record s.messages { items = words_after_store (reached s) s.ec store s.messages.items };
+  written = frame_for (reached s) write_right store.address;
   room = s.room + length s.memory.log - length (after_store (reached s) store s.memory).log;
 }
 

@@ -8,6 +8,7 @@ ghost use Rattle.nova_kernel.specs.Schedules.{root_schedule};
 ghost use Rattle.nova_kernel.specs.Reach.{page_range, selector_range};
 
 use crate::creation::NO_TRANSFER;
+use crate::guests::Guests;
 use crate::messages::Messages;
 use crate::parts::Parts;
 use crate::reach::Reach;
@@ -223,6 +224,18 @@ fn root_semaphores(alloc: Global) -> Result<Sems, AllocError>
     Ok(semaphores)
 }
 
+/// No stir counts of virtual CPUs: an entry for each of the root's objects, which has none.
+fn root_guests(alloc: Global) -> Result<Guests, AllocError>
+    ensures { IfOk result (λ g. g.counts ≡ None ∷ None ∷ None ∷ []) }
+{
+    let mut guests = Guests::new(alloc);
+    guests.reserve(3)?;
+    guests.add(None);
+    guests.add(None);
+    guests.add(None);
+    Ok(guests)
+}
+
 /// A count of 0 for each processor.
 fn first_stirs(alloc: Global, cpus: u32) -> Result<Vec<u64>, AllocError>
     ensures { IfOk result (λ v. v.items ≡ replicate cpus 0) }
@@ -255,6 +268,7 @@ impl Parts {
         let identifiers = no_entries(alloc)?;
         let semaphores = root_semaphores(alloc)?;
         let stirs = first_stirs(alloc, cpus)?;
+        let guests = root_guests(alloc)?;
         Ok(Parts {
             reach,
             objects,
@@ -266,6 +280,7 @@ impl Parts {
             turns: 0,
             cpus,
             stirs,
+            guests,
         })
     }
 }
@@ -292,6 +307,7 @@ impl Reach {
             ec: 1,
             pd: 0,
             is_thread: true,
+            written: None,
         })
     }
 }

@@ -2,13 +2,14 @@ ghost use Rattle.std.specs.Prelude.{◌≡◌, slice_get, IsSome, IfSome, option
 ghost use Rattle.nova_model.specs.Choice.{choice, choose, is_quiet};
 ghost use Rattle.nova_model.specs.State.{context_at, ec_in};
 ghost use Rattle.nova_sched.specs.Queues as queues;
+ghost use Rattle.nova_kernel.specs.Acts.{is_ready_at};
 ghost use Rattle.nova_kernel.specs.Choices.{chosen_of, led};
 ghost use Rattle.nova_kernel.specs.Parts.{shown};
 ghost use Rattle.nova_kernel.specs.Schedules.{AreQueued, actor_of};
 
 use crate::parts::Parts;
 use nova_ec::Ecs;
-use nova_model::Object;
+use nova_model::{Object, State};
 use nova_objects::Objects;
 
 /// A scheduling context that has a turn, and the execution context that acts in it.
@@ -18,6 +19,16 @@ pub struct Chosen {
     pub actor: u32,
 }
 
+/// Whether an execution context is ready, so that it acts in its own turns.
+fn is_ready(contexts: &Ecs, ec: u32) -> bool
+    ensures { result ≡ is_ready_at (ec_in contexts.now.items ec) }
+{
+    match contexts.get(ec) {
+        Some(context) => matches!(context.state, State::Ready),
+        None => false,
+    }
+}
+
 /// The execution context that acts in the turns of a scheduling context; none where none acts, and of
 /// another object.
 pub fn actor_of(objects: &Objects, contexts: &Ecs, sc: u32) -> Option<u32>
@@ -25,6 +36,7 @@ pub fn actor_of(objects: &Objects, contexts: &Ecs, sc: u32) -> Option<u32>
     ensures there { IfSome result (λ actor. IsSome (ec_in contexts.now.items actor)) }
 {
     match objects.get(sc) {
+        Some(Object::Sc { ec, .. }) if is_ready(contexts, *ec) => Some(*ec),
         Some(Object::Sc { ec, .. }) => contexts.actor(*ec),
         _ => None,
     }

@@ -1,6 +1,6 @@
 ghost use Rattle.std.specs.Prelude.{◌≡◌, ◌^◌, ◌-◌, ◌<◌, ◌≤◌, length, true, false, OnOk, OnErr};
 ghost use Rattle.nova_model.specs.Capabilities.{is_held, rights_to, target_of};
-ghost use Rattle.nova_model.specs.Creation.{first_state, new_context, object_of, context_of, transfer_of, identifier_of, count_of, root_capability, with_object, words_of};
+ghost use Rattle.nova_model.specs.Creation.{first_state, new_context, object_of, context_of, transfer_of, identifier_of, count_of, stir_count_of, root_capability, with_object, words_of};
 ghost use Rattle.nova_model.specs.Deeds.{is_making};
 ghost use Rattle.nova_sched.specs.Queues.{HasRoom as HasRoomIn};
 ghost use Rattle.nova_kernel.specs.Parts.{shown, AreTables, FitsQueues, HasQueue, HasRoom, HasRoomFor, IsNumbered};
@@ -118,6 +118,19 @@ fn words_of(object: Object) -> Option<Utcb>
     }
 }
 
+/// The stir count of a virtual CPU that is made, which is 0; any other object has none.
+fn stir_count_of(object: Object) -> Option<u64>
+    ensures { result ≡ stir_count_of object }
+{
+    match object {
+        Object::Ec {
+            kind: EcKind::Vcpu,
+            ..
+        } => Some(0),
+        _ => None,
+    }
+}
+
 /// The identifier of a portal that is made.
 fn identifier_of(new: NewObject) -> Option<u32>
     ensures { result ≡ identifier_of new }
@@ -156,6 +169,7 @@ impl Parts {
         self.identifiers.reserve(1)?;
         self.semaphores.reserve(1)?;
         self.semaphores.room_for_ec()?;
+        self.guests.reserve(1)?;
         Ok(())
     }
 
@@ -242,5 +256,6 @@ impl Parts {
         self.transfers.push_reserved(transfer_of(object));
         self.identifiers.push_reserved(identifier_of(new));
         self.semaphores.add(count_of(new));
+        self.guests.add(stir_count_of(object));
     }
 }

@@ -1,9 +1,10 @@
-ghost use Rattle.std.specs.Prelude.{◌≡◌, ◌==◌, ◌&&◌, ◌+◌, ◌^◌, ◌<◌, ◌≤◌, true, IsSome, IfOk, OnErr};
+ghost use Rattle.std.specs.Prelude.{◌≡◌, ◌==◌, ◌&&◌, ◌+◌, ◌^◌, ◌<◌, ◌≤◌, true, false, IsSome, IfOk, OnErr};
 ghost use Rattle.rv_model.specs.Step.{environment_call};
 ghost use Rattle.nova_model.specs.Deeds.{instruction, signalled, stepping, deed, is_making};
-ghost use Rattle.nova_model.specs.State.{context_at, is_thread};
+ghost use Rattle.nova_model.specs.State.{context_at, context, is_thread};
 ghost use Rattle.nova_kernel.specs.Parts.{shown, IsCounted};
-ghost use Rattle.nova_kernel.specs.Acts.{Fits, IsAsked, begun};
+ghost use Rattle.nova_kernel.specs.Acts.{Fits, IsAsked, begun, is_executing};
+ghost use Rattle.nova_kernel.specs.Stirs.{written_by};
 
 use crate::parts::Parts;
 use nova_model::{Deed, State};
@@ -42,6 +43,7 @@ impl Parts {
         ensures begun { shown self.new ≡ begun (shown self.old) ec result }
         ensures queues { self.new.queues ≡ self.old.queues }
         ensures fits { Fits (shown self.old) ec result }
+        ensures written { result ≡ Deed.Steps → self.new.reach.written ≡ written_by (shown self.old) ec }
         ensures log { self.old.reach.room ≤ self.new.reach.room + 1 }
         ensures making { is_making result ≡ true → self.new.reach.room ≡ self.old.reach.room }
     {
@@ -51,22 +53,30 @@ impl Parts {
         }
     }
 
-    /// The deed of an execution context. An instruction that goes on and a part of an item are done at
-    /// once, and nothing else is. It refuses for want of memory alone, where a part makes a child, and
-    /// then nothing has changed.
+    /// Whether an instruction is next of an execution context: it is ready, and no recall is asked for.
+    fn is_executing(&self, ec: u32) -> bool
+        requires { IsSome (context_at (shown self.now) ec) }
+        ensures { result ≡ is_executing (context (shown self.now) ec) }
+    {
+        let context = self.contexts.context(ec);
+        matches!(context.state, State::Ready) && !context.recall
+    }
+
+    /// The deed of an execution context of which no instruction is next. A part of an item is done at
+    /// once, and nothing else is. It refuses as `decide`.
     #[tactic(auto, unfolding(nova_model::specs::Deeds::deed))]
-    pub fn decide(&mut self, ec: u32) -> Result<Deed, AllocError>
+    fn decide_in_state(&mut self, ec: u32) -> Result<Deed, AllocError>
         requires there { IsSome (context_at (shown self.old) ec) }
         requires counted { IsCounted (shown self.old) }
         requires turns { self.old.turns < 2 ^ 31 }
-        requires log { 0 < self.old.reach.room }
+        requires next { is_executing (context (shown self.old) ec) ≡ false }
         ensures deed { IfOk result (λ d. d ≡ deed (shown self.old) ec) }
         ensures begun { IfOk result (λ d. shown self.new ≡ begun (shown self.old) ec d) }
         ensures queues { self.new.queues ≡ self.old.queues }
         ensures fits { IfOk result (Fits (shown self.old) ec) }
-        ensures log { self.old.reach.room ≤ self.new.reach.room + 1 }
-        ensures making { IfOk result (λ d. is_making d ≡ true → self.new.reach.room ≡ self.old.reach.room) }
-        ensures memory { OnErr result ((shown self.new ≡ shown self.old) × (self.new.reach.room ≡ self.old.reach.room)) }
+        ensures written { IfOk result (λ d. d ≡ Deed.Steps → self.new.reach.written ≡ written_by (shown self.old) ec) }
+        ensures log { self.new.reach.room ≡ self.old.reach.room }
+        ensures memory { OnErr result (shown self.new ≡ shown self.old) }
         ensures wanted { OnErr result (is_making (deed (shown self.old) ec) ≡ true) }
     {
         let context = self.contexts.context(ec);
@@ -76,12 +86,11 @@ impl Parts {
                 q0: 0,
                 q1: 0,
             },
-            State::Ready if context.recall => Deed::Raises {
+            State::Ready => Deed::Raises {
                 reason: RECALL,
                 q0: 0,
                 q1: 0,
             },
-            State::Ready => self.step(ec),
             State::Exiting(reason, q0, q1) => self.exit(ec, reason, q0, q1),
             State::Sending(reason, q0, q1, _) => self.exit(ec, reason, q0, q1),
             State::Granting(_) | State::Replying => self.deliver(ec)?,
@@ -92,6 +101,32 @@ impl Parts {
             State::Helping(_) => self.hypercall(ec),
             State::Parked | State::Blocked(_) | State::Dead => Deed::Rests,
         };
+        Ok(deed)
+    }
+
+    /// The deed of an execution context. An instruction that goes on and a part of an item are done at
+    /// once, and nothing else is. It refuses for want of memory alone, where a part makes a child, and
+    /// then nothing has changed.
+    pub fn decide(&mut self, ec: u32) -> Result<Deed, AllocError>
+        requires there { IsSome (context_at (shown self.old) ec) }
+        requires counted { IsCounted (shown self.old) }
+        requires turns { self.old.turns < 2 ^ 31 }
+        requires log { 0 < self.old.reach.room }
+        ensures deed { IfOk result (λ d. d ≡ deed (shown self.old) ec) }
+        ensures begun { IfOk result (λ d. shown self.new ≡ begun (shown self.old) ec d) }
+        ensures queues { self.new.queues ≡ self.old.queues }
+        ensures fits { IfOk result (Fits (shown self.old) ec) }
+        ensures written { IfOk result (λ d. d ≡ Deed.Steps → self.new.reach.written ≡ written_by (shown self.old) ec) }
+        ensures log { self.old.reach.room ≤ self.new.reach.room + 1 }
+        ensures making { IfOk result (λ d. is_making d ≡ true → self.new.reach.room ≡ self.old.reach.room) }
+        ensures memory { OnErr result ((shown self.new ≡ shown self.old) × (self.new.reach.room ≡ self.old.reach.room)) }
+        ensures wanted { OnErr result (is_making (deed (shown self.old) ec) ≡ true) }
+    {
+        if self.is_executing(ec) {
+            return Ok(self.step(ec));
+        }
+        // not handed on in place, so that the compiler sees what an instruction that went on leads to
+        let deed = self.decide_in_state(ec)?;
         Ok(deed)
     }
 }

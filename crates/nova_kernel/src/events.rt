@@ -1,6 +1,5 @@
 ghost use Rattle.std.specs.Prelude.{◌≡◌};
-ghost use Rattle.nova_model.specs.Deeds.{reason_number, skip_number, mark_number, parent_id, item_sign};
-ghost use Rattle.nova_model.specs.Turn.{event_by};
+ghost use Rattle.nova_model.specs.Deeds.{reason_number, skip_number, mark_number, parent_id, item_sign, sign_of};
 
 use crate::choice::Chosen;
 use nova_calls::numbers;
@@ -55,11 +54,11 @@ fn parent_id(parent: Option<u32>) -> u32
     parent.unwrap_or(0)
 }
 
-/// The event of a deed.
-pub fn event_of(cpu: u32, chosen: Chosen, deed: Deed) -> Event
-    ensures { result ≡ event_by cpu chosen.sc chosen.actor deed }
+/// The sign of a deed: the kind of its event, and two numbers.
+pub fn sign_of(deed: Deed) -> (EventKind, u32, u32)
+    ensures { result ≡ sign_of deed }
 {
-    let (kind, a, b) = match deed {
+    match deed {
         Deed::Rests | Deed::Steps => (EventKind::Step, 0, 0),
         Deed::Raises { reason, q0, .. } => (EventKind::Raise, reason, q0),
         Deed::Dies { reason, q0 } => (EventKind::Died, reason, q0),
@@ -89,7 +88,14 @@ pub fn event_of(cpu: u32, chosen: Chosen, deed: Deed) -> Event
         Deed::Aborts { handler, mark } => (EventKind::Abort, handler, mark_number(mark)),
         Deed::Ups { .. } | Deed::Downs { .. } => (EventKind::Answer, numbers::SM_CTRL, 0),
         Deed::Blocks { sm } => (EventKind::Begin, numbers::SM_CTRL, sm),
-    };
+    }
+}
+
+/// The event of a turn, by the sign of its deed.
+pub fn event(cpu: u32, chosen: Chosen, sign: (EventKind, u32, u32)) -> Event
+    ensures { result ≡ record { cpu = cpu; sc = chosen.sc; ec = chosen.actor; kind = sign.0; a = sign.1; b = sign.2 } }
+{
+    let (kind, a, b) = sign;
     Event {
         cpu,
         sc: chosen.sc,

@@ -1,7 +1,7 @@
 ghost use Rattle.std.specs.Prelude.{◌≡◌, ◌^◌, ◌<◌, ℕ, IfOk, IsSome};
 ghost use Rattle.rv_model.specs.Registers.{reg};
 ghost use Rattle.nova_calls.specs.SoundCalls.{IsSoundCall};
-ghost use Rattle.nova_model.specs.Hypercalls.{is_built, is_virtual, maker, create_pd, create_ec, schedules, is_scheduled, create_sc, create_pt, create_sm, looked_up, ticks_in, row, asked, or_refuses, hypercall};
+ghost use Rattle.nova_model.specs.Hypercalls.{is_built, maker, create_pd, create_ec, schedules, is_scheduled, create_sc, create_pt, create_sm, looked_up, ticks_in, row, asked, or_refuses, hypercall};
 ghost use Rattle.nova_model.specs.State.{budget_at, context_at, context, pd_of};
 ghost use Rattle.nova_kernel.specs.Parts.{shown, IsCharged, IsCounted};
 ghost use Rattle.nova_kernel.specs.Acts.{IsAsked};
@@ -54,13 +54,6 @@ fn is_built(number: u32) -> bool
             | numbers::PT_CTRL
             | numbers::SM_CTRL
     )
-}
-
-/// Whether the kind is that of a virtual CPU.
-fn is_virtual(kind: EcKind) -> bool
-    ensures { result ≡ is_virtual kind }
-{
-    matches!(kind, EcKind::Vcpu)
 }
 
 /// Whether an object is a scheduling context of an execution context.
@@ -125,9 +118,6 @@ impl Parts {
         ensures row { result ≡ create_ec (shown self.now) site.domain site.target site.pd_selector cpu kind sp event }
         ensures fits { (ec : ℕ) → IfOk result (IsAsked (shown self.now) ec) }
     {
-        if is_virtual(kind) {
-            return Err(Status::BadPar);
-        }
         let pd = self.maker(site)?;
         if cpu >= self.cpus {
             return Err(Status::BadCpu);

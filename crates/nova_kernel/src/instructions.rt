@@ -4,6 +4,7 @@ ghost use Rattle.nova_model.specs.declared.deed.Deed.TheVariants.{Steps};
 ghost use Rattle.nova_model.specs.State.{context_at, pd_of, processor_of, is_thread, is_local_thread};
 ghost use Rattle.nova_kernel.specs.Parts.{shown};
 ghost use Rattle.nova_kernel.specs.Acts.{outcome_of};
+ghost use Rattle.nova_kernel.specs.Stirs.{written_by};
 
 use crate::parts::Parts;
 use nova_model::{EcKind, Object};
@@ -59,6 +60,7 @@ impl Parts {
         ensures done { shown self.new ≡ done (shown self.old) ec Steps }
         ensures queues { self.new.queues ≡ self.old.queues }
         ensures log { self.old.reach.room ≤ self.new.reach.room + 1 }
+        ensures written { self.new.reach.written ≡ written_by (shown self.old) ec }
         ensures raised { (reason q0 q1 : ℕ) → result ≡ Outcome.Raise reason q0 q1 → self.new.reach.room ≡ self.old.reach.room }
     {
         let pd = self.pd(ec);

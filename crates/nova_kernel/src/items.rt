@@ -1,7 +1,9 @@
 ghost use Rattle.std.specs.Prelude.{false, ◌≡◌, ◌<◌, ◌≤◌, ℕ, IsSome, IfSome};
 ghost use Rattle.nova_delegate.specs.Parts.{IsUnderWay};
+ghost use Rattle.nova_range.specs.RangeWords.{meaning_of};
 ghost use Rattle.nova_range.specs.Rights.{IsRights};
-ghost use Rattle.nova_model.specs.Deliveries.{first_delivery, delivery_between, taken_from, told_by, given_to, delivery, flag, words_for, sequel_of, finished, range_given};
+ghost use Rattle.nova_model.specs.Transfers.{read_as};
+ghost use Rattle.nova_model.specs.Deliveries.{first_delivery, whole_of, translations_to, delegations_to, delivery_between, taken_from, told_by, given_to, delivery, flag, words_for, sequel_of, finished, range_given};
 ghost use Rattle.nova_model.specs.State.{KernelState, context_at, context, transfer};
 ghost use Rattle.nova_kernel.specs.Acts.{Fits, IsGivenBy, is_over};
 ghost use Rattle.nova_kernel.specs.Parts.{shown};
@@ -9,7 +11,7 @@ ghost use Rattle.nova_kernel.specs.Parts.{shown};
 use crate::parts::Parts;
 use nova_ec::Mark;
 use nova_model::{Deed, Delivery, ItemEnd, ItemWords, Job, Sequel, State};
-use nova_range::{Range, word_of};
+use nova_range::{Range, read_word, word_of};
 
 /// The argument register that has the word of a first range.
 const RANGE_REGISTER: u32 = 12;
@@ -69,6 +71,23 @@ fn told_by(caller: u32, mark: Mark) -> Option<u32>
     }
 }
 
+/// The window of the whole space that a range word is of; 0 for a word that doesn't read or is null.
+fn whole_of(word: u32) -> u32
+    ensures { result ≡ whole_of (read_as (meaning_of word)) }
+{
+    match read_word(word) {
+        Ok(Some((range, rights))) => {
+            let space = Range {
+                kind: range.kind,
+                base: 0,
+                order: 20,
+            };
+            word_of(Some((space, rights)))
+        }
+        _ => 0,
+    }
+}
+
 /// The answer of a delegation of which so many children were made: the word of where it went.
 pub fn range_given(job: Job, children: u32) -> u32
     requires job { IsUnderWay job }
@@ -107,7 +126,31 @@ impl Parts {
         }
     }
 
-    /// What one thread gives another: an item of its message, to the windows in that of the other.
+    /// The window of translations to an execution context: that in the message of a thread. A virtual CPU has
+    /// none.
+    fn translations_to(&self, to: u32) -> u32
+        ensures { result ≡ translations_to (shown self.now) to }
+    {
+        if self.is_thread(to) {
+            self.message(to).translation_window()
+        } else {
+            0
+        }
+    }
+
+    /// The window of delegations to an execution context: that in the message of a thread, and for a virtual
+    /// CPU the whole space of the item's own type.
+    fn delegations_to(&self, to: u32, range_word: u32) -> u32
+        ensures { result ≡ delegations_to (shown self.now) to range_word }
+    {
+        if self.is_thread(to) {
+            self.message(to).delegation_window()
+        } else {
+            whole_of(range_word)
+        }
+    }
+
+    /// What one execution context gives another: an item of its message, to the windows of the other.
     fn delivery_between(
         &self,
         from: u32,
@@ -121,15 +164,14 @@ impl Parts {
         ensures items { result.items ≤ 62 }
     {
         let message = self.message(from);
-        let windows = self.message(to);
         let (range_word, second_word) = message.item(item);
         Delivery {
             range_word,
             second_word,
             giver: self.pd(from),
             receiver: self.pd(to),
-            translations: windows.translation_window(),
-            delegations: windows.delegation_window(),
+            translations: self.translations_to(to),
+            delegations: self.delegations_to(to, range_word),
             told,
             items: message.items(),
             last,

@@ -5,11 +5,16 @@ ghost use Rattle.nova_model.specs.Choice.{choose, is_quiet};
 ghost use Rattle.nova_model.specs.Turn.{turn, state_after, answer_of};
 ghost use Rattle.nova_model.specs.Boot.{bare, laid};
 ghost use Rattle.nova_model.specs.Forest.{IsForest};
+ghost use Rattle.nova_laws.specs.Tables.{IsOf};
+ghost use Rattle.nova_model.specs.Capabilities.{is_vcpu};
+ghost use Rattle.nova_model.specs.Views.{view};
+ghost use Rattle.nova_kernel.specs.Stirs.{stir_of};
 ghost use Rattle.nova_kernel.specs.Views.{ticks_of, left_of, semaphore_at, derivation_from, turns_taken, IsMaking};
 
 use crate::parts::Parts;
 use crate::reach::Reach;
 use nova_frames::{Frames, LogByte};
+use nova_guest::Guest;
 use nova_laws::turns_keep_what_they_find;
 use nova_model::{Derivation, EcKind, EcState, Kind, Object, Rights, Root, State, Turn};
 use rv_core::Regs;
@@ -163,6 +168,26 @@ impl Kernel {
         ensures id { IfSome result (λ x. x.now.id ≡ ec) }
     {
         self.parts.contexts.get(ec)
+    }
+
+    /// The view of a virtual CPU: its registers, what it does next, whether a recall is asked for, and the
+    /// memory that it reaches, with the bytes. It refuses for want of memory alone.
+    #[tactic(auto, using(crate::proofs::Views::virtual_there))]
+    pub fn view(&self, alloc: Global, ec: u32) -> Result<Guest, AllocError>
+        requires { IsOf self.now.state.objects is_vcpu ec }
+        ensures { IfOk result (λ guest. guest ≡ view self.now.state ec) }
+    {
+        self.parts.view(alloc, ec)
+    }
+
+    /// The stir counts of a virtual CPU and of a processor: how many inputs from outside came to the one,
+    /// and how many turns the other took.
+    pub fn stir(&self, ec: u32, cpu: u32) -> (u64, u64)
+        requires guest { IsOf self.now.state.objects is_vcpu ec }
+        requires cpu { cpu < self.now.state.cpus }
+        ensures { result ≡ stir_of self.now.state ec cpu }
+    {
+        (self.parts.guests.count(ec), self.parts.stirs[cpu as usize])
     }
 
     /// The turns that a scheduling context paid for; none where no scheduling context has the number.

@@ -2,6 +2,7 @@ ghost use Rattle.std.specs.Prelude.{◌≡◌, length, option_map, IfOk};
 ghost use Rattle.nova_kernel.specs.Parts.{shown};
 ghost use Rattle.nova_kernel.specs.Views.{semaphore_at};
 
+use crate::guests::Guests;
 use crate::reach::Reach;
 use nova_ec::Ecs;
 use nova_model::Transfer;
@@ -12,7 +13,7 @@ use std::alloc::AllocError;
 
 /// The parts of a kernel, which a turn changes one by one; `Kernel` shows them as one state. Tables
 /// are by the number of the object: execution contexts, how far they are with the items that they give,
-/// the identifiers of portals, and semaphores. Scheduling contexts wait in queues.
+/// the identifiers of portals, semaphores, and the stir counts of virtual CPUs. Scheduling contexts wait in queues.
 #[derive(Drop)]
 pub struct Parts {
     pub reach: Reach,
@@ -25,6 +26,7 @@ pub struct Parts {
     pub turns: u64,
     pub cpus: u32,
     pub stirs: Vec<u64>,
+    pub guests: Guests,
 }
 
 impl Parts {
@@ -56,6 +58,7 @@ impl Parts {
             turns: self.turns,
             cpus: self.cpus,
             stirs: Vec::from_slice(*self.stirs.allocator(), &self.stirs)?,
+            guests: self.guests.copy()?,
         })
     }
 }

@@ -5,8 +5,8 @@ ghost use Rattle.nova_utcb.specs.Pages.{IsWidth};
 ghost use Rattle.nova_model.specs.AddressSpaces.{frame_for, words_at};
 ghost use Rattle.nova_model.specs.State.{entry, message_in};
 ghost use Rattle.nova_model.specs.Boot.{laid};
-ghost use Rattle.nova_model.specs.Delegations.{added, covers, derived, from_id, page_in, reach, read_right, with_id, write_right};
-ghost use Rattle.nova_range.specs.Rights.{IsRights};
+ghost use Rattle.nova_model.specs.Delegations.{added, covers, derived, from_id, page_in, reach, with_id};
+ghost use Rattle.nova_range.specs.Rights.{read_right, write_right, IsRights};
 ghost use Rattle.nova_model.specs.Forest.{IsForest};
 ghost use Rattle.nova_model.specs.Transfers.{next_part, given, moved};
 ghost use Rattle.nova_nodes.specs.NodesStates.{IsPlaced, room};
@@ -43,6 +43,8 @@ pub struct Reach {
     pub ec: u32,
     pub pd: u32,
     pub is_thread: bool,
+    /// The frame that the last store went to; none after one to message words.
+    pub written: Option<u32>,
 }
 
 impl Model for Reach {
@@ -58,6 +60,7 @@ impl Model for Reach {
       ec = r.ec;
       pd = r.pd;
       is_thread = r.is_thread;
+      written = r.written;
       consoles = r.frames.consoles;
       room = r.frames.room;
     } };
@@ -89,13 +92,22 @@ fn page_in(derivation: &Derivation, page: u32) -> Page
 }
 
 impl Reach {
-    /// The execution context that acts changes, with its protection domain, and whether it is a thread.
+    /// The execution context that acts changes, with its protection domain, and whether it is a thread. Nothing
+    /// is stored yet.
     pub fn enter(&mut self, ec: u32, pd: u32, is_thread: bool)
-        ensures { self.new ≡ record self.old { ec = ec; pd = pd; is_thread = is_thread } }
+        ensures { self.new ≡ record self.old { ec = ec; pd = pd; is_thread = is_thread; written = None } }
     {
         self.ec = ec;
         self.pd = pd;
         self.is_thread = is_thread;
+        self.written = None;
+    }
+
+    /// Whether the present instruction stored to a frame.
+    pub fn has_stored(&self) -> bool
+        ensures { result ≡ is_some self.now.written }
+    {
+        self.written.is_some()
     }
 
     /// Lays bytes into RAM one after another from an address on. They lie in RAM.
@@ -123,6 +135,7 @@ impl Reach {
             ec: self.ec,
             pd: self.pd,
             is_thread: self.is_thread,
+            written: self.written,
         })
     }
 
@@ -336,6 +349,7 @@ impl Reach {
             return false;
         }
         self.messages.store(self.ec, address % 4096, width, value);
+        self.written = None;
         true
     }
 }
@@ -375,6 +389,7 @@ impl Bus for Reach {
             return self.store_own(addr, width, value);
         };
         self.frames.store(frame, addr % 4096, width, value);
+        self.written = Some(frame);
         true
     }
 }

@@ -1,18 +1,20 @@
-ghost use Rattle.std.specs.Prelude.{◌≡◌, ◌+◌, ◌^◌, ◌<◌, ◌≤◌, true, IsSome, IfOk, OnOk, OnErr};
-ghost use Rattle.nova_model.specs.Deeds.{deed, done, is_making};
+ghost use Rattle.std.specs.Prelude.{◌≡◌, ◌==◌, ◌&&◌, not, is_some, length, ◌+◌, ◌^◌, ◌<◌, ◌≤◌, true, IsSome, IfOk, OnOk, OnErr};
+ghost use Rattle.nova_model.specs.Deeds.{deed, done, is_making, sign_of};
 ghost use Rattle.nova_model.specs.Edges.{acts};
 ghost use Rattle.nova_model.specs.State.{context_at};
 ghost use Rattle.nova_model.specs.Turn.{state_after, answer_of, turn};
 ghost use Rattle.nova_kernel.specs.Views.{IsMaking, turns_taken};
-ghost use Rattle.nova_kernel.specs.Parts.{shown, IsCounted, KeepsCounts};
-ghost use Rattle.nova_kernel.specs.Acts.{Fits};
+ghost use Rattle.nova_kernel.specs.Parts.{shown, IsCounted, IsToBeStirred, KeepsCounts};
+ghost use Rattle.nova_kernel.specs.Acts.{Fits, is_step};
 ghost use Rattle.nova_kernel.specs.Schedules.{AreQueued, schedule_after};
+ghost use Rattle.nova_kernel.specs.GuestTables.{numbers_from};
+ghost use Rattle.nova_kernel.specs.Stirs.{is_stirring, risen_in, written_by};
 
 use crate::doing::is_over;
-use crate::events::event_of;
+use crate::events::{event, sign_of};
 use crate::parts::Parts;
 use nova_laws::turns_keep_what_they_find;
-use nova_model::{Deed, Turn};
+use nova_model::{Deed, EventKind, Turn};
 use std::alloc::AllocError;
 
 impl Parts {
@@ -32,9 +34,13 @@ impl Parts {
         ensures refused { OnErr result (self.new.queues.all ≡ self.old.queues.all) }
         ensures memory { OnErr result ((shown self.new ≡ shown self.old) × (self.new.reach.room ≡ self.old.reach.room)) }
         ensures making { OnErr result (is_making (deed (shown self.old) ec) ≡ true) }
+        ensures written { IfOk result (λ d. d ≡ Deed.Steps → self.new.reach.written ≡ written_by (shown self.old) ec) }
         ensures log { self.old.reach.room ≤ self.new.reach.room + 1 }
     {
         let deed = self.decide(ec)?;
+        if let Deed::Steps = deed {
+            return Ok(Deed::Steps);
+        }
         if !is_over(deed) {
             let domain = self.pd(ec);
             self.make_room(domain, deed)?;
@@ -58,13 +64,50 @@ impl Parts {
         ensures memory { OnErr result ((shown self.new ≡ shown self.old) × (self.new.reach.room ≡ self.old.reach.room)) }
         ensures making { OnErr result (is_making (deed (shown self.old) ec) ≡ true) }
         ensures kept { OnOk result (KeepsCounts (shown self.old) (shown self.new)) }
+        ensures written { IfOk result (λ d. d ≡ Deed.Steps → self.new.reach.written ≡ written_by (shown self.old) ec) }
         ensures log { self.old.reach.room ≤ self.new.reach.room + 1 }
     {
         let deed = self.carry_out(ec)?;
+        if let Deed::Steps = deed {
+            return Ok(Deed::Steps);
+        }
         if let Some(cpu) = self.stale_by(ec, deed) {
             self.refresh(cpu);
         }
         Ok(deed)
+    }
+
+    /// Whether a deed is an instruction that went on, and an input for no virtual CPU: it stored to no frame,
+    /// or there is none.
+    fn goes_unseen(&self, deed: Deed) -> bool
+        ensures { result ≡ (is_step deed && not (is_some self.now.reach.written && not (length (numbers_from 0 self.now.guests.counts) == 0))) }
+    {
+        matches!(deed, Deed::Steps) && !self.may_be_seen()
+    }
+
+    /// Whether the last instruction stored to a frame, and there are virtual CPUs that may see it.
+    fn may_be_seen(&self) -> bool
+        ensures { result ≡ (is_some self.now.reach.written && not (length (numbers_from 0 self.now.guests.counts) == 0)) }
+    {
+        self.reach.has_stored() && !self.guests.numbers().is_empty()
+    }
+
+    /// Counts what a deed is for virtual CPUs, and tells its sign.
+    fn note(&mut self, ec: u32, deed: Deed) -> (EventKind, u32, u32)
+        requires charged { IsToBeStirred (shown self.old) }
+        requires turns { self.old.turns < 2 ^ 31 }
+        ensures sign { result ≡ sign_of deed }
+        ensures shown { shown self.new ≡ risen_in (shown self.old) (is_stirring (shown self.old) self.old.reach.written ec deed) }
+        ensures queues { self.new.queues ≡ self.old.queues }
+        ensures turns { self.new.turns ≡ self.old.turns }
+        ensures cpus { self.new.cpus ≡ self.old.cpus }
+        ensures log { self.new.reach.room ≡ self.old.reach.room }
+    {
+        if self.goes_unseen(deed) {
+            return (EventKind::Step, 0, 0);
+        }
+        self.stir(ec, deed);
+        sign_of(deed)
     }
 
     /// One turn of a processor: the execution context of the chosen scheduling context does its deed,
@@ -92,8 +135,9 @@ impl Parts {
             return Ok(Turn::Idle);
         };
         let deed = self.act(chosen.actor)?;
+        let sign = self.note(chosen.actor, deed);
         self.charge(cpu, chosen.sc);
         turns_keep_what_they_find();
-        Ok(Turn::Stepped(event_of(cpu, chosen, deed)))
+        Ok(Turn::Stepped(event(cpu, chosen, sign)))
     }
 }

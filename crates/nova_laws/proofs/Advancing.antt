@@ -23,6 +23,7 @@ use Rattle.nova_model.specs.declared.transfer.ItemWords.{ItemWords}
 use Rattle.nova_model.specs.declared.transfer.Sequel.{Sequel}
 use Rattle.nova_model.specs.declared.transfer.Sequel.TheVariants as sequel
 use Rattle.nova_model.specs.declared.transfer.Transfer.{Transfer}
+use Rattle.nova_forest.proofs.Stirred.{acted}
 use Rattle.nova_laws.specs.Giving.{GoesOn, Stays, Next, Ends, is_giving}
 use Rattle.nova_laws.specs.Waiting.{AreBlocked}
 use Rattle.nova_laws.proofs.Awaiting.{Serves, acts_there, same_or_not, served_waits}
@@ -232,9 +233,8 @@ turn_goes k cpu e gives fits h = by_choice (choice k cpu) (choice_acts k cpu)
     by_choice : (o : Option Candidate) → IfSome o (Acts k) → GoesOn k (state_after k (turn_by k cpu o)) e
     by_choice None able = Stays refl refl
     by_choice (Some c) able =
-        let s = done k c.actor (deed k c.actor) in
-        let left = charge_leaves s cpu c.sc in
-        same_goes k s (charged s cpu c.sc) e left.contexts left.transfers (deed_goes k c.actor e able gives fits h)
+        let left = charge_leaves (acted k c.actor) cpu c.sc in
+        same_goes k (done k c.actor (deed k c.actor)) (charged (acted k c.actor) cpu c.sc) e left.contexts left.transfers (deed_goes k c.actor e able gives fits h)
 
 pub items_go_on : (s : Scenario) (turns : List ℕ) (cpu ec : ℕ) → is_giving (context (run (boot s) turns) ec).state ≡ true →
     GoesOn (run (boot s) turns) (after (run (boot s) turns) cpu) ec

@@ -18,11 +18,11 @@ use Rattle.nova_objects.specs.declared.object.Object.TheVariants.{Pd, Ec, Sc, Pt
 use Rattle.nova_range.specs.declared.range.Range.{Range}
 use Rattle.nova_range.specs.declared.rights.Rights.{Rights}
 use Rattle.nova_range.specs.declared.status.Status.{Status}
-use Rattle.nova_range.specs.declared.status.Status.TheVariants.{BadHyp, BadCap, BadPar, BadCpu}
+use Rattle.nova_range.specs.declared.status.Status.TheVariants.{BadHyp, BadCap, BadCpu}
 use Rattle.nova_model.specs.Capabilities.{bind_portal_right, bind_scheduling_right, control_right, create_right, is_ec, is_held, is_local, is_pd, is_pt, is_sc, is_schedulable, named}
 use Rattle.nova_model.specs.Deeds.{deed, deed_in, ready, signalled, stepping}
 use Rattle.nova_model.specs.Forest.{IsForest}
-use Rattle.nova_model.specs.Hypercalls.{and_then, create_sc, hypercall, is_built, is_scheduled, is_virtual, maker, makes, new_domain, or_refuses, row, schedules, ticks_in, unless}
+use Rattle.nova_model.specs.Hypercalls.{and_then, create_sc, hypercall, is_built, is_scheduled, maker, makes, new_domain, or_refuses, row, schedules, ticks_in, unless}
 use Rattle.nova_model.specs.State.{KernelState, budget_at, context, pd_of, processor_in, processor_of}
 use Rattle.nova_model.specs.declared.deed.Deed.{Deed}
 use Rattle.nova_model.specs.declared.deed.Deed.TheVariants.{Makes, Names, Recalls, Tells}
@@ -32,7 +32,7 @@ use Rattle.nova_model.specs.declared.new_object.NewObject.TheVariants as new
 use Rattle.nova_forest.proofs.Walk.{IfDone, deed_holds, sm_ctrl_holds}
 use Rattle.nova_laws.specs.Asked.{AsksSchedule, HoldsAt, IsCalling, IsHeldAt}
 use Rattle.nova_laws.proofs.Holding.{IsNamedAt, free_from, from_free, named_at, named_is}
-use Rattle.nova_laws.proofs.Rows.{call_holds, named_holds, reply_holds, unless_holds}
+use Rattle.nova_laws.proofs.Rows.{call_holds, named_holds, reply_holds}
 
 -- WITHOUT A SCHEDULING CONTEXT
 
@@ -255,8 +255,8 @@ row_asked k ec domain r (asks.Call portal flag) is = call_holds (AsAsked k domai
 row_asked k ec domain r asks.Reply is = reply_holds (AsAsked k domain r) k ec (λ caller mark replies. tt)
 row_asked k ec domain r (asks.CreatePd target pd first) is =
     named_holds (AsAsked k domain r) (maker k domain target pd) (λ owner. new_domain k target first) (λ owner. opens_asked k domain r target first)
-row_asked k ec domain r (asks.CreateEc target pd cpu kind sp event) is = unless_holds (AsAsked k domain r) (is_virtual kind) BadPar _
-    (makes_each (AsAsked k domain r) k domain CREATE_EC target pd _ (λ owner m. context_asked k domain r target owner cpu kind sp event (not (nat_lt cpu k.cpus))))
+row_asked k ec domain r (asks.CreateEc target pd cpu kind sp event) is =
+    makes_each (AsAsked k domain r) k domain CREATE_EC target pd _ (λ owner m. context_asked k domain r target owner cpu kind sp event (not (nat_lt cpu k.cpus)))
 row_asked k ec domain r (asks.CreateSc target pd its quantum priority) is =
     makes_each (AsAsked k domain r) k domain CREATE_SC target pd _
     (λ owner m. schedule_asked k domain r target pd its quantum priority owner (call_read r target pd its quantum priority is) (maker_is k domain target pd owner m))

@@ -6,21 +6,23 @@ use Rattle.nova_objects.specs.declared.object.Object.TheVariants.{Pd, Ec, Sc, Pt
 use Rattle.nova_objects.specs.declared.object.EcKind.TheVariants.{Local, Global, Vcpu}
 use Rattle.nova_model.specs.Boot.{Scenario, boot}
 use Rattle.nova_model.specs.Calls.{is_parked}
-use Rattle.nova_model.specs.Capabilities.{is_local}
+use Rattle.nova_model.specs.Capabilities.{is_local, is_vcpu}
 use Rattle.nova_model.specs.Edges.{AreCallers, caller_in, is_dead, is_free, state_in}
 use Rattle.nova_model.specs.Runs.{run}
-use Rattle.nova_model.specs.State.{KernelState, context_at, ec_in, entry, is_local_in, is_local_thread}
+use Rattle.nova_model.specs.State.{KernelState, context, context_at, ec_in, entry, is_local_in, is_local_thread, is_thread}
 use Rattle.nova_model.specs.declared.context.EcState.{EcState}
 use Rattle.nova_model.specs.declared.context.Mark.{Mark}
-use Rattle.nova_model.specs.declared.context.Mark.TheVariants.{Call}
+use Rattle.nova_model.specs.declared.context.Mark.TheVariants.{Call, Exit}
 use Rattle.nova_model.specs.declared.context.State.{State}
 use Rattle.nova_model.specs.declared.context.State.TheVariants.{Calling, Dead, Granting, Parked}
 use Rattle.nova_laws.specs.Callers.{HasNoCaller, HasOneCaller}
 use Rattle.nova_laws.specs.Links.{IsWell}
-use Rattle.nova_laws.specs.Tables.{Refers, tag, tag_of}
+use Rattle.nova_laws.specs.Tables.{IsOf, Refers, tag, tag_of}
+use Rattle.nova_laws.specs.Virtual.{is_guest_state}
 use Rattle.nova_laws.proofs.Fitting.{Fits, boot_run_fits}
 use Rattle.nova_laws.proofs.Serving.{number_in}
 use Rattle.nova_laws.proofs.Tabling.{all_get, tags_at}
+use Rattle.nova_laws.proofs.Virtual.{virtual_alone}
 
 -- a local thread is there
 there_by : (n : ℕ) (c : Option (Option EcState)) (o : Option Object) → option_map tag c ≡ option_map (tag_of n) o → is_local_in o ≡ true → is_some (entry c) ≡ true
@@ -112,3 +114,25 @@ others_alone s turns h other = (λ is. let local = (well.parked (ap is_parked is
     by_caller : (o : Option (ℕ × Mark)) → caller_in (run (boot s) turns).contexts h ≡ o → o ≡ None
     by_caller None keeps = refl
     by_caller (Some (c, mark)) keeps = let local = well.kept c mark keeps in absurd (cc)
+
+-- VIRTUAL CPUS
+
+pub guests_stay : (s : Scenario) (turns : List ℕ) (g : ℕ) → IsOf (run (boot s) turns).objects is_vcpu g → is_guest_state (context (run (boot s) turns) g).state ≡ true
+guests_stay s turns g virtual = (boot_run_fits s turns).guests.states g virtual
+
+pub called_by_threads : (s : Scenario) (turns : List ℕ) (handler caller : ℕ) → caller_in (run (boot s) turns).contexts handler ≡ Some (caller, Call) →
+    is_thread (run (boot s) turns) caller ≡ true
+called_by_threads s turns handler caller keeps = (boot_run_fits s turns).guests.callers handler caller keeps
+
+-- a handler keeps who waits for it, and no virtual CPU came by a call
+exit_awaited : (k : KernelState) (g handler : ℕ) → Fits k → IsOf k.objects is_vcpu g → state_in k.contexts g ≡ Some (Calling handler) →
+    caller_in k.contexts handler ≡ Some (g, Exit)
+exit_awaited k g handler fits virtual waits = let known = (fits.served.linked g handler).known waits in by_mark known.0 known.1
+  where
+    by_mark : (mark : Mark) → caller_in k.contexts handler ≡ Some (g, mark) → caller_in k.contexts handler ≡ Some (g, Exit)
+    by_mark Exit keeps = keeps
+    by_mark Call keeps = absurd (let thread = fits.guests.callers handler g keeps in let not = virtual_alone (slice_get k.objects g) virtual in cc)
+
+pub exits_awaited : (s : Scenario) (turns : List ℕ) (g handler : ℕ) → IsOf (run (boot s) turns).objects is_vcpu g →
+    state_in (run (boot s) turns).contexts g ≡ Some (Calling handler) → caller_in (run (boot s) turns).contexts handler ≡ Some (g, Exit)
+exits_awaited s turns g handler = exit_awaited (run (boot s) turns) g handler (boot_run_fits s turns)

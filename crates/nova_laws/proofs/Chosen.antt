@@ -19,7 +19,7 @@ use Rattle.nova_model.specs.Deeds.{deed, deed_in}
 use Rattle.nova_model.specs.Deliveries.{delivered, delivers, delivery, delivery_between, first_delivery, given_to, taken_from, told_by}
 use Rattle.nova_model.specs.Edges.{acts, acts_as, acts_by, edge_of, state_in}
 use Rattle.nova_model.specs.Exits.{raised_exit}
-use Rattle.nova_model.specs.Hypercalls.{and_then, called, is_virtual, maker, new_domain, replied, row, ticks_in}
+use Rattle.nova_model.specs.Hypercalls.{and_then, called, maker, new_domain, replied, row, ticks_in}
 use Rattle.nova_model.specs.Portals.{handler_of}
 use Rattle.nova_model.specs.State.{KernelState, budget_at, context, context_in, ec_in, is_local_thread, message, pd_of, transfer}
 use Rattle.nova_model.specs.declared.admit.Admit.{Admit}
@@ -110,7 +110,7 @@ row_does k ec domain (call.Call portal flag) =
 row_does k ec domain call.Reply =
     unless_holds Does (not (is_local_thread k ec)) BadPar _ (unless_holds Does (not (has_counts (message k ec))) BadPar _ (replied_does k ec (context k ec).caller))
 row_does k ec domain (call.CreatePd target pd first) = named_holds Does (maker k domain target pd) (λ owner. new_domain k target first) (λ owner. opens_does k target first)
-row_does k ec domain (call.CreateEc target pd cpu kind sp event) = unless_holds Does (is_virtual kind) BadPar _ (makes_hold Does CREATE_EC target (λ made. refl) k domain pd _)
+row_does k ec domain (call.CreateEc target pd cpu kind sp event) = makes_hold Does CREATE_EC target (λ made. refl) k domain pd _
 row_does k ec domain (call.CreateSc target pd whose quantum priority) = makes_hold Does CREATE_SC target (λ made. refl) k domain pd _
 row_does k ec domain (call.CreatePt target pd handler mtd ip) = makes_hold Does CREATE_PT target (λ made. refl) k domain pd _
 row_does k ec domain (call.CreateSm target pd count) = makes_hold Does CREATE_SM target (λ made. refl) k domain pd (λ o. Ok (Sm count))

@@ -28,6 +28,7 @@ use Rattle.nova_model.specs.declared.transfer.Sequel.{Sequel}
 use Rattle.nova_model.specs.declared.transfer.Sequel.TheVariants as sequel
 use Rattle.nova_model.specs.declared.transfer.Skip.TheVariants as skip
 use Rattle.nova_model.specs.declared.transfer.Transfer.{Transfer}
+use Rattle.nova_forest.proofs.Stirred.{acted}
 use Rattle.nova_laws.specs.Giving.{counted_after, counted_by}
 use Rattle.nova_laws.proofs.Charges.{charge_leaves}
 use Rattle.nova_laws.proofs.Chosen.{Acts, choice_acts}
@@ -205,10 +206,10 @@ done_counts k a e d wants there h = by_test (a == e) refl
 
 chosen_counts : (k : KernelState) (cpu e : ℕ) (c : Candidate) (rest : List Event) → Acts k c → Stands k →
     counted_after e (transfer k e).children (event_of cpu c (deed k c.actor) ∷ rest)
-    ≡ counted_after e (transfer (charged (done k c.actor (deed k c.actor)) cpu c.sc) e).children rest
+    ≡ counted_after e (transfer (charged (acted k c.actor) cpu c.sc) e).children rest
 chosen_counts k cpu e c rest acts h =
     let there = entry_acts k.contexts (ec_in k.contexts c.actor) acts in
-    let s = done k c.actor (deed k c.actor) in
+    let s = acted k c.actor in
     ap (λ (n : ℕ). counted_after e n rest)
     (sym (ap (λ (ts : List (Option Transfer)). (at ts e).children) (charge_leaves s cpu c.sc).transfers ∙ done_counts k c.actor e (deed k c.actor) (deed_wants k c.actor) there h))
 

@@ -18,6 +18,7 @@ use Rattle.nova_model.specs.declared.transfer.ItemEnd.TheVariants.{Given, Skippe
 use Rattle.nova_model.specs.declared.transfer.Reason.{Reason}
 use Rattle.nova_model.specs.declared.transfer.Skip.TheVariants as skip
 use Rattle.nova_model.specs.declared.transfer.Transfer.{Transfer}
+use Rattle.nova_forest.proofs.Stirred.{acted}
 use Rattle.nova_laws.specs.Giving.{HasMoved, MovesCursor}
 use Rattle.nova_laws.proofs.Charges.{charge_leaves}
 use Rattle.nova_laws.proofs.Chosen.{Acts, choice_acts}
@@ -137,7 +138,7 @@ has_entry s turns cpu c chosen =
 moved_after : (k : KernelState) (cpu : ℕ) (c : Candidate) (place more : ℕ) → choice k cpu ≡ Some c → HasMoved k (done k c.actor (deed k c.actor)) c.actor place more →
     HasMoved k (after k cpu) c.actor place more
 moved_after k cpu c place more chosen h =
-    let s = done k c.actor (deed k c.actor) in
+    let s = acted k c.actor in
     let stays = (charge_leaves s cpu c.sc).transfers in
     let own = ap (λ (ts : List (Option Transfer)). transfer_in (entry (slice_get ts c.actor))) stays in
     subst (λ (new : KernelState). HasMoved k new c.actor place more) (sym (turn_chosen k cpu c chosen)) (record {

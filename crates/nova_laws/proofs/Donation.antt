@@ -9,6 +9,7 @@ use Rattle.nova_model.specs.Choice.{Candidate, choice}
 use Rattle.nova_model.specs.Creation.{context_of}
 use Rattle.nova_model.specs.Deeds.{after_item, answered, deed, done, followed, instruction, parked, recalled, resumed, serving, stepped, told, with_context}
 use Rattle.nova_model.specs.Edges.{AreEdges, IsNewEdge, acts, chase, circle, edge_of, state_in}
+use Rattle.nova_model.specs.Inputs.{stirred}
 use Rattle.nova_model.specs.Memory.{Memory}
 use Rattle.nova_model.specs.Runs.{after, run}
 use Rattle.nova_model.specs.Semaphores.{semaphore, waits, woken}
@@ -39,6 +40,7 @@ use Rattle.nova_laws.proofs.Fitting.{Fits, after_fits, boot_fits, boot_run_fits,
 use Rattle.nova_laws.proofs.Referring.{Asks, Follows, IsCallerOf, deed_asks}
 use Rattle.nova_laws.proofs.Serving.{IsActor, IsReached, actor_of, blocked_there, exit_reaches, exit_waits_edge, help_edge, of_there, reached_there, resumed_is, send_reaches}
 use Rattle.nova_laws.proofs.Tabling.{set_there, with_memory}
+use Rattle.nova_laws.proofs.Virtual.{among_of, guests_of}
 
 -- ONE OF A TABLE
 
@@ -159,8 +161,8 @@ done_edges k ec (Blocks sm) actor asks fits sound = free_on k.contexts ec _ (ap 
 turn_by_edges : (k : KernelState) (cpu : ℕ) (c : Option Candidate) → IfSome c (Acts k) → Fits k → AreEdges k.contexts → AreEdges (state_after k (turn_by k cpu c)).contexts
 turn_by_edges k cpu None acts fits sound = sound
 turn_by_edges k cpu (Some c) acts fits sound =
-    let d = done k c.actor (deed k c.actor) in
-    subst AreEdges (sym (charge_leaves d cpu c.sc).contexts)
+    let now = stirred k c.actor (deed k c.actor) (done k c.actor (deed k c.actor)) in
+    subst AreEdges (sym (charge_leaves now cpu c.sc).contexts)
     (done_edges k c.actor (deed k c.actor) (actor_of k.contexts c.actor acts) (deed_asks k c.actor) fits sound)
 
 after_edges_sound : (k : KernelState) (cpu : ℕ) → Fits k → AreEdges k.contexts → AreEdges (after k cpu).contexts
@@ -201,17 +203,17 @@ acting s turns cpu = chosen_does (run (boot s) turns) cpu _ (boot_run_fits s tur
 -- what turns keep
 pub keeps : (k : KernelState) (cpu : ℕ) → IsKept k → IsKept (after k cpu)
 keeps k cpu h =
-    let fits : Fits k = record { tables = h.tables; served = h.served; blocked = h.blocked } in
+    let fits : Fits k = record { tables = h.tables; served = h.served; blocked = h.blocked; guests = h.guests } in
     let now = after_fits k cpu fits in
-    record { tables = now.tables; served = now.served; edges = after_edges_sound k cpu fits h.edges; blocked = now.blocked }
+    record { tables = now.tables; served = now.served; edges = after_edges_sound k cpu fits h.edges; blocked = now.blocked; guests = now.guests }
 
 pub keeps_in_memory : (k : KernelState) (m : Memory) → IsKept k → IsKept (record k { memory = m })
-keeps_in_memory k m h = record { tables = with_memory k m h.tables; served = h.served; edges = h.edges; blocked = h.blocked }
+keeps_in_memory k m h = record { tables = with_memory k m h.tables; served = h.served; edges = h.edges; blocked = h.blocked; guests = guests_of (record k { memory = m }) (among_of k h.guests) }
 
 pub begins_kept : (cpus ram consoles : ℕ) (root : Root) → IsKept (bare cpus ram consoles root)
 begins_kept cpus ram consoles root =
     let s : Scenario = record { cpus = cpus; ram = ram; consoles = consoles; root = root; images = [] } in
-    let fits = boot_fits s in record { tables = fits.tables; served = fits.served; edges = boot_edges s; blocked = fits.blocked }
+    let fits = boot_fits s in record { tables = fits.tables; served = fits.served; edges = boot_edges s; blocked = fits.blocked; guests = fits.guests }
 
 -- semaphores
 

@@ -11,10 +11,11 @@ use Rattle.nova_model.specs.Choice.{Candidate, choice}
 use Rattle.nova_model.specs.Creation.{context_of, object_of, with_object}
 use Rattle.nova_model.specs.Deeds.{after_item, answered, changed, deed, done, followed, instruction, parked, recalled, resumed, serving, stepped, told, with_context, woken_in}
 use Rattle.nova_model.specs.Edges.{acts, acts_as, state_in}
+use Rattle.nova_model.specs.Inputs.{stirred}
 use Rattle.nova_model.specs.Runs.{after, run}
 use Rattle.nova_model.specs.Semaphores.{semaphore, upped, woken}
-use Rattle.nova_model.specs.State.{Contexts, KernelState, budget_at, context, context_at, context_in, ec_in, ec_of, entry, is_local_in, is_local_thread, message, pd_of, with_ec}
-use Rattle.nova_model.specs.Turn.{budget_after, charged, counted, is_spent, paid_by, quantum_in, state_after, turn, turn_by}
+use Rattle.nova_model.specs.State.{Contexts, KernelState, budget_at, context, context_at, context_in, ec_in, ec_of, is_local_in, is_local_thread, is_thread, message, pd_of, with_ec}
+use Rattle.nova_model.specs.Turn.{charged, counted, paid_by, quantum_in, state_after, turn, turn_by}
 use Rattle.nova_model.specs.declared.budget.Budget.{Budget}
 use Rattle.nova_model.specs.declared.context.EcState.{EcState}
 use Rattle.nova_model.specs.declared.context.Mark.{Mark}
@@ -31,6 +32,7 @@ use Rattle.nova_model.specs.declared.transfer.Sequel.TheVariants as sequel
 use Rattle.nova_model.specs.declared.root.Root.{Root}
 use Rattle.nova_laws.specs.Links.{AreServed, IsLinked, is_giving, state_at}
 use Rattle.nova_laws.specs.Tables.{HasTables}
+use Rattle.nova_laws.specs.Virtual.{AreGuests}
 use Rattle.nova_laws.specs.Waiting.{AreBlocked}
 use Rattle.nova_laws.proofs.Blocking.{bare_blocked, done_blocked, woken_blocked}
 use Rattle.nova_laws.proofs.Chosen.{Acts, choice_acts}
@@ -38,31 +40,33 @@ use Rattle.nova_laws.proofs.Links.{IsNewborn, is_taking, served_more}
 use Rattle.nova_laws.proofs.Referring.{Asks, Follows, IsCallerOf, TellsIn, deed_asks}
 use Rattle.nova_laws.proofs.Serving.{IsActor, acts_on, actor_of, awaited, blocked_there, exit_reaches, is_blocked, replies_on, reached_there, send_reaches, sends_on, stays_on, wakes_on}
 use Rattle.nova_laws.proofs.Setting.{entry_other, get_last, joined_other, set_length}
-use Rattle.nova_laws.proofs.Tabling.{changed_tag, contexts_length, downed_fits, edited, followed_fits, made_fits, named_fits, passed_fits, recalled_fits, replied_fits, set_there, stepped_fits, told_contexts, told_fits, transfer_there, upped_fits, with_delegations, with_memory, with_message_fits, with_transfer_fits, woken_fits}
-use Rattle.nova_laws.proofs.Tags.{map_set}
-
--- A DEED AND TABLES
+use Rattle.nova_laws.proofs.Tabling.{changed_tag, contexts_length, downed_fits, edited, followed_fits, named_fits, paid_tables, passed_fits, recalled_fits, replied_fits, set_there, stepped_fits, stirred_tables, told_contexts, told_fits, transfer_there, upped_fits, with_delegations, with_memory, with_message_fits, with_transfer_fits, woken_fits}
+use Rattle.nova_laws.proofs.Tags.{made_fits}
+use Rattle.nova_laws.proofs.Virtual.{among_of, caller_thread, done_guests, guests_of, is_guest_deed, reached_thread, root_among, thread_does}
 
 abbrev Served : KernelState → Type 0
 Served k = AreServed (is_local_thread k) k.contexts
 
+pub record Fits (k : KernelState) : Type 0 where
+  pub tables : HasTables k
+  pub served : AreServed (is_local_thread k) k.contexts
+  pub blocked : AreBlocked k.contexts k.semaphores
+  pub guests : AreGuests k
+
+-- A DEED AND TABLES
+
 pub caller_there : (k : KernelState) (ec caller : ℕ) (mark : Mark) → IsActor k.contexts ec → IsCallerOf k ec caller mark → Served k → is_some (context_at k caller) ≡ true
 caller_there k ec caller mark actor keeps served = ap is_some (awaited (is_local_thread k) k.contexts ec caller mark actor keeps served).there
 
-told_there : (k : KernelState) (ec : ℕ) (y : EcState) (words : Option ItemWords) → IsActor k.contexts ec → Served k → TellsIn k ec words →
-    IfSome words (λ w. is_some (context_at (with_context k ec y) w.ec) ≡ true)
-told_there k ec y None actor served h = tt
-told_there k ec y (Some w) actor served (inl same) = set_there k.contexts ec y w.ec (rw (same, actor.there) refl)
-told_there k ec y (Some w) actor served (inr calls) = set_there k.contexts ec y w.ec (caller_there k ec w.ec mark.Call actor calls served)
+told_threads : (k : KernelState) (ec : ℕ) (words : Option ItemWords) → is_thread k ec ≡ true → AreGuests k → TellsIn k ec words → IfSome words (λ w. is_thread k w.ec ≡ true)
+told_threads k ec None thread guests h = tt
+told_threads k ec (Some w) thread guests (inl same) = rw same thread
+told_threads k ec (Some w) thread guests (inr calls) = caller_thread k ec w.ec mark.Call guests calls refl
 
 followed_there : (k : KernelState) (ec : ℕ) (y : EcState) (follows : Sequel) (caller : ℕ) (mark : Mark) → IsActor k.contexts ec → Served k → Follows k ec follows →
     follows ≡ sequel.Replied caller mark → is_some (context_at (with_context k ec y) caller) ≡ true
 followed_there k ec y follows caller mark actor served h is =
     set_there k.contexts ec y caller (caller_there k ec caller mark actor (subst (Follows k ec) is h) served)
-
--- an execution context changes, and goes on
-edits : (k : KernelState) (ec : ℕ) (d : Deed) → IsActor k.contexts ec → HasTables k → HasTables (with_context k ec (changed (context k ec) d))
-edits k ec d actor h = edited k ec (λ x. changed x d) (changed_tag d) (ap is_some actor.there) h
 
 followed_stays : (k : KernelState) (ec : ℕ) (follows : Sequel) (n : ℕ) → is_some (context_at k n) ≡ true → is_some (context_at (followed k ec follows) n) ≡ true
 followed_stays k ec sequel.Item n there = there
@@ -77,54 +81,45 @@ waking_there k ec sm y None wakes blocked = tt
 waking_there k ec sm y (Some w) wakes blocked =
     set_there k.contexts ec y w (ap is_some (blocked_there k.contexts w sm (woken_blocked k sm w wakes blocked)))
 
-done_tables : (k : KernelState) (ec : ℕ) (d : Deed) → IsActor k.contexts ec → Asks k ec d → Served k → AreBlocked k.contexts k.semaphores → HasTables k → HasTables (done k ec d)
-done_tables k ec Rests actor asks served blocked h = h
-done_tables k ec Steps actor asks served blocked h = stepped_fits k ec (instruction k ec) (ap is_some actor.there) h
-done_tables k ec (Makes call target made) actor asks served blocked h = made_fits _ (pd_of k ec) target made asks (edits k ec (Makes call target made) actor h)
-done_tables k ec (Recalls other) actor asks served blocked h = recalled_fits _ other _ refl (edits k ec (Recalls other) actor h)
-done_tables k ec (Opens target domain) actor asks served blocked h = made_fits _ (pd_of k ec) target new.Pd tt (edits k ec (Opens target domain) actor h)
-done_tables k ec (Gives child cursor) actor asks served blocked h =
-    with_transfer_fits (record k { delegations = _ }) ec _ (transfer_there k ec (ap is_some actor.there) h) (with_delegations k _ h)
-done_tables k ec (Skips reason place cursor) actor asks served blocked h = with_transfer_fits k ec _ (transfer_there k ec (ap is_some actor.there) h) h
-done_tables k ec (Finishes item end words follows) actor asks served blocked h =
+done_tables : (k : KernelState) (ec : ℕ) (d : Deed) → IsActor k.contexts ec → (is_guest_deed d ≡ false → is_thread k ec ≡ true) → Asks k ec d → Fits k →
+    HasTables (with_context k ec (changed (context k ec) d)) → HasTables (done k ec d)
+done_tables k ec Rests actor thread asks h now = h.tables
+done_tables k ec Steps actor thread asks h now = stepped_fits k ec (instruction k ec) (ap is_some actor.there) h.tables
+done_tables k ec (Makes call target made) actor thread asks h now = made_fits _ (pd_of k ec) target made asks now
+done_tables k ec (Recalls other) actor thread asks h now = recalled_fits _ other _ refl now
+done_tables k ec (Opens target domain) actor thread asks h now = made_fits _ (pd_of k ec) target new.Pd tt now
+done_tables k ec (Gives child cursor) actor thread asks h now =
+    with_transfer_fits (record k { delegations = _ }) ec _ (transfer_there k ec (ap is_some actor.there) h.tables) (with_delegations k _ h.tables)
+done_tables k ec (Skips reason place cursor) actor thread asks h now = with_transfer_fits k ec _ (transfer_there k ec (ap is_some actor.there) h.tables) h.tables
+done_tables k ec (Finishes item end words follows) actor thread asks h now =
     let y = after_item (context k ec) follows in
     let one = with_context k ec y in
-    let kept = edits k ec (Finishes item end words follows) actor h in
-    let two = told_fits one item words (told_there k ec y words actor served asks.0) kept in
+    let two = told_fits one item words (told_threads k ec words (thread refl) h.guests asks.0) now in
     let there : (caller : ℕ) (its : Mark) → follows ≡ sequel.Replied caller its → is_some (context_at (told one item words) caller) ≡ true =
-    (λ caller its is. rw (told_contexts one item words) (followed_there k ec y follows caller its actor served asks.1 is)) in
+    (λ caller its is. rw (told_contexts one item words) (followed_there k ec y follows caller its actor h.served asks.1 is)) in
     let three = followed_fits (told one item words) ec follows there two in
     let still : is_some (context_at (told one item words) ec) ≡ true = rw (told_contexts one item words) (set_there k.contexts ec y ec (ap is_some actor.there)) in
     with_transfer_fits _ ec _ (transfer_there _ ec (followed_stays (told one item words) ec follows ec still) three) three
-done_tables k ec (Names pt identifier) actor asks served blocked h = named_fits _ pt identifier asks (edits k ec (Names pt identifier) actor h)
-done_tables k ec (Calls handler ip identifier items) actor asks served blocked h =
+done_tables k ec (Names pt identifier) actor thread asks h now = named_fits _ pt identifier asks now
+done_tables k ec (Calls handler ip identifier items) actor thread asks h now =
     let y : EcState = changed (context k ec) (Calls handler ip identifier items) in
-    let one = with_context k ec y in
-    let there = set_there k.contexts ec y handler (reached_there k.contexts ec handler (send_reaches k.contexts ec handler asks.flag asks.admits)) in
-    edited _ handler (λ x. serving x ec mark.Call ip identifier items) (λ x. refl) there
-    (passed_fits one ec handler there (edits k ec (Calls handler ip identifier items) actor h))
-done_tables k ec (Replies caller mark items) actor asks served blocked h =
-    let y : EcState = changed (context k ec) (Replies caller mark items) in
-    replied_fits (with_context k ec y) ec caller mark items (set_there k.contexts ec y caller (caller_there k ec caller mark actor asks served))
-    (edits k ec (Replies caller mark items) actor h)
-done_tables k ec (Sends handler ip identifier mtd reason q0 q1) actor asks served blocked h =
+    let reached = send_reaches k.contexts ec handler asks.flag asks.admits in
+    edited _ handler (λ x. serving x ec mark.Call ip identifier items) (λ x. refl) (set_there k.contexts ec y handler (reached_there k.contexts ec handler reached))
+    (passed_fits (with_context k ec y) ec handler (reached_thread k ec handler reached h.served) now)
+done_tables k ec (Replies caller its items) actor thread asks h now =
+    let y : EcState = changed (context k ec) (Replies caller its items) in
+    replied_fits (with_context k ec y) ec caller its items (set_there k.contexts ec y caller (caller_there k ec caller its actor asks h.served))
+    (caller_thread k ec caller its h.guests asks) now
+done_tables k ec (Sends handler ip identifier mtd reason q0 q1) actor thread asks h now =
     let y : EcState = changed (context k ec) (Sends handler ip identifier mtd reason q0 q1) in
-    let one = with_context k ec y in
-    let there = set_there k.contexts ec y handler (reached_there k.contexts ec handler (exit_reaches k.contexts ec handler asks.admits)) in
-    edited _ handler (λ x. serving x ec mark.Exit ip identifier false) (λ x. refl) there
-    (with_message_fits one handler _ there (edits k ec (Sends handler ip identifier mtd reason q0 q1) actor h))
-done_tables k ec (Ups sm whom) actor asks served blocked h =
-    let y = changed (context k ec) (Ups sm whom) in
-    woken_fits _ whom (waking_there k ec sm y whom asks.1 blocked) (upped_fits _ sm (edits k ec (Ups sm whom) actor h))
-done_tables k ec (Downs sm) actor asks served blocked h = downed_fits _ sm ec (edits k ec (Downs sm) actor h)
-done_tables k ec (Blocks sm) actor asks served blocked h = downed_fits _ sm ec (edits k ec (Blocks sm) actor h)
-done_tables k ec (Waits handler reason q0 q1) actor asks served blocked h = edits k ec (Waits handler reason q0 q1) actor h
-done_tables k ec (Raises reason q0 q1) actor asks served blocked h = edits k ec (Raises reason q0 q1) actor h
-done_tables k ec (Dies reason q0) actor asks served blocked h = edits k ec (Dies reason q0) actor h
-done_tables k ec (Refuses call status) actor asks served blocked h = edits k ec (Refuses call status) actor h
-done_tables k ec (Tells call value) actor asks served blocked h = edits k ec (Tells call value) actor h
-done_tables k ec (Helps handler) actor asks served blocked h = edits k ec (Helps handler) actor h
-done_tables k ec (Aborts handler mark) actor asks served blocked h = edits k ec (Aborts handler mark) actor h
+    let reached = exit_reaches k.contexts ec handler asks.admits in
+    edited _ handler (λ x. serving x ec mark.Exit ip identifier false) (λ x. refl) (set_there k.contexts ec y handler (reached_there k.contexts ec handler reached))
+    (with_message_fits (with_context k ec y) handler _ (reached_thread k ec handler reached h.served) now)
+done_tables k ec (Ups sm whom) actor thread asks h now =
+    woken_fits _ whom (waking_there k ec sm (changed (context k ec) (Ups sm whom)) whom asks.1 h.blocked) (upped_fits _ sm now)
+done_tables k ec (Downs sm) actor thread asks h now = downed_fits _ sm ec now
+done_tables k ec (Blocks sm) actor thread asks h now = downed_fits _ sm ec now
+done_tables k ec other actor thread asks h now = now
 
 -- A DEED AND CALLERS
 
@@ -285,44 +280,26 @@ done_served k ec (Blocks sm) actor asks blocked h served = owns k ec _ actor ref
 
 -- A TURN
 
-pub record Fits (k : KernelState) : Type 0 where
-  pub tables : HasTables k
-  pub served : AreServed (is_local_thread k) k.contexts
-  pub blocked : AreBlocked k.contexts k.semaphores
-
 pub gives_there : (k : KernelState) (ec : ℕ) → is_some (context_at k ec) ≡ true → Fits k → option_map is_some (slice_get k.transfers ec) ≡ Some true
 gives_there k ec there h = transfer_there k ec there h.tables
 
-done_fits : (k : KernelState) (ec : ℕ) (d : Deed) → IsActor k.contexts ec → Asks k ec d → Fits k → Fits (done k ec d)
-done_fits k ec d actor asks h = record {
-  tables = done_tables k ec d actor asks h.served h.blocked h.tables;
-  served = done_served k ec d actor asks h.blocked h.tables h.served;
-  blocked = done_blocked k ec d actor asks h.tables h.served h.blocked;
-}
+done_fits : (k : KernelState) (ec : ℕ) → IsActor k.contexts ec → Fits k → Fits (done k ec (deed k ec))
+done_fits k ec actor h =
+    let asks = deed_asks k ec in
+    let thread = thread_does k ec (ap is_some actor.there) h.tables h.guests in record {
+      tables = done_tables k ec (deed k ec) actor thread asks h
+          (edited k ec (λ x. changed x (deed k ec)) (changed_tag (deed k ec)) (ap is_some actor.there) h.tables);
+      served = done_served k ec (deed k ec) actor asks h.blocked h.tables h.served;
+      blocked = done_blocked k ec (deed k ec) actor asks h.tables h.served h.blocked;
+      guests = done_guests k ec (deed k ec) thread asks h.tables h.served h.guests;
+    }
 
-entry_budget : (o : Option (Option Budget)) (b new : Budget) → entry o ≡ Some b → IfSome o (λ e. is_some (Some new) ≡ is_some e)
-entry_budget None b new h = tt
-entry_budget (Some e) b new h = sym (ap is_some h)
-
-paid_tables : (k : KernelState) (cpu sc quantum : ℕ) (o : Option Budget) → budget_at k sc ≡ o → HasTables k → HasTables (counted (paid_by k sc quantum o) cpu)
-paid_tables k cpu sc quantum None is h = record {
-  contexts = h.contexts;
-  messages = h.messages;
-  transfers = h.transfers;
-  budgets = h.budgets;
-  identifiers = h.identifiers;
-  semaphores = h.semaphores;
-  refer = h.refer;
-}
-paid_tables k cpu sc quantum (Some b) is h = record {
-  contexts = h.contexts;
-  messages = h.messages;
-  transfers = h.transfers;
-  budgets = let spent = budget_after (is_spent b) quantum k.next_stamp b in
-      map_set is_some k.budgets sc (Some spent) (entry_budget (slice_get k.budgets sc) b spent is) ∙ h.budgets;
-  identifiers = h.identifiers;
-  semaphores = h.semaphores;
-  refer = h.refer;
+stirred_fits : (k : KernelState) (ec : ℕ) (d : Deed) (s : KernelState) → Fits s → Fits (stirred k ec d s)
+stirred_fits k ec d s h = record {
+  tables = stirred_tables k ec d s h.tables;
+  served = h.served;
+  blocked = h.blocked;
+  guests = guests_of _ (among_of s h.guests);
 }
 
 paid_served : (k : KernelState) (cpu sc quantum : ℕ) (o : Option Budget) → Served k → Served (counted (paid_by k sc quantum o) cpu)
@@ -336,12 +313,17 @@ paid_blocked : (k : KernelState) (cpu sc quantum : ℕ) (o : Option Budget) → 
 paid_blocked k cpu sc quantum None h = h
 paid_blocked k cpu sc quantum (Some b) h = h
 
+paid_guests : (k : KernelState) (cpu sc quantum : ℕ) (o : Option Budget) → AreGuests k → AreGuests (counted (paid_by k sc quantum o) cpu)
+paid_guests k cpu sc quantum None h = guests_of _ (among_of k h)
+paid_guests k cpu sc quantum (Some b) h = guests_of _ (among_of k h)
+
 charged_fits : (k : KernelState) (cpu sc : ℕ) → Fits k → Fits (charged k cpu sc)
 unfolding charged
 charged_fits k cpu sc h = record {
   tables = paid_tables k cpu sc (quantum_in (slice_get k.objects sc)) (budget_at k sc) refl h.tables;
   served = paid_served k cpu sc (quantum_in (slice_get k.objects sc)) (budget_at k sc) h.served;
   blocked = paid_blocked k cpu sc (quantum_in (slice_get k.objects sc)) (budget_at k sc) h.blocked;
+  guests = paid_guests k cpu sc (quantum_in (slice_get k.objects sc)) (budget_at k sc) h.guests;
 }
 
 pub entry_acts : (cs : Contexts) (o : Option EcState) → acts_as cs (option_map (λ x. x.state) o) ≡ true → is_some o ≡ true
@@ -351,8 +333,7 @@ entry_acts cs (Some x) h = refl
 turn_by_fits : (k : KernelState) (cpu : ℕ) (c : Option Candidate) → IfSome c (Acts k) → Fits k → Fits (state_after k (turn_by k cpu c))
 turn_by_fits k cpu None acts h = h
 turn_by_fits k cpu (Some c) acts h =
-    charged_fits (done k c.actor (deed k c.actor)) cpu c.sc
-    (done_fits k c.actor (deed k c.actor) (actor_of k.contexts c.actor acts) (deed_asks k c.actor) h)
+    charged_fits _ cpu c.sc (stirred_fits k c.actor (deed k c.actor) _ (done_fits k c.actor (actor_of k.contexts c.actor acts) h))
 
 pub after_fits : (k : KernelState) (cpu : ℕ) → Fits k → Fits (after k cpu)
 unfolding turn
@@ -364,7 +345,12 @@ run_fits k (cpu ∷ turns) h = run_fits (after k cpu) turns (after_fits k cpu h)
 
 images_fit : (k : KernelState) (images : List Image) → Fits k → Fits (with_images k images)
 images_fit k [] h = h
-images_fit k (image ∷ images) h = images_fit (with_image k image) images (record { tables = with_memory k _ h.tables; served = h.served; blocked = h.blocked })
+images_fit k (image ∷ images) h = images_fit (with_image k image) images (record {
+  tables = with_memory k _ h.tables;
+  served = h.served;
+  blocked = h.blocked;
+  guests = guests_of (with_image k image) (among_of k h.guests);
+})
 
 no_link : (c h : ℕ) → IsLinked c None h None
 no_link c h = record { known = λ is. absurd (cc); waits = λ mark keeps lives. absurd (cc); cpu = λ mark keeps. refl }
@@ -379,9 +365,10 @@ root_served root =
 
 pub boot_fits : (s : Scenario) → Fits (boot s)
 boot_fits s = images_fit (bare s.cpus s.ram s.consoles s.root) s.images (record {
-  tables = record { contexts = refl; messages = refl; transfers = refl; budgets = refl; identifiers = refl; semaphores = refl; refer = (tt, ((refl, refl), (refl, tt))) };
+  tables = record { contexts = refl; messages = refl; transfers = refl; budgets = refl; identifiers = refl; semaphores = refl; guests = refl; refer = (tt, (refl, (refl, tt))) };
   served = root_served s.root;
   blocked = bare_blocked s.root;
+  guests = guests_of (bare s.cpus s.ram s.consoles s.root) (root_among s.root);
 })
 
 pub boot_run_fits : (s : Scenario) (turns : List ℕ) → Fits (run (boot s) turns)

@@ -35,6 +35,7 @@ use Rattle.nova_model.specs.declared.deed.Deed.TheVariants.{Rests, Steps, Raises
 use Rattle.nova_model.specs.declared.new_object.NewObject.{NewObject}
 use Rattle.nova_model.specs.declared.new_object.NewObject.TheVariants as new
 use Rattle.nova_model.specs.declared.transfer.Transfer.{Transfer}
+use Rattle.nova_forest.proofs.Stirred.{acted}
 use Rattle.nova_laws.specs.Giving.{is_giving}
 use Rattle.nova_laws.specs.Waiting.{AreBlocked}
 use Rattle.nova_laws.proofs.Setting.{get_kept}
@@ -366,7 +367,7 @@ charged_for k cpu sc h = paid_for k cpu sc (quantum_in (slice_get k.objects sc))
 turn_by_for : (k : KernelState) (cpu : ℕ) (c : Option Candidate) → IfSome c (Acts k) → Fits k → Sound k → Sound (state_after k (turn_by k cpu c))
 turn_by_for k cpu None able fits h = h
 turn_by_for k cpu (Some c) able fits h =
-    charged_for (done k c.actor (deed k c.actor)) cpu c.sc (done_for k c.actor (deed k c.actor) (deed_wants k c.actor) able fits h)
+    charged_for (acted k c.actor) cpu c.sc (done_for k c.actor (deed k c.actor) (deed_wants k c.actor) able fits h)
 
 pub after_for : (k : KernelState) (cpu : ℕ) → Fits k → Sound k → Sound (after k cpu)
 unfolding turn

@@ -9,7 +9,8 @@ use Rattle.nova_range.specs.Ranges.{HasPlace, end_of, overlaps}
 use Rattle.nova_range.specs.declared.range.Kind.TheVariants.{Obj}
 use Rattle.nova_range.specs.declared.range.Range.{Range}
 use Rattle.nova_model.specs.Capabilities.{allowed, is_held, named, or_bad_cap}
-use Rattle.nova_model.specs.Delegations.{allows, covers, has_place, is_same_kind, range_of}
+use Rattle.nova_model.specs.Delegations.{covers, has_place, is_same_kind, range_of}
+use Rattle.nova_range.specs.Rights.{allows}
 use Rattle.nova_model.specs.Forest.{AreApart, ArePairs, IsForest}
 use Rattle.nova_model.specs.State.{KernelState}
 use Rattle.nova_model.specs.declared.delegation.Derivation.{Derivation}

@@ -13,6 +13,7 @@ pub mod Tabling
 pub mod Admitting
 pub mod Serving
 pub mod Blocking
+pub mod Virtual
 pub mod Fitting
 pub mod Donation
 pub mod Calling
@@ -47,3 +48,4 @@ pub mod Asking
 pub mod Wording
 pub mod Raising
 pub mod Windows
+pub mod Stirring

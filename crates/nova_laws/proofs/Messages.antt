@@ -10,14 +10,13 @@ use Rattle.nova_objects.specs.declared.object.Object.TheVariants.{Pd, Ec, Sc, Pt
 use Rattle.nova_objects.specs.declared.object.EcKind.TheVariants.{Local, Global, Vcpu}
 use Rattle.nova_range.specs.declared.range.Range.{Range}
 use Rattle.nova_range.specs.declared.rights.Rights.{Rights}
-use Rattle.nova_range.specs.declared.status.Status.TheVariants.{BadPar}
 use Rattle.nova_utcb.specs.Messages.{counted_items, has_counts, has_items, items}
 use Rattle.nova_model.specs.Capabilities.{is_ec, is_sc, is_pt, named, control_right}
 use Rattle.nova_model.specs.Creation.{words_of}
 use Rattle.nova_model.specs.Deeds.{deed}
 use Rattle.nova_model.specs.Deliveries.{delivery, sequel_of, words_for}
 use Rattle.nova_model.specs.Edges.{acts, caller_in, is_dead, state_in}
-use Rattle.nova_model.specs.Hypercalls.{is_virtual, maker, new_domain, row, ticks_in}
+use Rattle.nova_model.specs.Hypercalls.{maker, new_domain, row, ticks_in}
 use Rattle.nova_model.specs.State.{KernelState, Contexts, budget_at, context, ec_in, entry, message, message_in, no_words, pd_of, transfer}
 use Rattle.nova_model.specs.declared.context.EcState.{EcState}
 use Rattle.nova_model.specs.declared.context.Mark.{Mark}
@@ -32,7 +31,7 @@ use Rattle.nova_model.specs.declared.transfer.Sequel.{Sequel}
 use Rattle.nova_forest.proofs.Walk.{IfDone, deed_holds, sm_ctrl_holds}
 use Rattle.nova_laws.specs.Giving.{source_in}
 use Rattle.nova_laws.proofs.Giving.{more_at}
-use Rattle.nova_laws.proofs.Rows.{call_holds, makes_hold, named_holds, reply_holds, unless_holds}
+use Rattle.nova_laws.proofs.Rows.{call_holds, makes_hold, named_holds, reply_holds}
 use Rattle.nova_laws.proofs.Awaiting.{Serves, waits_dead}
 use Rattle.nova_laws.proofs.Setting.{entry_other}
 
@@ -131,7 +130,7 @@ row_shows k ec domain asks.Reply = reply_holds (Shows k ec) k ec (λ caller mark
 row_shows k ec domain (asks.CreatePd target pd first) =
     named_holds (Shows k ec) (maker k domain target pd) (λ owner. new_domain k target first) (λ owner. domain_shows k ec target first)
 row_shows k ec domain (asks.CreateEc target pd cpu kind sp event) =
-    unless_holds (Shows k ec) (is_virtual kind) BadPar _ (makes_hold (Shows k ec) CREATE_EC target (λ made. tt) k domain pd _)
+    makes_hold (Shows k ec) CREATE_EC target (λ made. tt) k domain pd _
 row_shows k ec domain (asks.CreateSc target pd its quantum priority) = makes_hold (Shows k ec) CREATE_SC target (λ made. tt) k domain pd _
 row_shows k ec domain (asks.CreatePt target pd handler mtd ip) = makes_hold (Shows k ec) CREATE_PT target (λ made. tt) k domain pd _
 row_shows k ec domain (asks.CreateSm target pd count) = makes_hold (Shows k ec) CREATE_SM target (λ made. tt) k domain pd (λ o. Ok (new.Sm count))

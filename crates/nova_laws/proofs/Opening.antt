@@ -11,14 +11,14 @@ use Rattle.nova_calls.specs.declared.numbers.TheConstants.{CREATE_EC, CREATE_SC,
 use Rattle.nova_range.specs.RangeWords.{meaning_of}
 use Rattle.nova_range.specs.declared.range.Range.{Range}
 use Rattle.nova_range.specs.declared.rights.Rights.{Rights}
-use Rattle.nova_range.specs.declared.status.Status.TheVariants.{Aborted, BadCpu, BadPar, Timeout}
+use Rattle.nova_range.specs.declared.status.Status.TheVariants.{Aborted, BadCpu, Timeout}
 use Rattle.nova_range.specs.declared.word.WordFault.{WordFault}
 use Rattle.nova_model.specs.Capabilities.{is_ec, is_sc, is_pt, named, control_right}
 use Rattle.nova_model.specs.Calls.{admitted, exit_admitted, is_parked, is_same_cpu}
 use Rattle.nova_model.specs.Deeds.{deed, deed_in}
 use Rattle.nova_model.specs.Deliveries.{delivery, delivers, given_to, sequel_of, taken_from}
 use Rattle.nova_model.specs.Edges.{circle, cpu_in, is_dead, state_in}
-use Rattle.nova_model.specs.Hypercalls.{is_virtual, maker, new_domain, row, ticks_in}
+use Rattle.nova_model.specs.Hypercalls.{maker, new_domain, row, ticks_in}
 use Rattle.nova_model.specs.Portals.{handler_of}
 use Rattle.nova_model.specs.Semaphores.{semaphore, woken}
 use Rattle.nova_model.specs.State.{KernelState, budget_at, context, pd_of, transfer}
@@ -36,7 +36,7 @@ use Rattle.nova_model.specs.declared.deed.Deed.TheVariants.{Rests, Sends, Recall
 use Rattle.nova_model.specs.declared.new_object.NewObject.TheVariants.{Sm}
 use Rattle.nova_forest.proofs.Walk.{IfDone, Delivers, delivered_holds, own_holds, sm_ctrl_holds}
 use Rattle.nova_laws.specs.Giving.{is_giving}
-use Rattle.nova_laws.proofs.Rows.{call_holds, makes_hold, named_holds, reply_holds, unless_holds}
+use Rattle.nova_laws.proofs.Rows.{call_holds, makes_hold, named_holds, reply_holds}
 use Rattle.nova_laws.proofs.Tabling.{all_get}
 
 -- the word in x12 reads as a range
@@ -198,7 +198,7 @@ row_wants k ec domain (asks.CreatePd target pd first) rests range =
     named_holds (Wants k ec) (maker k domain target pd) (λ owner. new_domain k target first)
     (λ owner. new_domain_wants k ec target first rests (first_range (context k ec).regs target pd first range))
 row_wants k ec domain (asks.CreateEc target pd cpu kind sp event) rests range =
-    unless_holds (Wants k ec) (is_virtual kind) BadPar _ (makes_hold (Wants k ec) CREATE_EC target (λ made. rests) k domain pd _)
+    makes_hold (Wants k ec) CREATE_EC target (λ made. rests) k domain pd _
 row_wants k ec domain (asks.CreateSc target pd its quantum priority) rests range = makes_hold (Wants k ec) CREATE_SC target (λ made. rests) k domain pd _
 row_wants k ec domain (asks.CreatePt target pd handler mtd ip) rests range = makes_hold (Wants k ec) CREATE_PT target (λ made. rests) k domain pd _
 row_wants k ec domain (asks.CreateSm target pd count) rests range = makes_hold (Wants k ec) CREATE_SM target (λ made. rests) k domain pd (λ o. Ok (Sm count))

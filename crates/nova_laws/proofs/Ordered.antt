@@ -18,6 +18,7 @@ use Rattle.nova_model.specs.declared.deed.Deed.{Deed}
 use Rattle.nova_model.specs.declared.deed.Deed.TheVariants.{Gives, Skips, Finishes}
 use Rattle.nova_model.specs.declared.transfer.Sequel.TheVariants as sequel
 use Rattle.nova_model.specs.declared.transfer.Transfer.{Transfer}
+use Rattle.nova_forest.proofs.Stirred.{acted}
 use Rattle.nova_laws.specs.Giving.{IsAtItem, is_giving, source, source_in}
 use Rattle.nova_laws.proofs.Charges.{charge_leaves}
 use Rattle.nova_laws.proofs.Chosen.{Acts, choice_acts}
@@ -53,7 +54,7 @@ chosen_bound k ec able h =
 
 turn_by_bound : (k : KernelState) (cpu : ℕ) (c : Option Candidate) → IfSome c (Acts k) → Stands k → Bound (state_after k (turn_by k cpu c))
 turn_by_bound k cpu None able h = h.bound
-turn_by_bound k cpu (Some c) able h = charged_bound (done k c.actor (deed k c.actor)) cpu c.sc (chosen_bound k c.actor able h)
+turn_by_bound k cpu (Some c) able h = charged_bound (acted k c.actor) cpu c.sc (chosen_bound k c.actor able h)
 
 after_bound : (k : KernelState) (cpu : ℕ) → Stands k → Bound (after k cpu)
 unfolding turn
@@ -137,7 +138,7 @@ words_of_turn k cpu ec thread of h = by_choice (choice k cpu) (choice_acts k cpu
     by_choice : (o : Option Candidate) → IfSome o (Acts k) → message (state_after k (turn_by k cpu o)) thread ≡ message k thread
     by_choice None able = refl
     by_choice (Some c) able =
-        ap (λ (ms : List (Option (List ℕ))). words_in ms thread) (charge_leaves (done k c.actor (deed k c.actor)) cpu c.sc).messages
+        ap (λ (ms : List (Option (List ℕ))). words_in ms thread) (charge_leaves (acted k c.actor) cpu c.sc).messages
         ∙ by_entry c able (ec_in k.contexts ec) refl
 
 pub items_stay : (s : Scenario) (turns : List ℕ) (cpu ec thread : ℕ) → source (run (boot s) turns) ec ≡ Some thread →
@@ -173,7 +174,7 @@ begins_turn k cpu ec quiet sound = by_choice (choice k cpu)
     by_choice : (o : Option Candidate) → (transfer (state_after k (turn_by k cpu o)) ec).item ≡ 0
     by_choice None = ap (λ (t : Transfer). t.item) (entry_rests k.objects (ec_in k.contexts ec) (transfer k ec) quiet (sound ec))
     by_choice (Some c) =
-        ap (λ (ts : List (Option Transfer)). (at ts ec).item) (charge_leaves (done k c.actor (deed k c.actor)) cpu c.sc).transfers
+        ap (λ (ts : List (Option Transfer)). (at ts ec).item) (charge_leaves (acted k c.actor) cpu c.sc).transfers
         ∙ begun_at k c.actor ec quiet sound
 
 pub items_begin : (s : Scenario) (turns : List ℕ) (cpu ec : ℕ) → is_giving (context (run (boot s) turns) ec).state ≡ false →

@@ -23,6 +23,7 @@ use Rattle.nova_model.specs.declared.new_object.NewObject.{NewObject}
 use Rattle.nova_model.specs.declared.new_object.NewObject.TheVariants as new
 use Rattle.nova_forest.specs.Made.{IsBoundBy}
 use Rattle.nova_forest.proofs.Allowed.{IsAllowed, deed_allowed}
+use Rattle.nova_forest.proofs.Stirred.{acted}
 use Rattle.nova_laws.proofs.Candidates.{HasSchedule, schedule_of, the_chosen}
 use Rattle.nova_laws.proofs.Charges.{ended_is}
 use Rattle.nova_laws.proofs.Refused.{turn_chosen}
@@ -64,6 +65,11 @@ done_adds k ec (Replies caller mark.Exit true) allowed = AddsNone refl refl refl
 done_adds k ec (Replies caller mark.Exit false) allowed = AddsNone refl refl refl
 done_adds k ec (Ups sm whom) allowed = woken_adds k _ ec whom (AddsNone refl refl refl)
 done_adds k ec other allowed = AddsNone refl refl refl
+
+-- and so does a state with the same
+same_adds : (k s new : KernelState) (ec : ℕ) → new.objects ≡ s.objects → new.budgets ≡ s.budgets → new.next_stamp ≡ s.next_stamp → Adds k s ec → Adds k new ec
+same_adds k s new ec o b n (AddsNone objects budgets next) = AddsNone (o ∙ objects) (b ∙ budgets) (n ∙ next)
+same_adds k s new ec o b n (AddsOne made bound objects budgets next) = AddsOne made bound (o ∙ objects) (b ∙ budgets) (n ∙ next)
 
 -- it leaves the counts of turns
 pub record KeepsCounts (old new : KernelState) : Type 0 where
@@ -134,8 +140,8 @@ charge_is k cpu sc quantum b is whole = ap₂ (λ (o : Option Budget) (q : ℕ).
 pub turn_is : (k : KernelState) (cpu : ℕ) (c : Candidate) → choice k cpu ≡ Some c → IsTurn k (after k cpu) cpu c
 turn_is k cpu c chosen =
     let its = schedule_of k cpu c (the_chosen k cpu c chosen) in
-    let s = done k c.actor (deed k c.actor) in
-    let adds = done_adds k c.actor (deed k c.actor) (deed_allowed k c.actor) in
+    let s = acted k c.actor in
+    let adds = same_adds k (done k c.actor (deed k c.actor)) s c.actor refl refl refl (done_adds k c.actor (deed k c.actor) (deed_allowed k c.actor)) in
     let counts = done_counts k c.actor (deed k c.actor) in
     let object = still_object k s c.actor c.sc (Sc its.ec cpu its.priority its.quantum) adds its.object in
     let there = still_budget k s c.actor c.sc its.budget adds its.there in
@@ -159,7 +165,7 @@ pub data Comes (k new : KernelState) (cpu : ℕ) : Type 0 where
   Idles : choice k cpu ≡ None → new ≡ k → Comes k new cpu
   Takes : (c : Candidate) → choice k cpu ≡ Some c → IsTurn k new cpu c → Comes k new cpu
 
-idle_is : (k : KernelState) (cpu : ℕ) → choice k cpu ≡ None → after k cpu ≡ k
+pub idle_is : (k : KernelState) (cpu : ℕ) → choice k cpu ≡ None → after k cpu ≡ k
 unfolding turn
 idle_is k cpu is = ap (λ (o : Option Candidate). state_after k (turn_by k cpu o)) is
 

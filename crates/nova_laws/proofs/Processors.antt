@@ -13,6 +13,7 @@ use Rattle.nova_model.specs.declared.context.EcState.{EcState}
 use Rattle.nova_model.specs.declared.context.Mark.TheVariants.{Call, Exit}
 use Rattle.nova_model.specs.declared.deed.Deed.{Deed}
 use Rattle.nova_model.specs.declared.deed.Deed.TheVariants.{Rests, Steps, Makes, Recalls, Names, Opens, Gives, Skips, Finishes, Replies, Ups}
+use Rattle.nova_forest.proofs.Stirred.{acted}
 use Rattle.nova_laws.proofs.Charges.{ended_is}
 
 stepped_cpus : (k : KernelState) (ec : ℕ) (o : Once) → (stepped k ec o).cpus ≡ k.cpus
@@ -51,7 +52,7 @@ charged_cpus k cpu sc = paid_cpus k cpu sc (quantum_in (slice_get k.objects sc))
 
 turn_by_cpus : (k : KernelState) (cpu : ℕ) (c : Option Candidate) → (state_after k (turn_by k cpu c)).cpus ≡ k.cpus
 turn_by_cpus k cpu None = refl
-turn_by_cpus k cpu (Some c) = charged_cpus (done k c.actor (deed k c.actor)) cpu c.sc ∙ done_cpus k c.actor (deed k c.actor)
+turn_by_cpus k cpu (Some c) = charged_cpus (acted k c.actor) cpu c.sc ∙ done_cpus k c.actor (deed k c.actor)
 
 pub after_cpus : (k : KernelState) (cpu : ℕ) → (after k cpu).cpus ≡ k.cpus
 unfolding turn

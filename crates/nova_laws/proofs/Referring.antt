@@ -5,7 +5,6 @@ use Rattle.nova_calls.specs.declared.call.Call.{Call}
 use Rattle.nova_calls.specs.declared.call.Call.TheVariants as call
 use Rattle.nova_calls.specs.declared.numbers.TheConstants.{CREATE_EC, CREATE_SC, CREATE_PT, CREATE_SM, SC_CTRL}
 use Rattle.nova_objects.specs.declared.object.EcKind.{EcKind}
-use Rattle.nova_objects.specs.declared.object.EcKind.TheVariants.{Local, Global, Vcpu}
 use Rattle.nova_objects.specs.declared.object.Object.{Object}
 use Rattle.nova_objects.specs.declared.object.Object.TheVariants.{Pd, Ec, Sc, Pt, Sm}
 use Rattle.nova_range.specs.declared.mtd.Mtd.{Mtd}
@@ -18,12 +17,12 @@ use Rattle.nova_model.specs.Calls.{admitted, exit_admitted}
 use Rattle.nova_model.specs.Capabilities.{allowed, bind_portal_right, bind_scheduling_right, call_right, capability, control_right, create_right, is_held, is_ec, is_local, is_pd, is_pt, is_sc, is_schedulable, is_sm, down_right, event_right, named, or_bad_cap, up_right}
 use Rattle.nova_model.specs.Creation.{object_of}
 use Rattle.nova_model.specs.Deeds.{deed}
-use Rattle.nova_model.specs.Delegations.{allows}
+use Rattle.nova_range.specs.Rights.{allows}
 use Rattle.nova_model.specs.Deliveries.{delivery, flag, given_to, sequel_of, taken_from, words_for}
 use Rattle.nova_model.specs.Hypercalls.{and_then, called, create_ec, is_scheduled, maker, makes, new_domain, replied, row, ticks_in, unless}
 use Rattle.nova_model.specs.Portals.{descriptor, handler_in, handler_of, ip_in, ip_of, mtd_in}
 use Rattle.nova_model.specs.Semaphores.{answer_of, semaphore, woken}
-use Rattle.nova_model.specs.State.{KernelState, budget_at, context, is_local_thread, is_thread_kind, message, pd_of, processor_in, processor_of, transfer}
+use Rattle.nova_model.specs.State.{KernelState, budget_at, context, is_local_thread, message, pd_of, processor_in, processor_of, transfer}
 use Rattle.nova_model.specs.declared.admit.Admit.{Admit}
 use Rattle.nova_model.specs.declared.admit.Admit.TheVariants.{Refused, Help, Send}
 use Rattle.nova_model.specs.declared.admit.ExitAdmit.TheVariants as exit
@@ -137,17 +136,14 @@ pd_there (Some (Sc ec cpu priority quantum)) h = absurd (cc)
 pd_there (Some (Pt ec mtd ip)) h = absurd (cc)
 pd_there (Some Sm) h = absurd (cc)
 
-ec_refers : (k : KernelState) (o cpu : ℕ) (kind : EcKind) (sp event : ℕ) (test : Bool) → is_thread_kind kind ≡ true → IsOf k.objects is_pd o →
+ec_refers : (k : KernelState) (o cpu : ℕ) (kind : EcKind) (sp event : ℕ) (test : Bool) → IsOf k.objects is_pd o →
     IfDone (λ made. Refers k.objects (object_of made)) (unless test BadCpu (Ok (new.Ec o cpu kind sp event)))
-ec_refers k o cpu kind sp event true thread is = tt
-ec_refers k o cpu kind sp event false thread is = (pd_there (slice_get k.objects o) is, thread)
+ec_refers k o cpu kind sp event true is = tt
+ec_refers k o cpu kind sp event false is = pd_there (slice_get k.objects o) is
 
 create_ec_asks : (k : KernelState) (ec domain target pd cpu : ℕ) (kind : EcKind) (sp event : ℕ) → IfDone (Asks k ec) (create_ec k domain target pd cpu kind sp event)
-create_ec_asks k ec domain target pd cpu Local sp event =
-    makes_asks k ec domain CREATE_EC target pd _ (λ o is. ec_refers k o cpu Local sp event (not (nat_lt cpu k.cpus)) refl is)
-create_ec_asks k ec domain target pd cpu Global sp event =
-    makes_asks k ec domain CREATE_EC target pd _ (λ o is. ec_refers k o cpu Global sp event (not (nat_lt cpu k.cpus)) refl is)
-create_ec_asks k ec domain target pd cpu Vcpu sp event = tt
+create_ec_asks k ec domain target pd cpu kind sp event =
+    makes_asks k ec domain CREATE_EC target pd _ (λ o is. ec_refers k o cpu kind sp event (not (nat_lt cpu k.cpus)) is)
 
 pt_refers : (k : KernelState) (mtd ip : ℕ) (r : Result ℕ Status) → IfDone (IsOf k.objects is_local) r →
     IfDone (λ made. Refers k.objects (object_of made)) (and_then r (λ handler. Ok (new.Pt handler mtd ip)))

@@ -6,6 +6,7 @@ use Rattle.nova_range.specs.declared.status.Status.{Status}
 use Rattle.nova_model.specs.Choice.{choice}
 use Rattle.nova_model.specs.Deeds.{answered, deed, deed_in, done, sign_of, with_context}
 use Rattle.nova_model.specs.Deliveries.{delivers, delivery}
+use Rattle.nova_model.specs.Inputs.{stirred}
 use Rattle.nova_model.specs.Exits.{exit_at, exit_portal, exit_to, exits}
 use Rattle.nova_model.specs.Calls.{exit_admitted}
 use Rattle.nova_model.specs.Portals.{handler_of}
@@ -25,6 +26,7 @@ use Rattle.nova_model.specs.declared.event.EventKind.TheVariants.{Answer}
 use Rattle.nova_model.specs.declared.event.Turn.TheVariants.{Stepped}
 use Rattle.nova_model.specs.declared.transfer.Delivery.{Delivery}
 use Rattle.nova_model.specs.declared.transfer.ItemEnd.TheVariants.{Given, Skipped, Translated}
+use Rattle.nova_forest.proofs.Stirred.{acted, refusal_stirred}
 use Rattle.nova_laws.specs.Refusals.{IsAnswered, IsRefusal, LeavesRest, is_asking}
 use Rattle.nova_forest.proofs.Walk.{delivers_holds}
 use Rattle.nova_laws.proofs.Charges.{charge_leaves}
@@ -107,7 +109,7 @@ unfolding deed
 deed_first k ec = state_first k ec (context k ec).state refl
 
 -- the turn of the chosen one
-pub turn_chosen : (k : KernelState) (cpu : ℕ) (c : Candidate) → choice k cpu ≡ Some c → after k cpu ≡ charged (done k c.actor (deed k c.actor)) cpu c.sc
+pub turn_chosen : (k : KernelState) (cpu : ℕ) (c : Candidate) → choice k cpu ≡ Some c → after k cpu ≡ charged (acted k c.actor) cpu c.sc
 unfolding turn
 turn_chosen k cpu c chosen = ap (λ (o : Option Candidate). state_after k (turn_by k cpu o)) chosen
 
@@ -177,7 +179,10 @@ chosen_refusal : (k : KernelState) (cpu : ℕ) (c : Candidate) → choice k cpu 
 chosen_refusal k cpu c chosen answers failed =
     let r = refuses (deed k c.actor) answers failed in
     let asks : is_asking (context k c.actor).state ≡ true = subst (AsksFirst (context k c.actor).state) r.is (deed_first k c.actor) in
-    refusal_of k cpu c (deed k c.actor) r.status r.call r.is asks (turn_chosen k cpu c chosen ∙ ap (λ (d : Deed). charged (done k c.actor d) cpu c.sc) r.is)
+    let answers : KernelState = with_context k c.actor (answered (context k c.actor) r.status None) in
+    refusal_of k cpu c (deed k c.actor) r.status r.call r.is asks
+    (turn_chosen k cpu c chosen ∙ ap (λ (d : Deed). charged (stirred k c.actor d (done k c.actor d)) cpu c.sc) r.is
+    ∙ ap (λ (s : KernelState). charged s cpu c.sc) (refusal_stirred k c.actor r.call r.status answers))
 
 pub refusal : (k : KernelState) (cpu : ℕ) (e : Event) → answer_of (turn k cpu) ≡ Stepped e → e.kind ≡ Answer → e.b ≢ 0 → IsRefusal k cpu e
 unfolding turn

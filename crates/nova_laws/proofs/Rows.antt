@@ -11,7 +11,7 @@ use Rattle.nova_utcb.specs.Messages.{has_counts, has_items}
 use Rattle.nova_model.specs.Capabilities.{is_ec, is_sc, is_pt, named, call_right, control_right}
 use Rattle.nova_model.specs.Calls.{admitted}
 use Rattle.nova_range.specs.declared.status.Status.{Status}
-use Rattle.nova_model.specs.Hypercalls.{and_then, call, called, is_virtual, maker, makes, new_domain, reply, replied, row, ticks_in, unless}
+use Rattle.nova_model.specs.Hypercalls.{and_then, call, called, maker, makes, new_domain, reply, replied, row, ticks_in, unless}
 use Rattle.nova_model.specs.Portals.{handler_of, identifier, ip_of}
 use Rattle.nova_model.specs.State.{KernelState, budget_at, context, is_local_thread, message}
 use Rattle.nova_model.specs.declared.admit.Admit.{Admit}
@@ -121,7 +121,7 @@ row_whole k ec domain asks.Reply = reply_holds IsWhole k ec (λ caller mark is. 
 row_whole k ec domain (asks.CreatePd target pd first) =
     named_holds IsWhole (maker k domain target pd) (λ owner. new_domain k target first) (λ owner. new_domain_whole k target first)
 row_whole k ec domain (asks.CreateEc target pd cpu kind sp event) =
-    unless_holds IsWhole (is_virtual kind) BadPar _ (makes_hold IsWhole CREATE_EC target (λ made. refl) k domain pd _)
+    makes_hold IsWhole CREATE_EC target (λ made. refl) k domain pd _
 row_whole k ec domain (asks.CreateSc target pd its quantum priority) = makes_hold IsWhole CREATE_SC target (λ made. refl) k domain pd _
 row_whole k ec domain (asks.CreatePt target pd handler mtd ip) = makes_hold IsWhole CREATE_PT target (λ made. refl) k domain pd _
 row_whole k ec domain (asks.CreateSm target pd count) = makes_hold IsWhole CREATE_SM target (λ made. refl) k domain pd (λ o. Ok (Sm count))

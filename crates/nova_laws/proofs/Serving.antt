@@ -150,7 +150,7 @@ abbrev pub number_in : Option (ℕ × Mark) → ℕ
 number_in None = 0
 number_in (Some p) = p.0
 
-abbrev mark_in : Option (ℕ × Mark) → Mark
+abbrev pub mark_in : Option (ℕ × Mark) → Mark
 mark_in None = came.Call
 mark_in (Some p) = p.1
 

@@ -10,7 +10,8 @@ use Rattle.nova_range.specs.declared.rights.Rights.{Rights}
 use Rattle.nova_model.specs.Boot.{Scenario, boot}
 use Rattle.nova_model.specs.Deeds.{deed}
 use Rattle.nova_model.specs.Deliveries.{delivery, is_busy}
-use Rattle.nova_model.specs.Delegations.{allows, is_same_kind}
+use Rattle.nova_model.specs.Delegations.{is_same_kind}
+use Rattle.nova_range.specs.Rights.{allows}
 use Rattle.nova_model.specs.Forest.{IsAligned, IsForest}
 use Rattle.nova_model.specs.Hypercalls.{row}
 use Rattle.nova_model.specs.Runs.{run}

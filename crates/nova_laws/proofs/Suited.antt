@@ -1,10 +1,12 @@
 -- What goes with an object, from tables that fit.
 use Rattle.nova_model.specs.Boot.{Scenario, boot}
 use Rattle.std.proofs.Common.{◌≡◌, ℕ, ◌+◌, List, refl, ap, ◌∙◌, sym, arith}
-use Rattle.std.specs.Prelude.{Bool, true, slice_get, Option, Some, None, IfSome, IsSome, is_some, option_map}
+use Rattle.std.specs.Prelude.{Bool, true, not, slice_get, Option, Some, None, IfSome, IsSome, is_some, option_map}
+use Rattle.nova_objects.specs.declared.object.EcKind.{EcKind}
+use Rattle.nova_objects.specs.declared.object.EcKind.TheVariants.{Local, Global, Vcpu}
 use Rattle.nova_objects.specs.declared.object.Object.{Object}
 use Rattle.nova_objects.specs.declared.object.Object.TheVariants.{Pd, Ec, Sc, Pt, Sm}
-use Rattle.nova_model.specs.Capabilities.{is_ec, is_pt, is_sc, is_sm}
+use Rattle.nova_model.specs.Capabilities.{is_ec, is_pt, is_sc, is_sm, is_vcpu}
 use Rattle.nova_model.specs.Runs.{run}
 use Rattle.nova_model.specs.State.{KernelState, budget_at, context_at, entry, is_thread_kind}
 use Rattle.nova_model.specs.declared.context.EcState.{EcState}
@@ -83,13 +85,22 @@ only_context n (Some (Some x)) (Some Sm) h there = absurd (cc)
 
 -- WHAT GOES WITH AN OBJECT
 
+no_thread : (pd cpu : ℕ) (kind : EcKind) (event : ℕ) → is_vcpu (Ec pd cpu kind event) ≡ not (is_thread_kind kind)
+no_thread pd cpu Local event = refl
+no_thread pd cpu Global event = refl
+no_thread pd cpu Vcpu event = refl
+
 object_suits : (k : KernelState) (n : ℕ) → HasTables k → (o : Object) → slice_get k.objects n ≡ Some o → Refers k.objects o → Suits k n o
 object_suits k n h Pd is refers = tt
 object_suits k n h (Ec pd cpu kind event) is refers = (
-  context_there k n pd cpu (slice_get k.contexts n) refl (tagged_at k n h ∙ ap (λ (o : Option Object). option_map (tag_of n) o) is) refers.0
+  context_there k n pd cpu (slice_get k.contexts n) refl (tagged_at k n h ∙ ap (λ (o : Option Object). option_map (tag_of n) o) is) refers
       (there_at (slice_get k.transfers n) (kinds_at is_ec k.transfers k.objects n h.transfers ∙ ap (λ (o : Option Object). option_map is_ec o) is)),
-  some_at (slice_get k.messages n) (is_thread_kind kind)
-      (kinds_at has_words k.messages k.objects n h.messages ∙ ap (λ (o : Option Object). option_map has_words o) is),
+  (
+    some_at (slice_get k.messages n) (is_thread_kind kind)
+        (kinds_at has_words k.messages k.objects n h.messages ∙ ap (λ (o : Option Object). option_map has_words o) is),
+    some_at (slice_get k.stirs.guests n) (not (is_thread_kind kind))
+        (kinds_at is_vcpu k.stirs.guests k.objects n h.guests ∙ ap (λ (o : Option Object). option_map is_vcpu o) is ∙ ap Some (no_thread pd cpu kind event)),
+  ),
 )
 object_suits k n h (Sc ec cpu priority quantum) is refers = (
   there_at (slice_get k.budgets n) (kinds_at is_sc k.budgets k.objects n h.budgets ∙ ap (λ (o : Option Object). option_map is_sc o) is),
@@ -140,3 +151,8 @@ pub semaphores_only : (s : Scenario) (turns : List ℕ) (n : ℕ) → IsSome (en
 semaphores_only s turns n there =
     let k = run (boot s) turns in
     let h = (boot_run_fits s turns).tables in only_at is_sm (slice_get k.semaphores n) (slice_get k.objects n) (kinds_at is_sm k.semaphores k.objects n h.semaphores) there
+
+pub guests_only : (s : Scenario) (turns : List ℕ) (n : ℕ) → IsSome (entry (slice_get (run (boot s) turns).stirs.guests n)) → IsOf (run (boot s) turns).objects is_vcpu n
+guests_only s turns n there =
+    let k = run (boot s) turns in
+    let h = (boot_run_fits s turns).tables in only_at is_vcpu (slice_get k.stirs.guests n) (slice_get k.objects n) (kinds_at is_vcpu k.stirs.guests k.objects n h.guests) there

@@ -1,36 +1,35 @@
 -- Tables fit the objects: as lists, entry by entry, and what deeds do to them.
-use Rattle.std.proofs.Common.{◌≡◌, ℕ, zero, suc, ◌+◌, List, [], ◌∷◌, ◌++◌, length, refl, ap, ◌∙◌, sym, arith}
-use Rattle.std.specs.Prelude.{Bool, true, false, map, slice_get, slice_set, Option, Some, None, IfSome, is_some, option_map}
+use Rattle.std.proofs.Common.{◌≡◌, ℕ, zero, suc, ◌+◌, List, [], ◌∷◌, length, refl, ap, ◌∙◌, sym}
+use Rattle.std.specs.Prelude.{Bool, if◌then◌else◌, true, false, map, slice_get, slice_set, Option, Some, None, IfSome, is_some, option_map}
 use Rattle.std.specs.List.{AllByRecursion}
 use Rattle.std.proofs.lemmas.List.{length-map}
 use Rattle.rv_model.specs.Step.{Once, Raised, Went, Store}
-use Rattle.nova_objects.specs.declared.object.EcKind.TheVariants.{Local, Global, Vcpu}
 use Rattle.nova_objects.specs.declared.object.Object.{Object}
 use Rattle.nova_objects.specs.declared.object.Object.TheVariants.{Pd, Ec, Sc, Pt, Sm}
 use Rattle.nova_range.specs.declared.status.Status.TheVariants.{Success}
-use Rattle.nova_model.specs.AddressSpaces.{AddressSpace, stored_among, words_at}
-use Rattle.nova_model.specs.Capabilities.{is_ec, is_local, is_pt, is_sc, is_sm}
-use Rattle.nova_model.specs.Creation.{budget_of, context_of, count_of, identifier_of, idle_semaphore, object_of, transfer_of, with_object, words_of}
+use Rattle.nova_model.specs.AddressSpaces.{stored_among, words_at}
+use Rattle.nova_model.specs.Capabilities.{is_ec, is_pt}
 use Rattle.nova_model.specs.Deeds.{address_space, answered, brought, changed, completed, followed, messages_after, passed, recalled, replied_to, resumed, stepped, told, with_context, with_transfer, woken_in}
 use Rattle.nova_model.specs.Delegations.{Delegations}
+use Rattle.nova_model.specs.Inputs.{stirred}
 use Rattle.nova_model.specs.Memory.{Memory}
 use Rattle.nova_model.specs.Semaphores as semaphores
 use Rattle.nova_model.specs.Semaphores.{Semaphores, changed_by, downed, lowered, raised, semaphore_at, upped}
-use Rattle.nova_model.specs.State.{Contexts, KernelState, Semaphore, context, context_at, context_in, ec_in, entry, message, with_ec, with_message}
+use Rattle.nova_model.specs.State.{Contexts, KernelState, Semaphore, budget_at, context, context_at, context_in, ec_in, entry, is_thread, is_thread_in, message, with_ec, with_message}
+use Rattle.nova_model.specs.Turn.{budget_after, counted, is_spent, paid_by}
+use Rattle.nova_model.specs.declared.budget.Budget.{Budget}
 use Rattle.nova_model.specs.declared.context.EcState.{EcState}
 use Rattle.nova_model.specs.declared.context.Mark.{Mark}
 use Rattle.nova_model.specs.declared.context.Mark.TheVariants as mark
 use Rattle.nova_model.specs.declared.deed.Deed.{Deed}
 use Rattle.nova_model.specs.declared.deed.Deed.TheVariants.{Rests, Steps, Raises, Dies, Waits, Sends, Refuses, Makes, Recalls, Tells, Names, Opens, Gives, Skips, Finishes, Calls, Helps, Replies, Aborts, Ups, Downs, Blocks}
-use Rattle.nova_model.specs.declared.new_object.NewObject.{NewObject}
-use Rattle.nova_model.specs.declared.new_object.NewObject.TheVariants as new
 use Rattle.nova_model.specs.declared.transfer.ItemWords.{ItemWords}
 use Rattle.nova_model.specs.declared.transfer.Sequel.{Sequel}
 use Rattle.nova_model.specs.declared.transfer.Sequel.TheVariants as sequel
 use Rattle.nova_model.specs.declared.transfer.Transfer.{Transfer}
-use Rattle.nova_laws.specs.Tables.{HasTables, IsOf, Refers, cpu_of, has_words, tag, tag_of, tags_from}
-use Rattle.nova_laws.proofs.Setting.{get_kept}
-use Rattle.nova_laws.proofs.Tags.{get_map, get_tags, map_more, map_set, tags_length, tags_more}
+use Rattle.nova_forest.proofs.Stirred.{stirred_there}
+use Rattle.nova_laws.specs.Tables.{HasTables, IsOf, has_words, tag, tag_of}
+use Rattle.nova_laws.proofs.Tags.{get_map, get_tags, map_set, tags_length}
 
 -- an execution context that is there is changed, and keeps its number and its processor
 same_tag : (o : Option (Option EcState)) (f : EcState → EcState) → ((x : EcState) → tag (Some (f x)) ≡ tag (Some x)) → is_some (entry o) ≡ true →
@@ -48,6 +47,7 @@ edited k ec f keeps there h = record {
   budgets = h.budgets;
   identifiers = h.identifiers;
   semaphores = h.semaphores;
+  guests = h.guests;
   refer = h.refer;
 }
 
@@ -88,6 +88,7 @@ with_memory k m h = record {
   budgets = h.budgets;
   identifiers = h.identifiers;
   semaphores = h.semaphores;
+  guests = h.guests;
   refer = h.refer;
 }
 
@@ -104,6 +105,7 @@ recalled_fits k other (Some y) is h = record {
   budgets = h.budgets;
   identifiers = h.identifiers;
   semaphores = h.semaphores;
+  guests = h.guests;
   refer = h.refer;
 }
 
@@ -124,6 +126,7 @@ named_fits k pt identifier is h =
       budgets = h.budgets;
       identifiers = map_set is_some k.identifiers pt (Some identifier) (there_by (slice_get k.identifiers pt) identifier there) ∙ h.identifiers;
       semaphores = h.semaphores;
+      guests = h.guests;
       refer = h.refer;
     }
 
@@ -136,6 +139,7 @@ with_delegations k f h = record {
   budgets = h.budgets;
   identifiers = h.identifiers;
   semaphores = h.semaphores;
+  guests = h.guests;
   refer = h.refer;
 }
 
@@ -153,10 +157,12 @@ tagged (Some (Some x)) (Some Sm) n h there = absurd (cc)
 pub tags_at : (k : KernelState) (ec : ℕ) → HasTables k → option_map tag (slice_get k.contexts ec) ≡ option_map (tag_of (0 + ec)) (slice_get k.objects ec)
 tags_at k ec h = sym (get_map tag k.contexts ec) ∙ ap (λ (l : List (Option (ℕ × ℕ))). slice_get l ec) h.contexts ∙ get_tags 0 k.objects ec
 
+pub context_is : (k : KernelState) (ec : ℕ) → is_some (context_at k ec) ≡ true → HasTables k → IsOf k.objects is_ec ec
+context_is k ec there h = tagged (slice_get k.contexts ec) (slice_get k.objects ec) (0 + ec) (tags_at k ec h) there
+
 pub transfer_there : (k : KernelState) (ec : ℕ) → is_some (context_at k ec) ≡ true → HasTables k → option_map is_some (slice_get k.transfers ec) ≡ Some true
 transfer_there k ec there h =
-    sym (get_map is_some k.transfers ec) ∙ ap (λ (l : List Bool). slice_get l ec) h.transfers ∙ get_map is_ec k.objects ec
-    ∙ tagged (slice_get k.contexts ec) (slice_get k.objects ec) (0 + ec) (tags_at k ec h) there
+    sym (get_map is_some k.transfers ec) ∙ ap (λ (l : List Bool). slice_get l ec) h.transfers ∙ get_map is_ec k.objects ec ∙ context_is k ec there h
 
 pub with_transfer_fits : (k : KernelState) (ec : ℕ) (t : Transfer) → option_map is_some (slice_get k.transfers ec) ≡ Some true → HasTables k → HasTables (with_transfer k ec t)
 with_transfer_fits k ec t there h = record {
@@ -166,6 +172,7 @@ with_transfer_fits k ec t there h = record {
   budgets = h.budgets;
   identifiers = h.identifiers;
   semaphores = h.semaphores;
+  guests = h.guests;
   refer = h.refer;
 }
 
@@ -179,45 +186,49 @@ all_get P [] n h = tt
 all_get P (x ∷ xs) zero h = h.0
 all_get P (x ∷ xs) (suc n) h = all_get P xs n h.1
 
-thread_has_words : (os : List Object) (o : Option Object) → option_map is_ec o ≡ Some true → IfSome o (Refers os) → option_map has_words o ≡ Some true
-thread_has_words os None is refers = absurd (cc)
-thread_has_words os (Some Pd) is refers = absurd (cc)
-thread_has_words os (Some (Ec pd cpu kind event)) is refers = ap Some refers.1
-thread_has_words os (Some (Sc ec cpu priority quantum)) is refers = absurd (cc)
-thread_has_words os (Some (Pt ec mtd ip)) is refers = absurd (cc)
-thread_has_words os (Some Sm) is refers = absurd (cc)
+thread_has_words : (o : Option Object) → is_thread_in o ≡ true → option_map has_words o ≡ Some true
+thread_has_words None thread = absurd (cc)
+thread_has_words (Some Pd) thread = absurd (cc)
+thread_has_words (Some (Ec pd cpu kind event)) thread = ap Some thread
+thread_has_words (Some (Sc ec cpu priority quantum)) thread = absurd (cc)
+thread_has_words (Some (Pt ec mtd ip)) thread = absurd (cc)
+thread_has_words (Some Sm) thread = absurd (cc)
 
-words_there : (k : KernelState) (ec : ℕ) → is_some (context_at k ec) ≡ true → HasTables k → option_map is_some (slice_get k.messages ec) ≡ Some true
-words_there k ec there h =
-    kinds_at has_words k.messages k.objects ec h.messages
-    ∙ thread_has_words k.objects (slice_get k.objects ec) (tagged (slice_get k.contexts ec) (slice_get k.objects ec) (0 + ec) (tags_at k ec h) there)
-    (all_get (Refers k.objects) k.objects ec h.refer)
+words_there : (k : KernelState) (ec : ℕ) → is_thread k ec ≡ true → HasTables k → option_map is_some (slice_get k.messages ec) ≡ Some true
+words_there k ec thread h = kinds_at has_words k.messages k.objects ec h.messages ∙ thread_has_words (slice_get k.objects ec) thread
 
-pub with_message_fits : (k : KernelState) (ec : ℕ) (m : List ℕ) → is_some (context_at k ec) ≡ true → HasTables k → HasTables (with_message k ec m)
-with_message_fits k ec m there h = record {
+pub with_message_fits : (k : KernelState) (ec : ℕ) (m : List ℕ) → is_thread k ec ≡ true → HasTables k → HasTables (with_message k ec m)
+with_message_fits k ec m thread h = record {
   contexts = h.contexts;
-  messages = map_set is_some k.messages ec (Some m) (there_by (slice_get k.messages ec) m (words_there k ec there h)) ∙ h.messages;
+  messages = map_set is_some k.messages ec (Some m) (there_by (slice_get k.messages ec) m (words_there k ec thread h)) ∙ h.messages;
   transfers = h.transfers;
   budgets = h.budgets;
   identifiers = h.identifiers;
   semaphores = h.semaphores;
+  guests = h.guests;
   refer = h.refer;
 }
 
-messages_fit : (k : KernelState) (ec : ℕ) (a : AddressSpace) (store : Option Store) → is_some (context_at k ec) ≡ true → HasTables k →
-    HasTables (record k { messages = messages_after a ec store k.messages })
-messages_fit k ec a None there h = h
-messages_fit k ec a (Some s) there h = by_words (words_at a s.address)
+-- who stores to words of its own is a thread
+owner_thread : (test : Bool) (m : List ℕ) (page : Bool) (words : List ℕ) → (if page then (if test then Some m else None) else None) ≡ Some words → test ≡ true
+owner_thread true m page words is = refl
+owner_thread false m true words is = absurd (cc)
+owner_thread false m false words is = absurd (cc)
+
+messages_fit : (k s : KernelState) (ec : ℕ) (store : Option Store) → s.objects ≡ k.objects → HasTables s →
+    HasTables (record s { messages = messages_after (address_space k ec) ec store s.messages })
+messages_fit k s ec None same h = h
+messages_fit k s ec (Some write) same h = by_words (words_at (address_space k ec) write.address) refl
   where
-    by_words : (o : Option (List ℕ)) → HasTables (record k { messages = stored_among k.messages ec s o })
-    by_words None = h
-    by_words (Some m) = with_message_fits k ec _ there h
+    by_words : (o : Option (List ℕ)) → words_at (address_space k ec) write.address ≡ o → HasTables (record s { messages = stored_among s.messages ec write o })
+    by_words None is = h
+    by_words (Some m) is = with_message_fits s ec _ (ap (λ (os : List Object). is_thread_in (slice_get os ec)) same ∙ owner_thread (is_thread k ec) (message k ec) _ m is) h
 
 pub stepped_fits : (k : KernelState) (ec : ℕ) (o : Once) → is_some (context_at k ec) ≡ true → HasTables k → HasTables (stepped k ec o)
 stepped_fits k ec (Raised reason q0 q1) there h = h
 stepped_fits k ec (Went regs store) there h =
     edited (record k { memory = _; messages = _ }) ec (λ x. record x { regs = regs }) (λ x. refl) there
-    (messages_fit (record k { memory = _ }) ec (address_space k ec) store there (with_memory k _ h))
+    (messages_fit k (record k { memory = _ }) ec store refl (with_memory k _ h))
 
 -- one is there still where another is set
 pub set_there : (cs : Contexts) (e : ℕ) (y : EcState) (n : ℕ) → is_some (ec_in cs n) ≡ true → is_some (ec_in (with_ec cs e y) n) ≡ true
@@ -227,9 +238,9 @@ set_there (c ∷ cs) zero y (suc n) there = there
 set_there (c ∷ cs) (suc e) y zero there = there
 set_there (c ∷ cs) (suc e) y (suc n) there = set_there cs e y n there
 
--- a message goes to one that is there, and a call or a reply then goes on there
-pub passed_fits : (k : KernelState) (from to : ℕ) → is_some (context_at k to) ≡ true → HasTables k → HasTables (passed k from to)
-passed_fits k from to there h = with_message_fits k to _ there h
+-- a message goes to a thread, and a call or a reply then goes on there
+pub passed_fits : (k : KernelState) (from to : ℕ) → is_thread k to ≡ true → HasTables k → HasTables (passed k from to)
+passed_fits k from to thread h = with_message_fits k to _ thread h
 
 resumed_tag : (mark : Mark) (m : List ℕ) (x : EcState) → tag (Some (resumed x mark m)) ≡ tag (Some x)
 resumed_tag mark.Call m x = refl
@@ -238,23 +249,23 @@ resumed_tag mark.Exit m x = refl
 pub completed_fits : (k : KernelState) (ec caller : ℕ) (mark : Mark) → is_some (context_at k caller) ≡ true → HasTables k → HasTables (completed k ec caller mark)
 completed_fits k ec caller mark there h = edited k caller (λ x. resumed x mark (message k ec)) (resumed_tag mark (message k ec)) there h
 
-brought_fits : (k : KernelState) (ec caller : ℕ) (mark : Mark) → is_some (context_at k caller) ≡ true → HasTables k → HasTables (brought k ec caller mark)
-brought_fits k ec caller mark.Call there h = passed_fits k ec caller there h
-brought_fits k ec caller mark.Exit there h = h
+brought_fits : (k : KernelState) (ec caller : ℕ) (its : Mark) → (its ≡ mark.Call → is_thread k caller ≡ true) → HasTables k → HasTables (brought k ec caller its)
+brought_fits k ec caller mark.Call thread h = passed_fits k ec caller (thread refl) h
+brought_fits k ec caller mark.Exit thread h = h
 
 pub brought_contexts : (k : KernelState) (ec caller : ℕ) (mark : Mark) → (brought k ec caller mark).contexts ≡ k.contexts
 brought_contexts k ec caller mark.Call = refl
 brought_contexts k ec caller mark.Exit = refl
 
-pub replied_fits : (k : KernelState) (ec caller : ℕ) (mark : Mark) (items : Bool) → is_some (context_at k caller) ≡ true → HasTables k →
-    HasTables (replied_to k ec caller mark items)
-replied_fits k ec caller mark true there h = brought_fits k ec caller mark there h
-replied_fits k ec caller mark false there h =
-    completed_fits (brought k ec caller mark) ec caller mark (rw (brought_contexts k ec caller mark) there) (brought_fits k ec caller mark there h)
+pub replied_fits : (k : KernelState) (ec caller : ℕ) (its : Mark) (items : Bool) → is_some (context_at k caller) ≡ true → (its ≡ mark.Call → is_thread k caller ≡ true) →
+    HasTables k → HasTables (replied_to k ec caller its items)
+replied_fits k ec caller its true there thread h = brought_fits k ec caller its thread h
+replied_fits k ec caller its false there thread h =
+    completed_fits (brought k ec caller its) ec caller its (rw (brought_contexts k ec caller its) there) (brought_fits k ec caller its thread h)
 
-pub told_fits : (k : KernelState) (item : ℕ) (words : Option ItemWords) → IfSome words (λ w. is_some (context_at k w.ec) ≡ true) → HasTables k → HasTables (told k item words)
-told_fits k item None there h = h
-told_fits k item (Some w) there h = with_message_fits k w.ec _ there h
+pub told_fits : (k : KernelState) (item : ℕ) (words : Option ItemWords) → IfSome words (λ w. is_thread k w.ec ≡ true) → HasTables k → HasTables (told k item words)
+told_fits k item None threads h = h
+told_fits k item (Some w) thread h = with_message_fits k w.ec _ thread h
 
 pub told_contexts : (k : KernelState) (item : ℕ) (words : Option ItemWords) → (told k item words).contexts ≡ k.contexts
 told_contexts k item None = refl
@@ -287,6 +298,7 @@ semaphores_fit k change sm h = record {
   budgets = h.budgets;
   identifiers = h.identifiers;
   semaphores = same_semaphores change k.semaphores sm ∙ h.semaphores;
+  guests = h.guests;
   refer = h.refer;
 }
 
@@ -300,90 +312,45 @@ pub woken_fits : (k : KernelState) (whom : Option ℕ) → IfSome whom (λ w. is
 woken_fits k None there h = h
 woken_fits k (Some w) there h = edited k w (λ x. answered x Success None) (λ x. refl) there h
 
--- ONE OBJECT MORE
+-- a turn is counted
 
-tag_new : (n : ℕ) (made : NewObject) → tag (context_of n made) ≡ tag_of n (object_of made)
-tag_new n new.Pd = refl
-tag_new n (new.Ec pd cpu kind sp event) = refl
-tag_new n (new.Sc ec cpu priority quantum) = refl
-tag_new n (new.Pt ec mtd ip) = refl
-tag_new n (new.Sm count) = refl
+pub stirred_tables : (k : KernelState) (ec : ℕ) (d : Deed) (s : KernelState) → HasTables s → HasTables (stirred k ec d s)
+stirred_tables k ec d s h = record {
+  contexts = h.contexts;
+  messages = h.messages;
+  transfers = h.transfers;
+  budgets = h.budgets;
+  identifiers = h.identifiers;
+  semaphores = h.semaphores;
+  guests = stirred_there k ec d 0 s.stirs.guests ∙ h.guests;
+  refer = h.refer;
+}
 
-words_new : (o : Object) → is_some (words_of o) ≡ has_words o
-words_new Pd = refl
-words_new (Ec pd cpu Local event) = refl
-words_new (Ec pd cpu Global event) = refl
-words_new (Ec pd cpu Vcpu event) = refl
-words_new (Sc ec cpu priority quantum) = refl
-words_new (Pt ec mtd ip) = refl
-words_new Sm = refl
+entry_budget : (o : Option (Option Budget)) (b new : Budget) → entry o ≡ Some b → IfSome o (λ e. is_some (Some new) ≡ is_some e)
+entry_budget None b new h = tt
+entry_budget (Some e) b new h = sym (ap is_some h)
 
-transfer_new : (o : Object) → is_some (transfer_of o) ≡ is_ec o
-transfer_new Pd = refl
-transfer_new (Ec pd cpu kind event) = refl
-transfer_new (Sc ec cpu priority quantum) = refl
-transfer_new (Pt ec mtd ip) = refl
-transfer_new Sm = refl
-
-budget_new : (stamp : ℕ) (made : NewObject) → is_some (budget_of stamp made) ≡ is_sc (object_of made)
-budget_new stamp new.Pd = refl
-budget_new stamp (new.Ec pd cpu kind sp event) = refl
-budget_new stamp (new.Sc ec cpu priority quantum) = refl
-budget_new stamp (new.Pt ec mtd ip) = refl
-budget_new stamp (new.Sm count) = refl
-
-identifier_new : (made : NewObject) → is_some (identifier_of made) ≡ is_pt (object_of made)
-identifier_new new.Pd = refl
-identifier_new (new.Ec pd cpu kind sp event) = refl
-identifier_new (new.Sc ec cpu priority quantum) = refl
-identifier_new (new.Pt ec mtd ip) = refl
-identifier_new (new.Sm count) = refl
-
-semaphore_new : (made : NewObject) → is_some (option_map idle_semaphore (count_of made)) ≡ is_sm (object_of made)
-semaphore_new new.Pd = refl
-semaphore_new (new.Ec pd cpu kind sp event) = refl
-semaphore_new (new.Sc ec cpu priority quantum) = refl
-semaphore_new (new.Pt ec mtd ip) = refl
-semaphore_new (new.Sm count) = refl
-
-maps_more : {T : Type 0} (is : Object → Bool) (xs : List (Option T)) (os : List Object) (x : Option T) (o : Object) → map is_some xs ≡ map is os → is_some x ≡ is o →
-    map is_some (xs ++ x ∷ []) ≡ map is (os ++ o ∷ [])
-maps_more is xs os x o h new =
-    map_more is_some xs x ∙ ap (λ (l : List Bool). l ++ is_some x ∷ []) h ∙ ap (λ (b : Bool). map is os ++ b ∷ []) new ∙ sym (map_more is os o)
-
-cpu_more : (os : List Object) (o : Object) (ec cpu : ℕ) (at : Option Object) → slice_get os ec ≡ at → cpu_of at ≡ Some cpu → cpu_of (slice_get (os ++ o ∷ []) ec) ≡ Some cpu
-cpu_more os o ec cpu None is h = absurd (cc)
-cpu_more os o ec cpu (Some x) is h = ap cpu_of (get_kept os o ec x is) ∙ h
-
-kind_more : (os : List Object) (o : Object) (is : Object → Bool) (n : ℕ) (at : Option Object) → slice_get os n ≡ at → option_map is at ≡ Some true → IsOf (os ++ o ∷ []) is n
-kind_more os o is n None at h = absurd (cc)
-kind_more os o is n (Some x) at h = ap (λ (e : Option Object). option_map is e) (get_kept os o n x at) ∙ h
-
-refers_more : (os : List Object) (o x : Object) → Refers os x → Refers (os ++ o ∷ []) x
-refers_more os o Pd h = tt
-refers_more os o (Ec pd cpu kind event) h = (get_kept os o pd Pd h.0, h.1)
-refers_more os o (Sc ec cpu priority quantum) h = cpu_more os o ec cpu (slice_get os ec) refl h
-refers_more os o (Pt ec mtd ip) h = kind_more os o is_local ec (slice_get os ec) refl h
-refers_more os o Sm h = tt
-
-all_refer : (os : List Object) (o : Object) (xs : List Object) → AllByRecursion (Refers os) xs → Refers os o → AllByRecursion (Refers (os ++ o ∷ [])) (xs ++ o ∷ [])
-all_refer os o [] h last = (refers_more os o o last, tt)
-all_refer os o (x ∷ xs) h last = (refers_more os o x h.0, all_refer os o xs h.1 last)
-
-pub made_fits : (k : KernelState) (domain target : ℕ) (made : NewObject) → Refers k.objects (object_of made) → HasTables k → HasTables (with_object k domain target made)
-made_fits k domain target made refers h = record {
-  contexts =
-      let e : length k.objects ≡ 0 + length k.objects = omega arith in
-      map_more tag k.contexts (context_of (length k.objects) made)
-      ∙ ap (λ (l : List (Option (ℕ × ℕ))). l ++ tag (context_of (length k.objects) made) ∷ []) h.contexts
-      ∙ ap (λ (t : Option (ℕ × ℕ)). tags_from 0 k.objects ++ t ∷ []) (tag_new (length k.objects) made ∙ ap (λ (m : ℕ). tag_of m (object_of made)) e)
-      ∙ sym (tags_more 0 k.objects (object_of made));
-  messages = maps_more has_words k.messages k.objects (words_of (object_of made)) (object_of made) h.messages (words_new (object_of made));
-  transfers = maps_more is_ec k.transfers k.objects (transfer_of (object_of made)) (object_of made) h.transfers (transfer_new (object_of made));
-  budgets = maps_more is_sc k.budgets k.objects (budget_of k.next_stamp made) (object_of made) h.budgets (budget_new k.next_stamp made);
-  identifiers = maps_more is_pt k.identifiers k.objects (identifier_of made) (object_of made) h.identifiers (identifier_new made);
-  semaphores = maps_more is_sm k.semaphores k.objects (option_map idle_semaphore (count_of made)) (object_of made) h.semaphores (semaphore_new made);
-  refer = all_refer k.objects (object_of made) k.objects h.refer refers;
+pub paid_tables : (k : KernelState) (cpu sc quantum : ℕ) (o : Option Budget) → budget_at k sc ≡ o → HasTables k → HasTables (counted (paid_by k sc quantum o) cpu)
+paid_tables k cpu sc quantum None is h = record {
+  contexts = h.contexts;
+  messages = h.messages;
+  transfers = h.transfers;
+  budgets = h.budgets;
+  identifiers = h.identifiers;
+  semaphores = h.semaphores;
+  guests = h.guests;
+  refer = h.refer;
+}
+paid_tables k cpu sc quantum (Some b) is h = record {
+  contexts = h.contexts;
+  messages = h.messages;
+  transfers = h.transfers;
+  budgets = let spent = budget_after (is_spent b) quantum k.next_stamp b in
+      map_set is_some k.budgets sc (Some spent) (entry_budget (slice_get k.budgets sc) b spent is) ∙ h.budgets;
+  identifiers = h.identifiers;
+  semaphores = h.semaphores;
+  guests = h.guests;
+  refer = h.refer;
 }
 
 -- as many execution contexts as objects

@@ -1,15 +1,23 @@
 -- What is given, field by field, and the words that tell of an item that ended.
-use Rattle.std.proofs.Common.{◌≡◌, ℕ, refl, ap, ◌∙◌, subst, arith}
+use Rattle.std.proofs.Common.{◌≡◌, ℕ, List, refl, ap, ◌∙◌, subst, arith}
 use Rattle.std.proofs.lemmas.Bool.Decides.{nat_tests}
-use Rattle.std.specs.Prelude.{◌≢◌, ◌<◌, ◌≤◌, ◌+◌, ◌%◌, ◌==◌, nat_lt, Bool, true, false, if◌then◌else◌, Option, Some, None, Result, Ok, Err}
-use Rattle.nova_utcb.specs.Messages.{has_counts, items}
-use Rattle.nova_range.specs.RangeWords.{word_of}
+use Rattle.std.specs.Prelude.{◌≢◌, ◌<◌, ◌≤◌, ◌+◌, ◌%◌, ◌==◌, nat_lt, slice_get, Bool, true, false, if◌then◌else◌, Option, Some, None, Result, Ok, Err, IfOk}
+use Rattle.nova_utcb.specs.Messages.{has_counts, item_at, items}
+use Rattle.nova_range.proofs.Words.{again, sound}
+use Rattle.nova_range.specs.RangeWords.{HasWord, meaning_of, word_of}
+use Rattle.nova_range.specs.Rights.{IsRights}
+use Rattle.nova_range.specs.declared.range.Range.{Range}
+use Rattle.nova_range.specs.declared.rights.Rights.{Rights}
+use Rattle.nova_range.specs.declared.word.WordFault.{WordFault}
+use Rattle.nova_model.specs.Boot.{Scenario, boot}
 use Rattle.nova_model.specs.Deeds.{deed, deed_in}
-use Rattle.nova_model.specs.Deliveries.{answered_by, delegated, delivered, delivers, delivery, delivery_between, finished, first_delivery, flag, given_to, is_busy, part_deed, parted, range_given, sequel_of, taken_from, told_by, words_for}
+use Rattle.nova_model.specs.Deliveries.{answered_by, delegated, delivered, delivers, delivery, delivery_between, finished, first_delivery, flag, given_to, is_busy, part_deed, parted, range_given, sequel_of, taken_from, told_by, whole_of, words_for}
 use Rattle.nova_model.specs.Hypercalls.{row}
-use Rattle.nova_model.specs.State.{KernelState, context, message, pd_of, transfer}
-use Rattle.nova_model.specs.Transfers.{Part, dest_of, job_of, next_part}
+use Rattle.nova_model.specs.State.{KernelState, context, context_in, ec_in, is_thread, message, pd_of, transfer}
+use Rattle.nova_model.specs.Transfers.{Part, dest_of, job_of, next_part, read_as}
 use Rattle.nova_model.specs.Translations.{translated}
+use Rattle.nova_model.specs.Runs.{run}
+use Rattle.nova_model.specs.declared.context.EcState.{EcState}
 use Rattle.nova_model.specs.declared.context.Mark.{Mark}
 use Rattle.nova_model.specs.declared.context.Mark.TheVariants.{Call, Exit}
 use Rattle.nova_model.specs.declared.context.State.{State}
@@ -28,7 +36,10 @@ use Rattle.nova_model.specs.declared.transfer.Sequel.TheVariants.{Item, Replied,
 use Rattle.nova_model.specs.declared.transfer.Skip.{Skip}
 use Rattle.nova_forest.proofs.Walk as walk
 use Rattle.nova_forest.proofs.Walk.{is_giving}
-use Rattle.nova_laws.specs.Windows.{EndsItem, GoesBetween, GoesToItself, Tells, TellsOfItem}
+use Rattle.nova_laws.specs.Links.{caller_at}
+use Rattle.nova_laws.specs.Windows.{EndsItem, GoesBetween, GoesToItself, IsWholeSpace, Tells, TellsOfItem}
+use Rattle.nova_laws.proofs.Fitting.{Fits, boot_run_fits}
+use Rattle.nova_laws.proofs.Virtual.{local_thread}
 use Rattle.nova_laws.proofs.Rows.{IsWhole, done_weaker, is_part, row_whole}
 
 -- WHAT IS GIVEN
@@ -36,6 +47,30 @@ use Rattle.nova_laws.proofs.Rows.{IsWhole, done_weaker, is_part, row_whole}
 some_are_counted : (test : Bool) (n : ℕ) → 0 < (if test then n else 0) → (if test then n else 0) ≡ n
 some_are_counted true n some = refl
 some_are_counted false n some = absurd (omega arith)
+
+-- the window of a virtual CPU reads as the whole space
+read_word : (r : Result (Option (Range × Rights)) WordFault) → IfOk r HasWord → (x : Range × Rights) → read_as r ≡ Some x → HasWord (Some x)
+read_word (Ok None) has x is = absurd (cc)
+read_word (Ok (Some y)) has x is = let same : y ≡ x = cc in subst (λ (z : Range × Rights). HasWord (Some z)) same has
+read_word (Err fault) has x is = absurd (cc)
+
+whole_reads : (range : Range) (rights : Rights) → IsRights rights →
+    read_as (meaning_of (whole_of (Some (range, rights)))) ≡ Some (record { kind = range.kind; base = 0; order = 20 }, rights)
+whole_reads range rights bits =
+    ap read_as (again (Some (record { kind = range.kind; base = 0; order = 20 }, rights)) (record { order = omega arith; aligned = grind arith; base = omega arith }, bits))
+
+whole_space : (word : ℕ) → IsWholeSpace word (whole_of (read_as (meaning_of word)))
+whole_space word = by_reading (read_as (meaning_of word)) refl
+  where
+    by_reading : (o : Option (Range × Rights)) → read_as (meaning_of word) ≡ o → IsWholeSpace word (whole_of o)
+    by_reading None reads = record { all = λ range rights is. absurd (cc); none = λ is. refl }
+    by_reading (Some x) reads = record {
+      all = λ range rights is.
+          let same : x ≡ (range, rights) = cc in
+          ap (λ (y : Range × Rights). read_as (meaning_of (whole_of (Some y)))) same
+          ∙ whole_reads range rights (read_word (meaning_of word) (sound word) (range, rights) is).1;
+      none = λ is. absurd (cc);
+    }
 
 pub items_taken : (k : KernelState) (ec caller : ℕ) (mark : Mark) → (context k ec).state ≡ Granting None → (context k ec).caller ≡ Some (caller, mark) →
     GoesBetween k ec caller ec (Some ec) Taken
@@ -45,8 +80,10 @@ items_taken k ec caller mark is keeps = record {
   range = refl;
   second = refl;
   count = some_are_counted (has_counts (message k caller)) (items (message k caller));
-  translations = refl;
-  delegations = refl;
+  translations = λ thread. rw thread refl;
+  delegations = λ thread. rw thread refl;
+  no_translations = λ other. rw other refl;
+  whole_space = λ other. rw other (whole_space (item_at (message k caller) (transfer k ec).item).0);
   giver = refl;
   taker = refl;
   told = refl;
@@ -61,8 +98,10 @@ replied_by k ec caller mark is keeps = record {
   range = refl;
   second = refl;
   count = some_are_counted (has_counts (message k ec)) (items (message k ec));
-  translations = refl;
-  delegations = refl;
+  translations = λ thread. rw thread refl;
+  delegations = λ thread. rw thread refl;
+  no_translations = λ other. rw other refl;
+  whole_space = λ other. rw other (whole_space (item_at (message k ec) (transfer k ec).item).0);
   giver = refl;
   taker = refl;
   told = refl;
@@ -90,6 +129,44 @@ range_created k ec domain is = record {
   told = refl;
   follows = refl;
 }
+
+-- WHO IS TOLD
+
+caller_kept : (o : Option EcState) (p : ℕ × Mark) → (context_in o).caller ≡ Some p → caller_at o ≡ Some p
+caller_kept None p is = absurd (cc)
+caller_kept (Some x) p is = is
+
+abbrev told_at : Option Delivery → Option ℕ
+told_at None = None
+told_at (Some v) = v.told
+
+-- who takes items has a caller, and so is a local thread; and who called is a thread
+thread_told : (k : KernelState) (ec whom : ℕ) (v : Delivery) → Fits k → delivery k ec (context k ec).state ≡ Some v → v.told ≡ Some whom → is_thread k whom ≡ true
+thread_told k ec whom v fits present told = by_state (context k ec).state present
+  where
+    by_taker : (o : Option (ℕ × Mark)) → (context k ec).caller ≡ o → taken_from k ec (transfer k ec).item o ≡ Some v → is_thread k whom ≡ true
+    by_taker None keeps is = absurd (cc)
+    by_taker (Some (caller, mark)) keeps is =
+        let who : ec ≡ whom = let both : Some ec ≡ Some whom = ap told_at is ∙ told in cc in
+        let local = (fits.served.well ec).kept caller mark (caller_kept (ec_in k.contexts ec) (caller, mark) keeps) in
+        subst (λ (n : ℕ). is_thread k n ≡ true) who (local_thread (slice_get k.objects ec) local)
+
+    by_replier : (o : Option (ℕ × Mark)) → (context k ec).caller ≡ o → given_to k ec (transfer k ec).item o ≡ Some v → is_thread k whom ≡ true
+    by_replier None keeps is = absurd (cc)
+    by_replier (Some (caller, Exit)) keeps is = absurd (let both : None ≡ Some whom = ap told_at is ∙ told in cc)
+    by_replier (Some (caller, Call)) keeps is =
+        let who : caller ≡ whom = let both : Some caller ≡ Some whom = ap told_at is ∙ told in cc in
+        subst (λ (n : ℕ). is_thread k n ≡ true) who (fits.guests.callers ec caller (caller_kept (ec_in k.contexts ec) (caller, Call) keeps))
+
+    by_state : (s : State) → delivery k ec s ≡ Some v → is_thread k whom ≡ true
+    by_state (Granting (Some new)) is = absurd (let both : None ≡ Some whom = ap told_at is ∙ told in cc)
+    by_state (Granting None) is = by_taker (context k ec).caller refl is
+    by_state Replying is = by_replier (context k ec).caller refl is
+    by_state other is = absurd (cc)
+
+pub threads_told : (s : Scenario) (turns : List ℕ) (ec whom : ℕ) (v : Delivery) → delivery (run (boot s) turns) ec (context (run (boot s) turns) ec).state ≡ Some v →
+    v.told ≡ Some whom → is_thread (run (boot s) turns) whom ≡ true
+threads_told s turns ec whom v = thread_told (run (boot s) turns) ec whom v (boot_run_fits s turns)
 
 -- WHAT IS TOLD
 

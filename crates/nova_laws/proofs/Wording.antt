@@ -30,6 +30,7 @@ use Rattle.nova_model.specs.declared.transfer.ItemEnd.{ItemEnd}
 use Rattle.nova_model.specs.declared.transfer.ItemWords.{ItemWords}
 use Rattle.nova_model.specs.declared.transfer.Sequel.{Sequel}
 use Rattle.nova_model.specs.declared.transfer.Sequel.TheVariants as sequel
+use Rattle.nova_forest.proofs.Stirred.{acted}
 use Rattle.nova_laws.specs.Words.{HasWritten, IsAmongWords, IsStepped, Stores, Stays, words_at, written_by}
 use Rattle.nova_laws.proofs.Charges.{charge_leaves}
 use Rattle.nova_laws.proofs.Giving.{set_at}
@@ -295,7 +296,7 @@ done_sized k ec other sized = sized
 turn_by_sized : (k : KernelState) (cpu : ℕ) (c : Option Candidate) → AreSized k.messages → AreSized (state_after k (turn_by k cpu c)).messages
 turn_by_sized k cpu None sized = sized
 turn_by_sized k cpu (Some c) sized =
-    subst AreSized (sym (charge_leaves (done k c.actor (deed k c.actor)) cpu c.sc).messages) (done_sized k c.actor (deed k c.actor) sized)
+    subst AreSized (sym (charge_leaves (acted k c.actor) cpu c.sc).messages) (done_sized k c.actor (deed k c.actor) sized)
 
 after_sized : (k : KernelState) (cpu : ℕ) → AreSized k.messages → AreSized (after k cpu).messages
 unfolding turn
@@ -315,7 +316,7 @@ root_sized =
 
 -- of the one who is chosen
 turn_messages : (k : KernelState) (cpu : ℕ) (c : Candidate) → choice k cpu ≡ Some c → (after k cpu).messages ≡ (done k c.actor (deed k c.actor)).messages
-turn_messages k cpu c is = ap (λ (s : KernelState). s.messages) (turn_chosen k cpu c is) ∙ (charge_leaves (done k c.actor (deed k c.actor)) cpu c.sc).messages
+turn_messages k cpu c is = ap (λ (s : KernelState). s.messages) (turn_chosen k cpu c is) ∙ (charge_leaves (acted k c.actor) cpu c.sc).messages
 
 -- the charge leaves message words
 charged_writes : (k s new : KernelState) (ec n : ℕ) (d : Deed) (words : List ℕ) → new.messages ≡ s.messages → HasWritten k s ec n d words → HasWritten k new ec n d words

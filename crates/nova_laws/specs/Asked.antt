@@ -10,7 +10,8 @@ use Rattle.nova_objects.specs.declared.object.Object.TheVariants.{Pd, Ec, Sc}
 use Rattle.nova_range.specs.Ranges.{HasPlace}
 use Rattle.nova_range.specs.declared.range.Kind.TheVariants.{Obj}
 use Rattle.nova_model.specs.Capabilities.{bind_scheduling_right, create_right}
-use Rattle.nova_model.specs.Delegations.{allows, range_of}
+use Rattle.nova_model.specs.Delegations.{range_of}
+use Rattle.nova_range.specs.Rights.{allows}
 use Rattle.nova_model.specs.Deeds.{instruction}
 use Rattle.nova_model.specs.State.{KernelState, context, is_thread}
 use Rattle.nova_model.specs.declared.context.State.TheVariants.{Ready}

@@ -8,7 +8,8 @@ use Rattle.nova_range.specs.RangeWords.{meaning_of}
 use Rattle.nova_range.specs.declared.clamped.Clamped.{Clamped}
 use Rattle.nova_range.specs.declared.range.Range.{Range}
 use Rattle.nova_range.specs.declared.rights.Rights.{Rights}
-use Rattle.nova_model.specs.Delegations.{allows, range_of}
+use Rattle.nova_model.specs.Delegations.{range_of}
+use Rattle.nova_range.specs.Rights.{allows}
 use Rattle.nova_model.specs.Deliveries.{delivery}
 use Rattle.nova_model.specs.State.{KernelState, context, pd_of, transfer, transfer_at}
 use Rattle.nova_model.specs.Transfers.{hotspot_in, job_of, read_as}

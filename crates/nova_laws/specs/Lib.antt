@@ -2,6 +2,7 @@ pub mod Refusals
 pub mod Orders
 pub mod Choices
 pub mod Tables
+pub mod Virtual
 pub mod Scheduling
 pub mod Events
 pub mod Rounds
@@ -13,3 +14,4 @@ pub mod Links
 pub mod Keeping
 pub mod Waiting
 pub mod Windows
+pub mod Stirs

@@ -1,9 +1,9 @@
 -- Tables go with objects: an entry is there exactly where the object of its number is of that kind, and what objects refer to is there.
-use Rattle.std.specs.Prelude.{◌≡◌, ℕ, ◌+◌, Bool, true, false, List, [], ◌∷◌, map, Option, Some, None, IsSome, is_some, option_map, slice_get}
+use Rattle.std.specs.Prelude.{◌≡◌, ℕ, ◌+◌, Bool, true, false, not, List, [], ◌∷◌, map, Option, Some, None, IsSome, is_some, option_map, slice_get}
 use Rattle.std.specs.List.{AllByRecursion}
 use Rattle.nova_objects.specs.declared.object.Object.{Object}
 use Rattle.nova_objects.specs.declared.object.Object.TheVariants.{Pd, Ec, Sc, Pt, Sm}
-use Rattle.nova_model.specs.Capabilities.{is_ec, is_local, is_pt, is_sc, is_sm}
+use Rattle.nova_model.specs.Capabilities.{is_ec, is_local, is_pt, is_sc, is_sm, is_vcpu}
 use Rattle.nova_model.specs.Edges.{cpu_in}
 use Rattle.nova_model.specs.State.{KernelState, budget_at, context_at, entry, is_thread_kind}
 use Rattle.nova_model.specs.declared.context.EcState.{EcState}
@@ -26,11 +26,13 @@ pub record IsContext (k : KernelState) (n pd cpu : ℕ) : Type 0 where
   pub domain : slice_get k.objects pd ≡ Some Pd
   pub gives : IsSome (entry (slice_get k.transfers n))
 
--- what goes with the object of this number: with an execution context its state, and message words where it is a thread; with a scheduling
+-- what goes with the object of this number: with an execution context its state, message words where it is a thread, and a stir count where it is none; with a scheduling
 -- context a budget, and an execution context of its processor; with a portal an identifier, and a local thread; with a semaphore its counter
 abbrev pub Suits : KernelState → ℕ → Object → Type 0
 Suits k n Pd = Unit {0}
-Suits k n (Ec pd cpu kind event) = IsContext k n pd cpu × (is_some (entry (slice_get k.messages n)) ≡ is_thread_kind kind)
+Suits k n (Ec pd cpu kind event) =
+    IsContext k n pd cpu × ((is_some (entry (slice_get k.messages n)) ≡ is_thread_kind kind)
+    × (is_some (entry (slice_get k.stirs.guests n)) ≡ not (is_thread_kind kind)))
 Suits k n (Sc ec cpu priority quantum) = IsSome (budget_at k n) × (cpu_in k.contexts ec ≡ Some cpu)
 Suits k n (Pt ec mtd ip) = IsSome (entry (slice_get k.identifiers n)) × IsOf k.objects is_local ec
 Suits k n Sm = IsSome (entry (slice_get k.semaphores n))
@@ -53,10 +55,10 @@ abbrev pub cpu_of : Option Object → Option ℕ
 cpu_of (Some (Ec pd cpu kind event)) = Some cpu
 cpu_of other = None
 
--- what an object refers to, among these; no virtual CPU is made yet
+-- what an object refers to, among these
 abbrev pub Refers : List Object → Object → Type 0
 Refers objects Pd = Unit {0}
-Refers objects (Ec pd cpu kind event) = (slice_get objects pd ≡ Some Pd) × (is_thread_kind kind ≡ true)
+Refers objects (Ec pd cpu kind event) = slice_get objects pd ≡ Some Pd
 Refers objects (Sc ec cpu priority quantum) = cpu_of (slice_get objects ec) ≡ Some cpu
 Refers objects (Pt ec mtd ip) = IsOf objects is_local ec
 Refers objects Sm = Unit {0}
@@ -69,4 +71,5 @@ pub record HasTables (k : KernelState) : Type 0 where
   pub budgets : map is_some k.budgets ≡ map is_sc k.objects
   pub identifiers : map is_some k.identifiers ≡ map is_pt k.objects
   pub semaphores : map is_some k.semaphores ≡ map is_sm k.objects
+  pub guests : map is_some k.stirs.guests ≡ map is_vcpu k.objects
   pub refer : AllByRecursion (Refers k.objects) k.objects

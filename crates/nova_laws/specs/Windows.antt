@@ -1,10 +1,12 @@
 -- What is given of which message, to which windows, and what is found there when an item ends.
-use Rattle.std.specs.Prelude.{◌≡◌, ◌≢◌, ◌<◌, ◌≤◌, ℕ, ◌+◌, ◌-◌, ◌*◌, ◌/◌, ◌%◌, ◌^◌, slice_index, Option, Some, None, IsSome, Ok, Err}
+use Rattle.std.specs.Prelude.{◌≡◌, ◌≢◌, ◌<◌, ◌≤◌, ℕ, ◌+◌, ◌-◌, ◌*◌, ◌/◌, ◌%◌, ◌^◌, true, false, slice_index, Option, Some, None, IsSome, Ok, Err}
 use Rattle.rv_model.specs.Registers.{reg}
-use Rattle.nova_range.specs.RangeWords.{word_of}
+use Rattle.nova_range.specs.RangeWords.{meaning_of, word_of}
+use Rattle.nova_range.specs.declared.range.Range.{Range}
+use Rattle.nova_range.specs.declared.rights.Rights.{Rights}
 use Rattle.nova_model.specs.Deliveries.{delivery}
-use Rattle.nova_model.specs.State.{KernelState, context, message, pd_of, transfer}
-use Rattle.nova_model.specs.Transfers.{dest_of, job_of}
+use Rattle.nova_model.specs.State.{KernelState, context, is_thread, message, pd_of, transfer}
+use Rattle.nova_model.specs.Transfers.{dest_of, job_of, read_as}
 use Rattle.nova_model.specs.Translations.{translated}
 use Rattle.nova_model.specs.declared.transfer.Delivery.{Delivery}
 use Rattle.nova_model.specs.declared.transfer.ItemEnd.{ItemEnd}
@@ -14,16 +16,24 @@ use Rattle.nova_model.specs.declared.transfer.Job.{Job}
 use Rattle.nova_model.specs.declared.transfer.Sequel.{Sequel}
 use Rattle.nova_model.specs.declared.transfer.Sequel.TheVariants.{Item, Opened}
 
--- the present item of `ec` is one of the message of a sender; it goes to the windows in the message of a receiver; this one is told what came of it, or
--- nobody, and after the last one this follows
+-- a window of all 2^20 places of the range's type, with its rights; there is none for a word that doesn't read or is null
+pub record IsWholeSpace (range_word window : ℕ) : Type 0 where
+  pub all : (range : Range) (rights : Rights) → read_as (meaning_of range_word) ≡ Some (range, rights) →
+      read_as (meaning_of window) ≡ Some (record { kind = range.kind; base = 0; order = 20 }, rights)
+  pub none : read_as (meaning_of range_word) ≡ None → window ≡ 0
+
+-- the present item of `ec` is one of the message of a sender; it goes to the windows of a receiver, which a thread has in its message, where a virtual
+-- CPU has none for translations, and the whole space for delegations; this one is told what came of it, or nobody, and after the last one this follows
 pub record GoesBetween (k : KernelState) (ec sender receiver : ℕ) (whom : Option ℕ) (last : Sequel) : Type 0 where
   pub item : Delivery
   pub present : delivery k ec (context k ec).state ≡ Some item
   pub range : item.range_word ≡ slice_index (message k sender) (126 - 2 * (transfer k ec).item)
   pub second : item.second_word ≡ slice_index (message k sender) (127 - 2 * (transfer k ec).item)
   pub count : 0 < item.items → item.items ≡ slice_index (message k sender) 0 / 2 ^ 16
-  pub translations : item.translations ≡ slice_index (message k receiver) 1
-  pub delegations : item.delegations ≡ slice_index (message k receiver) 2
+  pub translations : is_thread k receiver ≡ true → item.translations ≡ slice_index (message k receiver) 1
+  pub delegations : is_thread k receiver ≡ true → item.delegations ≡ slice_index (message k receiver) 2
+  pub no_translations : is_thread k receiver ≡ false → item.translations ≡ 0
+  pub whole_space : is_thread k receiver ≡ false → IsWholeSpace item.range_word item.delegations
   pub giver : item.giver ≡ pd_of k sender
   pub taker : item.receiver ≡ pd_of k receiver
   pub told : item.told ≡ whom

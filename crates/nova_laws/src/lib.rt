@@ -13,8 +13,10 @@ mod refusals;
 mod rounds;
 mod scheduling;
 mod semaphores;
+mod stirs;
 mod tables;
 mod transfers;
+mod virtual_cpus;
 mod words;
 
 pub use callers::a_handler_at_work_has_one_caller;
@@ -32,10 +34,12 @@ pub use scheduling::{
     ticks_count_turns, what_is_left_is_within_its_quantum,
 };
 pub use semaphores::{the_blocked_wait_at_their_semaphores, the_first_is_woken};
+pub use stirs::{stir_counts_are_within_turns, stir_counts_rise_with_inputs_from_outside};
 pub use tables::tables_go_with_objects;
 pub use transfers::{
     a_child_is_what_range_and_derivation_share, a_creator_gives_a_range_to_a_domain,
     an_item_counts_its_children, each_part_moves_on, items_are_given_in_order,
     items_go_to_the_windows_of_the_receiver, words_tell_what_came_of_an_item,
 };
+pub use virtual_cpus::virtual_cpus_wait_for_their_exits_alone;
 pub use words::a_turn_writes_the_words_of_one;

@@ -1,7 +1,7 @@
 // Laws of the kernel's tables.
 ghost use Rattle.std.specs.Prelude.{ℕ, List, IfSome, IsSome, slice_get};
 ghost use Rattle.nova_model.specs.Boot.{Scenario, boot};
-ghost use Rattle.nova_model.specs.Capabilities.{is_ec, is_pt, is_sc, is_sm};
+ghost use Rattle.nova_model.specs.Capabilities.{is_ec, is_pt, is_sc, is_sm, is_vcpu};
 ghost use Rattle.nova_model.specs.Runs.{run};
 ghost use Rattle.nova_model.specs.State.{budget_at, context_at, entry};
 ghost use Rattle.nova_laws.specs.Tables.{IsOf, Suits, has_words};
@@ -23,4 +23,6 @@ pub fn tables_go_with_objects()
         → IsSome (entry (slice_get (run (boot scenario) turns).identifiers n)) → IsOf (run (boot scenario) turns).objects is_pt n }
     ensures semaphores { (scenario : Scenario) (turns : List ℕ) (n : ℕ)
         → IsSome (entry (slice_get (run (boot scenario) turns).semaphores n)) → IsOf (run (boot scenario) turns).objects is_sm n }
+    ensures guests { (scenario : Scenario) (turns : List ℕ) (n : ℕ)
+        → IsSome (entry (slice_get (run (boot scenario) turns).stirs.guests n)) → IsOf (run (boot scenario) turns).objects is_vcpu n }
 {}

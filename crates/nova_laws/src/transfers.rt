@@ -2,8 +2,9 @@
 ghost use Rattle.std.specs.Prelude.{◌≡◌, ◌<◌, ℕ, List, IsSome, None, Option, Some, false, true};
 ghost use Rattle.nova_model.specs.Boot.{Scenario, boot};
 ghost use Rattle.nova_model.specs.Deeds.{deed, done};
+ghost use Rattle.nova_model.specs.Deliveries.{delivery};
 ghost use Rattle.nova_model.specs.Runs.{after, run, trace};
-ghost use Rattle.nova_model.specs.State.{KernelState, context, message, no_transfer, transfer, transfer_at};
+ghost use Rattle.nova_model.specs.State.{KernelState, context, is_thread, message, no_transfer, transfer, transfer_at};
 ghost use Rattle.nova_model.specs.Turn.{answer_of, turn};
 ghost use Rattle.nova_model.specs.declared.context.Mark.{Mark};
 ghost use Rattle.nova_model.specs.declared.context.Mark.TheVariants.{Call, Exit};
@@ -13,6 +14,7 @@ ghost use Rattle.nova_model.specs.declared.delegation.Derivation.{Derivation};
 ghost use Rattle.nova_model.specs.declared.event.Event.{Event};
 ghost use Rattle.nova_model.specs.declared.event.EventKind.TheVariants.{Ended, Made, Skip};
 ghost use Rattle.nova_model.specs.declared.event.Turn.TheVariants.{Stepped};
+ghost use Rattle.nova_model.specs.declared.transfer.Delivery.{Delivery};
 ghost use Rattle.nova_model.specs.declared.transfer.ItemEnd.{ItemEnd};
 ghost use Rattle.nova_model.specs.declared.transfer.ItemWords.{ItemWords};
 ghost use Rattle.nova_model.specs.declared.transfer.Reason.{Reason};
@@ -97,11 +99,13 @@ pub fn items_are_given_in_order()
 
 /// Item i is two words of a message, words 126 - 2i and 127 - 2i. A handler that takes items takes those
 /// of its caller's message, and one that replies gives those of its own, from the sender's protection
-/// domain to the receiver's. Translations go to the window in word 1 of the receiver's message, and
-/// delegations to that in word 2; the receiver is told what came of each, where it takes the items or
-/// called. Who came by an exit is told nothing of the items of the reply. After the last item the handler
-/// goes on, or the reply completes. A creator delegates one range, that of the word in its x12, to that
-/// range itself, and nobody is told.
+/// domain to the receiver's. Where the receiver is a thread, translations go to the window in word 1 of its
+/// message, and delegations to that in word 2. A virtual CPU has no window for translations, and for
+/// delegations the whole space of the item's own type. The receiver is told what came of each, where it
+/// takes the items or called. Who came by an exit is told nothing of the items of the reply. After the last
+/// item the handler goes on, or the reply completes. A creator delegates one range, that of the word in its
+/// x12, to that range itself, and nobody is told. Whatever list of turns is taken from whatever boot state,
+/// whoever is told is a thread: nobody is told at a virtual CPU.
 pub fn items_go_to_the_windows_of_the_receiver()
     ensures taken { (k : KernelState) (ec caller : ℕ) (mark : Mark)
         → (context k ec).state ≡ Granting None
@@ -116,6 +120,10 @@ pub fn items_go_to_the_windows_of_the_receiver()
         → (context k ec).caller ≡ Some (caller, Exit)
         → GoesBetween k ec ec caller None (Replied caller Exit) }
     ensures created { (k : KernelState) (ec domain : ℕ) → (context k ec).state ≡ Granting (Some domain) → GoesToItself k ec domain }
+    ensures told { (scenario : Scenario) (turns : List ℕ) (ec whom : ℕ) (item : Delivery)
+        → delivery (run (boot scenario) turns) ec (context (run (boot scenario) turns) ec).state ≡ Some item
+        → item.told ≡ Some whom
+        → is_thread (run (boot scenario) turns) whom ≡ true }
 {}
 
 /// Where somebody is told of an item that ended, the second word is bit 0 of the item's second word: 1 for

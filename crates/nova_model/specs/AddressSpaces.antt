@@ -1,9 +1,11 @@
 -- Address spaces: what addresses lead to, over what a page leads to and what a frame holds.
-use Rattle.std.specs.Prelude.{ℕ, ◌/◌, ◌%◌, ◌==◌, ◌&&◌, ◌||◌, nat_lt, List, slice_get, slice_set, Option, Some, None, is_some, option_map, option_and_then, if◌then◌else◌}
-use Rattle.nova_model.specs.Memory.{Memory, read_in, written}
-use Rattle.nova_model.specs.Delegations.{reach, allows, read_right, write_right, execute_right}
+use Rattle.std.specs.Prelude.{ℕ, ◌/◌, ◌%◌, ◌==◌, ◌&&◌, ◌||◌, nat_lt, List, slice_get, slice_set, Option, Some, None, is_some, if◌then◌else◌}
+use Rattle.nova_guest.specs.Frames.{frame_from, found_in}
+use Rattle.nova_guest.specs.declared.page.Page.{Page}
+use Rattle.nova_model.specs.Memory.{Memory, written}
+use Rattle.nova_model.specs.Delegations.{reach}
+use Rattle.nova_range.specs.Rights.{read_right, write_right, execute_right}
 use Rattle.nova_model.specs.declared.delegation.Derivation.{Derivation}
-use Rattle.nova_model.specs.declared.delegation.Page.{Page}
 use Rattle.nova_utcb.specs.Messages.{loaded, stored}
 use Rattle.rv_model.specs.Step.{Space, Store}
 
@@ -24,16 +26,12 @@ message_size = 512
 abbrev pub words_at : AddressSpace → ℕ → Option (List ℕ)
 words_at a address = if (address / 4096 == own_page) && nat_lt (address % 4096) message_size then a.words else None
 
--- the frame that an address leads to, where the right is there
-abbrev pub frame_with : ℕ → Page → Option ℕ
-frame_with right p = if allows p.rights right then Some p.frame else None
-
+-- the frame that an address leads to, where the right is there, and what is found in it
 abbrev pub frame_for : AddressSpace → ℕ → ℕ → Option ℕ
-frame_for a right address = option_and_then (frame_with right) (a.page (address / 4096))
+frame_for a right address = frame_from a.page right address
 
--- what a program finds in frames
 abbrev pub found : AddressSpace → ℕ → ℕ → ℕ → Option ℕ
-found a right address width = option_map (λ frame. read_in (a.bytes frame) (address % 4096) width) (frame_for a right address)
+found a right address width = found_in a.page a.bytes right address width
 
 -- a load finds message words or frames; a fetch finds frames alone
 abbrev pub loaded_from : AddressSpace → ℕ → ℕ → Option (List ℕ) → Option ℕ

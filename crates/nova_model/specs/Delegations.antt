@@ -1,8 +1,8 @@
 -- Delegations: a flat list of derivations, by rising id. (NOVA's mapping database.)
-use Rattle.std.specs.Prelude.{ℕ, ◌+◌, ◌-◌, ◌==◌, ◌&&◌, Bool, true, false, not, nat_lt, nat_le, bit_and, List, [], ◌∷◌, ◌++◌, filter, Option, Some, None, option_map, option_and_then}
+use Rattle.std.specs.Prelude.{ℕ, ◌+◌, ◌-◌, ◌==◌, ◌&&◌, Bool, true, false, not, nat_lt, nat_le, List, [], ◌∷◌, ◌++◌, filter, Option, Some, None, option_map, option_and_then}
 use Rattle.std.specs.List.{find, list_all, list_any}
 use Rattle.nova_model.specs.declared.delegation.Derivation.{Derivation}
-use Rattle.nova_model.specs.declared.delegation.Page.{Page}
+use Rattle.nova_guest.specs.declared.page.Page.{Page}
 use Rattle.nova_range.specs.Ranges.{end_of, overlaps}
 use Rattle.nova_range.specs.declared.range.Range.{Range}
 use Rattle.nova_range.specs.declared.range.Kind.{Kind}
@@ -13,20 +13,6 @@ use Rattle.nova_range.specs.declared.rights.Rights.{Rights}
 pub record Delegations : Type 0 where
   pub list : List Derivation
   pub next : ℕ
-
--- rights of a memory range
-abbrev pub read_right : ℕ
-read_right = 1
-
-abbrev pub write_right : ℕ
-write_right = 2
-
-abbrev pub execute_right : ℕ
-execute_right = 4
-
--- the right is among the rights
-abbrev pub allows : Rights → ℕ → Bool
-allows rights right = bit_and rights.0 right == right
 
 abbrev pub is_memory : Kind → Bool
 is_memory Mem = true

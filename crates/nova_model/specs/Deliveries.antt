@@ -3,11 +3,13 @@
 use Rattle.std.specs.Prelude.{ℕ, ◌+◌, ◌%◌, ◌==◌, Bool, false, nat_lt, if◌then◌else◌, Option, Some, None, Result, Ok, Err}
 use Rattle.rv_model.specs.Registers.{reg}
 use Rattle.nova_utcb.specs.Messages.{item_at, counted_items, translation_window, delegation_window}
-use Rattle.nova_range.specs.RangeWords.{word_of}
+use Rattle.nova_range.specs.RangeWords.{meaning_of, word_of}
 use Rattle.nova_range.specs.Ranges.{end_of}
+use Rattle.nova_range.specs.declared.range.Range.{Range}
+use Rattle.nova_range.specs.declared.rights.Rights.{Rights}
 use Rattle.nova_model.specs.Delegations.{range_of}
-use Rattle.nova_model.specs.State.{KernelState, context, pd_of, message, transfer}
-use Rattle.nova_model.specs.Transfers.{Part, job_of, dest_of, overlap_base, next_part}
+use Rattle.nova_model.specs.State.{KernelState, context, is_thread, pd_of, message, transfer}
+use Rattle.nova_model.specs.Transfers.{Part, read_as, job_of, dest_of, overlap_base, next_part}
 use Rattle.nova_model.specs.Translations.{translated}
 use Rattle.nova_model.specs.declared.context.Mark.{Mark}
 use Rattle.nova_model.specs.declared.context.Mark.TheVariants as mark
@@ -47,15 +49,28 @@ first_delivery k ec new = record {
   last = sequel.Opened;
 }
 
--- between two threads: an item of the message of `from`, to the windows in that of `to`
+-- the window of the whole space that a range is of; there is none for a word that doesn't read or is null
+abbrev pub whole_of : Option (Range × Rights) → ℕ
+whole_of None = 0
+whole_of (Some (range, rights)) = word_of (Some (record { kind = range.kind; base = 0; order = 20 }, rights))
+
+-- the windows of the one who receives: those in the message of a thread. A virtual CPU has none for translations, and for delegations the whole space of
+-- the item's own type.
+abbrev pub translations_to : KernelState → ℕ → ℕ
+translations_to k to = if is_thread k to then translation_window (message k to) else 0
+
+abbrev pub delegations_to : KernelState → ℕ → ℕ → ℕ
+delegations_to k to range_word = if is_thread k to then delegation_window (message k to) else whole_of (read_as (meaning_of range_word))
+
+-- from one to another: an item of the message of `from`
 abbrev pub delivery_between : KernelState → ℕ → ℕ → ℕ → Option ℕ → Sequel → Delivery
 delivery_between k from to item told last = record {
   range_word = (item_at (message k from) item).0;
   second_word = (item_at (message k from) item).1;
   giver = pd_of k from;
   receiver = pd_of k to;
-  translations = translation_window (message k to);
-  delegations = delegation_window (message k to);
+  translations = translations_to k to;
+  delegations = delegations_to k to (item_at (message k from) item).0;
   told = told;
   items = counted_items (message k from);
   last = last;

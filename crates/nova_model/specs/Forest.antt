@@ -4,7 +4,8 @@ use Rattle.std.specs.List.{AllByRecursion}
 use Rattle.nova_range.specs.declared.range.Kind.{Kind}
 use Rattle.nova_range.specs.declared.range.Kind.TheVariants.{Mem, Obj}
 use Rattle.nova_range.specs.Ranges.{overlaps}
-use Rattle.nova_model.specs.Delegations.{Delegations, allows, range_of, is_child_of}
+use Rattle.nova_model.specs.Delegations.{Delegations, range_of, is_child_of}
+use Rattle.nova_range.specs.Rights.{allows}
 use Rattle.nova_model.specs.declared.delegation.Derivation.{Derivation}
 
 -- each of a list stands in a relation to all after it

@@ -14,7 +14,6 @@ use Rattle.nova_utcb.specs.Messages.{has_counts, has_items}
 use Rattle.nova_objects.specs.declared.object.Object.{Object}
 use Rattle.nova_objects.specs.declared.object.Object.TheVariants.{Sc}
 use Rattle.nova_objects.specs.declared.object.EcKind.{EcKind}
-use Rattle.nova_objects.specs.declared.object.EcKind.TheVariants.{Local, Global, Vcpu}
 use Rattle.nova_range.specs.RangeWords.{word_of}
 use Rattle.nova_range.specs.declared.range.Range.{Range}
 use Rattle.nova_range.specs.declared.rights.Rights.{Rights}
@@ -69,16 +68,10 @@ new_domain k target (Some range) = Opens target (length k.objects)
 abbrev pub create_pd : KernelState → ℕ → ℕ → ℕ → Option (Range × Rights) → Result Deed Status
 create_pd k domain target pd_selector first = and_then (maker k domain target pd_selector) (λ owner. Ok (new_domain k target first))
 
-abbrev pub is_virtual : EcKind → Bool
-is_virtual Local = false
-is_virtual Global = false
-is_virtual Vcpu = true
-
--- create_ec: BAD_PAR for a virtual CPU, which is not built yet; the create rules; BAD_CPU where there is no such processor
+-- create_ec: the create rules; BAD_CPU where there is no such processor
 abbrev pub create_ec : KernelState → ℕ → ℕ → ℕ → ℕ → EcKind → ℕ → ℕ → Result Deed Status
 create_ec k domain target pd_selector cpu kind sp event =
-    unless (is_virtual kind) BadPar (
-    makes k domain CREATE_EC target pd_selector (λ owner. unless (not (nat_lt cpu k.cpus)) BadCpu (Ok (new.Ec owner cpu kind sp event))))
+    makes k domain CREATE_EC target pd_selector (λ owner. unless (not (nat_lt cpu k.cpus)) BadCpu (Ok (new.Ec owner cpu kind sp event)))
 
 -- an execution context has a scheduling context
 abbrev pub schedules : ℕ → Object → Bool

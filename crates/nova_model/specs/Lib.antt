@@ -12,11 +12,15 @@ pub mod Exits
 pub mod Creation
 pub mod Hypercalls
 pub mod Deeds
+pub mod Views
+pub mod Inputs
 pub mod Turn
 pub mod Runs
+pub mod Guests
 pub mod Boot
 pub mod Forest
 pub mod Lines
+pub mod Revokes
 pub mod Transfers
 pub mod Translations
 pub mod Deliveries

@@ -1,6 +1,7 @@
 -- Memory: frames of 4,096 bytes, and what was stored to the consoles. A frame that is no RAM is a console.
-use Rattle.std.specs.Prelude.{ℕ, ◌+◌, ◌-◌, ◌%◌, ◌==◌, List, [], ◌∷◌, ◌++◌, length, take, drop, slice_get, slice_set, Option, Some, None, if◌then◌else◌}
-use Rattle.byteorder.specs.Endian.{little_number, little_bytes}
+use Rattle.std.specs.Prelude.{ℕ, ◌-◌, ◌%◌, ◌==◌, List, [], ◌∷◌, ◌++◌, length, slice_get, slice_set, Option, Some, None, if◌then◌else◌}
+use Rattle.byteorder.specs.Endian.{little_bytes}
+use Rattle.nova_guest.specs.Frames.{read_in, replaced}
 use Rattle.nova_model.specs.declared.log.LogByte.{LogByte}
 
 -- the bytes of each RAM frame, and the bytes stored to the consoles, in order
@@ -8,17 +9,8 @@ pub record Memory : Type 0 where
   pub ram : List (List ℕ)
   pub log : List LogByte
 
--- the number in the bytes from an offset on, the lowest byte first; a console gives 0
-abbrev pub read_in : Option (List ℕ) → ℕ → ℕ → ℕ
-read_in (Some bytes) offset width = little_number width (drop offset bytes)
-read_in None offset width = 0
-
 abbrev pub read : Memory → ℕ → ℕ → ℕ → ℕ
 read m frame offset width = read_in (slice_get m.ram frame) offset width
-
--- bytes put in the place of those from an offset on
-abbrev pub replaced : List ℕ → ℕ → List ℕ → List ℕ
-replaced bytes offset new = take offset bytes ++ (new ++ drop (offset + length new) bytes)
 
 -- what a store to a console enters in the log: its low byte, at offset 0 alone
 abbrev pub logged : ℕ → ℕ → ℕ → List LogByte

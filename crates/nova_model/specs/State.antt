@@ -17,7 +17,7 @@ pub record Semaphore : Type 0 where
   pub waiting : List ℕ
 
 -- Stir counts: how often something came between, so that what was planned from a state seen before no longer holds. Of each virtual CPU
--- the inputs from outside, and of each processor its turns.
+-- the inputs other than its own steps, and of each processor its turns.
 pub record Stirs : Type 0 where
   pub guests : List (Option ℕ)
   pub processors : List ℕ

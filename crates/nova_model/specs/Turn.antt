@@ -2,6 +2,7 @@
 use Rattle.std.specs.Prelude.{ℕ, ◌+◌, ◌-◌, ◌==◌, Bool, true, false, slice_get, slice_index, slice_set, Option, Some, None}
 use Rattle.nova_model.specs.Choice.{Candidate, choice}
 use Rattle.nova_model.specs.Deeds.{deed, done, sign_of}
+use Rattle.nova_model.specs.Inputs.{stirred}
 use Rattle.nova_model.specs.State.{KernelState, budget_at}
 use Rattle.nova_objects.specs.declared.object.Object.{Object}
 use Rattle.nova_objects.specs.declared.object.Object.TheVariants.{Sc}
@@ -61,7 +62,7 @@ abbrev pub event_of : ℕ → Candidate → Deed → Event
 event_of cpu c d = event_by cpu c.sc c.actor d
 
 abbrev pub taken : KernelState → ℕ → Candidate → Deed → Step
-taken k cpu c d = record { kernel = charged (done k c.actor d) cpu c.sc; event = event_of cpu c d }
+taken k cpu c d = record { kernel = charged (stirred k c.actor d (done k c.actor d)) cpu c.sc; event = event_of cpu c d }
 
 abbrev pub turn_by : KernelState → ℕ → Option Candidate → Option Step
 turn_by k cpu None = None

@@ -1,5 +1,6 @@
 ghost use Rattle.std.specs.Prelude.{◌≡◌, ◌<◌, ◌≤◌, ◌+◌, ◌-◌, ◌^◌, ℕ, [], IfSome, IsSome, IsOk, IfOk, OnOk, OnErr, Some, None, option_map};
-ghost use Rattle.std.specs.List.{find};
+ghost use Rattle.std.specs.List.{find, list_any};
+ghost use Rattle.nova_model.specs.Inputs.{leads_to};
 ghost use Rattle.nova_model.specs.Delegations.{covers, first_from, with_id, from_id, is_child_of, newest_child, older_child, parent_of, derived, added, without, id_of};
 ghost use Rattle.nova_model.specs.Forest.{IsFitting, IsChildless};
 ghost use Rattle.nova_nodes.specs.NodesStates.{HasSpaces, IsPlaced, IsSound, room};
@@ -47,6 +48,17 @@ fn is_child_of(d: &Derivation, parent: u32) -> bool
     }
 }
 
+/// Whether a derivation is of the memory of a protection domain, and leads to a frame.
+fn leads_to(d: &Derivation, pd: u32, frame: u32) -> bool
+    requires { d.now.order ≤ 20 }
+    ensures { result ≡ leads_to pd frame d.now }
+{
+    matches!(d.kind, Kind::Mem)
+        && d.pd == pd
+        && d.target <= frame
+        && frame - d.target < 1 << d.order
+}
+
 impl<I: Index> Nodes<I> {
     /// No derivations, and room for none. The first one that is added has id 0.
     pub fn new(alloc: Global) -> Nodes<I>
@@ -75,6 +87,13 @@ impl<I: Index> Nodes<I> {
             spare: 0,
             spaces,
         })
+    }
+
+    /// Whether some memory derivation of a protection domain leads to a frame.
+    pub fn leads_to(&self, pd: u32, frame: u32) -> bool
+        ensures { result ≡ list_any (leads_to pd frame) self.now.delegations.list }
+    {
+        self.list.iter().any(|d| leads_to(d, pd, frame))
     }
 
     /// The id that the next derivation takes.

@@ -1,5 +1,5 @@
 -- Rights: sets of bits, whose meaning goes by what a capability leads to.
-use Rattle.std.specs.Prelude.{◌≡◌, ◌<◌, ℕ, ◌^◌, List, map, sum}
+use Rattle.std.specs.Prelude.{◌≡◌, ◌<◌, ℕ, ◌^◌, ◌==◌, Bool, bit_and, List, map, sum}
 use Rattle.nova_range.specs.declared.rights.Rights.{Rights}
 use Rattle.nova_range.specs.declared.rights.Target.{Target}
 use Rattle.nova_range.specs.declared.rights.Target.TheVariants.{Memory, Pd, Ec, Sc, Pt, Sm}
@@ -10,6 +10,20 @@ IsRights r = r.0 < 2 ^ 5
 
 abbrev pub rights_of : ℕ → Rights
 rights_of bits = record { 0 = bits }
+
+-- rights of a memory range
+abbrev pub read_right : ℕ
+read_right = 1
+
+abbrev pub write_right : ℕ
+write_right = 2
+
+abbrev pub execute_right : ℕ
+execute_right = 4
+
+-- the right is among the rights
+abbrev pub allows : Rights → ℕ → Bool
+allows rights right = bit_and rights.0 right == right
 
 -- all rights to a target
 abbrev pub all_rights : Target → Rights

@@ -6,6 +6,7 @@ mod objects;
 mod orders;
 mod scheduling;
 mod semaphores;
+mod virtual_cpus;
 
 use crate::{Exit, nova_main};
 use nova_io::{MemDepot, MemFile, MemSink};

@@ -7,7 +7,8 @@ use Rattle.rv_model.specs.Registers.{Registers, reg}
 use Rattle.nova_range.specs.declared.mtd.Mtd.{Mtd}
 use Rattle.nova_range.specs.declared.mtd.TheConstants.Mtd.{PC, LOW, HIGH}
 use Rattle.nova_utcb.specs.Files.{IsFile, FitsExit}
-use Rattle.nova_utcb.specs.Messages.{IsMessage, word, counts_of, ruled, names, filled, exit_word, exited, groups_in, renewed, register_back, written_back}
+use Rattle.nova_utcb.specs.Messages.{IsMessage, word, counts_of, ruled, filled, exit_word, exited, groups_in, renewed, register_back, written_back}
+use Rattle.nova_range.specs.Mtds.{names}
 use Rattle.nova_utcb.proofs.Ruled.{length_ruled, set_ruled, get_ruled, get_kept, get_below, is_ruled}
 
 -- a word of the message

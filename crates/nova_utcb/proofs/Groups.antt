@@ -4,7 +4,8 @@ use Rattle.std.proofs.lemmas.Bool.{cases_eq}
 use Rattle.std.proofs.lemmas.Bool.Decides.{nat_tests}
 use Rattle.rv_model.specs.Registers.{Registers, reg, with_reg}
 use Rattle.nova_range.specs.declared.mtd.Mtd.{Mtd}
-use Rattle.nova_utcb.specs.Messages.{word, filled, names, groups_in, ruled}
+use Rattle.nova_utcb.specs.Messages.{word, filled, groups_in, ruled}
+use Rattle.nova_range.specs.Mtds.{names}
 use Rattle.nova_utcb.specs.Groups.{group_word, with_group, group_register, with_registers}
 use Rattle.nova_utcb.proofs.Ruled.{ruled_alike, ruled_same, set_then}
 

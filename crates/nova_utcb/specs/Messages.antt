@@ -1,8 +1,9 @@
 -- The message words of a thread. Word 0 has two counts: untyped words in bits 0 to 15, and items in bits 16 to 31. Word 1 is the
 -- window of translations and word 2 that of delegations. Word 3 is free. The data words are 4 to 127: untyped words lie from word 4
 -- on, and items of two words each from word 127 down.
-use Rattle.std.specs.Prelude.{◌≡◌, ◌<◌, ℕ, suc, ◌+◌, ◌-◌, ◌*◌, ◌/◌, ◌%◌, ◌^◌, ◌==◌, ◌&&◌, ◌||◌, Bool, nat_le, nat_lt, bit_and, if◌then◌else◌, List, [], ◌∷◌, length, slice_index, slice_set, Result, Ok, Err}
+use Rattle.std.specs.Prelude.{◌≡◌, ◌<◌, ℕ, suc, ◌+◌, ◌-◌, ◌*◌, ◌/◌, ◌%◌, ◌^◌, ◌==◌, ◌&&◌, ◌||◌, Bool, nat_le, nat_lt, if◌then◌else◌, List, [], ◌∷◌, length, slice_index, slice_set, Result, Ok, Err}
 use Rattle.rv_model.specs.Registers.{Registers, reg}
+use Rattle.nova_range.specs.Mtds.{names}
 use Rattle.nova_range.specs.declared.mtd.Mtd.{Mtd}
 use Rattle.nova_range.specs.declared.mtd.TheConstants.Mtd.{QUAL, PC, LOW, HIGH}
 use Rattle.nova_utcb.specs.declared.counts.BadCounts.{BadCounts}
@@ -80,10 +81,6 @@ unfoldable pub copied : List ℕ → List ℕ → List ℕ
 copied from to = ruled (λ i stays. if is_given from i then word from i else stays) to
 
 -- Exits
-
--- whether a descriptor names a group
-abbrev pub names : Mtd → Mtd → Bool
-names mtd group = bit_and mtd.0 group.0 == group.0
 
 -- a word of a group: 0 where the group isn't named
 abbrev pub filled : Mtd → Mtd → ℕ → ℕ

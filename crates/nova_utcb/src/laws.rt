@@ -1,7 +1,8 @@
 ghost use Rattle.std.specs.Prelude.{◌≡◌, ◌≢◌, ◌<◌, ◌≤◌, ◌+◌, ◌-◌, ◌*◌, ◌^◌, ◌⊎◌, ℕ, List, true, false, Ok, replicate, slice_index, slice_set};
 ghost use Rattle.rv_model.specs.Registers.{Registers, reg};
 ghost use Rattle.nova_utcb.specs.Messages.{IsMessage, word, untyped, items, has_counts, counts_of, range_place, second_place};
-ghost use Rattle.nova_utcb.specs.Messages.{translation_window, delegation_window, is_given, copied, names, exited, groups_in, written_back, byte_at, loaded, stored, item_at, with_item};
+ghost use Rattle.nova_utcb.specs.Messages.{translation_window, delegation_window, is_given, copied, exited, groups_in, written_back, byte_at, loaded, stored, item_at, with_item};
+ghost use Rattle.nova_range.specs.Mtds.{names};
 ghost use Rattle.nova_utcb.specs.Pages.{IsAccess, byte_of, number_from};
 ghost use Rattle.nova_utcb.specs.Files.{IsFile, FitsExit};
 

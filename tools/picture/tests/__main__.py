@@ -45,6 +45,7 @@ CASES = (
     Case("odd-delegations", "delegations {}/odd.report"),
     Case("turns", "run {}/turns.report --order {}/turns.order"),
     Case("turns-window", "run {}/turns.report --order {}/turns.order --from 7 --to 30 --fold 100"),
+    Case("guest", "run {}/guest.report --order {}/guest.order"),
     Case("nothing", "run {}/nothing.report"),
     Case("nothing-delegations", "delegations {}/nothing.report"),
 )

@@ -1,4 +1,4 @@
-use Rattle.nova_laws.proofs.Suited.{tables_suit, contexts_only, messages_only, transfers_only, budgets_only, identifiers_only, semaphores_only}
+use Rattle.nova_laws.proofs.Suited.{tables_suit, contexts_only, messages_only, transfers_only, budgets_only, identifiers_only, semaphores_only, guests_only}
 use Rattle.nova_laws.proofs.tables.tables_go_with_objects.Goals as goal
 
 pub returns-clause-objects : goal.returns-clause-objects
@@ -21,3 +21,6 @@ returns-clause-identifiers c = identifiers_only
 
 pub returns-clause-semaphores : goal.returns-clause-semaphores
 returns-clause-semaphores c = semaphores_only
+
+pub returns-clause-guests : goal.returns-clause-guests
+returns-clause-guests c = guests_only

@@ -1,4 +1,4 @@
-use Rattle.nova_laws.proofs.Windows.{items_taken, items_replied, items_resumed, range_created}
+use Rattle.nova_laws.proofs.Windows.{items_taken, items_replied, items_resumed, range_created, threads_told}
 use Rattle.nova_laws.proofs.transfers.items_go_to_the_windows_of_the_receiver.Goals as goal
 
 pub returns-clause-taken : goal.returns-clause-taken
@@ -12,3 +12,6 @@ returns-clause-resumed c = items_resumed
 
 pub returns-clause-created : goal.returns-clause-created
 returns-clause-created c = range_created
+
+pub returns-clause-told : goal.returns-clause-told
+returns-clause-told c = threads_told

@@ -1,8 +1,13 @@
-use Rattle.std.proofs.Common.{◌≡◌, ℕ, ap, sym, subst, ◌∙◌, IsTrue, arith, rules}
+use Rattle.std.proofs.Common.{◌≡◌, ℕ, ap, sym, subst, ◌∙◌, IfErr, IsTrue, Result, arith, rules}
+use Rattle.std.proofs.lemmas.Result.{err_from_is_err_and}
 use Rattle.nova_kernel.specs.Views.{KernelView}
 use Rattle.nova_model.specs.Boot.{boot}
+use Rattle.nova_model.specs.State.{KernelState}
 use Rattle.nova_boot.specs.Boot.{scenario_of}
 use Rattle.nova_order.specs.Blocks.{is_within}
+use Rattle.nova_top.specs.Prepared.{IsIdleFault}
+use Rattle.nova_top.specs.declared.exit.Exit.{Exit}
+use Rattle.nova_top.specs.declared.outcome.Outcome.{Outcome}
 use Rattle.nova_top.proofs.Reports.{boot_turns, boot_cpus, reported_from}
 use Rattle.nova_top.proofs.outcome.run_in_order.Goals as goal
 
@@ -26,3 +31,10 @@ returns-clause-report c =
     let same : c.from-most.result ≡ c.args.limit = search rules in
     reported_from (scenario_of c.args.scenario.now) c.args.limit c.from-most.result c.in_ok-kernel.kernel.state c.args.order.now.blocks c.in_ok-finished.finished c.in_ok-reported.field-0
     begun same c.in_ok-finished.ensures.finished c.in_ok-reported.ensures.text c.in_ok-reported.ensures.quiet c.in_ok-finished.ensures.no_idle c.requires.within
+
+pub returns-in_err-reported-clause-idle : goal.returns-in_err-reported-clause-idle
+returns-in_err-reported-clause-idle c =
+    let k : KernelState = boot (scenario_of c.args.scenario.now) in
+    let p = err_from_is_err_and c.from_residual-in_err-reported.result c.from_residual-in_err-reported.ensures.1 in
+    subst (λ (r : Result Outcome Exit). IfErr r (IsIdleFault k c.args.order.now)) (sym p.1)
+    (subst (λ (e : Exit). IsIdleFault k c.args.order.now e) (sym p.2) tt)

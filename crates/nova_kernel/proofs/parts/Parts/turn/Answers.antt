@@ -1,14 +1,15 @@
-use Rattle.std.proofs.Common.{IsSome, length, rules, subst, sym, ◌∙◌}
-use Rattle.nova_forest.proofs.Changes.{done_forest}
-use Rattle.nova_laws.specs.Keeping.{IsKept}
-use Rattle.nova_model.specs.Forest.{IsForest}
+use Rattle.std.proofs.Common.{IsSome, length, rules, ap, subst, sym, ◌∙◌}
 use Rattle.nova_model.specs.State.{KernelState}
-use Rattle.nova_kernel.specs.Parts.{shown, IsCounted}
-use Rattle.nova_sched.specs.Queues.{queued_at}
+use Rattle.nova_model.specs.Turn.{charged}
+use Rattle.nova_kernel.specs.Parts.{shown, IsToBeCharged}
+use Rattle.nova_kernel.specs.Schedules.{AreQueued}
+use Rattle.nova_kernel.specs.Stirs.{is_stirring, risen_in}
+use Rattle.nova_sched.specs.Queues.{QueuesState, queued_at}
 use Rattle.nova_kernel.proofs.Budgets.{still_queued}
-use Rattle.nova_kernel.proofs.Counts.{IsCharged-kept, IsCounted-charged}
+use Rattle.nova_kernel.proofs.Charges.{queued_risen}
+use Rattle.nova_kernel.proofs.Counts.{IsCharged-kept, IsCharged-risen}
 use Rattle.nova_kernel.proofs.Making.{making-wants}
-use Rattle.nova_kernel.proofs.Taken.{told_acts, turn_taken}
+use Rattle.nova_kernel.proofs.Taken.{IsSettled, settled_counts, settled_state, told_acts}
 use Rattle.nova_kernel.proofs.parts.Parts.turn.Goals as goal
 
 pub act-requires-clause-acts : goal.act-requires-clause-acts
@@ -19,24 +20,52 @@ returns-in_err-deed-clause-making c =
     making-wants (shown c.args.self.now) c.args.cpu c.in-Some.chosen c.from_residual.result (sym c.in-Some.is ∙ c.choice.ensures.choice)
     c.in_err-deed.ensures.making
 
-pub returns-clause-counted : goal.returns-clause-counted
-returns-clause-counted c =
-    let k : KernelState = shown c.args.self.now in
-    let mid : KernelState = shown c.act.new.self in
-    let actor = c.in-Some.chosen.actor in
-    let forest : IsForest mid.delegations = subst (λ (s : KernelState). IsForest s.delegations) (sym c.in_ok-deed.ensures.done)
-    (done_forest k actor _ c.in_ok-deed.ensures.deed c.requires.counted.forest) in
-    let kept = subst IsKept (turn_taken k mid c.args.cpu c.in-Some.chosen _ (sym c.in-Some.is ∙ c.choice.ensures.choice) c.in_ok-deed.ensures.deed c.in_ok-deed.ensures.done)
-    (c.turns_keep_what_they_find.ensures.turns k c.args.cpu c.requires.counted.kept) in
-    subst IsCounted (sym c.charge.ensures.charged)
-    (IsCounted-charged k mid c.args.cpu c.in-Some.chosen.sc c.in_ok-deed.ensures.kept forest c.requires.turns kept c.requires.counted)
+pub note-sign-requires-clause-charged : goal.note-sign-requires-clause-charged
+note-sign-requires-clause-charged c = IsCharged-kept (shown c.args.self.now) (shown c.act.new.self) c.in_ok-deed.ensures.kept c.requires.counted.charged
 
 pub charge-requires-clause-charged : goal.charge-requires-clause-charged
-charge-requires-clause-charged c = IsCharged-kept (shown c.args.self.now) (shown c.act.new.self) c.in_ok-deed.ensures.kept c.requires.counted.charged
+charge-requires-clause-charged c =
+    let mid : KernelState = shown c.act.new.self in
+    subst IsToBeCharged (sym c.note-sign.ensures.shown)
+    (IsCharged-risen mid _ (IsCharged-kept (shown c.args.self.now) mid c.in_ok-deed.ensures.kept c.requires.counted.charged))
+
+pub charge-requires-clause-queued : goal.charge-requires-clause-queued
+charge-requires-clause-queued c =
+    let mid : KernelState = shown c.act.new.self in
+    let rises = is_stirring mid c.act.new.self.reach.written c.in-Some.chosen.actor c.in_ok-deed.deed in
+    subst (λ (s : KernelState). AreQueued s c.note-sign.new.self.queues.all) (sym c.note-sign.ensures.shown)
+    (subst (λ (q : QueuesState). AreQueued (risen_in mid rises) q.all) (sym c.note-sign.ensures.queues)
+    (queued_risen mid rises c.act.new.self.queues.all c.in_ok-deed.ensures.queued))
 
 pub charge-requires-clause-there : goal.charge-requires-clause-there
 charge-requires-clause-there c =
     let p = c.args.self.now in
     let there : IsSome (queued_at p.queues.all c.in-Some.chosen.sc) = search rules in
-    still_queued p.queues.all c.act.new.self.queues.all (length p.objects.items) (length c.act.new.self.objects.items) c.in-Some.chosen.sc there
-    (c.in_ok-deed.ensures.kept.budgets c.in-Some.chosen.sc)
+    subst (λ (q : QueuesState). IsSome (queued_at q.all c.in-Some.chosen.sc)) (sym c.note-sign.ensures.queues)
+    (still_queued p.queues.all c.act.new.self.queues.all (length p.objects.items) (length c.act.new.self.objects.items) c.in-Some.chosen.sc there
+    (c.in_ok-deed.ensures.kept.budgets c.in-Some.chosen.sc))
+
+pub returns-clause-state : goal.returns-clause-state
+returns-clause-state c =
+    let k : KernelState = shown c.args.self.now in
+    let settled : IsSettled k (shown c.act.new.self) (shown c.charge.new.self) c.args.cpu c.in-Some.chosen c.in_ok-deed.deed c.act.new.self.reach.written = record {
+      told = sym c.in-Some.is ∙ c.choice.ensures.choice;
+      decided = c.in_ok-deed.ensures.deed;
+      does = c.in_ok-deed.ensures.done;
+      wrote = c.in_ok-deed.ensures.written;
+      settled = c.charge.ensures.charged ∙ ap (λ (s : KernelState). charged s c.args.cpu c.in-Some.chosen.sc) c.note-sign.ensures.shown;
+    } in
+    settled_state k (shown c.act.new.self) (shown c.charge.new.self) c.args.cpu c.in-Some.chosen c.in_ok-deed.deed c.act.new.self.reach.written settled
+
+pub returns-clause-counted : goal.returns-clause-counted
+returns-clause-counted c =
+    let k : KernelState = shown c.args.self.now in
+    let settled : IsSettled k (shown c.act.new.self) (shown c.charge.new.self) c.args.cpu c.in-Some.chosen c.in_ok-deed.deed c.act.new.self.reach.written = record {
+      told = sym c.in-Some.is ∙ c.choice.ensures.choice;
+      decided = c.in_ok-deed.ensures.deed;
+      does = c.in_ok-deed.ensures.done;
+      wrote = c.in_ok-deed.ensures.written;
+      settled = c.charge.ensures.charged ∙ ap (λ (s : KernelState). charged s c.args.cpu c.in-Some.chosen.sc) c.note-sign.ensures.shown;
+    } in
+    settled_counts k (shown c.act.new.self) (shown c.charge.new.self) c.args.cpu c.in-Some.chosen c.in_ok-deed.deed c.act.new.self.reach.written settled
+    c.in_ok-deed.ensures.kept c.requires.turns (c.turns_keep_what_they_find.ensures.turns k c.args.cpu c.requires.counted.kept) c.requires.counted

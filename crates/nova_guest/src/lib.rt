@@ -1,0 +1,26 @@
+//! The guest alone: a virtual CPU as a machine that knows its inputs only, with no kernel, no other
+//! execution context and no scheduler.
+#![tactic(auto)]
+
+pub mod bytes;
+pub mod cell;
+pub mod guest;
+pub mod input;
+mod keyed;
+pub mod laws;
+pub mod map;
+pub mod page;
+mod registers;
+mod runs;
+mod sight;
+#[cfg(test)]
+mod tests;
+pub mod words;
+
+pub use bytes::Bytes;
+pub use cell::{Cell, Cells};
+pub use guest::{Guest, GuestState};
+pub use input::{Input, Out};
+pub use map::{Map, Maps};
+pub use page::Page;
+pub use runs::alone;

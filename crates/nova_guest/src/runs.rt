@@ -1,0 +1,28 @@
+ghost use Rattle.std.specs.Prelude.{◌≡◌, IfOk};
+ghost use Rattle.std.specs.List.{All};
+ghost use Rattle.nova_guest.specs.Alone.{alone, outputs};
+ghost use Rattle.nova_guest.specs.Conditions.{IsGuest, IsInput};
+
+use crate::guest::Guest;
+use crate::input::{Input, Out};
+use std::alloc::{AllocError, Global};
+
+/// What inputs one after another make of a guest, and what it puts out, in order. It refuses for want of
+/// memory alone. What `apply` asks of a guest and an input holds of the guest at the start and of each
+/// input.
+pub fn alone(alloc: Global, start: Guest, inputs: &[Input]) -> Result<(Guest, Vec<Out>), AllocError>
+    requires guest { IsGuest start }
+    requires inputs { All IsInput inputs.now }
+    ensures guest { IfOk result (λ r. r.0 ≡ alone start inputs.now) }
+    ensures kept { IfOk result (λ r. IsGuest r.0) }
+    ensures outs { IfOk result (λ r. r.1.items ≡ outputs start inputs.now) }
+{
+    let mut guest = start;
+    let mut outs = Vec::new(alloc);
+    for input in inputs {
+        if let Some(out) = guest.apply(input)? {
+            outs.push(out)?;
+        }
+    }
+    Ok((guest, outs))
+}

@@ -1,0 +1,123 @@
+-- One turn, one input.
+use Rattle.std.proofs.Common.{◌≡◌, ℕ, ◌%◌, ◌≢◌, List, ap, sym, ◌∙◌, subst, refl, inl, inr}
+use Rattle.std.specs.Prelude.{Bool, true, false, ◌==◌, Option, Some, None, option_and_then, if◌then◌else◌}
+use Rattle.std.proofs.lemmas.Bool.{cases_eq, ne_eqb}
+use Rattle.rv_model.specs.Step.{Store}
+use Rattle.nova_guest.specs.Alone.{applied}
+use Rattle.nova_guest.specs.declared.guest.Guest.{Guest}
+use Rattle.nova_guest.specs.declared.input.Input.{Input}
+use Rattle.nova_guest.specs.declared.input.Input.TheVariants as input
+use Rattle.nova_forest.proofs.Allowed.{deed_fits}
+use Rattle.nova_model.specs.Choice.{Candidate, choice}
+use Rattle.nova_model.specs.Deeds.{deed, done, instruction, sign_of}
+use Rattle.nova_model.specs.Guests.{input as turn_input, input_by}
+use Rattle.nova_model.specs.Inputs.{foreign_at, foreign_by, frame_of_store, given_of, input_of, is_covered_for, only_if, others_input, reply_of, store_of, stirred}
+use Rattle.nova_model.specs.Memory.{Memory}
+use Rattle.nova_model.specs.State.{KernelState, message, pd_of}
+use Rattle.nova_model.specs.Turn.{charged, state_after, turn, turn_by}
+use Rattle.nova_model.specs.Views.{is_memory_of, view}
+use Rattle.nova_model.specs.declared.context.Mark.TheVariants as mark
+use Rattle.nova_model.specs.declared.deed.Deed.{Deed}
+use Rattle.nova_model.specs.declared.deed.Deed.TheVariants.{Steps, Recalls, Gives, Finishes, Replies}
+use Rattle.nova_model.specs.declared.delegation.Derivation.{Derivation}
+use Rattle.nova_model.specs.declared.event.EventKind.{EventKind}
+use Rattle.nova_model.specs.declared.transfer.Sequel.TheVariants as sequel
+use Rattle.nova_isolation.specs.Law.{answered, IsOneInput, IsOneTurn, PutsOut, PutsOutIn}
+use Rattle.nova_isolation.proofs.Premises.{HasPremises, IsGuest}
+use Rattle.nova_isolation.proofs.Facts.{deed_facts}
+use Rattle.nova_isolation.proofs.OtherTurns.{other_law}
+use Rattle.nova_isolation.proofs.OwnTurns.{own_turn}
+use Rattle.nova_isolation.proofs.Seen.{log_charged, view_charged, view_stirred}
+
+-- an input from another puts out nothing
+abbrev IsQuiet : Guest → Option Input → Type 0
+IsQuiet v i = (answered v i).out ≡ None
+
+quiet_if : (v : Guest) (t : Bool) (i : Input) → IsQuiet v (Some i) → IsQuiet v (only_if t i)
+quiet_if v true i h = h
+quiet_if v false i h = refl
+
+quiet_recall : (v : Guest) → IsQuiet v (Some input.Recall)
+unfolding applied
+quiet_recall v = refl
+
+quiet_reply : (v : Guest) (m : List ℕ) → IsQuiet v (Some (reply_of m))
+unfolding applied
+quiet_reply v m = refl
+
+quiet_given : (v : Guest) (k : KernelState) (d : Derivation) → IsQuiet v (Some (given_of k d))
+unfolding applied
+quiet_given v k d = refl
+
+quiet_foreign : (v : Guest) (frame offset width value : ℕ) → IsQuiet v (Some (input.Foreign frame offset width value))
+unfolding applied
+quiet_foreign v frame offset width value = refl
+
+quiet_store : (k : KernelState) (ec pd : ℕ) (v : Guest) (o : Option Store) → IsQuiet v (option_and_then (foreign_by k ec pd) o)
+quiet_store k ec pd v None = refl
+quiet_store k ec pd v (Some s) = by_frame (frame_of_store k ec s)
+  where
+    by_test : (f : ℕ) (t : Bool) → IsQuiet v (if t then Some (input.Foreign f (s.address % 4096) s.width s.value) else None)
+    by_test f true = quiet_foreign v f (s.address % 4096) s.width s.value
+    by_test f false = refl
+
+    by_frame : (f : Option ℕ) → IsQuiet v (option_and_then (foreign_at k pd s) f)
+    by_frame None = refl
+    by_frame (Some f) = by_test f (is_covered_for k pd f)
+
+quiet : (k : KernelState) (ec g : ℕ) (v : Guest) (d : Deed) → IsQuiet v (others_input k ec g d)
+quiet k ec g v Steps = quiet_store k ec (pd_of k g) v (store_of (instruction k ec))
+quiet k ec g v (Recalls whose) = quiet_if v (whose == g) input.Recall (quiet_recall v)
+quiet k ec g v (Replies caller mark.Exit false) = quiet_if v (caller == g) (reply_of (message k ec)) (quiet_reply v (message k ec))
+quiet k ec g v (Replies caller mark.Exit true) = refl
+quiet k ec g v (Replies caller mark.Call items) = refl
+quiet k ec g v (Finishes item end words (sequel.Replied caller mark.Exit)) = quiet_if v (caller == g) (reply_of (message k ec)) (quiet_reply v (message k ec))
+quiet k ec g v (Finishes item end words (sequel.Replied caller mark.Call)) = refl
+quiet k ec g v (Finishes item end words sequel.Item) = refl
+quiet k ec g v (Finishes item end words sequel.Opened) = refl
+quiet k ec g v (Finishes item end words sequel.Taken) = refl
+quiet k ec g v (Gives child cursor) = quiet_if v (is_memory_of (pd_of k g) child) (given_of k child) (quiet_given v k child)
+quiet k ec g v other = refl
+
+other_is : (k : KernelState) (ec g : ℕ) (d : Deed) → ec ≢ g → input_of k ec g d ≡ others_input k ec g d
+unfolding input_of
+other_is k ec g d ne = rw (ne_eqb ec g ne) refl
+
+-- a turn of another
+pub other_turn : (k : KernelState) (ec g : ℕ) → HasPremises k → IsGuest k g → ec ≢ g → IsOneInput k (done k ec (deed k ec)) ec g (deed k ec)
+other_turn k ec g sound is ne =
+    let same : input_of k ec g (deed k ec) ≡ others_input k ec g (deed k ec) = other_is k ec g (deed k ec) ne in
+    record {
+      guest = other_law k ec g (deed k ec) sound ne is (deed_facts k ec g sound is) (deed_fits k ec sound.forest)
+          ∙ sym (ap (λ (i : Option Input). (answered (view k g) i).guest) same);
+      output = subst (λ (t : Bool). PutsOut t k (done k ec (deed k ec)) (sign_of (deed k ec)) (answered (view k g) (input_of k ec g (deed k ec))).out) (sym (ne_eqb ec g ne))
+          (ap (λ (i : Option Input). (answered (view k g) i).out) same ∙ quiet k ec g (view k g) (deed k ec));
+    }
+
+-- whoever acts
+pub one_input : (k : KernelState) (ec g : ℕ) → HasPremises k → IsGuest k g → IsOneInput k (done k ec (deed k ec)) ec g (deed k ec)
+one_input k ec g sound is = elim (cases_eq ec g) [
+  | inl same ↦ subst (λ (n : ℕ). IsOneInput k (done k n (deed k n)) n g (deed k n)) (sym same) (own_turn k g sound is)
+  | inr ne ↦ other_turn k ec g sound is ne
+]
+
+-- what is stirred and charged is not seen
+puts_out : (t : Bool) (k s new : KernelState) (sign : EventKind × ℕ × ℕ) (o : _) → new.memory ≡ s.memory → PutsOut t k s sign o → PutsOut t k new sign o
+puts_out true k s new sign o same out = record { event = out.event; log = ap (λ (m : Memory). m.log) same ∙ out.log }
+puts_out false k s new sign o same out = out
+
+turn_law : (k : KernelState) (cpu g : ℕ) → HasPremises k → IsGuest k g → (c : Option Candidate) →
+    (view (state_after k (turn_by k cpu c)) g ≡ (answered (view k g) (input_by k g c)).guest)
+    × PutsOutIn k (state_after k (turn_by k cpu c)) g (turn_by k cpu c) (answered (view k g) (input_by k g c)).out
+turn_law k cpu g sound is None = (refl, refl)
+turn_law k cpu g sound is (Some c) =
+    let d : Deed = deed k c.actor in
+    let s : KernelState = done k c.actor d in
+    let law : IsOneInput k s c.actor g d = one_input k c.actor g sound is in (
+      view_charged (stirred k c.actor d s) g cpu c.sc ∙ (view_stirred k c.actor d s g ∙ law.guest),
+      puts_out (c.actor == g) k s (charged (stirred k c.actor d s) cpu c.sc) (sign_of d) (answered (view k g) (input_of k c.actor g d)).out (log_charged (stirred k c.actor d s) cpu c.sc) law.output,
+    )
+
+pub one_turn : (k : KernelState) (cpu g : ℕ) → HasPremises k → IsGuest k g → IsOneTurn k cpu g
+unfolding turn turn_input
+one_turn k cpu g sound is = let law = turn_law k cpu g sound is (choice k cpu) in record { guest = law.0; output = law.1 }

@@ -1,0 +1,73 @@
+-- The law of one turn: what it leaves of the view of a virtual CPU, and what it puts out for it, is what the guest alone makes of its input.
+use Rattle.std.specs.Prelude.{◌≡◌, ℕ, ◌-◌, ◌==◌, Bool, true, false, List, [], ◌∷◌, ◌++◌, length, Option, Some, None}
+use Rattle.nova_guest.specs.Alone.{Told, told, applied}
+use Rattle.nova_guest.specs.Cells.{cell_at, cells_given}
+use Rattle.nova_guest.specs.declared.cell.Cell.{Cell}
+use Rattle.nova_guest.specs.declared.guest.Guest.{Guest}
+use Rattle.nova_guest.specs.declared.input.Input.{Input}
+use Rattle.nova_guest.specs.declared.input.Input.TheVariants.{Given}
+use Rattle.nova_guest.specs.declared.input.Out.{Out}
+use Rattle.nova_guest.specs.declared.input.Out.TheVariants as out
+use Rattle.nova_model.specs.Deeds.{sign_of}
+use Rattle.nova_model.specs.Guests.{input}
+use Rattle.nova_model.specs.Inputs.{input_of}
+use Rattle.nova_model.specs.Runs.{after}
+use Rattle.nova_model.specs.State.{KernelState}
+use Rattle.nova_model.specs.Turn.{Step, turn}
+use Rattle.nova_model.specs.Views.{view}
+use Rattle.nova_model.specs.declared.deed.Deed.{Deed}
+use Rattle.nova_model.specs.declared.event.EventKind.{EventKind}
+use Rattle.nova_model.specs.declared.event.EventKind.TheVariants.{Raise}
+use Rattle.nova_model.specs.declared.log.LogByte.{LogByte}
+
+-- what the guest alone makes of an input; without one it stays as it is and puts out nothing
+abbrev pub answered : Guest → Option Input → Told
+answered v None = told v None
+answered v (Some i) = applied v i
+
+-- an exit that is put out, and the exit that is raised in an event, by reason and first qualification
+abbrev pub exit_in : Option Out → Option (ℕ × ℕ)
+exit_in (Some (out.Exit reason q0 q1)) = Some (reason, q0)
+exit_in other = None
+
+abbrev pub raised_by : EventKind × ℕ × ℕ → Option (ℕ × ℕ)
+raised_by (Raise, a, b) = Some (a, b)
+raised_by other = None
+
+-- a byte that is put out, as the log of the consoles has it; consoles are numbered from the first frame that is no RAM
+abbrev pub bytes_in : ℕ → Option Out → List LogByte
+bytes_in frames (Some (out.Byte frame value)) = record { console = frame - frames; value = value } ∷ []
+bytes_in frames other = []
+
+-- what a guest puts out in a turn of its own: its exits are its events, and its bytes are what the log gains
+pub record IsPutOut (k new : KernelState) (sign : EventKind × ℕ × ℕ) (o : Option Out) : Type 0 where
+  pub event : raised_by sign ≡ exit_in o
+  pub log : new.memory.log ≡ k.memory.log ++ bytes_in (length k.memory.ram) o
+
+-- in a turn of another it puts out nothing
+abbrev pub PutsOut : Bool → KernelState → KernelState → EventKind × ℕ × ℕ → Option Out → Type 0
+PutsOut true k new sign o = IsPutOut k new sign o
+PutsOut false k new sign o = o ≡ None
+
+-- a deed of an execution context, with the state that it leaves, is one input of a guest or nothing
+pub record IsOneInput (k new : KernelState) (ec g : ℕ) (d : Deed) : Type 0 where
+  pub guest : view new g ≡ (answered (view k g) (input_of k ec g d)).guest
+  pub output : PutsOut (ec == g) k new (sign_of d) (answered (view k g) (input_of k ec g d)).out
+
+-- so is the turn of a processor; an idle processor's is nothing
+abbrev pub PutsOutIn : KernelState → KernelState → ℕ → Option Step → Option Out → Type 0
+PutsOutIn k new g None o = o ≡ None
+PutsOutIn k new g (Some s) o = PutsOut (s.event.ec == g) k new (s.event.kind, s.event.a, s.event.b) o
+
+pub record IsOneTurn (k : KernelState) (cpu g : ℕ) : Type 0 where
+  pub guest : view (after k cpu) g ≡ (answered (view k g) (input k cpu g)).guest
+  pub output : PutsOutIn k (after k cpu) g (turn k cpu) (answered (view k g) (input k cpu g)).out
+
+-- a frame that has a cell among both has the same bytes
+abbrev pub AreAlike : List Cell → List Cell → Type 0
+AreAlike xs ys = (frame : ℕ) (a b : List ℕ) → cell_at xs frame ≡ Some a → cell_at ys frame ≡ Some b → a ≡ b
+
+-- the cells that come with a map are like those that the guest has
+abbrev pub IsGivenAsSeen : Guest → Option Input → Type 0
+IsGivenAsSeen v (Some (Given base order rights frame contents)) = AreAlike (cells_given frame contents) v.cells
+IsGivenAsSeen v other = Unit {0}

@@ -1,0 +1,21 @@
+use Rattle.std.proofs.Common.{ap, sym, ◌∙◌}
+use Rattle.nova_model.specs.Deeds.{sign_of}
+use Rattle.nova_kernel.specs.Parts.{shown}
+use Rattle.nova_kernel.proofs.Counts.{stirs-fit}
+use Rattle.nova_kernel.proofs.Taken.{GoesUnseen, goes_unseen}
+use Rattle.nova_kernel.proofs.parts.Parts.note.Goals as goal
+
+pub stir-requires : goal.stir-requires
+stir-requires c = stirs-fit (shown c.args.self.now) c.requires.charged c.requires.turns
+
+pub returns-then-goes_unseen-clause-sign : goal.returns-then-goes_unseen-clause-sign
+returns-then-goes_unseen-clause-sign c =
+    let unseen : GoesUnseen (shown c.args.self.now) c.args.ec c.args.deed c.args.self.now.reach.written =
+    goes_unseen (shown c.args.self.now) c.args.ec c.args.deed c.args.self.now.reach.written (sym c.goes_unseen.ensures ∙ c.if-goes_unseen.true) in
+    sym (ap sign_of unseen.step)
+
+pub returns-then-goes_unseen-clause-shown : goal.returns-then-goes_unseen-clause-shown
+returns-then-goes_unseen-clause-shown c =
+    let unseen : GoesUnseen (shown c.args.self.now) c.args.ec c.args.deed c.args.self.now.reach.written =
+    goes_unseen (shown c.args.self.now) c.args.ec c.args.deed c.args.self.now.reach.written (sym c.goes_unseen.ensures ∙ c.if-goes_unseen.true) in
+    unseen.counts

@@ -1,0 +1,13 @@
+-- The table of stir counts, with the numbers of the virtual CPUs.
+use Rattle.std.specs.Prelude.{ℕ, ◌+◌, ◌==◌, List, [], ◌∷◌, Option, Some, None}
+use Rattle.nova_kernel.specs.Stirs.{risen_from}
+
+-- the numbers that have a count, rising, of the entries from number n on
+abbrev pub numbers_from : ℕ → List (Option ℕ) → List ℕ
+numbers_from n [] = []
+numbers_from n (None ∷ counts) = numbers_from (n + 1) counts
+numbers_from n (Some count ∷ counts) = n ∷ numbers_from (n + 1) counts
+
+-- the count of one number rises
+abbrev pub risen_at : ℕ → List (Option ℕ) → List (Option ℕ)
+risen_at g counts = risen_from (λ n. n == g) 0 counts

@@ -1,0 +1,100 @@
+ghost use Rattle.std.specs.Prelude.{◌≡◌, ◌-◌, ◌^◌, ◌<◌, ℕ, false, slice_get, IfSome};
+ghost use Rattle.std.specs.Bool.{OnFalse};
+ghost use Rattle.nova_model.specs.State.{entry};
+ghost use Rattle.nova_kernel.specs.Parts.{shown};
+ghost use Rattle.nova_kernel.specs.Stirs.{is_seen, is_stirring, risen_from, stirs_itself};
+
+use crate::parts::Parts;
+use nova_model::{Deed, Kind, Mark, Sequel};
+
+/// Whether a deed of a virtual CPU's own is an input from outside: its exit is sent, or it ends.
+fn stirs_itself(deed: Deed) -> bool
+    ensures { result ≡ stirs_itself deed }
+{
+    matches!(
+        deed,
+        Deed::Sends { .. } | Deed::Dies { .. } | Deed::Aborts { .. }
+    )
+}
+
+impl Parts {
+    /// Whether memory of a protection domain leads to the RAM frame that was stored to.
+    fn is_seen(&self, pd: u32) -> bool
+        ensures { result ≡ is_seen (shown self.now) pd self.now.reach.written }
+    {
+        match self.reach.written {
+            Some(frame) => frame < self.reach.frames.ram_frames()
+                && self.reach.nodes.leads_to(pd, frame),
+            None => false,
+        }
+    }
+
+    /// Whether a deed of an execution context is an input from outside for a virtual CPU.
+    fn is_stirring(&self, ec: u32, deed: Deed, guest: u32) -> bool
+        ensures { result ≡ is_stirring (shown self.now) self.now.reach.written ec deed guest }
+    {
+        if ec == guest {
+            return stirs_itself(deed);
+        }
+        match deed {
+            Deed::Steps => self.is_seen(self.pd(guest)),
+            Deed::Recalls { ec: whose } => whose == guest,
+            Deed::Replies {
+                caller,
+                mark: Mark::Exit,
+                items: false,
+            } => caller == guest,
+            Deed::Finishes {
+                after: Sequel::Replied(caller, Mark::Exit),
+                ..
+            } => caller == guest,
+            Deed::Gives { child, .. } => {
+                matches!(child.kind, Kind::Mem) && child.pd == self.pd(guest)
+            }
+            _ => false,
+        }
+    }
+
+    /// Whether a deed may be an input from outside for some virtual CPU.
+    fn may_stir(&self, deed: Deed) -> bool
+        ensures { OnFalse result ((ec guest : ℕ) → is_stirring (shown self.now) self.now.reach.written ec deed guest ≡ false) }
+    {
+        match deed {
+            Deed::Steps => self.reach.written.is_some(),
+            Deed::Raises { .. } | Deed::Rests | Deed::Skips { .. } => false,
+            _ => true,
+        }
+    }
+
+    /// Counts a deed of an execution context for each virtual CPU for which it is an input from outside.
+    fn stir_each(&mut self, ec: u32, deed: Deed)
+        requires { (g : ℕ) → IfSome (entry (slice_get (shown self.old).stirs.guests g)) (λ n. n < 2 ^ 64 - 1) }
+        ensures counts { self.new.guests.counts ≡ risen_from (is_stirring (shown self.old) self.old.reach.written ec deed) 0 self.old.guests.counts }
+        ensures rest { self.new ≡ record self.old { guests = self.new.guests } }
+    {
+        for i in 0..self.guests.numbers().len() {
+            let guest = self.guests.numbers()[i];
+            if self.is_stirring(ec, deed, guest) {
+                self.guests.rise(guest);
+            }
+        }
+    }
+
+    /// Counts what a deed that an execution context did is for virtual CPUs.
+    pub fn stir(&mut self, ec: u32, deed: Deed)
+        requires { (g : ℕ) → IfSome (entry (slice_get (shown self.old).stirs.guests g)) (λ n. n < 2 ^ 64 - 1) }
+        ensures shown { shown self.new ≡ record (shown self.old) {
+          stirs = record (shown self.old).stirs {
+            guests = risen_from (is_stirring (shown self.old) self.old.reach.written ec deed) 0 (shown self.old).stirs.guests;
+          };
+        } }
+        ensures queues { self.new.queues ≡ self.old.queues }
+        ensures turns { self.new.turns ≡ self.old.turns }
+        ensures cpus { self.new.cpus ≡ self.old.cpus }
+        ensures log { self.new.reach.room ≡ self.old.reach.room }
+    {
+        if self.may_stir(deed) {
+            self.stir_each(ec, deed);
+        }
+    }
+}

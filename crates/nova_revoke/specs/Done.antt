@@ -1,0 +1,23 @@
+-- What a part of a revoke did, and what it forbids.
+use Rattle.std.specs.Prelude.{◌≡◌, ◌+◌, ℕ, Bool, [], length, Option, Some, None}
+use Rattle.nova_range.specs.declared.range.Range.{Range}
+use Rattle.nova_model.specs.Delegations.{Delegations, without, derived}
+use Rattle.nova_model.specs.Revokes.{Revocation, scope, busy}
+use Rattle.nova_model.specs.declared.delegation.Derivation.{Derivation}
+use Rattle.nova_forest.specs.Courses.{IsLeaf}
+use Rattle.nova_revoke.specs.declared.leaves.RevokeDone.{RevokeDone}
+use Rattle.nova_revoke.specs.declared.leaves.RevokeDone.TheVariants.{Removed, Ended}
+
+-- this derivation went, or there was none
+abbrev pub done_of : Option Derivation → RevokeDone
+done_of None = Ended
+done_of (Some d) = Removed d.id d.pd
+
+-- one leaf of the scope went and nothing else, or the scope was empty and nothing went
+pub data IsPart (r : Revocation) (old new : Delegations) : RevokeDone → Type 0 where
+  Takes : (d : Derivation) → IsLeaf r old d → new ≡ without old d.id → length old.list ≡ length new.list + 1 → IsPart r old new (Removed d.id d.pd)
+  Leaves : scope r old.list ≡ [] → new ≡ old → IsPart r old new Ended
+
+-- a new derivation of this parent, domain, range and target is busy, whatever its rights
+abbrev pub would_grow : Revocation → Delegations → Option ℕ → ℕ → Range → ℕ → Bool
+would_grow r f parent pd range target = busy r f.list (derived f.next parent pd range (record { 0 = 0 }) target)

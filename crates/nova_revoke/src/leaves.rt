@@ -1,0 +1,125 @@
+ghost use Rattle.std.specs.Prelude.{◌≡◌, ◌↔◌, ◌≤◌, ℕ, [], Contains, IfSome};
+ghost use Rattle.nova_model.specs.Delegations.{first_from};
+ghost use Rattle.nova_model.specs.Forest.{IsChildless};
+ghost use Rattle.nova_model.specs.Revokes.{scope, newest_in, is_entry, entry, leaf_by, next_leaf, revoked};
+ghost use Rattle.nova_nodes.specs.NodesStates.{IsPlaced, IsSound, room};
+ghost use Rattle.nova_revoke.specs.Done.{done_of, IsPart};
+ghost use Rattle.nova_revoke.specs.declared.leaves.RevokeDone.TheVariants.{Ended};
+
+use crate::revoke::Revoke;
+use crate::scope::{end, in_scope_of};
+use nova_model::Derivation;
+use nova_nodes::Nodes;
+use nova_range::Index;
+
+/// What a part of a revoke did.
+#[derive(Clone, Copy)]
+pub enum RevokeDone {
+    /// It took away the derivation of this id, which this protection domain held.
+    Removed(u32, u32),
+    /// Nothing was left to take.
+    Ended,
+}
+
+/// The newest child in the scope of a derivation.
+fn newest_in<I: Index>(nodes: &Nodes<I>, revoke: &Revoke, id: u32) -> Option<Derivation>
+    requires sound { IsSound nodes.now.delegations }
+    ensures { result ≡ newest_in revoke.now nodes.now.delegations.list id }
+{
+    let mut at = nodes.newest_child(id);
+    while let Some(child) = at {
+        let Some(d) = nodes.get(child) else {
+            unreachable!()
+        };
+        if in_scope_of(nodes, revoke, d) {
+            return Some(d);
+        }
+        at = nodes.older(child);
+    }
+    None
+}
+
+/// Whether a derivation of the revoker's is in the scope or has a child in it.
+fn is_entry<I: Index>(nodes: &Nodes<I>, revoke: &Revoke, d: Derivation) -> bool
+    requires sound { IsSound nodes.now.delegations }
+    requires there { Contains nodes.now.delegations.list d }
+    requires placed { IsPlaced d }
+    requires pd { d.pd ≡ revoke.now.pd }
+    ensures { result ≡ is_entry revoke.now nodes.now.delegations.list d }
+{
+    in_scope_of(nodes, revoke, d) || newest_in(nodes, revoke, d.id).is_some()
+}
+
+/// The revoker's derivation of least base that has a place at or after the given one.
+fn next_held<I: Index>(nodes: &Nodes<I>, revoke: &Revoke, place: u32) -> Option<Derivation>
+    ensures found { result ≡ first_from nodes.now.delegations.list revoke.now.range.kind revoke.now.pd place }
+    ensures placed { IfSome result IsPlaced }
+    ensures sound { IsSound nodes.now.delegations }
+{
+    nodes.first_from(revoke.pd, revoke.range.kind, place)
+}
+
+/// Where the way to the next leaf begins.
+fn entry<I: Index>(nodes: &Nodes<I>, revoke: &Revoke) -> Option<Derivation>
+    ensures found { result ≡ entry revoke.now nodes.now.delegations.list }
+    ensures sound { IsSound nodes.now.delegations }
+{
+    let mut place = 0;
+    while let Some(d) = next_held(nodes, revoke, place) {
+        if is_entry(nodes, revoke, d) {
+            return Some(d);
+        }
+        place = end(d.range());
+    }
+    None
+}
+
+/// The leaf at the end of the way from a derivation.
+fn leaf_below<I: Index>(nodes: &Nodes<I>, d: Derivation) -> Derivation
+    requires sound { IsSound nodes.now.delegations }
+    requires there { Contains nodes.now.delegations.list d }
+    ensures { result ≡ leaf_by nodes.now.delegations.next nodes.now.delegations.list d }
+{
+    let mut at = d;
+    while let Some(child) = nodes.newest_child(at.id) {
+        let Some(c) = nodes.get(child) else {
+            unreachable!()
+        };
+        at = c;
+    }
+    at
+}
+
+/// The leaf that goes next.
+fn next_leaf<I: Index>(nodes: &Nodes<I>, revoke: &Revoke) -> Option<Derivation>
+    ensures found { result ≡ next_leaf revoke.now nodes.now.delegations }
+    ensures childless { IfSome result (λ d. IsChildless nodes.now.delegations.list d.id) }
+    ensures sound { IsSound nodes.now.delegations }
+{
+    let d = entry(nodes, revoke)?;
+    match newest_in(nodes, revoke, d.id) {
+        None => Some(d),
+        Some(c) => Some(leaf_below(nodes, c)),
+    }
+}
+
+/// One part of a revoke: it takes away one derivation of the scope that has no child, or answers that
+/// the scope is empty. That derivation is found thus. Of the revoker's derivations that are in the scope
+/// or have a child in it, the way begins at the one of least base, and goes to its newest child in the
+/// scope and on from newest child to newest child; where none of its children is in the scope, it ends
+/// at once. A part takes no memory.
+pub fn part<I: Index>(nodes: &mut Nodes<I>, revoke: &Revoke) -> RevokeDone
+    ensures done { result ≡ done_of (next_leaf revoke.now nodes.old.delegations) }
+    ensures revoked { nodes.new.delegations ≡ revoked revoke.now nodes.old.delegations }
+    ensures part { IsPart revoke.now nodes.old.delegations nodes.new.delegations result }
+    ensures ended { (result ≡ Ended) ↔ (scope revoke.now nodes.old.delegations.list ≡ []) }
+    ensures rooms { (other : ℕ) → room nodes.old other ≤ room nodes.new other }
+{
+    match next_leaf(nodes, revoke) {
+        None => RevokeDone::Ended,
+        Some(d) => {
+            nodes.remove_leaf(d.id);
+            RevokeDone::Removed(d.id, d.pd)
+        }
+    }
+}

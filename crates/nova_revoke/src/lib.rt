@@ -1,0 +1,13 @@
+//! Revokes, leaf by leaf: which derivations one takes, which may not join while it runs, and one part of
+//! it.
+#![tactic(auto)]
+
+pub mod leaves;
+pub mod revoke;
+pub mod scope;
+#[cfg(test)]
+mod tests;
+
+pub use leaves::{RevokeDone, part};
+pub use revoke::Revoke;
+pub use scope::{in_scope, would_grow};
