@@ -59,7 +59,7 @@ pub enum Call {
         pd: u32,
         count: u32,
     },
-    /// Revokes what was delegated from a range, and with `own` the range itself.
+    /// Revokes what was delegated from a range, and with `own` also what the caller holds inside it.
     Revoke {
         range: Range,
         own: bool,

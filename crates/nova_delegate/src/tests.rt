@@ -3,7 +3,7 @@ ghost use Rattle.nova_delegate.specs.Parts.{IsUnderWay};
 
 use crate::{Job, PartDone, Reason, Skip, job, part};
 use bitflags::Flags;
-use nova_nodes::{Guarded, ListIndex, NoGuard, Nodes};
+use nova_nodes::{Guarded, ListIndex, Nodes};
 use nova_range::{Index, Kind, Range, Rights};
 use std::alloc::Global;
 use std::process::Abort;
@@ -25,6 +25,27 @@ fn item(rt: &impl Abort, sent: u32, window: u32) -> Job
     match job(sent, 0, window, GIVER, RECEIVER) {
         Ok(item) => item,
         Err(_) => panic!(rt; "{sent:08x} is skipped"),
+    }
+}
+
+/// A revoke that forbids no child.
+#[derive(Clone, Copy)]
+pub struct ForbidsNone;
+
+impl Guarded for ForbidsNone {
+    ghost use Rattle.std.specs.Prelude.{false};
+
+    ghost busy = { λ g delegations parent pd range target. false };
+
+    fn would_grow<I: Index>(
+        &self,
+        _nodes: &Nodes<I>,
+        _parent: Option<u32>,
+        _pd: u32,
+        _range: Range,
+        _target: u32,
+    ) -> bool {
+        false
     }
 }
 
@@ -63,7 +84,7 @@ fn nodes(rt: &impl Abort, alloc: Global) -> Nodes<ListIndex>
     };
     nodes.root(GIVER, range, Rights::from_bits_retain(3), 0);
     let mut item = item(rt, memory(3, 0, 1), memory(8, 0, 1));
-    part(&mut nodes, &mut item, &[NoGuard]).expect(rt, "ample memory");
+    part(&mut nodes, &mut item, &[ForbidsNone]).expect(rt, "ample memory");
     nodes
 }
 
@@ -90,9 +111,9 @@ fn a_part_is_made_or_skipped_for_the_first_reason(rt: HostRuntime) {
     for (sent, window, wanted) in rows {
         let mut nodes = nodes(&rt, rt.alloc());
         let mut item = item(&rt, sent, window);
-        let done = part(&mut nodes, &mut item, &[NoGuard]).expect(&rt, "ample memory");
+        let done = part(&mut nodes, &mut item, &[ForbidsNone]).expect(&rt, "ample memory");
         assert!(rt; told(done) == wanted, "{sent:08x}");
-        let done = part(&mut nodes, &mut item, &[NoGuard]).expect(&rt, "ample memory");
+        let done = part(&mut nodes, &mut item, &[ForbidsNone]).expect(&rt, "ample memory");
         assert!(rt; told(done) == ("ended", 0), "{sent:08x}");
     }
 }
@@ -109,7 +130,7 @@ fn a_revoke_forbids_a_child(rt: HostRuntime) {
 fn a_child_lies_where_the_window_says(rt: HostRuntime) {
     let mut nodes = nodes(&rt, rt.alloc());
     let mut item = item(&rt, memory(0, 2, 1), memory(16, 2, 7));
-    part(&mut nodes, &mut item, &[NoGuard]).expect(&rt, "ample memory");
+    part(&mut nodes, &mut item, &[ForbidsNone]).expect(&rt, "ample memory");
     let child = nodes.get(2).expect(&rt, "the child");
     assert_eq!(rt; (child.pd, child.parent), (RECEIVER, Some(0)));
     assert_eq!(rt; (child.base, child.order), (16, 2));

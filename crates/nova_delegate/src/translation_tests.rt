@@ -2,7 +2,7 @@ ghost use Rattle.std.specs.Prelude.{◌≤◌, ◌<◌, ◌+◌, ◌^◌, ◌-�
 
 use crate::{job, part, translate};
 use bitflags::Flags;
-use nova_nodes::{ListIndex, NoGuard, Nodes};
+use nova_nodes::{ListIndex, Nodes};
 use nova_range::{Kind, Range, Rights};
 use std::alloc::Global;
 use std::process::Abort;
@@ -14,7 +14,7 @@ fn give(rt: &impl Abort, nodes: &mut Nodes<ListIndex>, from: u32, to: u32, sent:
 {
     match job(sent, 0, window, from, to) {
         Ok(mut item) => {
-            part(nodes, &mut item, &[NoGuard]).expect(rt, "ample memory");
+            part(nodes, &mut item, &[ForbidsNone]).expect(rt, "ample memory");
         }
         Err(_) => panic!(rt; "{sent:08x} is skipped"),
     }

@@ -9,8 +9,8 @@ use Rattle.nova_model.specs.Edges.{met_within, edge, edge_of, acts, acts_as, act
 use Rattle.nova_model.specs.declared.context.EcState.{EcState}
 use Rattle.nova_model.specs.declared.context.Mark.TheVariants as mark
 use Rattle.nova_model.specs.declared.context.State.{State}
-use Rattle.nova_model.specs.declared.context.State.TheVariants.{Fresh, Ready, Parked, Calling, Helping, Exiting, Sending, Granting, Replying, Blocked, Dead}
-use Rattle.nova_model.specs.declared.deed.Deed.TheVariants.{Rests, Steps, Raises, Dies, Waits, Sends, Refuses, Makes, Recalls, Tells, Names, Opens, Gives, Skips, Finishes, Calls, Helps, Replies, Aborts, Ups, Downs, Blocks}
+use Rattle.nova_model.specs.declared.context.State.TheVariants.{Fresh, Ready, Parked, Calling, Helping, Exiting, Sending, Granting, Replying, Revoking, Blocked, Dead}
+use Rattle.nova_model.specs.declared.deed.Deed.TheVariants.{Rests, Steps, Raises, Dies, Waits, Sends, Refuses, Makes, Recalls, Tells, Names, Opens, Gives, Skips, Finishes, Calls, Helps, Replies, Aborts, Revokes, Removes, Returns, Ups, Downs, Blocks}
 use Rattle.nova_model.specs.declared.transfer.Sequel.TheVariants as sequel
 use Rattle.nova_ec.specs.Changes.{ActingKeepsChases, AllStay, DeedsKeepChases}
 use Rattle.nova_ec.specs.Ways.{TurnsStay}
@@ -35,6 +35,7 @@ not_free (Exiting reason q0 q1) handler h = refl
 not_free (Sending reason q0 q1 g) handler h = refl
 not_free (Granting new) handler h = refl
 not_free Replying handler h = refl
+not_free (Revoking range own) handler h = refl
 not_free (Blocked sm) handler h = absurd cc
 
 not_dead : (s : State) → is_free (Some s) ≡ false → is_dead (Some s) ≡ false
@@ -48,6 +49,7 @@ not_dead (Exiting reason q0 q1) h = refl
 not_dead (Sending reason q0 q1 g) h = refl
 not_dead (Granting new) h = refl
 not_dead Replying h = refl
+not_dead (Revoking range own) h = refl
 not_dead (Blocked sm) h = refl
 
 pub awake : (cs : Contexts) (e : ℕ) → acts cs e ≡ true → IsAwake cs e
@@ -182,6 +184,7 @@ deeds_keep_chases cs e Rests before goes = all_stay_here cs e before
 deeds_keep_chases cs e Steps before goes = all_stay_here cs e before
 deeds_keep_chases cs e (Gives child cursor) before goes = all_stay_here cs e before
 deeds_keep_chases cs e (Skips reason place cursor) before goes = all_stay_here cs e before
+deeds_keep_chases cs e (Removes leaf) before goes = all_stay_here cs e before
 deeds_keep_chases cs e (Raises reason q0 q1) before goes = all_stay_alone cs e (changed (ec_of cs e) (Raises reason q0 q1)) before (λ handler. refl)
 deeds_keep_chases cs e (Dies reason q0) before goes = absurd cc
 deeds_keep_chases cs e (Waits handler reason q0 q1) before goes = absurd cc
@@ -192,6 +195,8 @@ deeds_keep_chases cs e (Recalls other) before goes = all_stay_alone cs e (change
 deeds_keep_chases cs e (Tells call value) before goes = all_stay_alone cs e (changed (ec_of cs e) (Tells call value)) before (λ handler. refl)
 deeds_keep_chases cs e (Names pt identifier) before goes = all_stay_alone cs e (changed (ec_of cs e) (Names pt identifier)) before (λ handler. refl)
 deeds_keep_chases cs e (Opens target domain) before goes = all_stay_alone cs e (changed (ec_of cs e) (Opens target domain)) before (λ handler. refl)
+deeds_keep_chases cs e (Revokes range own) before goes = all_stay_alone cs e (changed (ec_of cs e) (Revokes range own)) before (λ handler. refl)
+deeds_keep_chases cs e Returns before goes = all_stay_alone cs e (changed (ec_of cs e) Returns) before (λ handler. refl)
 deeds_keep_chases cs e (Finishes item end words sequel.Item) before goes = all_stay_here cs e before
 deeds_keep_chases cs e (Finishes item end words sequel.Opened) before goes =
     all_stay_alone cs e (changed (ec_of cs e) (Finishes item end words sequel.Opened)) before (λ handler. refl)

@@ -9,7 +9,7 @@ use Rattle.nova_model.specs.declared.context.EcState.{EcState}
 use Rattle.nova_model.specs.declared.context.Mark.{Mark}
 use Rattle.nova_model.specs.declared.context.Mark.TheVariants as mark
 use Rattle.nova_model.specs.declared.deed.Deed.{Deed}
-use Rattle.nova_model.specs.declared.deed.Deed.TheVariants.{Rests, Steps, Raises, Dies, Waits, Sends, Refuses, Makes, Recalls, Tells, Names, Opens, Gives, Skips, Finishes, Calls, Helps, Replies, Aborts, Ups, Downs, Blocks}
+use Rattle.nova_model.specs.declared.deed.Deed.TheVariants.{Rests, Steps, Raises, Dies, Waits, Sends, Refuses, Makes, Recalls, Tells, Names, Opens, Gives, Skips, Finishes, Calls, Helps, Replies, Aborts, Revokes, Removes, Returns, Ups, Downs, Blocks}
 use Rattle.nova_model.specs.declared.transfer.Sequel.TheVariants as sequel
 use Rattle.nova_ec.specs.Changes.{AnsweringKeeps, ChangesKeep, CompletingKeeps, DeedsKeep, KeepsSound, NewWays, OthersStayTwice, ParkingKeeps, Passes, ResumingKeeps, SendingKeeps, ServingKeeps, edge_by}
 use Rattle.nova_ec.specs.Tables.{MayBecome}
@@ -52,6 +52,9 @@ deed_may cs e (Replies caller mark true) there may = (ec_of cs e, there_at cs e 
 deed_may cs e (Replies caller mark false) there may = (ec_of cs e, there_at cs e there, refl, inr tt, refl, inr tt)
 deed_may cs e (Aborts handler mark.Call) there may = (ec_of cs e, there_at cs e there, refl, inr tt, refl, inl refl)
 deed_may cs e (Aborts handler mark.Exit) there may = (ec_of cs e, there_at cs e there, refl, inr tt, refl, inl refl)
+deed_may cs e (Revokes range own) there may = (ec_of cs e, there_at cs e there, refl, inr tt, refl, inl refl)
+deed_may cs e (Removes leaf) there may = (ec_of cs e, there_at cs e there, refl, inl refl, refl, inl refl)
+deed_may cs e Returns there may = (ec_of cs e, there_at cs e there, refl, inr tt, refl, inl refl)
 deed_may cs e (Ups sm woken) there may = (ec_of cs e, there_at cs e there, refl, inr tt, refl, inl refl)
 deed_may cs e (Downs sm) there may = (ec_of cs e, there_at cs e there, refl, inr tt, refl, inl refl)
 deed_may cs e (Blocks sm) there may = (ec_of cs e, there_at cs e there, refl, inr tt, refl, inl refl)

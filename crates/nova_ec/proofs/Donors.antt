@@ -8,7 +8,7 @@ use Rattle.nova_model.specs.State.{Contexts, ec_in}
 use Rattle.nova_model.specs.Edges.{after_edges, met_within, edge, edge_of, acts, acts_as, acts_by, is_dead, is_free, stays, chase, or_itself, state_in}
 use Rattle.nova_model.specs.declared.context.EcState.{EcState}
 use Rattle.nova_model.specs.declared.context.State.{State}
-use Rattle.nova_model.specs.declared.context.State.TheVariants.{Fresh, Ready, Parked, Calling, Helping, Exiting, Sending, Granting, Replying, Blocked, Dead}
+use Rattle.nova_model.specs.declared.context.State.TheVariants.{Fresh, Ready, Parked, Calling, Helping, Exiting, Sending, Granting, Replying, Revoking, Blocked, Dead}
 use Rattle.nova_ec.specs.Ways.{IsUnmoved, UnmovedKeepsChases, OnlyDonorsChange, SameStateKeepsChases}
 use Rattle.nova_ec.proofs.Tables.{ec_in-set_other, ec_in-set_same, there_below, no_way}
 use Rattle.nova_ec.proofs.Untouched.{AreSame, turns_stay, as_far}
@@ -46,6 +46,7 @@ acts_like Parked o p dead free = refl
 acts_like (Exiting reason q0 q1) o p dead free = refl
 acts_like (Granting new) o p dead free = refl
 acts_like Replying o p dead free = refl
+acts_like (Revoking range own) o p dead free = refl
 acts_like (Blocked sm) o p dead free = refl
 acts_like Dead o p dead free = refl
 

@@ -18,6 +18,7 @@ pub(crate) fn edge_of(state: State) -> Option<u32>
         | State::Exiting(..)
         | State::Granting(_)
         | State::Replying
+        | State::Revoking(..)
         | State::Blocked(_)
         | State::Dead => None,
     }
@@ -28,8 +29,12 @@ pub(crate) fn acts_by(state: State, handler: Option<State>) -> bool
     ensures { result ≡ acts_by state handler }
 {
     match state {
-        State::Fresh | State::Ready | State::Exiting(..) | State::Granting(_) | State::Replying =>
-            true,
+        State::Fresh
+        | State::Ready
+        | State::Exiting(..)
+        | State::Granting(_)
+        | State::Replying
+        | State::Revoking(..) => true,
         State::Parked | State::Blocked(_) | State::Dead => false,
         State::Calling(_) => matches!(handler, Some(State::Dead)),
         State::Helping(_) | State::Sending(..) => {

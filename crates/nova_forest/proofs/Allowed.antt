@@ -14,36 +14,40 @@ use Rattle.nova_utcb.specs.Messages.{has_counts}
 use Rattle.nova_range.specs.declared.range.Range.{Range}
 use Rattle.nova_range.specs.declared.rights.Rights.{Rights}
 use Rattle.nova_range.specs.declared.status.Status.{Status}
-use Rattle.nova_range.specs.declared.status.Status.TheVariants.{BadCap, BadPar, BadCpu}
+use Rattle.nova_range.specs.declared.status.Status.TheVariants.{BadCap, BadPar, BadCpu, Busy}
 use Rattle.nova_model.specs.Capabilities.{is_held, is_pd, is_ec, is_sc, is_pt, named, call_right, create_right, control_right, allowed, or_bad_cap, bind_portal_right, bind_scheduling_right, is_local, is_schedulable}
 use Rattle.nova_model.specs.Creation.{object_of}
 use Rattle.nova_model.specs.Deeds.{deed}
-use Rattle.nova_model.specs.Deliveries.{is_busy}
 use Rattle.nova_model.specs.Delegations.{Delegations, covers, has_place, is_same_kind, range_of}
 use Rattle.nova_range.specs.Rights.{allows}
 use Rattle.nova_model.specs.Forest.{IsAligned, IsForest, IsFitting}
 use Rattle.nova_model.specs.Calls.{admitted}
-use Rattle.nova_model.specs.Hypercalls.{and_then, unless, maker, makes, new_domain, call, called, reply, replied, row, is_scheduled, ticks_in}
+use Rattle.nova_model.specs.Hypercalls.{and_then, unless, unless_busy, maker, makes, new_domain, call, called, reply, replied, row, is_scheduled, ticks_in}
 use Rattle.nova_model.specs.Portals.{handler_of}
+use Rattle.nova_model.specs.Revokes.{next_leaf}
+use Rattle.nova_model.specs.Running.{is_busy, is_revoked}
 use Rattle.nova_model.specs.State.{KernelState, budget_at, context, is_local_thread, message, pd_of, processor_of}
 use Rattle.nova_model.specs.Transfers.{child_of}
 use Rattle.nova_model.specs.declared.admit.Admit.{Admit}
 use Rattle.nova_model.specs.declared.admit.Admit.TheVariants.{Refused, Help, Send}
 use Rattle.nova_model.specs.declared.context.Mark.{Mark}
+use Rattle.nova_model.specs.declared.context.State.TheVariants.{Revoking}
 use Rattle.nova_model.specs.declared.deed.Deed.{Deed}
-use Rattle.nova_model.specs.declared.deed.Deed.TheVariants.{Makes, Recalls, Tells, Names, Opens, Gives}
+use Rattle.nova_model.specs.declared.deed.Deed.TheVariants.{Makes, Recalls, Tells, Names, Opens, Gives, Removes}
 use Rattle.nova_model.specs.declared.delegation.Derivation.{Derivation}
 use Rattle.nova_model.specs.declared.new_object.NewObject.{NewObject}
 use Rattle.nova_model.specs.declared.new_object.NewObject.TheVariants as new
-use Rattle.nova_forest.specs.Made.{MayCreate, MayUse, IsBoundBy, IsMadeIn, IsGivenChild}
+use Rattle.nova_forest.specs.Made.{MayCreate, MayUse, IsBoundBy, IsMadeIn, IsGivenChild, IsNextLeaf}
 use Rattle.nova_forest.proofs.Jobs.{job_ranges, job_between_them}
+use Rattle.nova_forest.proofs.Leaves.{leaf_facts}
 use Rattle.nova_forest.proofs.Members.{IsIn, all_at, contains_from_in, found_in, in_from_contains}
+use Rattle.nova_forest.proofs.Running.{revokes_there}
 use Rattle.nova_forest.proofs.Selectors.{TakesSelector, call_takes}
 use Rattle.nova_forest.proofs.Transfers.{kinds_equal, next_facts, left_facts, judged_facts, child_rights, sent_rights, child_is_range, free_child_fits}
 use Rattle.nova_forest.proofs.Walk.{IfDone, resumed, IsGiving, sm_ctrl_holds, deed_holds}
 
 -- deciding: a selector that a deed takes is below 2^20 and free, the domain that takes it may make objects, a domain that it opens has the next
--- number, and a child that it gives is one
+-- number, a child that it gives is one, and a leaf that it takes is the next of its revoke
 
 -- what is asked of a maker
 pub record IsAsked (k : KernelState) (domain target : ℕ) (object : Object) : Type 0 where
@@ -52,11 +56,13 @@ pub record IsAsked (k : KernelState) (domain target : ℕ) (object : Object) : T
   pub creator : MayCreate k domain
   pub place : IsMadeIn creator.capability.target object
   pub bound : IsBoundBy k domain object
+  pub unrevoked : is_revoked k domain target ≡ false
 
 abbrev pub IsAllowed : KernelState → ℕ → Deed → Type 0
 IsAllowed k ec (Makes call target new) = IsAsked k (pd_of k ec) target (object_of new)
 IsAllowed k ec (Opens target number) = IsAsked k (pd_of k ec) target Pd × (number ≡ length k.objects)
 IsAllowed k ec (Gives child cursor) = IsGivenChild k ec child
+IsAllowed k ec (Removes leaf) = IsNextLeaf k ec leaf
 IsAllowed k ec other = Unit {0}
 
 -- a selector that names such an object with such a right is that of a capability to it
@@ -127,6 +133,15 @@ maker_free k domain target pd P next h = by_owner (named k domain is_pd create_r
     by_owner (Ok o) used true is = tt
     by_owner (Ok o) used false is = h o is (named_creates k domain o used)
 
+-- what is done unless a revoke is in its way
+busy_free : (k : KernelState) (ec target : ℕ) (d : Deed) → (is_revoked k (pd_of k ec) target ≡ false → IsAllowed k ec d) →
+    IfDone (IsAllowed k ec) (unless_busy k (pd_of k ec) target d)
+busy_free k ec target d h = by_test (is_revoked k (pd_of k ec) target) refl
+  where
+    by_test : (t : Bool) → is_revoked k (pd_of k ec) target ≡ t → IfDone (IsAllowed k ec) (unless t Busy (Ok d))
+    by_test true is = tt
+    by_test false is = h is
+
 -- an object that the rules of a call make, where an execution context is one of the domain that was named
 abbrev IsGood : KernelState → ℕ → ℕ → NewObject → Type 0
 IsGood k domain owner made = IsMadeIn owner (object_of made) × IsBoundBy k domain (object_of made)
@@ -135,18 +150,19 @@ IsGood k domain owner made = IsMadeIn owner (object_of made) × IsBoundBy k doma
 makes_free : (k : KernelState) (ec number target pd : ℕ) (made : ℕ → Result NewObject Status) → target < 2 ^ 20 →
     ((o : ℕ) → IfDone (IsGood k (pd_of k ec) o) (made o)) → IfDone (IsAllowed k ec) (makes k (pd_of k ec) number target pd made)
 makes_free k ec number target pd made selector places =
-    maker_free k (pd_of k ec) target pd (IsAllowed k ec) (λ o. and_then (made o) (λ m. Ok (Makes number target m)))
+    maker_free k (pd_of k ec) target pd (IsAllowed k ec) (λ o. and_then (made o) (λ m. unless_busy k (pd_of k ec) target (Makes number target m)))
     (λ o free named. by_new o (made o) free named (places o))
   where
     by_new : (o : ℕ) (r : Result NewObject Status) → is_held k (pd_of k ec) target ≡ false → IsNamed k (pd_of k ec) o → IfDone (IsGood k (pd_of k ec) o) r →
-        IfDone (IsAllowed k ec) (and_then r (λ m. Ok (Makes number target m)))
-    by_new o (Ok m) free named good = record {
+        IfDone (IsAllowed k ec) (and_then r (λ m. unless_busy k (pd_of k ec) target (Makes number target m)))
+    by_new o (Ok m) free named good = busy_free k ec target (Makes number target m) (λ unrevoked. record {
       free = free;
       selector = selector;
       creator = named.creator;
       place = subst (λ (n : ℕ). IsMadeIn n (object_of m)) named.its good.0;
       bound = good.1;
-    }
+      unrevoked = unrevoked;
+    })
     by_new o (Err status) free named good = tt
 
 new_domain_free : (k : KernelState) (ec target : ℕ) (first : Option (Range × Rights)) → IsAsked k (pd_of k ec) target Pd → IsAllowed k ec (new_domain k target first)
@@ -207,8 +223,10 @@ row_free : (k : KernelState) (ec : ℕ) (c : Call) → TakesSelector c → IfDon
 row_free k ec (asks.Call portal flag) selector = call_free k ec (pd_of k ec) portal flag
 row_free k ec asks.Reply selector = reply_free k ec
 row_free k ec (asks.CreatePd target pd first) selector =
-    maker_free k (pd_of k ec) target pd (IsAllowed k ec) (λ o. Ok (new_domain k target first))
-    (λ o free named. new_domain_free k ec target first (record { free = free; selector = selector; creator = named.creator; place = tt; bound = tt }))
+    maker_free k (pd_of k ec) target pd (IsAllowed k ec) (λ o. unless_busy k (pd_of k ec) target (new_domain k target first))
+    (λ o free named. busy_free k ec target (new_domain k target first) (λ unrevoked.
+    new_domain_free k ec target first
+    (record { free = free; selector = selector; creator = named.creator; place = tt; bound = tt; unrevoked = unrevoked })))
 row_free k ec (asks.CreateEc target pd cpu kind sp event) selector =
     makes_free k ec CREATE_EC target pd _ selector (λ o. made_context k (pd_of k ec) o cpu kind sp event (not (nat_lt cpu k.cpus)))
 row_free k ec (asks.CreateSc target pd its quantum priority) (selector, turns) =
@@ -258,12 +276,23 @@ given_child k ec d x g =
       reads = them.reads;
       sent_rights = λ right allowed. ap (λ (r : Rights). allows r right) (sym them.rights) ∙ sent_rights d.rights j.rights right allowed;
       free = good.free;
+      idle = good.idle;
       range = λ forest.
           let aligned = all_at IsAligned k.delegations.list d forest.aligned next.there in
           child_is_range j d ranges.source ranges.dest aligned.base next.left;
       newest = ids_below k;
       fits = λ forest. free_child_fits k.delegations j d forest ranges.source ranges.dest g.next good.free;
     })
+
+-- a leaf that is taken is the next
+next_taken : (k : KernelState) (ec : ℕ) (range : Range) (own : Bool) (leaf : Derivation) → (context k ec).state ≡ Revoking range own →
+    next_leaf (record { pd = pd_of k ec; range = range; own = own }) k.delegations ≡ Some leaf → IsNextLeaf k ec leaf
+next_taken k ec range own leaf state next = record {
+  revoke = record { pd = pd_of k ec; range = range; own = own };
+  runs = revokes_there k ec range own state;
+  next = next;
+  goes = λ forest. leaf_facts (record { pd = pd_of k ec; range = range; own = own }) k.delegations leaf forest next;
+}
 
 pub deed_allowed : (k : KernelState) (ec : ℕ) → IsAllowed k ec (deed k ec)
 deed_allowed k ec =
@@ -277,6 +306,8 @@ deed_allowed k ec =
       refuses = λ number status. tt;
       aborts = λ handler is. tt;
       rows = λ asks c is. row_free k ec c (call_takes (context k ec).regs c is);
+      removes = next_taken k ec;
+      returns = λ range own state none. tt;
     })
     (record { gives = given_child k ec; skips = λ d reason place is. tt; finishes = λ v end answer present is. tt })
 

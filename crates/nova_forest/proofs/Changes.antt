@@ -14,7 +14,7 @@ use Rattle.nova_model.specs.Choice.{Candidate}
 use Rattle.nova_model.specs.declared.deed.Deed.{Deed}
 use Rattle.nova_model.specs.declared.delegation.Derivation.{Derivation}
 use Rattle.nova_forest.specs.Changes.{Change, Stays, Joins, Goes}
-use Rattle.nova_forest.specs.Made.{IsFirstCapability, Grows, Leaves, MakesObject, GivesChild, GrowsBy}
+use Rattle.nova_forest.specs.Made.{IsFirstCapability, Grows, Leaves, MakesObject, GivesChild, TakesLeaf, GrowsBy}
 use Rattle.nova_forest.proofs.Boots.{capability_fits, boot_forest}
 use Rattle.nova_forest.proofs.Forests.{forest_add, forest_without}
 use Rattle.nova_forest.proofs.Growth.{deed_grows, turn_grows}
@@ -33,6 +33,7 @@ grows_change : (old new : KernelState) (ec : ℕ) → IsForest old.delegations �
 grows_change old new ec forest (Leaves s) = Stays s.delegations
 grows_change old new ec forest (MakesObject g) = Joins g.capability (first_fits old ec g.object g.capability g.first) g.delegations
 grows_change old new ec forest (GivesChild g) = Joins g.child (g.given.fits forest) g.delegations
+grows_change old new ec forest (TakesLeaf g) = let leaf = g.is.goes forest in Goes g.leaf leaf.there leaf.childless g.delegations
 
 -- a deed changes one
 pub deed_change : (k : KernelState) (ec : ℕ) → IsForest k.delegations → Change k.delegations (done k ec (deed k ec)).delegations

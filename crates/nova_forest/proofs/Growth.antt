@@ -18,15 +18,16 @@ use Rattle.nova_model.specs.declared.context.EcState.{EcState}
 use Rattle.nova_model.specs.declared.context.Mark.{Mark}
 use Rattle.nova_model.specs.declared.context.Mark.TheVariants as mark
 use Rattle.nova_model.specs.declared.deed.Deed.{Deed}
-use Rattle.nova_model.specs.declared.deed.Deed.TheVariants.{Rests, Steps, Makes, Recalls, Opens, Gives, Finishes, Replies, Ups}
+use Rattle.nova_model.specs.declared.deed.Deed.TheVariants.{Rests, Steps, Makes, Recalls, Opens, Gives, Finishes, Replies, Removes, Ups}
 use Rattle.nova_model.specs.declared.new_object.NewObject.{NewObject}
 use Rattle.nova_model.specs.declared.new_object.NewObject.TheVariants as new
 use Rattle.nova_model.specs.declared.transfer.ItemEnd.{ItemEnd}
 use Rattle.nova_model.specs.declared.transfer.ItemWords.{ItemWords}
 use Rattle.nova_model.specs.declared.transfer.Sequel.{Sequel}
 use Rattle.nova_model.specs.declared.transfer.Sequel.TheVariants as sequel
-use Rattle.nova_forest.specs.Made.{IsSame, Grows, Leaves, MakesObject, GivesChild, GrowsBy}
+use Rattle.nova_forest.specs.Made.{IsSame, Grows, Leaves, MakesObject, GivesChild, TakesLeaf, GrowsBy}
 use Rattle.nova_forest.proofs.Allowed.{IsAllowed, IsAsked, deed_allowed, ids_below}
+use Rattle.nova_forest.proofs.Running.{root_idle}
 use Rattle.nova_forest.proofs.Stirred.{acted}
 
 unchanged : (k : KernelState) → IsSame k k
@@ -87,6 +88,7 @@ made_grows k s ec target made asked objects delegations = MakesObject (record {
     creator = asked.creator;
     place = asked.place;
     bound = asked.bound;
+    idle = root_idle k (root_capability k (pd_of k ec) target (object_of made)) refl refl refl asked.unrevoked;
     newest = ids_below k;
   };
   objects = objects;
@@ -100,6 +102,7 @@ done_grows k ec (Makes call target made) asked = made_grows k (done k ec (Makes 
 done_grows k ec (Opens target number) allowed = made_grows k (done k ec (Opens target number)) ec target new.Pd allowed.0 refl refl
 done_grows k ec (Recalls other) allowed = recalled_grows k ec other _ _
 done_grows k ec (Gives child cursor) given = GivesChild (record { child = child; given = given; objects = refl; delegations = refl })
+done_grows k ec (Removes leaf) is = TakesLeaf (record { leaf = leaf; is = is; objects = refl; delegations = refl })
 done_grows k ec (Replies caller came items) allowed =
     let same = replied_same (with_context k ec (changed (context k ec) (Replies caller came items))) ec caller came items in
     Leaves (record { objects = same.objects; delegations = same.delegations })
@@ -119,6 +122,8 @@ grows_same old new other ec o d (MakesObject g) =
     MakesObject (record { object = g.object; capability = g.capability; first = g.first; objects = o ∙ g.objects; delegations = d ∙ g.delegations })
 grows_same old new other ec o d (GivesChild g) =
     GivesChild (record { child = g.child; given = g.given; objects = o ∙ g.objects; delegations = d ∙ g.delegations })
+grows_same old new other ec o d (TakesLeaf g) =
+    TakesLeaf (record { leaf = g.leaf; is = g.is; objects = o ∙ g.objects; delegations = d ∙ g.delegations })
 
 -- a charge leaves objects and delegations
 counted_grows : (old new : KernelState) (ec cpu sc quantum : ℕ) (b : Option Budget) → Grows old ec new → Grows old ec (counted (paid_by new sc quantum b) cpu)

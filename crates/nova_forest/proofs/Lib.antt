@@ -11,8 +11,11 @@ pub mod Growth
 pub mod Boots
 pub mod Changes
 pub mod Lines
+pub mod Reached
 pub mod Extremes
 pub mod Scopes
 pub mod Busy
 pub mod Leaves
+pub mod Running
 pub mod Courses
+pub mod Under

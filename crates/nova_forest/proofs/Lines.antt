@@ -2,14 +2,11 @@
 use Rattle.std.proofs.Common.{◌≡◌, ℕ, zero, suc, ◌<◌, List, [], ◌∷◌, ap, sym, ◌∙◌, subst, inl, inr, refl, arith}
 use Rattle.std.specs.Prelude.{◌==◌, Contains, is_some, Option, Some, None, option_and_then}
 use Rattle.std.proofs.lemmas.Bool.{eqb-true, eq-eqb, ne_eqb}
-use Rattle.nova_model.specs.Boot.{Scenario, boot}
 use Rattle.nova_model.specs.Delegations.{Delegations, with_id, parent_of}
 use Rattle.nova_model.specs.Forest.{ArePairs, IsForest, IsWithin, HasParentIn}
 use Rattle.nova_model.specs.Lines.{line_by, line}
-use Rattle.nova_model.specs.Runs.{run}
 use Rattle.nova_model.specs.declared.delegation.Derivation.{Derivation}
 use Rattle.nova_forest.specs.Within.{StaysWithin, line_from, HasWholeLine}
-use Rattle.nova_forest.proofs.Changes.{boot_run_forest}
 use Rattle.nova_forest.proofs.Members.{IsIn, all_at, found_in, in_from_contains}
 
 -- a derivation that is there is found by its id
@@ -113,14 +110,7 @@ line_within f forest (suc n) d a i (inr on) = by_parent (λ p j k. line_within f
 pub forest_within : (f : Delegations) (d a : Derivation) → IsForest f → Contains f.list d → Contains (line f.list d) a → StaysWithin d a
 forest_within f d a forest c on = line_within f forest (suc d.id) d a (in_from_contains f.list d c) (in_from_contains (line f.list d) a on)
 
--- in what turns reach
-pub reached_within : (s : Scenario) (turns : List ℕ) (d a : Derivation) → Contains (run (boot s) turns).delegations.list d →
-    Contains (line (run (boot s) turns).delegations.list d) a → StaysWithin d a
-reached_within s turns d a c on = forest_within (run (boot s) turns).delegations d a (boot_run_forest s turns) c on
-
-pub reached_line : (s : Scenario) (turns : List ℕ) (d : Derivation) → Contains (run (boot s) turns).delegations.list d → HasWholeLine (run (boot s) turns).delegations.list d
-reached_line s turns d c =
-    let f = (run (boot s) turns).delegations in
-    let forest = boot_run_forest s turns in
+pub forest_line : (f : Delegations) (d : Derivation) → IsForest f → Contains f.list d → HasWholeLine f.list d
+forest_line f d forest c =
     let there = in_from_contains f.list d c in
     record { parent = parent_is_found f d forest there; goes_on = line_is f d forest there }

@@ -9,15 +9,18 @@ use Rattle.nova_calls.specs.declared.call.Call.{Call}
 use Rattle.nova_calls.specs.declared.call.SmAction.{SmAction}
 use Rattle.nova_calls.specs.declared.call.SmAction.TheVariants as act
 use Rattle.nova_range.specs.Ranges.{end_of}
+use Rattle.nova_range.specs.declared.range.Range.{Range}
 use Rattle.nova_range.specs.declared.status.Status.{Status}
-use Rattle.nova_range.specs.declared.status.Status.TheVariants.{BadHyp}
 use Rattle.nova_model.specs.Calls.{exit_admitted}
 use Rattle.nova_model.specs.Capabilities.{down_right, is_sm, named, up_right}
 use Rattle.nova_model.specs.Deeds.{startup, recall, signalled, stepping, ready, mark_in, deed_in, deed, instruction}
+use Rattle.nova_model.specs.Deeds as deeds
 use Rattle.nova_model.specs.Delegations.{range_of}
-use Rattle.nova_model.specs.Deliveries.{is_busy, delivery, flag, finished, range_given, parted, part_deed, delegated, answered_by, delivered, delivers}
+use Rattle.nova_model.specs.Deliveries.{delivery, flag, finished, range_given, parted, part_deed, delegated, answered_by, delivered, delivers}
 use Rattle.nova_model.specs.Exits.{raised_exit, exit_portal, exit_to, exit_at, exits}
-use Rattle.nova_model.specs.Hypercalls.{and_then, upped_by, downed_by, sm_ctrl, row, is_built, or_refuses, hypercall}
+use Rattle.nova_model.specs.Hypercalls.{and_then, upped_by, downed_by, sm_ctrl, row, or_refuses, hypercall}
+use Rattle.nova_model.specs.Revokes.{next_leaf}
+use Rattle.nova_model.specs.Running.{is_busy}
 use Rattle.nova_model.specs.Portals.{descriptor, handler_of, identifier, ip_of}
 use Rattle.nova_model.specs.Semaphores.{answer_of, semaphore, woken}
 use Rattle.nova_model.specs.State.{KernelState, context, pd_of, transfer}
@@ -26,9 +29,9 @@ use Rattle.nova_model.specs.Translations.{translated}
 use Rattle.nova_model.specs.declared.admit.ExitAdmit.{ExitAdmit}
 use Rattle.nova_model.specs.declared.admit.ExitAdmit.TheVariants as exit
 use Rattle.nova_model.specs.declared.context.State.{State}
-use Rattle.nova_model.specs.declared.context.State.TheVariants.{Fresh, Ready, Parked, Calling, Helping, Exiting, Sending, Granting, Replying, Blocked, Dead}
+use Rattle.nova_model.specs.declared.context.State.TheVariants.{Fresh, Ready, Parked, Calling, Helping, Exiting, Sending, Granting, Replying, Revoking, Blocked, Dead}
 use Rattle.nova_model.specs.declared.deed.Deed.{Deed}
-use Rattle.nova_model.specs.declared.deed.Deed.TheVariants.{Rests, Steps, Raises, Dies, Waits, Sends, Refuses, Gives, Skips, Aborts, Ups, Downs, Blocks}
+use Rattle.nova_model.specs.declared.deed.Deed.TheVariants.{Rests, Steps, Raises, Dies, Waits, Sends, Refuses, Gives, Skips, Aborts, Removes, Returns, Ups, Downs, Blocks}
 use Rattle.nova_model.specs.declared.delegation.Derivation.{Derivation}
 use Rattle.nova_model.specs.declared.semaphore.Down.{Down}
 use Rattle.nova_model.specs.declared.semaphore.Down.TheVariants as lowering
@@ -75,10 +78,14 @@ pub record Holds (P : Deed → Type 0) (k : KernelState) (ec : ℕ) : Type 0 whe
   pub refuses : (call : ℕ) (status : Status) → P (Refuses call status)
   pub aborts : (handler : ℕ) → (context k ec).state ≡ Calling handler → P (Aborts handler (mark_in (context k handler).caller))
   pub rows : is_asking (context k ec).state ≡ true → (c : Call) → call_of (context k ec).regs ≡ Ok c → IfDone P (row k ec (pd_of k ec) c)
+  pub removes : (range : Range) (own : Bool) (leaf : Derivation) → (context k ec).state ≡ Revoking range own →
+      next_leaf (record { pd = pd_of k ec; range = range; own = own }) k.delegations ≡ Some leaf → P (Removes leaf)
+  pub returns : (range : Range) (own : Bool) → (context k ec).state ≡ Revoking range own →
+      next_leaf (record { pd = pd_of k ec; range = range; own = own }) k.delegations ≡ None → P Returns
 
 pub hypercall_holds : (P : Deed → Type 0) (k : KernelState) (ec domain : ℕ) (r : Registers) → ((call : ℕ) (status : Status) → P (Refuses call status)) →
     ((c : Call) → call_of r ≡ Ok c → IfDone P (row k ec domain c)) → P (hypercall k ec domain r)
-hypercall_holds P k ec domain r refuses rows = by_test (is_built (reg r 17))
+hypercall_holds P k ec domain r refuses rows = by_call (call_of r) refl
   where
     by_deed : (d : Result Deed Status) → IfDone P d → P (or_refuses (reg r 17) d)
     by_deed (Ok d) holds = holds
@@ -87,10 +94,6 @@ hypercall_holds P k ec domain r refuses rows = by_test (is_built (reg r 17))
     by_call : (c : Result Call Status) → call_of r ≡ c → P (or_refuses (reg r 17) (and_then c (row k ec domain)))
     by_call (Ok c) is = by_deed (row k ec domain c) (rows c is)
     by_call (Err status) is = refuses (reg r 17) status
-
-    by_test : (t : Bool) → P (or_refuses (reg r 17) (if t then and_then (call_of r) (row k ec domain) else Err BadHyp))
-    by_test true = by_call (call_of r) refl
-    by_test false = refuses (reg r 17) BadHyp
 
 -- of one that makes a hypercall
 pub asking_holds : (P : Deed → Type 0) (k : KernelState) (ec : ℕ) → is_asking (context k ec).state ≡ true → Holds P k ec →
@@ -151,6 +154,15 @@ ready_holds P k ec false asks h = by_instruction (instruction k ec)
     by_instruction : (o : Once) → P (stepping k ec o)
     by_instruction (Raised reason q0 q1) = by_signal reason q0 q1 _
     by_instruction (Went regs store) = h.steps
+
+-- of one that revokes
+pub revoking_holds : (P : Deed → Type 0) (k : KernelState) (ec : ℕ) (range : Range) (own : Bool) → (context k ec).state ≡ Revoking range own → Holds P k ec →
+    P (deeds.removes (next_leaf (record { pd = pd_of k ec; range = range; own = own }) k.delegations))
+revoking_holds P k ec range own is h = by_leaf (next_leaf (record { pd = pd_of k ec; range = range; own = own }) k.delegations) refl
+  where
+    by_leaf : (o : Option Derivation) → next_leaf (record { pd = pd_of k ec; range = range; own = own }) k.delegations ≡ o → P (deeds.removes o)
+    by_leaf None none = h.returns range own is none
+    by_leaf (Some leaf) next = h.removes range own leaf is next
 
 -- ONE THAT GIVES ITEMS
 
@@ -253,6 +265,7 @@ own_holds P k ec not_giving rests h = by_state (context k ec).state refl not_giv
     by_state Replying is none = absurd (cc)
     by_state (Calling handler) is none = h.aborts handler is
     by_state (Helping handler) is none = asking_holds P k ec (ap is_asking is) h
+    by_state (Revoking range own) is none = revoking_holds P k ec range own is h
     by_state (Sending reason q0 q1 handler) is none = exits_holds P k ec reason q0 q1 (ap raised_exit is) h
 
 pub giving_holds : (P : Deed → Type 0) (k : KernelState) (ec : ℕ) → is_giving (context k ec).state ≡ true → P Rests → Delivers P k ec → P (deed k ec)

@@ -59,3 +59,11 @@ pub record IsKept (r : Revocation) (start now : Delegations) (leaves : ℕ) : Ty
   pub forest : IsForest now
   pub among : (d : Derivation) → Contains (scope r now.list) d → Contains (scope r start.list) d
   pub fewer : leaves + length (scope r now.list) ≤ length (scope r start.list)
+
+-- at most one step, which is allowed, leads from one to the other, with as many leaves taken by its parts
+pub record IsCourse (r : Revocation) (start now : Delegations) (leaves : ℕ) : Type 0 where
+  pub steps : List Step
+  pub short : length steps ≤ 1
+  pub allowed : AreAllowed r start steps
+  pub ends : now ≡ after r start steps
+  pub parts : taken r start steps ≡ leaves

@@ -8,16 +8,19 @@ use Rattle.nova_range.specs.declared.range.Kind.TheVariants.{Obj}
 use Rattle.nova_range.specs.declared.range.Range.{Range}
 use Rattle.nova_range.specs.declared.rights.Rights.{Rights}
 use Rattle.nova_model.specs.Capabilities.{bind_portal_right, bind_scheduling_right, create_right, is_held, is_local, is_schedulable, rights_to}
-use Rattle.nova_model.specs.Delegations.{range_of, is_held_in, added}
+use Rattle.nova_model.specs.Delegations.{range_of, is_held_in, added, without}
 use Rattle.nova_range.specs.Rights.{allows}
 use Rattle.nova_model.specs.Deliveries.{delivery}
 use Rattle.nova_model.specs.Forest.{IsForest, IsFitting}
 use Rattle.nova_model.specs.Hypercalls.{is_scheduled}
+use Rattle.nova_model.specs.Revokes.{Revocation, next_leaf}
+use Rattle.nova_model.specs.Running.{is_busy, revoke_of}
 use Rattle.nova_model.specs.State.{KernelState, context, pd_of, processor_of}
 use Rattle.nova_model.specs.Choice.{Candidate}
 use Rattle.nova_model.specs.Transfers.{read_as}
 use Rattle.nova_model.specs.declared.delegation.Derivation.{Derivation}
 use Rattle.nova_model.specs.declared.transfer.Delivery.{Delivery}
+use Rattle.nova_forest.specs.Courses.{IsLeaf}
 
 -- a protection domain holds a capability to a protection domain, with the right to make objects in that one
 pub record MayCreate (k : KernelState) (domain : ℕ) : Type 0 where
@@ -60,8 +63,8 @@ IsBoundBy k domain other = Unit {0}
 
 -- the capability of a new object: its maker's, of the next id and without a parent, at a selector below 2^20 that the maker's domain did not
 -- hold, with all rights to the object, whose number is the next. The maker's domain may make objects in a protection domain, and an
--- execution context is made in that one, and may bind the object as it is bound. Where delegations are a sound forest each id of theirs is
--- less.
+-- execution context is made in that one, and may bind the object as it is bound. It is in the way of no running revoke. Where delegations are a
+-- sound forest each id of theirs is less.
 pub record IsFirstCapability (k : KernelState) (maker : ℕ) (object : Object) (d : Derivation) : Type 0 where
   pub pd : d.pd ≡ pd_of k maker
   pub id : d.id ≡ k.delegations.next
@@ -75,13 +78,14 @@ pub record IsFirstCapability (k : KernelState) (maker : ℕ) (object : Object) (
   pub creator : MayCreate k d.pd
   pub place : IsMadeIn creator.capability.target object
   pub bound : IsBoundBy k d.pd object
+  pub idle : is_busy k d ≡ false
   pub newest : IsForest k.delegations → (a : Derivation) → Contains k.delegations.list a → a.id < d.id
 
 -- a child that is given, by the present item of one that acts, which gives a first range as a creator, takes the items of its caller's message or
 -- gives those of its reply: of a derivation of the item's giver, to the item's receiver, of the next id and of the same kind, with at least
--- one right and none that the derivation or the item does not have, at places that the receiver did not hold. Where delegations are a sound
--- forest these places are a range, and the child fits: its targets are among those of the derivation. And each id of theirs is less than
--- the child's.
+-- one right and none that the derivation or the item does not have, at places that the receiver did not hold, and in the way of no running
+-- revoke. Where delegations are a sound forest these places are a range, and the child fits: its targets are among those of the derivation.
+-- And each id of theirs is less than the child's.
 pub record IsGivenChild (k : KernelState) (actor : ℕ) (child : Derivation) : Type 0 where
   pub item : Delivery
   pub present : delivery k actor (context k actor).state ≡ Some item
@@ -98,9 +102,17 @@ pub record IsGivenChild (k : KernelState) (actor : ℕ) (child : Derivation) : T
   pub reads : read_as (meaning_of item.range_word) ≡ Some sent
   pub sent_rights : (right : ℕ) → allows child.rights right ≡ true → allows sent.1 right ≡ true
   pub free : is_held_in k.delegations.list child.pd (range_of child) ≡ false
+  pub idle : is_busy k child ≡ false
   pub range : IsForest k.delegations → IsRange (range_of child)
   pub fits : IsForest k.delegations → IsFitting k.delegations child
   pub newest : IsForest k.delegations → (a : Derivation) → Contains k.delegations.list a → a.id < child.id
+
+-- the leaf that the revoke of one that acts takes away next; where delegations are a sound forest it is in the scope and has no child
+pub record IsNextLeaf (k : KernelState) (actor : ℕ) (leaf : Derivation) : Type 0 where
+  pub revoke : Revocation
+  pub runs : revoke_of k actor ≡ Some revoke
+  pub next : next_leaf revoke k.delegations ≡ Some leaf
+  pub goes : IsForest k.delegations → IsLeaf revoke k.delegations leaf
 
 -- objects and delegations are as before
 pub record IsSame (old new : KernelState) : Type 0 where
@@ -122,11 +134,19 @@ pub record HasGiven (old : KernelState) (actor : ℕ) (new : KernelState) : Type
   pub objects : new.objects ≡ old.objects
   pub delegations : new.delegations ≡ added old.delegations child
 
+-- or one leaf is taken away by a revoke, and no object is made
+pub record HasTaken (old : KernelState) (actor : ℕ) (new : KernelState) : Type 0 where
+  pub leaf : Derivation
+  pub is : IsNextLeaf old actor leaf
+  pub objects : new.objects ≡ old.objects
+  pub delegations : new.delegations ≡ without old.delegations leaf.id
+
 -- one of these
 pub data Grows (old : KernelState) (ec : ℕ) (new : KernelState) : Type 0 where
   Leaves : IsSame old new → Grows old ec new
   MakesObject : IsGrown old ec new → Grows old ec new
   GivesChild : HasGiven old ec new → Grows old ec new
+  TakesLeaf : HasTaken old ec new → Grows old ec new
 
 -- in a turn it is the one who acts; an idle processor leaves all
 abbrev pub GrowsBy : KernelState → Option Candidate → KernelState → Type 0

@@ -4,6 +4,7 @@ use Rattle.std.specs.Prelude.{Bool, true, false, ◌==◌, ◌%◌, IfSome, Opti
 use Rattle.std.proofs.lemmas.List.{length-take-le, length-drop}
 use Rattle.rv_model.specs.Step.{Once, Raised, Went}
 use Rattle.nova_forest.proofs.Allowed.{IsAllowed, deed_allowed}
+use Rattle.nova_forest.proofs.Members.{all_at, in_from_contains}
 use Rattle.nova_guest.specs.Cells.{page_size}
 use Rattle.nova_guest.specs.Conditions.{AreContents, IsInput}
 use Rattle.nova_guest.specs.declared.input.Input.{Input}
@@ -19,7 +20,7 @@ use Rattle.nova_model.specs.State.{KernelState, context, message, pd_of}
 use Rattle.nova_model.specs.Views.{is_memory_of}
 use Rattle.nova_model.specs.declared.context.Mark.TheVariants as mark
 use Rattle.nova_model.specs.declared.deed.Deed.{Deed}
-use Rattle.nova_model.specs.declared.deed.Deed.TheVariants.{Steps, Raises, Dies, Sends, Recalls, Gives, Finishes, Replies, Aborts}
+use Rattle.nova_model.specs.declared.deed.Deed.TheVariants.{Steps, Raises, Dies, Sends, Recalls, Gives, Removes, Finishes, Replies, Aborts}
 use Rattle.nova_model.specs.declared.delegation.Derivation.{Derivation}
 use Rattle.nova_model.specs.declared.transfer.Sequel.TheVariants.{Replied}
 use Rattle.std.proofs.lemmas.Bool.{and_parts}
@@ -88,6 +89,14 @@ given_admitted k pd d whole ranged aligned = by_test (is_memory_of pd d) refl
         (map_ranged (length k.memory.ram) pd d is ranged aligned, contents_admitted d.target d.order k.memory.ram whole (ranged.sort memory))
     by_test false is = tt
 
+-- one that goes was a range of pages
+taken_admitted : (k : KernelState) (pd : ℕ) (d : Derivation) → IsRanged (length k.memory.ram) d → IsAligned d → IfSome (only_if (is_memory_of pd d) (input_as.Taken d.base d.order)) IsInput
+taken_admitted k pd d ranged aligned = by_test (is_memory_of pd d) refl
+  where
+    by_test : (t : Bool) → is_memory_of pd d ≡ t → IfSome (only_if t (input_as.Taken d.base d.order)) IsInput
+    by_test true is = (map_ranged (length k.memory.ram) pd d is ranged aligned).pages
+    by_test false is = tt
+
 others_admitted : (k : KernelState) (ec g : ℕ) (d : Deed) → IsSound k → AreRanges k → IsAllowed k ec d → IfSome (others_input k ec g d) IsInput
 others_admitted k ec g Steps sound ranges allowed =
     store_admitted k ec (pd_of k g) (length (context k ec).regs.x) (instruction k ec) (one_good (length (context k ec).regs.x) (context k ec).regs (space (address_space k ec)) refl)
@@ -100,6 +109,9 @@ others_admitted k ec g (Finishes item end words (Replied caller mark.Call)) soun
 others_admitted k ec g (Finishes item end words other) sound ranges allowed = tt
 others_admitted k ec g (Gives child cursor) sound ranges allowed =
     given_admitted k (pd_of k g) child sound.whole.frames (child_ranged k ec child sound.forest ranges allowed) (allowed.fits sound.forest).aligned
+others_admitted k ec g (Removes leaf) sound ranges allowed =
+    let there = in_from_contains k.delegations.list leaf (allowed.goes sound.forest).there in
+    taken_admitted k (pd_of k g) leaf (all_at (IsRanged (length k.memory.ram)) k.delegations.list leaf ranges there) (all_at IsAligned k.delegations.list leaf sound.forest.aligned there)
 others_admitted k ec g other sound ranges allowed = tt
 
 deed_admitted : (k : KernelState) (ec g : ℕ) (d : Deed) → IsSound k → AreRanges k → IsAllowed k ec d → IfSome (input_of k ec g d) IsInput

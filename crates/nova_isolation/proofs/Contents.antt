@@ -1,9 +1,13 @@
--- The bytes that come with a map are those of its frames.
+-- The bytes that come with a map are those of its frames, and a map that goes is one of the view.
 use Rattle.std.proofs.Common.{◌≡◌, ℕ, ◌%◌, ◌^◌, List, length, take, drop, ap, sym, ◌∙◌, subst, refl}
-use Rattle.std.specs.Prelude.{Bool, true, false, ◌==◌, slice_get, Option, Some, None, option_and_then, if◌then◌else◌}
+use Rattle.std.specs.Prelude.{Bool, true, false, not, ◌==◌, filter, slice_get, Option, Some, None, option_and_then, if◌then◌else◌}
+use Rattle.std.specs.List.{list_any}
 use Rattle.rv_model.specs.Step.{Store}
+use Rattle.nova_forest.specs.Made.{IsNextLeaf}
+use Rattle.nova_forest.proofs.Allowed.{IsAllowed, deed_allowed}
+use Rattle.nova_forest.proofs.Members.{in_from_contains}
 use Rattle.nova_guest.specs.Cells.{cell_at, cells_given, page_size}
-use Rattle.nova_guest.specs.Maps.{is_covered, leads_to}
+use Rattle.nova_guest.specs.Maps.{is_covered, is_map, leads_to, overlaps}
 use Rattle.nova_guest.specs.declared.cell.Cell.{Cell}
 use Rattle.nova_guest.specs.declared.guest.Guest.{Guest}
 use Rattle.nova_guest.specs.declared.input.Input.{Input}
@@ -11,76 +15,96 @@ use Rattle.nova_guest.specs.declared.input.Input.TheVariants as input_as
 use Rattle.nova_guest.specs.declared.map.Map.{Map}
 use Rattle.nova_model.specs.Choice.{Candidate, choice}
 use Rattle.nova_model.specs.Deeds.{deed, instruction}
+use Rattle.nova_model.specs.Forest.{IsForest}
 use Rattle.nova_model.specs.Guests.{input, input_by}
 use Rattle.nova_model.specs.Inputs.{contents_of, foreign_at, foreign_by, frame_of_store, given_of, input_of, is_covered_for, only_if, others_input, own_input, reply_of, store_of}
-use Rattle.nova_model.specs.State.{KernelState, message, pd_of}
-use Rattle.nova_model.specs.Views.{cells_of, is_memory_of, view}
+use Rattle.nova_model.specs.Runs.{after}
+use Rattle.nova_model.specs.State.{KernelState, context, message, pd_of}
+use Rattle.nova_model.specs.Views.{cells_of, guest_of, is_memory_of, maps_of, view}
 use Rattle.nova_model.specs.declared.context.Mark.TheVariants as mark
 use Rattle.nova_model.specs.declared.deed.Deed.{Deed}
-use Rattle.nova_model.specs.declared.deed.Deed.TheVariants.{Steps, Raises, Dies, Sends, Recalls, Gives, Finishes, Replies, Aborts}
+use Rattle.nova_model.specs.declared.deed.Deed.TheVariants.{Steps, Raises, Dies, Sends, Recalls, Gives, Removes, Finishes, Replies, Aborts}
+use Rattle.nova_model.specs.declared.delegation.Derivation.{Derivation}
 use Rattle.nova_model.specs.declared.transfer.Sequel.TheVariants.{Replied}
-use Rattle.nova_isolation.specs.Law.{AreAlike, IsGivenAsSeen}
+use Rattle.nova_isolation.specs.Law.{AreAlike, IsGivenAsSeen, IsTakenAsSeen, answered}
 use Rattle.nova_isolation.specs.Sound.{AreWhole, IsSound, IsVirtual}
 use Rattle.nova_isolation.proofs.Exchanges.{all_drop, all_take, given_again, numbered_at}
+use Rattle.nova_isolation.proofs.OtherTurns.{alone_takes}
+use Rattle.nova_isolation.proofs.Removals.{has_taken, pages_taken}
+use Rattle.nova_isolation.proofs.Runs.{turn_is_one}
 use Rattle.nova_isolation.proofs.Seen.{maps_at, view_is}
 use Rattle.nova_isolation.proofs.Spaces.{cell_of}
 
--- what a map that comes brings is what its frames hold
-abbrev IsOfFrames : List (List ℕ) → Option Input → Type 0
-IsOfFrames ram (Some (input_as.Given base order rights frame contents)) = contents ≡ contents_of ram frame order
-IsOfFrames ram other = Unit {0}
+-- of maps one goes: it is one of them, and the others have none of its pages
+pub record IsGoing (base order : ℕ) (maps : List Map) : Type 0 where
+  pub there : list_any (is_map base order) maps ≡ true
+  pub pages : list_any (overlaps base order) (filter (λ m. not (is_map base order m)) maps) ≡ false
 
-only_frames : (ram : List (List ℕ)) (t : Bool) (i : Input) → IsOfFrames ram (Some i) → IsOfFrames ram (only_if t i)
-only_frames ram true i is = is
-only_frames ram false i is = tt
+-- what a map that comes brings is what its frames hold, and one that goes is there
+abbrev pub IsOfState : KernelState → ℕ → Option Input → Type 0
+IsOfState k pd (Some (input_as.Given base order rights frame contents)) = contents ≡ contents_of k.memory.ram frame order
+IsOfState k pd (Some (input_as.Taken base order)) = IsGoing base order (maps_of pd k.delegations.list)
+IsOfState k pd other = Unit {0}
 
-own_frames : (ram : List (List ℕ)) (d : Deed) → IsOfFrames ram (own_input d)
-own_frames ram Steps = tt
-own_frames ram (Raises reason q0 q1) = tt
-own_frames ram (Sends handler ip identifier mtd reason q0 q1) = tt
-own_frames ram (Dies reason q0) = tt
-own_frames ram (Aborts handler mark) = tt
-own_frames ram other = tt
+only_of : (k : KernelState) (pd : ℕ) (t : Bool) (i : Input) → (t ≡ true → IsOfState k pd (Some i)) → IsOfState k pd (only_if t i)
+only_of k pd true i is = is refl
+only_of k pd false i is = tt
 
-stored_frames : (k : KernelState) (ec pd : ℕ) (s : Option Store) → IsOfFrames k.memory.ram (option_and_then (foreign_by k ec pd) s)
-stored_frames k ec pd None = tt
-stored_frames k ec pd (Some s) = by_frame (frame_of_store k ec s)
+own_of : (k : KernelState) (pd : ℕ) (d : Deed) → IsOfState k pd (own_input d)
+own_of k pd Steps = tt
+own_of k pd (Raises reason q0 q1) = tt
+own_of k pd (Sends handler ip identifier mtd reason q0 q1) = tt
+own_of k pd (Dies reason q0) = tt
+own_of k pd (Aborts handler mark) = tt
+own_of k pd other = tt
+
+stored_of : (k : KernelState) (ec pd : ℕ) (s : Option Store) → IsOfState k pd (option_and_then (foreign_by k ec pd) s)
+stored_of k ec pd None = tt
+stored_of k ec pd (Some s) = by_frame (frame_of_store k ec s)
   where
-    by_test : (f : ℕ) (t : Bool) → IsOfFrames k.memory.ram (if t then Some (input_as.Foreign f (s.address % 4096) s.width s.value) else None)
+    by_test : (f : ℕ) (t : Bool) → IsOfState k pd (if t then Some (input_as.Foreign f (s.address % 4096) s.width s.value) else None)
     by_test f true = tt
     by_test f false = tt
 
-    by_frame : (f : Option ℕ) → IsOfFrames k.memory.ram (option_and_then (foreign_at k pd s) f)
+    by_frame : (f : Option ℕ) → IsOfState k pd (option_and_then (foreign_at k pd s) f)
     by_frame None = tt
     by_frame (Some f) = by_test f (is_covered_for k pd f)
 
-others_frames : (k : KernelState) (ec g : ℕ) (d : Deed) → IsOfFrames k.memory.ram (others_input k ec g d)
-others_frames k ec g Steps = stored_frames k ec (pd_of k g) (store_of (instruction k ec))
-others_frames k ec g (Recalls whose) = only_frames k.memory.ram (whose == g) input_as.Recall tt
-others_frames k ec g (Replies caller mark.Exit false) = only_frames k.memory.ram (caller == g) (reply_of (message k ec)) tt
-others_frames k ec g (Replies caller mark.Exit true) = tt
-others_frames k ec g (Replies caller mark.Call items) = tt
-others_frames k ec g (Finishes item end words (Replied caller mark.Exit)) = only_frames k.memory.ram (caller == g) (reply_of (message k ec)) tt
-others_frames k ec g (Finishes item end words (Replied caller mark.Call)) = tt
-others_frames k ec g (Finishes item end words other) = tt
-others_frames k ec g (Gives child cursor) = only_frames k.memory.ram (is_memory_of (pd_of k g) child) (given_of k child) refl
-others_frames k ec g other = tt
+leaf_of : (k : KernelState) (ec pd : ℕ) (leaf : Derivation) → IsForest k.delegations → IsNextLeaf k ec leaf → is_memory_of pd leaf ≡ true →
+    IsGoing leaf.base leaf.order (maps_of pd k.delegations.list)
+leaf_of k ec pd leaf forest next is =
+    let there = in_from_contains k.delegations.list leaf (next.goes forest).there in
+    record { there = has_taken pd k.delegations leaf forest there is; pages = pages_taken pd k.delegations leaf forest there is }
 
-deed_frames : (k : KernelState) (ec g : ℕ) (d : Deed) → IsOfFrames k.memory.ram (input_of k ec g d)
+others_of : (k : KernelState) (ec g : ℕ) (d : Deed) → IsForest k.delegations → IsAllowed k ec d → IsOfState k (pd_of k g) (others_input k ec g d)
+others_of k ec g Steps forest allowed = stored_of k ec (pd_of k g) (store_of (instruction k ec))
+others_of k ec g (Recalls whose) forest allowed = only_of k (pd_of k g) (whose == g) input_as.Recall (λ is. tt)
+others_of k ec g (Replies caller mark.Exit false) forest allowed = only_of k (pd_of k g) (caller == g) (reply_of (message k ec)) (λ is. tt)
+others_of k ec g (Replies caller mark.Exit true) forest allowed = tt
+others_of k ec g (Replies caller mark.Call items) forest allowed = tt
+others_of k ec g (Finishes item end words (Replied caller mark.Exit)) forest allowed = only_of k (pd_of k g) (caller == g) (reply_of (message k ec)) (λ is. tt)
+others_of k ec g (Finishes item end words (Replied caller mark.Call)) forest allowed = tt
+others_of k ec g (Finishes item end words other) forest allowed = tt
+others_of k ec g (Gives child cursor) forest allowed = only_of k (pd_of k g) (is_memory_of (pd_of k g) child) (given_of k child) (λ is. refl)
+others_of k ec g (Removes leaf) forest allowed =
+    only_of k (pd_of k g) (is_memory_of (pd_of k g) leaf) (input_as.Taken leaf.base leaf.order) (leaf_of k ec (pd_of k g) leaf forest allowed)
+others_of k ec g other forest allowed = tt
+
+deed_of : (k : KernelState) (ec g : ℕ) (d : Deed) → IsForest k.delegations → IsAllowed k ec d → IsOfState k (pd_of k g) (input_of k ec g d)
 unfolding input_of
-deed_frames k ec g d = by_actor (ec == g)
+deed_of k ec g d forest allowed = by_actor (ec == g)
   where
-    by_actor : (t : Bool) → IsOfFrames k.memory.ram (if t then own_input d else others_input k ec g d)
-    by_actor true = own_frames k.memory.ram d
-    by_actor false = others_frames k ec g d
+    by_actor : (t : Bool) → IsOfState k (pd_of k g) (if t then own_input d else others_input k ec g d)
+    by_actor true = own_of k (pd_of k g) d
+    by_actor false = others_of k ec g d forest allowed
 
-turn_frames : (k : KernelState) (cpu g : ℕ) → IsOfFrames k.memory.ram (input k cpu g)
+turn_of : (k : KernelState) (cpu g : ℕ) → IsForest k.delegations → IsOfState k (pd_of k g) (input k cpu g)
 unfolding input
-turn_frames k cpu g = by_choice (choice k cpu)
+turn_of k cpu g forest = by_choice (choice k cpu)
   where
-    by_choice : (c : Option Candidate) → IsOfFrames k.memory.ram (input_by k g c)
+    by_choice : (c : Option Candidate) → IsOfState k (pd_of k g) (input_by k g c)
     by_choice None = tt
-    by_choice (Some c) = deed_frames k c.actor g (deed k c.actor)
+    by_choice (Some c) = deed_of k c.actor g (deed k c.actor) forest (deed_allowed k c.actor)
 
 -- so it is like the cells of those frames
 both : (t u : Bool) (o : Option (List ℕ)) (a b : List ℕ) → (if t then o else None) ≡ Some a → (if u then o else None) ≡ Some b → a ≡ b
@@ -97,13 +121,34 @@ alike m maps ram contents whole is f a b given has =
     ap (λ (bytes : List ℕ). cell_at (cells_given m.frame bytes) f) is ∙ (ap (λ (cs : List Cell). cell_at cs f) cells ∙ numbered_at m ram f) in
     both (leads_to f m) (is_covered maps f) (slice_get ram f) a b (sym at ∙ given) (sym (cell_of maps ram f) ∙ has)
 
-as_seen : (v : Guest) (maps : List Map) (ram : List (List ℕ)) (i : Option Input) → AreWhole ram → v.cells ≡ cells_of maps ram → IsOfFrames ram i → IsGivenAsSeen v i
-as_seen v maps ram (Some (input_as.Given base order rights frame contents)) whole seen is =
+as_seen : (k : KernelState) (pd : ℕ) (v : Guest) (maps : List Map) (i : Option Input) → AreWhole k.memory.ram → v.cells ≡ cells_of maps k.memory.ram → IsOfState k pd i → IsGivenAsSeen v i
+as_seen k pd v maps (Some (input_as.Given base order rights frame contents)) whole seen is =
     subst (λ (cs : List Cell). AreAlike (cells_given frame contents) cs) (sym seen)
-    (alike (record { base = base; order = order; rights = rights; frame = frame }) maps ram contents whole is)
-as_seen v maps ram (Some other) whole seen is = tt
-as_seen v maps ram None whole seen is = tt
+    (alike (record { base = base; order = order; rights = rights; frame = frame }) maps k.memory.ram contents whole is)
+as_seen k pd v maps (Some other) whole seen is = tt
+as_seen k pd v maps None whole seen is = tt
 
 pub given_as_seen : (k : KernelState) (cpu g : ℕ) → IsSound k → IsVirtual k g → IsGivenAsSeen (view k g) (input k cpu g)
 given_as_seen k cpu g sound virtual =
-    as_seen (view k g) (maps_at k g) k.memory.ram (input k cpu g) sound.whole.frames (ap (λ (v : Guest). v.cells) (view_is k g)) (turn_frames k cpu g)
+    as_seen k (pd_of k g) (view k g) (maps_at k g) (input k cpu g) sound.whole.frames (ap (λ (v : Guest). v.cells) (view_is k g)) (turn_of k cpu g sound.forest)
+
+-- a map that goes: the view of before has it, and what is left of it has none of its pages
+goes_from : (k : KernelState) (g : ℕ) (new : Guest) (ram : List (List ℕ)) (i : Option Input) → IsOfState k (pd_of k g) i → new ≡ (answered (view k g) i).guest →
+    new.cells ≡ cells_of new.maps ram → IsTakenAsSeen (view k g) new i
+goes_from k g new ram (Some (input_as.Taken base order)) is comes cells =
+    let maps : (view k g).maps ≡ maps_at k g = ap (λ (v : Guest). v.maps) (view_is k g) in
+    let there : list_any (is_map base order) (view k g).maps ≡ true = ap (list_any (is_map base order)) maps ∙ is.there in
+    let left : new.maps ≡ filter (λ m. not (is_map base order m)) (view k g).maps = ap (λ (v : Guest). v.maps) (comes ∙ alone_takes (view k g) base order there) in
+    record {
+      was = there;
+      pages = ap (list_any (overlaps base order)) (left ∙ ap (filter (λ m. not (is_map base order m))) maps) ∙ is.pages;
+      cells = λ frame none. ap (λ (cs : List Cell). cell_at cs frame) cells ∙ (cell_of new.maps ram frame ∙ rw none refl);
+    }
+goes_from k g new ram (Some other) is comes cells = tt
+goes_from k g new ram None is comes cells = tt
+
+pub taken_as_seen : (k : KernelState) (cpu g : ℕ) → IsSound k → IsVirtual k g → IsTakenAsSeen (view k g) (view (after k cpu) g) (input k cpu g)
+taken_as_seen k cpu g sound virtual =
+    let is : view (after k cpu) g ≡ guest_of (context (after k cpu) g) (maps_at (after k cpu) g) (after k cpu).memory.ram = view_is (after k cpu) g in
+    goes_from k g (view (after k cpu) g) (after k cpu).memory.ram (input k cpu g) (turn_of k cpu g sound.forest) (turn_is_one k cpu g sound virtual).guest
+    (ap (λ (v : Guest). v.cells) is ∙ sym (ap (λ (v : Guest). cells_of v.maps (after k cpu).memory.ram) is))

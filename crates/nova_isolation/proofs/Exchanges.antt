@@ -99,7 +99,7 @@ cells_rising maps n (bytes ∷ ram) = by_test (is_covered maps n) (cells_rising 
     by_test true rest = (cells_all maps (n + 1) n ram (omega arith), rest)
     by_test false rest = rest
 
-bases_apart : (m n : Map) → MapsApart m n → n.base ≢ m.base
+pub bases_apart : (m n : Map) → MapsApart m n → n.base ≢ m.base
 bases_apart m n (inl h) e = grind (arith, pow_pos m.order)
 bases_apart m n (inr h) e = grind (arith, pow_pos n.order)
 

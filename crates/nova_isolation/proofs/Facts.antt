@@ -9,14 +9,16 @@ use Rattle.nova_calls.specs.declared.numbers.TheConstants.{CREATE_SM}
 use Rattle.nova_range.specs.declared.range.Range.{Range}
 use Rattle.nova_range.specs.declared.rights.Rights.{Rights}
 use Rattle.nova_range.specs.declared.status.Status.{Status}
+use Rattle.nova_range.specs.declared.status.Status.TheVariants.{Busy}
 use Rattle.nova_utcb.specs.Messages.{has_counts}
 use Rattle.nova_model.specs.Calls.{admitted}
 use Rattle.nova_model.specs.Capabilities.{call_right, control_right, event_right, is_ec, is_pt, is_sc, named}
 use Rattle.nova_model.specs.Deeds.{deed}
 use Rattle.nova_model.specs.Deliveries.{delivery, delivery_between, finished, first_delivery, flag, given_to, taken_from, told_by, words_for}
 use Rattle.nova_model.specs.Edges.{caller_in, is_dead, state_in}
-use Rattle.nova_model.specs.Hypercalls.{and_then, call, called, create_pd, maker, makes, new_domain, replied, reply, row, unless}
+use Rattle.nova_model.specs.Hypercalls.{and_then, call, called, create_pd, maker, makes, new_domain, replied, reply, row, unless, unless_busy}
 use Rattle.nova_model.specs.Portals.{handler_of}
+use Rattle.nova_model.specs.Running.{is_revoked}
 use Rattle.nova_model.specs.Semaphores.{has, semaphore, waits, woken, woken_of, greatest}
 use Rattle.nova_model.specs.State.{KernelState, context, context_at, context_in, is_local_thread, message, pd_of, transfer}
 use Rattle.nova_model.specs.Views.{guest_state}
@@ -26,7 +28,7 @@ use Rattle.nova_model.specs.declared.context.EcState.{EcState}
 use Rattle.nova_model.specs.declared.context.Mark.{Mark}
 use Rattle.nova_model.specs.declared.context.Mark.TheVariants as mark
 use Rattle.nova_model.specs.declared.context.State.{State}
-use Rattle.nova_model.specs.declared.context.State.TheVariants.{Blocked, Calling, Dead, Exiting, Fresh, Granting, Helping, Parked, Ready, Replying, Sending}
+use Rattle.nova_model.specs.declared.context.State.TheVariants.{Blocked, Calling, Dead, Exiting, Fresh, Granting, Helping, Parked, Ready, Replying, Revoking, Sending}
 use Rattle.nova_model.specs.declared.deed.Deed.{Deed}
 use Rattle.nova_model.specs.declared.deed.Deed.TheVariants.{Finishes, Makes, Ups}
 use Rattle.nova_model.specs.declared.new_object.NewObject.{NewObject}
@@ -36,6 +38,7 @@ use Rattle.nova_model.specs.declared.transfer.Delivery.{Delivery}
 use Rattle.nova_model.specs.declared.transfer.ItemEnd.{ItemEnd}
 use Rattle.nova_model.specs.declared.transfer.Sequel.{Sequel}
 use Rattle.nova_model.specs.declared.transfer.Sequel.TheVariants as sequel
+use Rattle.nova_forest.proofs.Leaves.{leaf_facts}
 use Rattle.nova_forest.proofs.Walk.{IfDone, deed_holds, is_asking, sm_ctrl_holds}
 use Rattle.nova_isolation.proofs.Premises.{HasPremises, IsGuest, IsGuestState}
 use Rattle.nova_isolation.proofs.OtherTurns.{Facts, WaitsFor}
@@ -52,10 +55,13 @@ unless_holds P false status rest h = h
 
 makes_holds : (k : KernelState) (g domain call target pd_selector : ℕ) (new : ℕ → Result NewObject Status) → IfDone (Facts k g) (makes k domain call target pd_selector new)
 makes_holds k g domain call target pd_selector new =
-    then_holds (Facts k g) (maker k domain target pd_selector) _ (λ owner is. then_holds (Facts k g) (new owner) (λ made. Ok (Makes call target made)) (λ made made_is. tt))
+    then_holds (Facts k g) (maker k domain target pd_selector) _ (λ owner is. then_holds (Facts k g) (new owner) (λ made. unless_busy k domain target (Makes call target made))
+    (λ made made_is. unless_holds (Facts k g) (is_revoked k domain target) Busy (Ok (Makes call target made)) tt))
 
 create_pd_holds : (k : KernelState) (g domain target pd_selector : ℕ) (first : Option (Range × Rights)) → IfDone (Facts k g) (create_pd k domain target pd_selector first)
-create_pd_holds k g domain target pd_selector first = then_holds (Facts k g) (maker k domain target pd_selector) _ (λ owner is. by_first first)
+create_pd_holds k g domain target pd_selector first =
+    then_holds (Facts k g) (maker k domain target pd_selector) _
+    (λ owner is. unless_holds (Facts k g) (is_revoked k domain target) Busy (Ok (new_domain k target first)) (by_first first))
   where
     by_first : (f : Option (Range × Rights)) → Facts k g (new_domain k target f)
     by_first None = tt
@@ -134,13 +140,13 @@ row_holds k ec g sound is asking (asks.CreateEc target pd cpu kind sp event) = m
 row_holds k ec g sound is asking (asks.CreateSc target pd whose quantum priority) = makes_holds k g (pd_of k ec) _ target pd _
 row_holds k ec g sound is asking (asks.CreatePt target pd handler mtd ip) = makes_holds k g (pd_of k ec) _ target pd _
 row_holds k ec g sound is asking (asks.CreateSm target pd count) = makes_holds k g (pd_of k ec) CREATE_SM target pd (λ owner. Ok (new.Sm count))
+row_holds k ec g sound is asking (asks.Revoke range own) = tt
 row_holds k ec g sound is asking (asks.Lookup range) = tt
 row_holds k ec g sound is asking (asks.EcCtrl whose) = then_holds (Facts k g) (named k (pd_of k ec) is_ec control_right whose) _ (λ n h. tt)
 row_holds k ec g sound is asking (asks.ScCtrl sc) = then_holds (Facts k g) (named k (pd_of k ec) is_sc control_right sc) _ (λ n h. tt)
 row_holds k ec g sound is asking (asks.PtCtrl pt identifier) = then_holds (Facts k g) (named k (pd_of k ec) is_pt control_right pt) _ (λ n h. tt)
 row_holds k ec g sound is asking (asks.SmCtrl sm action) =
     sm_ctrl_holds (Facts k g) k (pd_of k ec) sm action (λ n whom h wakes. ups_hold k g n whom sound is wakes) (λ n h answers. tt) (λ n h answers. tt)
-row_holds k ec g sound is asking other = tt
 
 -- the end of an item
 ends_hold : (k : KernelState) (ec g item : ℕ) (end : ItemEnd) (answer : ℕ) (v : Delivery) → HasPremises k → IsGuest k g → delivery k ec (context k ec).state ≡ Some v →
@@ -191,6 +197,7 @@ ends_hold k ec g item end answer v sound is present = by_state (context k ec).st
     by_state (Helping handler) at e = absurd (cc)
     by_state (Exiting reason q0 q1) at e = absurd (cc)
     by_state (Sending reason q0 q1 handler) at e = absurd (cc)
+    by_state (Revoking range own) at e = absurd (cc)
     by_state (Blocked sm) at e = absurd (cc)
 
 pub deed_facts : (k : KernelState) (ec g : ℕ) → HasPremises k → IsGuest k g → Facts k g (deed k ec)
@@ -204,5 +211,7 @@ deed_facts k ec g sound is = deed_holds (Facts k g) k ec tt
       refuses = λ call status. tt;
       aborts = λ handler at. tt;
       rows = λ asking c reads. row_holds k ec g sound is asking c;
+      removes = λ range own leaf at next. (leaf_facts (record { pd = pd_of k ec; range = range; own = own }) k.delegations leaf sound.forest next).there;
+      returns = λ range own at none. tt;
     })
     (record { gives = λ d x giving. tt; skips = λ d reason place skipping. tt; finishes = λ v end answer present ends. ends_hold k ec g _ end answer v sound is present })

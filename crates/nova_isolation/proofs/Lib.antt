@@ -7,7 +7,7 @@ mod Outputs
 mod OwnTurns
 mod Replies
 mod Exchanges
-mod Contents
+mod Removals
 mod OtherTurns
 mod Facts
 mod Turns
@@ -15,6 +15,7 @@ mod Instructions
 mod Sizes
 mod Whole
 mod Runs
+mod Contents
 mod Showing
 mod Ranges
 mod Admitted

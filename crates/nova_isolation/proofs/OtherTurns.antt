@@ -1,13 +1,13 @@
 -- A turn in which another execution context acts.
 use Rattle.std.proofs.Common.{◌≡◌, ℕ, zero, suc, ◌%◌, ◌≢◌, List, [], ◌∷◌, ◌++◌, length, ap, sym, ◌∙◌, subst, refl, inl, inr, arith}
-use Rattle.std.specs.Prelude.{Bool, true, false, ◌==◌, slice_get, Option, Some, None, IsSome, is_some, option_and_then, option_map, if◌then◌else◌}
+use Rattle.std.specs.Prelude.{Bool, Contains, true, false, not, ◌==◌, filter, slice_get, Option, Some, None, IsSome, is_some, option_and_then, option_map, if◌then◌else◌}
 use Rattle.std.specs.List.{AllByRecursion, list_any}
 use Rattle.std.proofs.lemmas.Bool.{cases_Bool, cases_eq, eq-eqb, ne_eqb}
 use Rattle.rv_model.specs.Step.{Once, Raised, Went, Store}
-use Rattle.nova_guest.specs.Alone.{applied, with_map}
+use Rattle.nova_guest.specs.Alone.{applied, with_map, with_maps}
 use Rattle.nova_guest.specs.Cells.{cell_at, stored_in}
 use Rattle.nova_guest.specs.Keyed.{placed}
-use Rattle.nova_guest.specs.Maps.{base_of, overlaps}
+use Rattle.nova_guest.specs.Maps.{base_of, is_map, overlaps}
 use Rattle.nova_guest.specs.declared.cell.Cell.{Cell}
 use Rattle.nova_guest.specs.declared.guest.Guest.{Guest}
 use Rattle.nova_guest.specs.declared.guest.GuestState.TheVariants as guest
@@ -21,7 +21,7 @@ use Rattle.nova_model.specs.Capabilities.{is_ec, is_vcpu}
 use Rattle.nova_model.specs.Creation.{context_of, object_of, root_capability, with_object}
 use Rattle.nova_model.specs.Deeds.{address_space, instruction, with_context, memory_after, messages_after, changed, stepped, recalled, resumed, brought, completed, with_transfer, done}
 use Rattle.nova_model.specs.Deeds.{told as told_words}
-use Rattle.nova_model.specs.Delegations.{added}
+use Rattle.nova_model.specs.Delegations.{added, without}
 use Rattle.nova_model.specs.Forest.{AreApart, IsFitting}
 use Rattle.nova_model.specs.Inputs.{contents_of, foreign_at, foreign_by, given_of, in_ram, is_covered_for, only_if, others_input, reply_of, store_of}
 use Rattle.nova_model.specs.Memory.{Memory, written, written_in}
@@ -32,7 +32,7 @@ use Rattle.nova_model.specs.declared.context.EcState.{EcState}
 use Rattle.nova_model.specs.declared.context.Mark.{Mark}
 use Rattle.nova_model.specs.declared.context.Mark.TheVariants as mark
 use Rattle.nova_model.specs.declared.deed.Deed.{Deed}
-use Rattle.nova_model.specs.declared.deed.Deed.TheVariants.{Rests, Steps, Sends, Makes, Recalls, Names, Opens, Gives, Skips, Finishes, Calls, Replies, Ups, Downs, Blocks}
+use Rattle.nova_model.specs.declared.deed.Deed.TheVariants.{Rests, Steps, Sends, Makes, Recalls, Names, Opens, Gives, Skips, Finishes, Calls, Replies, Removes, Ups, Downs, Blocks}
 use Rattle.nova_model.specs.declared.delegation.Derivation.{Derivation}
 use Rattle.nova_model.specs.declared.new_object.NewObject.{NewObject}
 use Rattle.nova_model.specs.declared.new_object.NewObject.TheVariants as new
@@ -43,11 +43,13 @@ use Rattle.nova_model.specs.declared.transfer.Transfer.{Transfer}
 use Rattle.nova_model.specs.declared.transfer.Sequel.TheVariants as sequel
 use Rattle.nova_utcb.specs.Messages.{written_back}
 use Rattle.nova_forest.proofs.Allowed.{GivesFitting}
+use Rattle.nova_forest.proofs.Members.{IsIn, in_from_contains}
 use Rattle.nova_isolation.specs.Law.{answered}
 use Rattle.nova_isolation.proofs.Premises.{HasPremises, IsGuest}
 use Rattle.nova_isolation.proofs.Exchanges.{apart_maps, cells_given_of, covered_for, maps_added, maps_others, none_overlap, IsApartFrom}
 use Rattle.nova_isolation.proofs.KeyedLaws.{all_weaker}
 use Rattle.nova_isolation.proofs.OwnTurns.{guest_at}
+use Rattle.nova_isolation.proofs.Removals.{cells_taken, has_taken, maps_taken, maps_untaken}
 use Rattle.nova_isolation.proofs.Replies.{back_same}
 use Rattle.nova_isolation.proofs.Seen.{IsSeenSame, maps_at, seen_context, seen_same, seen_self, seen_trans, view_context, view_is, view_self, at_other}
 use Rattle.nova_isolation.proofs.Spaces.{MapsApart, apart_maps_of, cell_of, same_kind}
@@ -63,6 +65,7 @@ Facts k g (Sends handler ip identifier mtd reason q0 q1) = handler ≢ g
 Facts k g (Calls handler ip identifier items) = handler ≢ g
 Facts k g (Replies caller came items) = WaitsFor k g caller came
 Facts k g (Finishes item end words (sequel.Replied caller came)) = WaitsFor k g caller came × (came ≡ mark.Exit → words ≡ None)
+Facts k g (Removes leaf) = Contains k.delegations.list leaf
 Facts k g (Ups sm (Some whom)) = whom ≢ g
 Facts k g other = Unit {0}
 
@@ -240,6 +243,30 @@ give_law k g d sound fits = elim (cases_Bool (is_memory_of (pd_of k g) d)) [
       (record { own = refl; object = refl; maps = maps_others (pd_of k g) d k.delegations.list not_; ram = refl }))
 ]
 
+-- A DERIVATION THAT GOES
+
+pub alone_takes : (v : Guest) (base order : ℕ) → list_any (is_map base order) v.maps ≡ true →
+    (answered v (Some (input.Taken base order))).guest ≡ with_maps v (filter (λ m. not (is_map base order m)) v.maps)
+unfolding applied
+alone_takes v base order there = rw there refl
+
+taken_view : (k : KernelState) (g : ℕ) (leaf : Derivation) → HasPremises k → IsIn k.delegations.list leaf → is_memory_of (pd_of k g) leaf ≡ true →
+    guest_of (context k g) (maps_of (pd_of k g) (without k.delegations leaf.id).list) k.memory.ram ≡ (answered (guest_at k g) (Some (input.Taken leaf.base leaf.order))).guest
+taken_view k g leaf sound there is =
+    let left : List Map = filter (λ m. not (is_map leaf.base leaf.order m)) (maps_at k g) in
+    ap (λ (ms : List Map). guest_of (context k g) ms k.memory.ram) (maps_taken (pd_of k g) k.delegations leaf sound.forest there is)
+    ∙ (ap (λ (cs : List Cell). record (guest_at k g) { maps = left; cells = cs }) (cells_taken (λ m. not (is_map leaf.base leaf.order m)) (maps_at k g) k.memory.ram)
+    ∙ sym (alone_takes (guest_at k g) leaf.base leaf.order (has_taken (pd_of k g) k.delegations leaf sound.forest there is)))
+
+take_law : (k : KernelState) (g : ℕ) (leaf : Derivation) → HasPremises k → IsIn k.delegations.list leaf →
+    view (record k { delegations = without k.delegations leaf.id }) g ≡ (answered (view k g) (only_if (is_memory_of (pd_of k g) leaf) (input.Taken leaf.base leaf.order))).guest
+take_law k g leaf sound there = elim (cases_Bool (is_memory_of (pd_of k g) leaf)) [
+  | inl of_ ↦ rw of_ (view_is (record k { delegations = without k.delegations leaf.id }) g
+      ∙ (taken_view k g leaf sound there of_ ∙ sym (ap (λ (v : Guest). (answered v (Some (input.Taken leaf.base leaf.order))).guest) (view_is k g))))
+  | inr not_ ↦ rw not_ (seen_same k (record k { delegations = without k.delegations leaf.id }) g
+      (record { own = refl; object = refl; maps = maps_untaken (pd_of k g) k.delegations leaf sound.forest there not_; ram = refl }))
+]
+
 -- AN OBJECT THAT IS MADE
 
 ec_more : (cs ds : Contexts) (g : ℕ) → IsSome (ec_in cs g) → ec_of (cs ++ ds) g ≡ ec_of cs g
@@ -354,6 +381,7 @@ other_law k ec g (Gives child cursor) sound ne is facts fits = transfer_view _ e
 other_law k ec g (Skips reason place cursor) sound ne is facts fits = transfer_view k ec g _
 other_law k ec g (Finishes item end words after) sound ne is facts fits = finishes_law k ec g item end words after sound ne is facts
 other_law k ec g (Replies caller came items) sound ne is facts fits = replies_law k ec g caller came items sound ne is facts
+other_law k ec g (Removes leaf) sound ne is facts fits = take_law k g leaf sound (in_from_contains k.delegations.list leaf facts)
 other_law k ec g (Ups sm whom) sound ne is facts fits = ups_law k ec g sm whom ne facts
 other_law k ec g (Downs sm) sound ne is facts fits = unseen_law k _ ec g (Downs sm) ne (record { own = refl; object = refl; maps = refl; ram = refl })
 other_law k ec g (Blocks sm) sound ne is facts fits = unseen_law k _ ec g (Blocks sm) ne (record { own = refl; object = refl; maps = refl; ram = refl })

@@ -37,7 +37,7 @@ use Rattle.nova_model.specs.declared.context.EcState.{EcState}
 use Rattle.nova_model.specs.declared.context.Mark.{Mark}
 use Rattle.nova_model.specs.declared.context.Mark.TheVariants as mark
 use Rattle.nova_model.specs.declared.context.State.{State}
-use Rattle.nova_model.specs.declared.context.State.TheVariants.{Fresh, Ready, Parked, Calling, Helping, Exiting, Sending, Granting, Replying, Blocked, Dead}
+use Rattle.nova_model.specs.declared.context.State.TheVariants.{Fresh, Ready, Parked, Calling, Helping, Exiting, Sending, Granting, Replying, Revoking, Blocked, Dead}
 use Rattle.nova_model.specs.declared.deed.Deed.{Deed}
 use Rattle.nova_model.specs.declared.deed.Deed.TheVariants.{Rests, Steps, Raises, Dies, Waits, Sends, Aborts}
 use Rattle.nova_utcb.specs.Messages.{exited}
@@ -265,6 +265,7 @@ own_law_in k g sound is Parked h = absurd (subst IsGuestState h is.runs)
 own_law_in k g sound is (Helping handler) h = absurd (subst IsGuestState h is.runs)
 own_law_in k g sound is (Granting new) h = absurd (subst IsGuestState h is.runs)
 own_law_in k g sound is Replying h = absurd (subst IsGuestState h is.runs)
+own_law_in k g sound is (Revoking range own) h = absurd (subst IsGuestState h is.runs)
 own_law_in k g sound is (Blocked sm) h = absurd (subst IsGuestState h is.runs)
 
 pub own_law : (k : KernelState) (g : ℕ) → HasPremises k → IsGuest k g → OwnLaw k g (deed k g)

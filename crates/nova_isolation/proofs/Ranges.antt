@@ -1,14 +1,14 @@
 -- Derivations have ranges of pages, and views are guests.
 use Rattle.std.proofs.Common.{◌≡◌, ℕ, zero, suc, ◌+◌, ◌/◌, ◌%◌, ◌^◌, ◌<◌, ◌⊎◌, ◌≤◌, List, [], ◌∷◌, ◌++◌, length, map, ap, sym, ◌∙◌, subst, refl, inl, inr, arith}
-use Rattle.std.specs.Prelude.{Bool, true, false, ◌==◌, replicate, slice_get, Option, Some, None, if◌then◌else◌}
+use Rattle.std.specs.Prelude.{Bool, true, false, not, ◌==◌, replicate, slice_get, Option, Some, None, if◌then◌else◌}
 use Rattle.std.specs.List.{AllByRecursion, range_with_len}
 use Rattle.std.proofs.Math.Nat.{pow-le-pow_right}
 use Rattle.std.proofs.lemmas.Bool.{and_parts, cases_Bool}
 use Rattle.std.proofs.lemmas.List.{length-replicate, length-set}
 use Rattle.std.proofs.lemmas.List.Elements.{All-cons, All-nil}
-use Rattle.nova_forest.specs.Made.{Grows, GrowsBy, IsFirstCapability, IsGivenChild, Leaves, MakesObject, GivesChild}
+use Rattle.nova_forest.specs.Made.{Grows, GrowsBy, IsFirstCapability, IsGivenChild, Leaves, MakesObject, GivesChild, TakesLeaf}
 use Rattle.nova_forest.proofs.Growth.{turn_grows}
-use Rattle.nova_forest.proofs.Members.{all_at, all_more, in_from_contains}
+use Rattle.nova_forest.proofs.Members.{all_at, all_from, all_more, filtered_in, in_from_contains}
 use Rattle.nova_guest.specs.Cells.{page_size}
 use Rattle.nova_guest.specs.Conditions.{AreMaps, AreWhole as AreWholeCells, IsGuest, IsMap}
 use Rattle.nova_guest.specs.Maps.{is_covered}
@@ -20,7 +20,7 @@ use Rattle.nova_range.specs.declared.range.Kind.{Kind}
 use Rattle.nova_range.specs.declared.range.Kind.TheVariants.{Mem, Obj}
 use Rattle.nova_model.specs.Boot.{Image, Scenario, bare, boot, console_derivation, laid, object_derivation, ram_derivation, with_image, with_images}
 use Rattle.nova_model.specs.Choice.{Candidate, choice}
-use Rattle.nova_model.specs.Delegations.{Delegations, is_memory}
+use Rattle.nova_model.specs.Delegations.{Delegations, is_memory, without}
 use Rattle.nova_model.specs.Forest.{ArePairs, HasParentIn, IsAligned, IsAlignedFor, IsForest, IsWithin}
 use Rattle.nova_model.specs.Memory.{Memory, written, written_in}
 use Rattle.nova_model.specs.Runs.{after}
@@ -68,6 +68,10 @@ child_ranged k actor d forest ranges given =
 abbrev AreIn : ℕ → Delegations → Type 0
 AreIn frames f = AllByRecursion (IsRanged frames) f.list
 
+fewer : (frames : ℕ) (f : Delegations) (id : ℕ) → AreIn frames f → AreIn frames (without f id)
+fewer frames f id ranges =
+    all_from (IsRanged frames) (without f id).list (λ d i. all_at (IsRanged frames) f.list d ranges (filtered_in (λ (e : Derivation). not (e.id == id)) f.list d i).0)
+
 grown : (old new : KernelState) (ec : ℕ) → IsForest old.delegations → AreRanges old → Grows old ec new → AreIn (length old.memory.ram) new.delegations
 grown old new ec forest ranges (Leaves same) = subst (AreIn (length old.memory.ram)) (sym same.delegations) ranges
 grown old new ec forest ranges (MakesObject made) =
@@ -76,6 +80,8 @@ grown old new ec forest ranges (MakesObject made) =
 grown old new ec forest ranges (GivesChild g) =
     subst (AreIn (length old.memory.ram)) (sym g.delegations)
     (all_more (IsRanged (length old.memory.ram)) old.delegations.list g.child ranges (child_ranged old ec g.child forest ranges g.given))
+grown old new ec forest ranges (TakesLeaf t) =
+    subst (AreIn (length old.memory.ram)) (sym t.delegations) (fewer (length old.memory.ram) old.delegations t.leaf.id ranges)
 
 pub turn_ranges : (k : KernelState) (cpu : ℕ) → IsSound k → AreRanges k → AreRanges (after k cpu)
 turn_ranges k cpu sound ranges = subst (λ (n : ℕ). AreIn n (after k cpu).delegations) (sym (turn_frames k cpu)) (by_choice (choice k cpu) (turn_grows k cpu))

@@ -1,7 +1,7 @@
 -- What always holds of a state is kept by turns, and so the law of one turn becomes one of runs.
 use Rattle.std.proofs.Common.{◌≡◌, ◌≢◌, ℕ, zero, suc, List, [], ◌∷◌, ◌++◌, ap, ap₂, sym, ◌∙◌, refl}
 use Rattle.std.specs.Prelude.{true, Option, Some, None, option_map, slice_get}
-use Rattle.nova_forest.specs.Made.{Grows, GrowsBy, Leaves, MakesObject, GivesChild}
+use Rattle.nova_forest.specs.Made.{Grows, GrowsBy, Leaves, MakesObject, GivesChild, TakesLeaf}
 use Rattle.nova_forest.proofs.Boots.{boot_forest}
 use Rattle.nova_forest.proofs.Changes.{change_forest, turn_change}
 use Rattle.nova_forest.proofs.Growth.{turn_grows}
@@ -71,6 +71,7 @@ turn_virtual k cpu g is = by_choice (choice k cpu) (turn_grows k cpu)
     by_growth ec (Leaves same) = virtual_in k.objects (after k cpu).objects g same.objects is
     by_growth ec (MakesObject made) = virtual_in (k.objects ++ made.object ∷ []) (after k cpu).objects g made.objects (object_stays k.objects (made.object ∷ []) g is)
     by_growth ec (GivesChild given) = virtual_in k.objects (after k cpu).objects g given.objects is
+    by_growth ec (TakesLeaf taken) = virtual_in k.objects (after k cpu).objects g taken.objects is
 
     by_choice : (c : Option Candidate) → GrowsBy k c (after k cpu) → IsVirtual (after k cpu) g
     by_choice None same = virtual_in k.objects (after k cpu).objects g same.objects is

@@ -22,7 +22,7 @@ use Rattle.nova_model.specs.declared.context.EcState.{EcState}
 use Rattle.nova_model.specs.declared.context.Mark.{Mark}
 use Rattle.nova_model.specs.declared.context.Mark.TheVariants as mark
 use Rattle.nova_model.specs.declared.deed.Deed.{Deed}
-use Rattle.nova_model.specs.declared.deed.Deed.TheVariants.{Refuses, Makes, Recalls, Tells, Names, Finishes, Replies, Aborts, Ups, Downs}
+use Rattle.nova_model.specs.declared.deed.Deed.TheVariants.{Refuses, Makes, Recalls, Tells, Names, Finishes, Replies, Aborts, Returns, Ups, Downs}
 use Rattle.nova_model.specs.declared.transfer.ItemWords.{ItemWords}
 use Rattle.nova_model.specs.declared.transfer.Sequel.{Sequel}
 use Rattle.nova_model.specs.declared.transfer.Sequel.TheVariants as sequel
@@ -168,6 +168,7 @@ length_changed x (Replies caller came true) = refl
 length_changed x (Replies caller came false) = refl
 length_changed x (Aborts handler mark.Call) = length_answered x Aborted None
 length_changed x (Aborts handler mark.Exit) = refl
+length_changed x Returns = length_answered x Success None
 length_changed x (Ups sm woken) = length_answered x Success None
 length_changed x (Downs sm) = length_answered x Success None
 length_changed x other = refl

@@ -18,7 +18,7 @@ use Rattle.nova_model.specs.Turn.{charged, state_after, turn, turn_by}
 use Rattle.nova_model.specs.Views.{is_memory_of, view}
 use Rattle.nova_model.specs.declared.context.Mark.TheVariants as mark
 use Rattle.nova_model.specs.declared.deed.Deed.{Deed}
-use Rattle.nova_model.specs.declared.deed.Deed.TheVariants.{Steps, Recalls, Gives, Finishes, Replies}
+use Rattle.nova_model.specs.declared.deed.Deed.TheVariants.{Steps, Recalls, Gives, Removes, Finishes, Replies}
 use Rattle.nova_model.specs.declared.delegation.Derivation.{Derivation}
 use Rattle.nova_model.specs.declared.event.EventKind.{EventKind}
 use Rattle.nova_model.specs.declared.transfer.Sequel.TheVariants as sequel
@@ -49,6 +49,10 @@ quiet_given : (v : Guest) (k : KernelState) (d : Derivation) → IsQuiet v (Some
 unfolding applied
 quiet_given v k d = refl
 
+quiet_taken : (v : Guest) (base order : ℕ) → IsQuiet v (Some (input.Taken base order))
+unfolding applied
+quiet_taken v base order = refl
+
 quiet_foreign : (v : Guest) (frame offset width value : ℕ) → IsQuiet v (Some (input.Foreign frame offset width value))
 unfolding applied
 quiet_foreign v frame offset width value = refl
@@ -77,6 +81,7 @@ quiet k ec g v (Finishes item end words sequel.Item) = refl
 quiet k ec g v (Finishes item end words sequel.Opened) = refl
 quiet k ec g v (Finishes item end words sequel.Taken) = refl
 quiet k ec g v (Gives child cursor) = quiet_if v (is_memory_of (pd_of k g) child) (given_of k child) (quiet_given v k child)
+quiet k ec g v (Removes leaf) = quiet_if v (is_memory_of (pd_of k g) leaf) (input.Taken leaf.base leaf.order) (quiet_taken v leaf.base leaf.order)
 quiet k ec g v other = refl
 
 other_is : (k : KernelState) (ec g : ℕ) (d : Deed) → ec ≢ g → input_of k ec g d ≡ others_input k ec g d

@@ -24,7 +24,7 @@ use Rattle.nova_model.specs.Turn.{charged, counted, paid_by, quantum_in, state_a
 use Rattle.nova_model.specs.declared.budget.Budget.{Budget}
 use Rattle.nova_model.specs.declared.context.EcState.{EcState}
 use Rattle.nova_model.specs.declared.deed.Deed.{Deed}
-use Rattle.nova_model.specs.declared.deed.Deed.TheVariants.{Rests, Steps, Sends, Makes, Recalls, Names, Opens, Gives, Skips, Finishes, Calls, Replies, Ups, Downs, Blocks}
+use Rattle.nova_model.specs.declared.deed.Deed.TheVariants.{Rests, Steps, Sends, Makes, Recalls, Names, Opens, Gives, Skips, Finishes, Calls, Replies, Removes, Ups, Downs, Blocks}
 use Rattle.nova_model.specs.declared.new_object.NewObject.{NewObject}
 use Rattle.nova_model.specs.declared.new_object.NewObject.TheVariants as new
 use Rattle.nova_model.specs.declared.root.Root.{Root}
@@ -137,6 +137,7 @@ done_whole k ec (Names pt identifier) whole =
     let d : Deed = Names pt identifier in then_whole k (done k ec d) ec d (leaves_others (mid k ec d) (done k ec d) refl refl refl refl) whole
 done_whole k ec (Gives child cursor) whole = left_whole k (done k ec (Gives child cursor)) (leaves_others k (done k ec (Gives child cursor)) refl refl refl refl) whole
 done_whole k ec (Skips reason place cursor) whole = left_whole k (done k ec (Skips reason place cursor)) (leaves_others k (done k ec (Skips reason place cursor)) refl refl refl refl) whole
+done_whole k ec (Removes leaf) whole = left_whole k (done k ec (Removes leaf)) (leaves_others k (done k ec (Removes leaf)) refl refl refl refl) whole
 done_whole k ec (Finishes item end words next) whole =
     let d : Deed = Finishes item end words next in
     let s : KernelState = performed k ec d in

@@ -1,11 +1,13 @@
 -- The law of one turn: what it leaves of the view of a virtual CPU, and what it puts out for it, is what the guest alone makes of its input.
 use Rattle.std.specs.Prelude.{◌≡◌, ℕ, ◌-◌, ◌==◌, Bool, true, false, List, [], ◌∷◌, ◌++◌, length, Option, Some, None}
+use Rattle.std.specs.List.{list_any}
 use Rattle.nova_guest.specs.Alone.{Told, told, applied}
 use Rattle.nova_guest.specs.Cells.{cell_at, cells_given}
+use Rattle.nova_guest.specs.Maps.{is_covered, is_map, overlaps}
 use Rattle.nova_guest.specs.declared.cell.Cell.{Cell}
 use Rattle.nova_guest.specs.declared.guest.Guest.{Guest}
 use Rattle.nova_guest.specs.declared.input.Input.{Input}
-use Rattle.nova_guest.specs.declared.input.Input.TheVariants.{Given}
+use Rattle.nova_guest.specs.declared.input.Input.TheVariants.{Given, Taken}
 use Rattle.nova_guest.specs.declared.input.Out.{Out}
 use Rattle.nova_guest.specs.declared.input.Out.TheVariants as out
 use Rattle.nova_model.specs.Deeds.{sign_of}
@@ -71,3 +73,13 @@ AreAlike xs ys = (frame : ℕ) (a b : List ℕ) → cell_at xs frame ≡ Some a 
 abbrev pub IsGivenAsSeen : Guest → Option Input → Type 0
 IsGivenAsSeen v (Some (Given base order rights frame contents)) = AreAlike (cells_given frame contents) v.cells
 IsGivenAsSeen v other = Unit {0}
+
+-- of a guest a map of this base and order goes: it was there, none of the maps after has one of its pages, and no frame that they don't lead to has a cell
+pub record IsTaken (v new : Guest) (base order : ℕ) : Type 0 where
+  pub was : list_any (is_map base order) v.maps ≡ true
+  pub pages : list_any (overlaps base order) new.maps ≡ false
+  pub cells : (frame : ℕ) → is_covered new.maps frame ≡ false → cell_at new.cells frame ≡ None
+
+abbrev pub IsTakenAsSeen : Guest → Guest → Option Input → Type 0
+IsTakenAsSeen v new (Some (Taken base order)) = IsTaken v new base order
+IsTakenAsSeen v new other = Unit {0}

@@ -15,7 +15,7 @@ ghost use Rattle.nova_model.specs.Inputs.{reply_groups, reply_words};
 ghost use Rattle.nova_model.specs.Runs.{after, run, trace};
 ghost use Rattle.nova_model.specs.State.{KernelState};
 ghost use Rattle.nova_model.specs.Views.{view};
-ghost use Rattle.nova_isolation.specs.Law.{IsGivenAsSeen, IsOneInput, IsOneTurn};
+ghost use Rattle.nova_isolation.specs.Law.{IsGivenAsSeen, IsOneInput, IsOneTurn, IsTakenAsSeen};
 ghost use Rattle.nova_isolation.specs.Shown.{exits_in, gained, logged_in, raises_in};
 ghost use Rattle.nova_isolation.specs.Sound.{AreRanges, IsSound, IsVirtual};
 
@@ -34,7 +34,8 @@ pub fn a_guests_own_turn_is_its_own_alone()
 
 /// A turn of another execution context is one input of a virtual CPU, or nothing for it: a recall of it, a
 /// reply to its exit that completes, a store to a frame of its memory, or a memory derivation that is made
-/// in its protection domain. Nothing else that another does changes the view. The guest puts out nothing.
+/// in its protection domain or taken from it by a revoke. Nothing else that another does changes the view.
+/// The guest puts out nothing.
 pub fn a_turn_of_another_is_an_input_or_nothing()
     ensures { (k : KernelState) (ec g : ℕ) → IsSound k → IsVirtual k g → ec ≢ g → IsOneInput k (done k ec (deed k ec)) ec g (deed k ec) }
 {}
@@ -60,11 +61,17 @@ pub fn what_is_given_is_in_the_frames()
     ensures { (k : KernelState) (cpu g : ℕ) → IsSound k → IsVirtual k g → IsGivenAsSeen (view k g) (input k cpu g) }
 {}
 
+/// A map that a turn takes is one of the view's, whole, and no map of the view after the turn has a page of
+/// it, so that the guest finds nothing there. A frame that no map leads to any more has no cell.
+pub fn what_is_taken_leaves_no_page()
+    ensures { (k : KernelState) (cpu g : ℕ) → IsSound k → IsVirtual k g → IsTakenAsSeen (view k g) (view (after k cpu) g) (input k cpu g) }
+{}
+
 /// What the guest alone asks of a guest and of an input holds of each view and of each turn's input: maps
 /// are ranges of pages that share none and lead to frames below 2^32, cells are whole, a map comes with the
-/// bytes of all its frames or with none, and what another stores lies within a frame. It stands on
-/// derivations being ranges, which a kernel of at most 2^14 RAM frames and 16 consoles begins with and each
-/// turn keeps.
+/// bytes of all its frames or with none, one that goes is a range of pages, and what another stores lies
+/// within a frame. It stands on derivations being ranges, which a kernel of at most 2^14 RAM frames and 16
+/// consoles begins with and each turn keeps.
 pub fn views_and_inputs_are_admitted()
     ensures begins { (scenario : Scenario) → scenario.ram ≤ 14 → scenario.consoles ≤ 16 → AreRanges (boot scenario) }
     ensures turns { (k : KernelState) (cpu : ℕ) → IsSound k → AreRanges k → AreRanges (after k cpu) }

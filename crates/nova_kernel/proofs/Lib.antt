@@ -24,6 +24,8 @@ pub mod GuestTables
 pub mod Stirred
 pub mod Below
 pub mod Rooted
+pub mod Runners
+pub mod Ongoing
 pub mod Granted
 pub mod Told
 pub mod Views

@@ -14,7 +14,7 @@ use Rattle.nova_model.specs.declared.context.Mark.{Mark}
 use Rattle.nova_model.specs.declared.context.Mark.TheVariants as mark
 use Rattle.nova_model.specs.declared.context.State.TheVariants.{Calling, Ready, Replying}
 use Rattle.nova_model.specs.declared.deed.Deed.{Deed}
-use Rattle.nova_model.specs.declared.deed.Deed.TheVariants.{Rests, Steps, Sends, Makes, Recalls, Names, Opens, Gives, Skips, Finishes, Calls, Replies, Aborts, Ups, Downs, Blocks}
+use Rattle.nova_model.specs.declared.deed.Deed.TheVariants.{Rests, Steps, Sends, Makes, Recalls, Names, Opens, Gives, Skips, Removes, Finishes, Calls, Replies, Aborts, Ups, Downs, Blocks}
 use Rattle.nova_model.specs.declared.new_object.NewObject.{NewObject}
 use Rattle.nova_model.specs.declared.new_object.NewObject.TheVariants as new
 use Rattle.nova_model.specs.declared.transfer.ItemEnd.{ItemEnd}
@@ -261,6 +261,7 @@ done_leaves k s ec (Names pt identifier) may fits queued =
     (moved k ec (changed (context k ec) (Names pt identifier)) may.edges may.there refl) refl refl refl refl refl)
 done_leaves k s ec (Gives child cursor) may fits queued = leaves None k _ s queued (aside None k k _ (same_state k) refl refl refl refl refl)
 done_leaves k s ec (Skips reason place cursor) may fits queued = leaves None k _ s queued (aside None k k _ (same_state k) refl refl refl refl refl)
+done_leaves k s ec (Removes leaf) may fits queued = leaves None k _ s queued (aside None k k _ (same_state k) refl refl refl refl refl)
 done_leaves k s ec (Finishes item end words after) may fits queued = leaves _ k _ s queued (finished_queued k ec item end words after may fits.1.1)
 done_leaves k s ec (Calls handler ip identifier items) may fits queued =
     leaves _ k _ s queued (sent_queued k _ ec handler ip identifier mark.Call items may (admitted_near k.contexts ec handler fits.0) refl refl refl refl refl)

@@ -5,7 +5,8 @@ use Rattle.rv_model.specs.Step.{Once, Raised, Went, environment_call}
 use Rattle.rv_core.specs.declared.outcome.Outcome.TheVariants.{Raise}
 use Rattle.nova_model.specs.Deeds.{instruction, ready, recall, signalled, stepping, stepped, done, deed, deed_in}
 use Rattle.nova_model.specs.State.{KernelState, context, pd_of, is_thread}
-use Rattle.nova_model.specs.Deliveries.{answered_by, delegated, delivers, flag, is_busy, part_deed}
+use Rattle.nova_model.specs.Deliveries.{answered_by, delegated, delivers, flag, part_deed}
+use Rattle.nova_model.specs.Running.{is_busy}
 use Rattle.nova_model.specs.Transfers.{Part, job_of, next_part}
 use Rattle.nova_model.specs.Translations.{translated}
 use Rattle.nova_model.specs.declared.context.State.{State}

@@ -13,7 +13,7 @@ use Rattle.nova_model.specs.State.{KernelState, pd_of}
 use Rattle.nova_model.specs.Views.{is_memory_of}
 use Rattle.nova_model.specs.declared.context.Mark.TheVariants as mark
 use Rattle.nova_model.specs.declared.deed.Deed.{Deed}
-use Rattle.nova_model.specs.declared.deed.Deed.TheVariants.{Steps, Raises, Dies, Sends, Recalls, Gives, Finishes, Replies, Aborts}
+use Rattle.nova_model.specs.declared.deed.Deed.TheVariants.{Steps, Raises, Dies, Sends, Recalls, Gives, Removes, Finishes, Replies, Aborts}
 use Rattle.nova_model.specs.declared.transfer.Sequel.TheVariants.{Replied}
 use Rattle.nova_kernel.proofs.GuestTables.{with_guests}
 use Rattle.nova_kernel.specs.Stirs.{frame_at, is_seen, is_stirring, risen, risen_from, stirs_itself, stirs_other, written_by}
@@ -95,6 +95,7 @@ other k w ec g (Replies caller mark.Call items) written = refl
 other k w ec g (Finishes item end words (Replied caller mark.Exit)) written = outside (caller == g) _ refl
 other k w ec g (Finishes item end words after) written = refl
 other k w ec g (Gives child cursor) written = outside (is_memory_of (pd_of k g) child) _ refl
+other k w ec g (Removes leaf) written = outside (is_memory_of (pd_of k g) leaf) _ refl
 other k w ec g d written = refl
 
 -- who is stirred, after the deed as before it

@@ -9,7 +9,7 @@ use Rattle.nova_model.specs.Calls.{admitted, exit_admitted}
 use Rattle.nova_model.specs.Exits.{raised_exit}
 use Rattle.nova_model.specs.Semaphores.{answer_of, semaphore, woken}
 use Rattle.nova_model.specs.Deeds.{done}
-use Rattle.nova_model.specs.Deliveries.{is_busy}
+use Rattle.nova_model.specs.Running.{is_busy}
 use Rattle.nova_model.specs.Edges.{caller_in}
 use Rattle.nova_model.specs.State.{KernelState, context, context_at, message, transfer}
 use Rattle.nova_model.specs.declared.admit.Admit.TheVariants.{Send, Help}
@@ -23,11 +23,12 @@ use Rattle.nova_model.specs.declared.transfer.ItemWords.{ItemWords}
 use Rattle.nova_model.specs.declared.transfer.Sequel.{Sequel}
 use Rattle.nova_model.specs.declared.transfer.Sequel.TheVariants.{Item, Replied}
 use Rattle.nova_model.specs.Transfers.{Part, next_part, given}
+use Rattle.nova_range.specs.Ranges.{IsRange}
 use Rattle.nova_kernel.specs.Schedules.{IsPlacedIn}
 use Rattle.nova_model.specs.declared.transfer.Job.{Job}
 use Rattle.nova_model.specs.declared.transfer.Transfer.{Transfer}
 use Rattle.nova_model.specs.declared.deed.Deed.{Deed}
-use Rattle.nova_model.specs.declared.deed.Deed.TheVariants.{Rests, Steps, Waits, Sends, Makes, Recalls, Names, Opens, Gives, Skips, Finishes, Calls, Helps, Replies, Aborts, Ups, Downs, Blocks}
+use Rattle.nova_model.specs.declared.deed.Deed.TheVariants.{Rests, Steps, Waits, Sends, Makes, Recalls, Names, Opens, Gives, Skips, Finishes, Calls, Helps, Replies, Aborts, Revokes, Removes, Ups, Downs, Blocks}
 
 -- the outcome of an instruction
 abbrev pub outcome_of : Once → Outcome
@@ -65,7 +66,7 @@ pub record IsGivenBy (k : KernelState) (ec item : ℕ) (v : Delivery) : Type 0 w
 
 -- what a deed names is there, a selector is one, and what it makes is of a processor that is there; a call is sent or helps as it is admitted, and
 -- with a message that has its counts; a reply goes to the caller that is kept; an exit that is raised is sent or waits as it is admitted; an up and a down
--- come to what the semaphore says
+-- come to what the semaphore says; what is revoked is a range
 abbrev pub Fits : KernelState → ℕ → Deed → Type 0
 Fits k ec (Makes call target new) = (target < 2 ^ 20) × IsPlacedIn k new
 Fits k ec (Opens target domain) = (target < 2 ^ 20) × (domain ≡ length k.objects)
@@ -78,18 +79,21 @@ Fits k ec (Replies caller mark items) = (caller_in k.contexts ec ≡ Some (calle
 Fits k ec (Waits handler reason q0 q1) = exit_admitted k.contexts ec handler ≡ exit.Waits
 Fits k ec (Sends handler ip identifier mtd reason q0 q1) =
     (exit_admitted k.contexts ec handler ≡ exit.Sends) × (raised_exit (context k ec).state ≡ Some (reason, q0, q1))
+Fits k ec (Revokes range own) = IsRange range
 Fits k ec (Ups sm whom) = woken (semaphore k.semaphores sm) ≡ Ok whom
 Fits k ec (Downs sm) = answer_of (semaphore k.semaphores sm) ≡ Done
 Fits k ec (Blocks sm) = answer_of (semaphore k.semaphores sm) ≡ Blocked
 Fits k ec (Finishes item end words after) = (item < 62) × (IsToldThere k words × IsSequel k ec item after)
 Fits k ec other = Unit {0}
 
--- nothing is left of a deed when it is decided: it rests, or it is an instruction that goes on or a part of an item, which are done at once
+-- nothing is left of a deed when it is decided: it rests, or it is an instruction that goes on, a part of an item or one of a revoke, which are done at
+-- once
 abbrev pub is_over : Deed → Bool
 is_over Rests = true
 is_over Steps = true
 is_over (Gives child cursor) = true
 is_over (Skips reason place cursor) = true
+is_over (Removes leaf) = true
 is_over other = false
 
 -- an instruction went on

@@ -20,3 +20,4 @@ pub mod Choices
 pub mod Reach
 pub mod Stirs
 pub mod GuestTables
+pub mod Revoking

@@ -46,6 +46,7 @@ pub record HasRoom (pd : ℕ) (p : Parts) : Type 0 where
   pub semaphores : 0 < p.semaphores.spare
   pub waiting : length p.semaphores.all < p.semaphores.contexts
   pub guests : 0 < p.guests.spare
+  pub revokes : length p.objects.items < p.revokes.places
 
 -- and a scheduling context has room in the queue of its processor
 abbrev pub HasQueue : NewObject → ℕ → QueuesState → Type 0

@@ -1,5 +1,5 @@
 -- What the kernel's memory shows to the instruction that runs, and what always holds of its delegations.
-use Rattle.std.specs.Prelude.{◌≡◌, true, false, ◌-◌, ℕ, ◌+◌, ◌^◌, ◌≤◌, Bool, List, length, slice_get, if◌then◌else◌, Option, Some, None}
+use Rattle.std.specs.Prelude.{◌≡◌, true, ◌-◌, ℕ, ◌+◌, ◌^◌, ◌≤◌, Bool, List, length, slice_get, if◌then◌else◌, Option, Some, None}
 use Rattle.std.specs.List.{AllByRecursion, find}
 use Rattle.rv_model.specs.Step.{Store}
 use Rattle.nova_range.specs.Rights.{write_right}
@@ -72,7 +72,3 @@ page_range page = record { kind = Mem; base = page; order = 0 }
 
 abbrev pub selector_range : ℕ → Range
 selector_range selector = record { kind = Obj; base = selector; order = 0 }
-
--- no revoke is in the way yet
-abbrev pub never : Derivation → Bool
-never x = false

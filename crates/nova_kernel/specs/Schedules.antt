@@ -8,7 +8,7 @@ use Rattle.nova_model.specs.Edges.{acts, chase, cpu_in}
 use Rattle.nova_model.specs.State.{Contexts, KernelState, budget_at, context, with_ec}
 use Rattle.nova_model.specs.declared.budget.Budget.{Budget}
 use Rattle.nova_model.specs.declared.deed.Deed.{Deed}
-use Rattle.nova_model.specs.declared.deed.Deed.TheVariants.{Rests, Steps, Makes, Gives, Skips, Finishes, Ups, Downs}
+use Rattle.nova_model.specs.declared.deed.Deed.TheVariants.{Rests, Steps, Makes, Gives, Skips, Removes, Finishes, Ups, Downs}
 use Rattle.nova_model.specs.declared.new_object.NewObject.{NewObject}
 use Rattle.nova_model.specs.declared.new_object.NewObject.TheVariants as new
 use Rattle.nova_model.specs.declared.root.Root.{Root}
@@ -91,13 +91,14 @@ schedule_after k ec s (Makes call target new) = joined (with_ec k.contexts ec (c
 schedule_after k ec s other = s
 
 -- An execution context that does this may be in another state then, and another one with it, so that others may find turns or lose them: a
--- hypercall may be made anew by one that helps. It stays as it is where it rests, goes on, or gives a part of an item or one of several; and it acts as
--- before where it ups a semaphore, or lowers one.
+-- hypercall may be made anew by one that helps. It stays as it is where it rests, goes on, gives a part of an item or one of several, or takes a
+-- leaf away; and it acts as before where it ups a semaphore, or lowers one.
 abbrev pub is_moving : Deed → Bool
 is_moving Rests = false
 is_moving Steps = false
 is_moving (Gives child cursor) = false
 is_moving (Skips reason place cursor) = false
+is_moving (Removes leaf) = false
 is_moving (Finishes item end words Item) = false
 is_moving (Ups sm whom) = false
 is_moving (Downs sm) = false

@@ -9,7 +9,7 @@ use Rattle.nova_model.specs.State.{KernelState, entry, pd_of}
 use Rattle.nova_model.specs.Views.{is_memory_of}
 use Rattle.nova_model.specs.declared.context.Mark.TheVariants as mark
 use Rattle.nova_model.specs.declared.deed.Deed.{Deed}
-use Rattle.nova_model.specs.declared.deed.Deed.TheVariants.{Steps, Dies, Sends, Recalls, Gives, Finishes, Replies, Aborts}
+use Rattle.nova_model.specs.declared.deed.Deed.TheVariants.{Steps, Dies, Sends, Recalls, Gives, Removes, Finishes, Replies, Aborts}
 use Rattle.nova_model.specs.declared.transfer.Sequel.TheVariants.{Replied}
 
 -- an entry for each object, and room for so many more
@@ -42,6 +42,7 @@ stirs_other k written (Recalls whose) g = whose == g
 stirs_other k written (Replies caller mark.Exit false) g = caller == g
 stirs_other k written (Finishes item end words (Replied caller mark.Exit)) g = caller == g
 stirs_other k written (Gives child cursor) g = is_memory_of (pd_of k g) child
+stirs_other k written (Removes leaf) g = is_memory_of (pd_of k g) leaf
 stirs_other k written other g = false
 
 -- in the state after a deed, where an instruction that went on stored to this frame

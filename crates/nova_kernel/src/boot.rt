@@ -12,6 +12,7 @@ use crate::guests::Guests;
 use crate::messages::Messages;
 use crate::parts::Parts;
 use crate::reach::Reach;
+use crate::revokes::Revokes;
 use bitflags::Flags;
 use nova_ec::Ecs;
 use nova_frames::Frames;
@@ -211,6 +212,15 @@ fn root_nodes(alloc: Global, order: u8, consoles: u32) -> Result<Nodes<ListIndex
     Ok(nodes)
 }
 
+/// No revoke runs, and there is a place for each of the root's objects.
+fn root_revokes(alloc: Global) -> Result<Revokes, AllocError>
+    ensures { IfOk result (λ r. (r.list ≡ []) × (3 ≤ r.places)) }
+{
+    let mut revokes = Revokes::new(alloc);
+    revokes.reserve(3)?;
+    Ok(revokes)
+}
+
 /// No semaphores: an entry for each of the root's objects, which holds none.
 fn root_semaphores(alloc: Global) -> Result<Sems, AllocError>
     ensures { IfOk result (λ s. s.all ≡ None ∷ None ∷ None ∷ []) }
@@ -259,6 +269,7 @@ impl Parts {
         ensures shown { IfOk result (λ p. shown p ≡ bare cpus ram consoles root) }
         ensures queues { IfOk result (λ p. p.queues.all ≡ root_schedule cpus root) }
         ensures room { IfOk result (λ p. p.reach.room ≡ log_room) }
+        ensures revokes { IfOk result (λ p. (p.revokes.list ≡ []) × (3 ≤ p.revokes.places)) }
     {
         let reach = Reach::new(alloc, ram, consoles, log_room)?;
         let objects = root_objects(alloc, root)?;
@@ -269,6 +280,7 @@ impl Parts {
         let semaphores = root_semaphores(alloc)?;
         let stirs = first_stirs(alloc, cpus)?;
         let guests = root_guests(alloc)?;
+        let revokes = root_revokes(alloc)?;
         Ok(Parts {
             reach,
             objects,
@@ -281,6 +293,7 @@ impl Parts {
             cpus,
             stirs,
             guests,
+            revokes,
         })
     }
 }

@@ -45,6 +45,7 @@ impl Parts {
         ensures stirs { self.new.stirs.items ≡ self.old.stirs.items }
         ensures charged { self.new.queues.all ≡ queues.charged self.old.queues.all sc }
         ensures paid { shown self.new ≡ paid_by (shown self.old) sc (quantum_in (slice_get (shown self.old).objects sc)) (budget_at (shown self.old) sc) }
+        ensures revokes { self.new.revokes ≡ self.old.revokes }
         ensures log { self.new.reach.room ≡ self.old.reach.room }
     {
         self.queues.charge(sc);
@@ -59,6 +60,7 @@ impl Parts {
         ensures cpus { self.new.cpus ≡ self.old.cpus }
         ensures queues { self.new.queues.all ≡ self.old.queues.all }
         ensures counted { shown self.new ≡ counted (shown self.old) cpu }
+        ensures revokes { self.new.revokes ≡ self.old.revokes }
         ensures log { self.new.reach.room ≡ self.old.reach.room }
     {
         self.turns += 1;
@@ -77,6 +79,7 @@ impl Parts {
         ensures queued { AreQueued (shown self.new) self.new.queues.all }
         ensures turns { self.new.turns ≡ self.old.turns + 1 }
         ensures cpus { self.new.cpus ≡ self.old.cpus }
+        ensures revokes { self.new.revokes ≡ self.old.revokes }
         ensures log { self.new.reach.room ≡ self.old.reach.room }
     {
         self.pay(sc);

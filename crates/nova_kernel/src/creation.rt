@@ -155,10 +155,13 @@ impl Parts {
     /// Makes room for one more object and its capability, which a protection domain holds. It refuses
     /// for want of memory alone.
     fn reserve(&mut self, domain: u32) -> Result<(), AllocError>
+        requires objects { length (shown self.old).objects < 2 ^ 32 }
         requires numbers { length (shown self.old).semaphores < 2 ^ 32 - 1 }
         ensures shown { shown self.new ≡ shown self.old }
         ensures queues { self.new.queues ≡ self.old.queues }
         ensures log { self.new.reach.room ≡ self.old.reach.room }
+        ensures revokes { self.new.revokes.list ≡ self.old.revokes.list }
+        ensures places { self.old.revokes.places ≤ self.new.revokes.places }
         ensures room { OnOk result (HasRoom domain self.new) }
     {
         self.objects.reserve(1)?;
@@ -170,6 +173,7 @@ impl Parts {
         self.semaphores.reserve(1)?;
         self.semaphores.room_for_ec()?;
         self.guests.reserve(1)?;
+        self.revokes.reserve(self.objects.len() + 1)?;
         Ok(())
     }
 
@@ -180,6 +184,8 @@ impl Parts {
         ensures shown { shown self.new ≡ shown self.old }
         ensures queues { self.new.queues ≡ self.old.queues }
         ensures log { self.new.reach.room ≡ self.old.reach.room }
+        ensures revokes { self.new.revokes.list ≡ self.old.revokes.list }
+        ensures places { self.old.revokes.places ≤ self.new.revokes.places }
         ensures room { OnOk result (HasRoom domain self.new) }
     {
         self.reserve(domain)?;
@@ -194,6 +200,8 @@ impl Parts {
         ensures shown { shown self.new ≡ shown self.old }
         ensures queues { self.new.queues.all ≡ self.old.queues.all }
         ensures log { self.new.reach.room ≡ self.old.reach.room }
+        ensures revokes { self.new.revokes.list ≡ self.old.revokes.list }
+        ensures places { self.old.revokes.places ≤ self.new.revokes.places }
         ensures room { OnOk result (HasRoom domain self.new) }
         ensures queue { OnOk result (HasRoomIn self.new.queues (length self.new.objects.items) cpu) }
     {
@@ -210,6 +218,8 @@ impl Parts {
         ensures shown { shown self.new ≡ shown self.old }
         ensures queues { self.new.queues.all ≡ self.old.queues.all }
         ensures log { self.new.reach.room ≡ self.old.reach.room }
+        ensures revokes { self.new.revokes.list ≡ self.old.revokes.list }
+        ensures places { self.old.revokes.places ≤ self.new.revokes.places }
         ensures room { OnOk result (HasRoomFor domain deed self.new) }
         ensures making { OnErr result (is_making deed ≡ true) }
     {
@@ -242,6 +252,7 @@ impl Parts {
         requires free { is_held (shown self.old) pd selector ≡ false }
         ensures added { shown self.new ≡ with_object (shown self.old) pd selector new }
         ensures joined { self.new.queues.all ≡ joined (shown self.old).contexts self.old.queues.all (length (shown self.old).objects) new }
+        ensures revokes { self.new.revokes ≡ self.old.revokes }
         ensures log { self.new.reach.room ≡ self.old.reach.room }
     {
         let object = object_of(new);

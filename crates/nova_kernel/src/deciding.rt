@@ -4,6 +4,7 @@ ghost use Rattle.nova_model.specs.Deeds.{instruction, signalled, stepping, deed,
 ghost use Rattle.nova_model.specs.State.{context_at, context, is_thread};
 ghost use Rattle.nova_kernel.specs.Parts.{shown, IsCounted};
 ghost use Rattle.nova_kernel.specs.Acts.{Fits, IsAsked, begun, is_executing};
+ghost use Rattle.nova_kernel.specs.Revoking.{AreRunning};
 ghost use Rattle.nova_kernel.specs.Stirs.{written_by};
 
 use crate::parts::Parts;
@@ -23,6 +24,7 @@ impl Parts {
     fn signal(&self, ec: u32, reason: u32, q0: u32, q1: u32) -> Deed
         requires there { IsSome (context_at (shown self.now) ec) }
         requires counted { IsCounted (shown self.now) }
+        requires running { AreRunning (shown self.now) self.now.revokes }
         ensures deed { result ≡ signalled (shown self.now) ec reason q0 q1 ((reason == environment_call) && is_thread (shown self.now) ec) }
         ensures fits { IsAsked (shown self.now) ec result }
     {
@@ -38,10 +40,12 @@ impl Parts {
     fn step(&mut self, ec: u32) -> Deed
         requires there { IsSome (context_at (shown self.old) ec) }
         requires counted { IsCounted (shown self.old) }
+        requires running { AreRunning (shown self.old) self.old.revokes }
         requires log { 0 < self.old.reach.room }
         ensures deed { result ≡ stepping (shown self.old) ec (instruction (shown self.old) ec) }
         ensures begun { shown self.new ≡ begun (shown self.old) ec result }
         ensures queues { self.new.queues ≡ self.old.queues }
+        ensures revokes { self.new.revokes ≡ self.old.revokes }
         ensures fits { Fits (shown self.old) ec result }
         ensures written { result ≡ Deed.Steps → self.new.reach.written ≡ written_by (shown self.old) ec }
         ensures log { self.old.reach.room ≤ self.new.reach.room + 1 }
@@ -62,17 +66,19 @@ impl Parts {
         matches!(context.state, State::Ready) && !context.recall
     }
 
-    /// The deed of an execution context of which no instruction is next. A part of an item is done at
-    /// once, and nothing else is. It refuses as `decide`.
+    /// The deed of an execution context of which no instruction is next. A part of an item and one of a
+    /// revoke are done at once, and nothing else is. It refuses as `decide`.
     #[tactic(auto, unfolding(nova_model::specs::Deeds::deed))]
     fn decide_in_state(&mut self, ec: u32) -> Result<Deed, AllocError>
         requires there { IsSome (context_at (shown self.old) ec) }
         requires counted { IsCounted (shown self.old) }
+        requires running { AreRunning (shown self.old) self.old.revokes }
         requires turns { self.old.turns < 2 ^ 31 }
         requires next { is_executing (context (shown self.old) ec) ≡ false }
         ensures deed { IfOk result (λ d. d ≡ deed (shown self.old) ec) }
         ensures begun { IfOk result (λ d. shown self.new ≡ begun (shown self.old) ec d) }
         ensures queues { self.new.queues ≡ self.old.queues }
+        ensures revokes { self.new.revokes ≡ self.old.revokes }
         ensures fits { IfOk result (Fits (shown self.old) ec) }
         ensures written { IfOk result (λ d. d ≡ Deed.Steps → self.new.reach.written ≡ written_by (shown self.old) ec) }
         ensures log { self.new.reach.room ≡ self.old.reach.room }
@@ -94,6 +100,7 @@ impl Parts {
             State::Exiting(reason, q0, q1) => self.exit(ec, reason, q0, q1),
             State::Sending(reason, q0, q1, _) => self.exit(ec, reason, q0, q1),
             State::Granting(_) | State::Replying => self.deliver(ec)?,
+            State::Revoking(range, own) => self.take_leaf(ec, range, own),
             State::Calling(handler) => Deed::Aborts {
                 handler,
                 mark: self.mark_of(handler),
@@ -104,17 +111,19 @@ impl Parts {
         Ok(deed)
     }
 
-    /// The deed of an execution context. An instruction that goes on and a part of an item are done at
-    /// once, and nothing else is. It refuses for want of memory alone, where a part makes a child, and
+    /// The deed of an execution context. An instruction that goes on, a part of an item and one of a revoke
+    /// are done at once, and nothing else is. It refuses for want of memory alone, where a part makes a child, and
     /// then nothing has changed.
     pub fn decide(&mut self, ec: u32) -> Result<Deed, AllocError>
         requires there { IsSome (context_at (shown self.old) ec) }
         requires counted { IsCounted (shown self.old) }
+        requires running { AreRunning (shown self.old) self.old.revokes }
         requires turns { self.old.turns < 2 ^ 31 }
         requires log { 0 < self.old.reach.room }
         ensures deed { IfOk result (λ d. d ≡ deed (shown self.old) ec) }
         ensures begun { IfOk result (λ d. shown self.new ≡ begun (shown self.old) ec d) }
         ensures queues { self.new.queues ≡ self.old.queues }
+        ensures revokes { self.new.revokes ≡ self.old.revokes }
         ensures fits { IfOk result (Fits (shown self.old) ec) }
         ensures written { IfOk result (λ d. d ≡ Deed.Steps → self.new.reach.written ≡ written_by (shown self.old) ec) }
         ensures log { self.old.reach.room ≤ self.new.reach.room + 1 }

@@ -10,6 +10,7 @@ ghost use Rattle.nova_model.specs.Translations.{translated};
 ghost use Rattle.nova_delegate.specs.Parts.{HasChild, IsUnderWay, MakesChild, done_of};
 ghost use Rattle.nova_kernel.specs.Acts.{Fits, IsGivenBy, begun, is_over, now_at, part_now, with_part};
 ghost use Rattle.nova_kernel.specs.Parts.{shown, IsCounted};
+ghost use Rattle.nova_kernel.specs.Revoking.{AreRunning};
 
 use crate::creation::NO_TRANSFER;
 use crate::items::{DELEGATES, finished, flag, range_given};
@@ -56,6 +57,7 @@ impl Parts {
         requires { ec < length (shown self.old).transfers }
         ensures transfer { shown self.new ≡ with_transfer (shown self.old) ec transfer }
         ensures queues { self.new.queues ≡ self.old.queues }
+        ensures revokes { self.new.revokes ≡ self.old.revokes }
         ensures log { self.new.reach.room ≡ self.old.reach.room }
     {
         self.transfers[ec as usize] = Some(transfer);
@@ -71,6 +73,7 @@ impl Parts {
         ensures fits { (k : KernelState) → Fits k ec result }
         ensures transfer { shown self.new ≡ with_transfer (shown self.old) ec (gave transfer cursor) }
         ensures queues { self.new.queues ≡ self.old.queues }
+        ensures revokes { self.new.revokes ≡ self.old.revokes }
         ensures log { self.new.reach.room ≡ self.old.reach.room }
     {
         let Some(child) = self.reach.get(id) else {
@@ -93,6 +96,7 @@ impl Parts {
         ensures deed { result ≡ Deed.Skips reason place cursor }
         ensures transfer { shown self.new ≡ with_transfer (shown self.old) ec (skipped transfer cursor) }
         ensures queues { self.new.queues ≡ self.old.queues }
+        ensures revokes { self.new.revokes ≡ self.old.revokes }
         ensures log { self.new.reach.room ≡ self.old.reach.room }
     {
         self.set_transfer(ec, Transfer { cursor, ..transfer });
@@ -109,6 +113,7 @@ impl Parts {
         requires next { (shown self.old).delegations.next < 2 ^ 32 - 1 }
         requires forest { IsForest (shown self.old).delegations }
         requires job { IsUnderWay job.old }
+        requires running { AreRunning (shown self.old) self.old.revokes }
         ensures done { IfOk result (λ r. r ≡ done_of job.old (part_now (shown self.old) job.old)) }
         ensures given { OnOk result (shown self.new ≡ with_part (shown self.old) (part_now (shown self.old) job.old)) }
         ensures job { OnOk result (job.new ≡ moved job.old (part_now (shown self.old) job.old)) }
@@ -116,9 +121,10 @@ impl Parts {
         ensures refused { OnErr result (shown self.new ≡ shown self.old) }
         ensures wanted { OnErr result (MakesChild (part_now (shown self.old) job.old)) }
         ensures queues { self.new.queues ≡ self.old.queues }
+        ensures revokes { self.new.revokes ≡ self.old.revokes }
         ensures log { self.new.reach.room ≡ self.old.reach.room }
     {
-        self.reach.give(job)
+        self.reach.give(job, self.revokes.as_slice())
     }
 
     /// One part of a delegation: a child is made or skipped, at once; or nothing is left and the item
@@ -133,6 +139,7 @@ impl Parts {
     ) -> Result<Deed, AllocError>
         requires there { IsSome (context_at (shown self.old) ec) }
         requires counted { IsCounted (shown self.old) }
+        requires running { AreRunning (shown self.old) self.old.revokes }
         requires turns { self.old.turns < 2 ^ 31 }
         requires transfer { transfer ≡ now_at (shown self.old) ec }
         requires item { transfer.item < 62 }
@@ -145,6 +152,7 @@ impl Parts {
         ensures memory { OnErr result (shown self.new ≡ shown self.old) }
         ensures wanted { OnErr result (is_making (part_deed delivery transfer job (part_now (shown self.old) job)) ≡ true) }
         ensures queues { self.new.queues ≡ self.old.queues }
+        ensures revokes { self.new.revokes ≡ self.old.revokes }
         ensures log { self.new.reach.room ≡ self.old.reach.room }
     {
         let mut moving = job;
@@ -175,6 +183,7 @@ impl Parts {
     ) -> Result<Deed, AllocError>
         requires there { IsSome (context_at (shown self.old) ec) }
         requires counted { IsCounted (shown self.old) }
+        requires running { AreRunning (shown self.old) self.old.revokes }
         requires turns { self.old.turns < 2 ^ 31 }
         requires transfer { transfer ≡ now_at (shown self.old) ec }
         requires item { transfer.item < 62 }
@@ -185,6 +194,7 @@ impl Parts {
         ensures memory { OnErr result (shown self.new ≡ shown self.old) }
         ensures wanted { OnErr result (is_making (delegated (shown self.old) delivery transfer (job_of delivery.range_word delivery.second_word delivery.delegations delivery.giver delivery.receiver)) ≡ true) }
         ensures queues { self.new.queues ≡ self.old.queues }
+        ensures revokes { self.new.revokes ≡ self.old.revokes }
         ensures log { self.new.reach.room ≡ self.old.reach.room }
     {
         let Delivery {
@@ -229,6 +239,7 @@ impl Parts {
     ) -> Result<Deed, AllocError>
         requires there { IsSome (context_at (shown self.old) ec) }
         requires counted { IsCounted (shown self.old) }
+        requires running { AreRunning (shown self.old) self.old.revokes }
         requires turns { self.old.turns < 2 ^ 31 }
         requires transfer { transfer ≡ now_at (shown self.old) ec }
         requires item { transfer.item < 62 }
@@ -239,6 +250,7 @@ impl Parts {
         ensures memory { OnErr result (shown self.new ≡ shown self.old) }
         ensures wanted { OnErr result (is_making (delivered (shown self.old) delivery transfer) ≡ true) }
         ensures queues { self.new.queues ≡ self.old.queues }
+        ensures revokes { self.new.revokes ≡ self.old.revokes }
         ensures log { self.new.reach.room ≡ self.old.reach.room }
     {
         if flag(delivery) == DELEGATES {
@@ -254,6 +266,7 @@ impl Parts {
     pub fn deliver(&mut self, ec: u32) -> Result<Deed, AllocError>
         requires there { IsSome (context_at (shown self.old) ec) }
         requires counted { IsCounted (shown self.old) }
+        requires running { AreRunning (shown self.old) self.old.revokes }
         requires turns { self.old.turns < 2 ^ 31 }
         ensures deed { IfOk result (λ d. d ≡ delivers (shown self.old) (transfer (shown self.old) ec) (delivery (shown self.old) ec (context (shown self.old) ec).state)) }
         ensures begun { IfOk result (λ d. shown self.new ≡ begun (shown self.old) ec d) }
@@ -261,6 +274,7 @@ impl Parts {
         ensures memory { OnErr result (shown self.new ≡ shown self.old) }
         ensures wanted { OnErr result (is_making (delivers (shown self.old) (transfer (shown self.old) ec) (delivery (shown self.old) ec (context (shown self.old) ec).state)) ≡ true) }
         ensures queues { self.new.queues ≡ self.old.queues }
+        ensures revokes { self.new.revokes ≡ self.old.revokes }
         ensures log { self.new.reach.room ≡ self.old.reach.room }
     {
         let transfer = self.transfer(ec);

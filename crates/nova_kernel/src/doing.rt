@@ -8,6 +8,7 @@ ghost use Rattle.nova_model.specs.declared.admit.Admit.{Admit};
 ghost use Rattle.nova_model.specs.declared.transfer.ItemEnd.{ItemEnd};
 ghost use Rattle.nova_model.specs.State.{ec_in, ec_of, with_ec, context, context_at, message, pd_of};
 ghost use Rattle.nova_kernel.specs.Parts.{shown, AreTables, HasRoomFor, IsCounted};
+ghost use Rattle.nova_kernel.specs.Revoking.{BeginsWithin, revokes_after};
 ghost use Rattle.nova_kernel.specs.Schedules.{schedule_after};
 ghost use Rattle.nova_kernel.specs.Acts.{Fits, IsSequel, IsToldThere, TakesFree, is_alone, is_over};
 
@@ -19,6 +20,7 @@ use nova_exit::write_back;
 use nova_ipc::{answer, complete, help, send};
 use nova_model::{Deed, EcState, ItemWords, Mark, NewObject, Sequel, State, Transfer};
 use nova_range::Status;
+use nova_revoke::Revoke;
 
 /// Whether the recall of an execution context stays asked for after an exit: a recall is answered by
 /// its own.
@@ -54,6 +56,8 @@ pub fn change(contexts: &mut Ecs, ec: u32, deed: Deed)
             contexts.answer(ec, Status::Success, None);
         }
         Deed::Opens { domain, .. } => contexts.set_state(ec, State::Granting(Some(domain))),
+        Deed::Revokes { range, own } => contexts.set_state(ec, State::Revoking(range, own)),
+        Deed::Returns => contexts.answer(ec, Status::Success, None),
         _ => {}
     }
 }
@@ -64,7 +68,7 @@ pub fn is_over(deed: Deed) -> bool
 {
     matches!(
         deed,
-        Deed::Rests | Deed::Steps | Deed::Gives { .. } | Deed::Skips { .. }
+        Deed::Rests | Deed::Steps | Deed::Gives { .. } | Deed::Skips { .. } | Deed::Removes { .. }
     )
 }
 
@@ -88,6 +92,7 @@ impl Parts {
         requires { ec < length (shown self.old).contexts }
         ensures recalled { shown self.new ≡ recalled (shown self.old) ec (context_at (shown self.old) ec) }
         ensures queues { self.new.queues ≡ self.old.queues }
+        ensures revokes { self.new.revokes ≡ self.old.revokes }
         ensures log { self.new.reach.room ≡ self.old.reach.room }
     {
         if self.contexts.get(ec).is_some() {
@@ -103,6 +108,7 @@ impl Parts {
         requires tables { AreTables (shown self.old) }
         ensures sent { shown self.new ≡ performed (shown self.old) ec (Deed.Calls handler ip identifier (has_items (message (shown self.old) ec))) }
         ensures queues { self.new.queues ≡ self.old.queues }
+        ensures revokes { self.new.revokes ≡ self.old.revokes }
         ensures log { self.new.reach.room ≡ self.old.reach.room }
     {
         let from = self.message(ec);
@@ -124,6 +130,7 @@ impl Parts {
         requires { caller_in (shown self.old).contexts ec ≡ Some (caller, mark) }
         ensures completed { shown self.new ≡ followed (with_context (shown self.old) ec (after_item (context (shown self.old) ec) (Sequel.Replied caller mark))) ec (Sequel.Replied caller mark) }
         ensures queues { self.new.queues ≡ self.old.queues }
+        ensures revokes { self.new.revokes ≡ self.old.revokes }
         ensures log { self.new.reach.room ≡ self.old.reach.room }
     {
         match mark {
@@ -141,6 +148,7 @@ impl Parts {
         requires there { caller < length (shown self.old).messages }
         ensures passed { shown self.new ≡ passed (shown self.old) ec caller }
         ensures queues { self.new.queues ≡ self.old.queues }
+        ensures revokes { self.new.revokes ≡ self.old.revokes }
         ensures log { self.new.reach.room ≡ self.old.reach.room }
     {
         let from = self.message(ec);
@@ -155,6 +163,7 @@ impl Parts {
         requires there { caller < length (shown self.old).messages }
         ensures brought { shown self.new ≡ brought (shown self.old) ec caller mark }
         ensures queues { self.new.queues ≡ self.old.queues }
+        ensures revokes { self.new.revokes ≡ self.old.revokes }
         ensures log { self.new.reach.room ≡ self.old.reach.room }
     {
         match mark {
@@ -171,6 +180,7 @@ impl Parts {
         requires tables { AreTables (shown self.old) }
         ensures replied { shown self.new ≡ performed (shown self.old) ec (Deed.Replies caller mark items) }
         ensures queues { self.new.queues ≡ self.old.queues }
+        ensures revokes { self.new.revokes ≡ self.old.revokes }
         ensures log { self.new.reach.room ≡ self.old.reach.room }
     {
         self.contexts.keeps_callers();
@@ -189,6 +199,7 @@ impl Parts {
         requires tables { AreTables (shown self.old) }
         ensures told { shown self.new ≡ told (shown self.old) item words }
         ensures queues { self.new.queues ≡ self.old.queues }
+        ensures revokes { self.new.revokes ≡ self.old.revokes }
         ensures log { self.new.reach.room ≡ self.old.reach.room }
     {
         if let Some(ItemWords { ec, first, second }) = words {
@@ -204,6 +215,7 @@ impl Parts {
         requires sequel { IsSequel (shown self.old) ec item after }
         ensures followed { shown self.new ≡ followed (with_context (shown self.old) ec (after_item (context (shown self.old) ec) after)) ec after }
         ensures queues { self.new.queues ≡ self.old.queues }
+        ensures revokes { self.new.revokes ≡ self.old.revokes }
         ensures log { self.new.reach.room ≡ self.old.reach.room }
     {
         match after {
@@ -223,6 +235,7 @@ impl Parts {
         requires tables { AreTables (shown self.old) }
         ensures finished { (end : ItemEnd) → shown self.new ≡ done (shown self.old) ec (Deed.Finishes item end words after) }
         ensures queues { self.new.queues ≡ self.old.queues }
+        ensures revokes { self.new.revokes ≡ self.old.revokes }
         ensures log { self.new.reach.room ≡ self.old.reach.room }
     {
         self.tell(item, words);
@@ -239,8 +252,11 @@ impl Parts {
         requires free { TakesFree (shown self.old) (pd_of (shown self.old) ec) deed }
         requires room { HasRoomFor (pd_of (shown self.old) ec) deed self.old }
         requires few { length self.old.queues.all.entries ≤ length self.old.objects.items }
+        requires places { BeginsWithin self.old.revokes deed }
         ensures performed { shown self.new ≡ performed (shown self.old) ec deed }
         ensures queues { self.new.queues.all ≡ schedule_after (shown self.old) ec self.old.queues.all deed }
+        ensures revokes { self.new.revokes.list ≡ revokes_after (pd_of (shown self.old) ec) ec deed self.old.revokes.list }
+        ensures places { self.new.revokes.places ≡ self.old.revokes.places }
         ensures log { self.new.reach.room ≡ self.old.reach.room }
     {
         let domain = self.pd(ec);
@@ -250,6 +266,15 @@ impl Parts {
             Deed::Opens { target, .. } => self.add_object(domain, target, NewObject::Pd),
             Deed::Recalls { ec } => self.ask_recall(ec),
             Deed::Names { pt, identifier } => self.identifiers[pt as usize] = Some(identifier),
+            Deed::Revokes { range, own } => self.revokes.begin(
+                ec,
+                Revoke {
+                    pd: domain,
+                    range,
+                    own,
+                },
+            ),
+            Deed::Returns => self.revokes.end(ec),
             _ => {}
         }
     }
@@ -264,8 +289,11 @@ impl Parts {
         requires free { TakesFree (shown self.old) (pd_of (shown self.old) ec) deed }
         requires room { HasRoomFor (pd_of (shown self.old) ec) deed self.old }
         requires few { length self.old.queues.all.entries ≤ length self.old.objects.items }
+        requires places { BeginsWithin self.old.revokes deed }
         ensures done { shown self.new ≡ done (shown self.old) ec deed }
         ensures queues { self.new.queues.all ≡ schedule_after (shown self.old) ec self.old.queues.all deed }
+        ensures revokes { self.new.revokes.list ≡ revokes_after (pd_of (shown self.old) ec) ec deed self.old.revokes.list }
+        ensures places { self.new.revokes.places ≡ self.old.revokes.places }
         ensures log { self.new.reach.room ≡ self.old.reach.room }
     {
         match deed {

@@ -86,6 +86,9 @@ pub fn sign_of(deed: Deed) -> (EventKind, u32, u32)
         } => (EventKind::Begin, numbers::REPLY, caller),
         Deed::Replies { items: false, .. } => (EventKind::Answer, numbers::REPLY, 0),
         Deed::Aborts { handler, mark } => (EventKind::Abort, handler, mark_number(mark)),
+        Deed::Revokes { range, .. } => (EventKind::Begin, numbers::REVOKE, range.base),
+        Deed::Removes { leaf } => (EventKind::Gone, leaf.id, leaf.pd),
+        Deed::Returns => (EventKind::Answer, numbers::REVOKE, 0),
         Deed::Ups { .. } | Deed::Downs { .. } => (EventKind::Answer, numbers::SM_CTRL, 0),
         Deed::Blocks { sm } => (EventKind::Begin, numbers::SM_CTRL, sm),
     }

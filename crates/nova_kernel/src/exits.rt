@@ -86,6 +86,7 @@ impl Parts {
         requires admitted { exit_admitted (shown self.old).contexts ec handler ≡ ExitAdmit.Waits }
         ensures waits { shown self.new ≡ performed (shown self.old) ec (Deed.Waits handler reason q0 q1) }
         ensures queues { self.new.queues ≡ self.old.queues }
+        ensures revokes { self.new.revokes ≡ self.old.revokes }
         ensures log { self.new.reach.room ≡ self.old.reach.room }
     {
         wait(&mut self.contexts, ec, handler, reason, q0, q1);
@@ -100,6 +101,7 @@ impl Parts {
         ensures sent { (reason q0 q1 : ℕ) → raised_exit (context (shown self.old) ec).state ≡ Some (reason, q0, q1) →
             shown self.new ≡ performed (shown self.old) ec (Deed.Sends handler ip identifier mtd reason q0 q1) }
         ensures queues { self.new.queues ≡ self.old.queues }
+        ensures revokes { self.new.revokes ≡ self.old.revokes }
         ensures log { self.new.reach.room ≡ self.old.reach.room }
     {
         let mut to = self.message(handler);
@@ -120,6 +122,7 @@ impl Parts {
         requires { IsSome (context_at (shown self.old) ec) }
         ensures aborted { shown self.new ≡ performed (shown self.old) ec (Deed.Aborts handler mark) }
         ensures queues { self.new.queues ≡ self.old.queues }
+        ensures revokes { self.new.revokes ≡ self.old.revokes }
         ensures log { self.new.reach.room ≡ self.old.reach.room }
     {
         match mark {

@@ -1,10 +1,10 @@
 ghost use Rattle.std.specs.Prelude.{◌≡◌, ◌^◌, ◌<◌, ℕ, IfOk, IsSome};
-ghost use Rattle.rv_model.specs.Registers.{reg};
 ghost use Rattle.nova_calls.specs.SoundCalls.{IsSoundCall};
-ghost use Rattle.nova_model.specs.Hypercalls.{is_built, maker, create_pd, create_ec, schedules, is_scheduled, create_sc, create_pt, create_sm, looked_up, ticks_in, row, asked, or_refuses, hypercall};
+ghost use Rattle.nova_model.specs.Hypercalls.{maker, unless_busy, new_domain, create_pd, create_ec, schedules, is_scheduled, create_sc, create_pt, create_sm, looked_up, ticks_in, row, asked, or_refuses, hypercall};
 ghost use Rattle.nova_model.specs.State.{budget_at, context_at, context, pd_of};
 ghost use Rattle.nova_kernel.specs.Parts.{shown, IsCharged, IsCounted};
 ghost use Rattle.nova_kernel.specs.Acts.{IsAsked};
+ghost use Rattle.nova_kernel.specs.Revoking.{AreRunning};
 
 use crate::capabilities::ObjectType;
 use crate::parts::Parts;
@@ -35,27 +35,6 @@ impl Site {
     }
 }
 
-/// Whether a hypercall of this number is built.
-fn is_built(number: u32) -> bool
-    ensures { result ≡ is_built number }
-{
-    matches!(
-        number,
-        numbers::CALL
-            | numbers::REPLY
-            | numbers::CREATE_PD
-            | numbers::CREATE_EC
-            | numbers::CREATE_SC
-            | numbers::CREATE_PT
-            | numbers::CREATE_SM
-            | numbers::LOOKUP
-            | numbers::EC_CTRL
-            | numbers::SC_CTRL
-            | numbers::PT_CTRL
-            | numbers::SM_CTRL
-    )
-}
-
 /// Whether an object is a scheduling context of an execution context.
 fn schedules(object: &Object, ec: u32) -> bool
     ensures { result ≡ schedules ec object.now }
@@ -84,25 +63,49 @@ impl Parts {
         Ok(owner)
     }
 
+    /// What comes last of the create rules: `Busy` where an execution context of the maker's domain revokes
+    /// an object range that contains the target.
+    fn unless_busy(&self, site: Site, deed: Deed) -> Result<Deed, Status>
+        requires { AreRunning (shown self.now) self.now.revokes }
+        ensures answer { result ≡ unless_busy (shown self.now) site.domain site.target deed }
+        ensures same { IfOk result (λ d. d ≡ deed) }
+    {
+        if self.is_revoked(site.domain, site.target) {
+            return Err(Status::Busy);
+        }
+        Ok(deed)
+    }
+
+    /// A protection domain is made; it goes on where there is a first range to be given.
+    fn new_domain(&self, target: u32, first: Option<(Range, Rights)>) -> Deed
+        requires counted { IsCounted (shown self.now) }
+        requires target { target < 2 ^ 20 }
+        ensures deed { result ≡ new_domain (shown self.now) target first }
+        ensures fits { (ec : ℕ) → IsAsked (shown self.now) ec result }
+    {
+        match first {
+            None => Deed::Makes {
+                call: numbers::CREATE_PD,
+                target,
+                new: NewObject::Pd,
+            },
+            Some(_) => Deed::Opens {
+                target,
+                domain: self.objects.len() as u32,
+            },
+        }
+    }
+
     /// `CREATE_PD`: makes a protection domain, and goes on where there is a first range to be given.
     fn create_pd(&self, site: Site, first: Option<(Range, Rights)>) -> Result<Deed, Status>
         requires counted { IsCounted (shown self.now) }
+        requires running { AreRunning (shown self.now) self.now.revokes }
         requires target { site.target < 2 ^ 20 }
         ensures row { result ≡ create_pd (shown self.now) site.domain site.target site.pd_selector first }
         ensures fits { (ec : ℕ) → IfOk result (IsAsked (shown self.now) ec) }
     {
         self.maker(site)?;
-        Ok(match first {
-            None => Deed::Makes {
-                call: numbers::CREATE_PD,
-                target: site.target,
-                new: NewObject::Pd,
-            },
-            Some(_) => Deed::Opens {
-                target: site.target,
-                domain: self.objects.len() as u32,
-            },
-        })
+        self.unless_busy(site, self.new_domain(site.target, first))
     }
 
     /// `CREATE_EC`: makes an execution context.
@@ -114,7 +117,8 @@ impl Parts {
         sp: u32,
         event: u32,
     ) -> Result<Deed, Status>
-        requires { site.target < 2 ^ 20 }
+        requires target { site.target < 2 ^ 20 }
+        requires running { AreRunning (shown self.now) self.now.revokes }
         ensures row { result ≡ create_ec (shown self.now) site.domain site.target site.pd_selector cpu kind sp event }
         ensures fits { (ec : ℕ) → IfOk result (IsAsked (shown self.now) ec) }
     {
@@ -122,17 +126,20 @@ impl Parts {
         if cpu >= self.cpus {
             return Err(Status::BadCpu);
         }
-        Ok(Deed::Makes {
-            call: numbers::CREATE_EC,
-            target: site.target,
-            new: NewObject::Ec {
-                pd,
-                cpu,
-                kind,
-                sp,
-                event,
+        self.unless_busy(
+            site,
+            Deed::Makes {
+                call: numbers::CREATE_EC,
+                target: site.target,
+                new: NewObject::Ec {
+                    pd,
+                    cpu,
+                    kind,
+                    sp,
+                    event,
+                },
             },
-        })
+        )
     }
 
     /// Whether an execution context has a scheduling context.
@@ -156,7 +163,8 @@ impl Parts {
         quantum: u32,
         priority: u8,
     ) -> Result<Deed, Status>
-        requires { site.target < 2 ^ 20 }
+        requires target { site.target < 2 ^ 20 }
+        requires running { AreRunning (shown self.now) self.now.revokes }
         ensures row { result ≡ create_sc (shown self.now) site.domain site.target site.pd_selector ec_selector quantum priority }
         ensures fits { (ec : ℕ) → IfOk result (IsAsked (shown self.now) ec) }
     {
@@ -170,45 +178,56 @@ impl Parts {
         if self.is_scheduled(ec) {
             return Err(Status::BadCap);
         }
-        Ok(Deed::Makes {
-            call: numbers::CREATE_SC,
-            target: site.target,
-            new: NewObject::Sc {
-                ec,
-                cpu: self.processor(ec),
-                priority,
-                quantum,
+        self.unless_busy(
+            site,
+            Deed::Makes {
+                call: numbers::CREATE_SC,
+                target: site.target,
+                new: NewObject::Sc {
+                    ec,
+                    cpu: self.processor(ec),
+                    priority,
+                    quantum,
+                },
             },
-        })
+        )
     }
 
     /// `CREATE_PT`: makes a portal.
     fn create_pt(&self, site: Site, ec_selector: u32, mtd: u32, ip: u32) -> Result<Deed, Status>
-        requires { site.target < 2 ^ 20 }
+        requires target { site.target < 2 ^ 20 }
+        requires running { AreRunning (shown self.now) self.now.revokes }
         ensures row { result ≡ create_pt (shown self.now) site.domain site.target site.pd_selector ec_selector mtd ip }
         ensures fits { (ec : ℕ) → IfOk result (IsAsked (shown self.now) ec) }
     {
         self.maker(site)?;
         let ec = self.named(site.domain, ObjectType::Local, Rights::BIND_PT, ec_selector)?;
-        Ok(Deed::Makes {
-            call: numbers::CREATE_PT,
-            target: site.target,
-            new: NewObject::Pt { ec, mtd, ip },
-        })
+        self.unless_busy(
+            site,
+            Deed::Makes {
+                call: numbers::CREATE_PT,
+                target: site.target,
+                new: NewObject::Pt { ec, mtd, ip },
+            },
+        )
     }
 
     /// `CREATE_SM`: makes a semaphore.
     fn create_sm(&self, site: Site, count: u32) -> Result<Deed, Status>
-        requires { site.target < 2 ^ 20 }
+        requires target { site.target < 2 ^ 20 }
+        requires running { AreRunning (shown self.now) self.now.revokes }
         ensures row { result ≡ create_sm (shown self.now) site.domain site.target site.pd_selector count }
         ensures fits { (ec : ℕ) → IfOk result (IsAsked (shown self.now) ec) }
     {
         self.maker(site)?;
-        Ok(Deed::Makes {
-            call: numbers::CREATE_SM,
-            target: site.target,
-            new: NewObject::Sm { count },
-        })
+        self.unless_busy(
+            site,
+            Deed::Makes {
+                call: numbers::CREATE_SM,
+                target: site.target,
+                new: NewObject::Sm { count },
+            },
+        )
     }
 
     /// `LOOKUP`: the word of the derivation that covers the base of a range, with its own base, order
@@ -233,10 +252,11 @@ impl Parts {
         }
     }
 
-    /// The rows of the table of hypercalls. One that isn't built yet is `BadHyp`.
+    /// The rows of the table of hypercalls.
     fn row(&self, ec: u32, domain: u32, call: Call) -> Result<Deed, Status>
         requires there { IsSome (context_at (shown self.now) ec) }
         requires counted { IsCounted (shown self.now) }
+        requires running { AreRunning (shown self.now) self.now.revokes }
         requires sound { IsSoundCall call }
         ensures row { result ≡ row (shown self.now) ec domain call }
         ensures fits { IfOk result (IsAsked (shown self.now) ec) }
@@ -272,6 +292,7 @@ impl Parts {
             Call::CreateSm { target, pd, count } => {
                 self.create_sm(Site::new(domain, target, pd), count)
             }
+            Call::Revoke { range, own } => Ok(Deed::Revokes { range, own }),
             Call::Lookup { range } => Ok(Deed::Tells {
                 call: numbers::LOOKUP,
                 value: self.looked_up(domain, range),
@@ -292,21 +313,17 @@ impl Parts {
                 Ok(Deed::Names { pt, identifier })
             }
             Call::SmCtrl { sm, action } => self.sm_ctrl(domain, sm, action),
-            Call::Revoke { .. } => Err(Status::BadHyp),
         }
     }
 
-    /// What the hypercall of a number asks for, in a protection domain.
-    fn asked(&self, ec: u32, domain: u32, number: u32, regs: &Regs) -> Result<Deed, Status>
+    /// What the hypercall of these registers asks for, in a protection domain.
+    fn asked(&self, ec: u32, domain: u32, regs: &Regs) -> Result<Deed, Status>
         requires there { IsSome (context_at (shown self.now) ec) }
         requires counted { IsCounted (shown self.now) }
-        requires number { number ≡ reg regs.now 17 }
+        requires running { AreRunning (shown self.now) self.now.revokes }
         ensures asked { result ≡ asked (shown self.now) ec domain regs.now }
         ensures fits { IfOk result (IsAsked (shown self.now) ec) }
     {
-        if !is_built(number) {
-            return Err(Status::BadHyp);
-        }
         self.row(ec, domain, read_call(regs)?)
     }
 
@@ -314,15 +331,15 @@ impl Parts {
     pub fn hypercall(&self, ec: u32) -> Deed
         requires there { IsSome (context_at (shown self.now) ec) }
         requires counted { IsCounted (shown self.now) }
+        requires running { AreRunning (shown self.now) self.now.revokes }
         ensures deed { result ≡ hypercall (shown self.now) ec (pd_of (shown self.now) ec) (context (shown self.now) ec).regs }
         ensures fits { IsAsked (shown self.now) ec result }
     {
         let regs = &self.contexts.context(ec).regs;
-        let number = regs.get(17);
-        match self.asked(ec, self.pd(ec), number, regs) {
+        match self.asked(ec, self.pd(ec), regs) {
             Ok(deed) => deed,
             Err(status) => Deed::Refuses {
-                call: number,
+                call: regs.get(17),
                 status,
             },
         }

@@ -59,6 +59,7 @@ impl Parts {
         ensures outcome { result ≡ outcome_of (instruction (shown self.old) ec) }
         ensures done { shown self.new ≡ done (shown self.old) ec Steps }
         ensures queues { self.new.queues ≡ self.old.queues }
+        ensures revokes { self.new.revokes ≡ self.old.revokes }
         ensures log { self.old.reach.room ≤ self.new.reach.room + 1 }
         ensures written { self.new.reach.written ≡ written_by (shown self.old) ec }
         ensures raised { (reason q0 q1 : ℕ) → result ≡ Outcome.Raise reason q0 q1 → self.new.reach.room ≡ self.old.reach.room }

@@ -38,8 +38,9 @@ impl Model for Kernel {
     ghost view = { λ k. record { state = shown k.parts; room = k.parts.reach.room } };
 
     ghost use Rattle.nova_kernel.specs.Schedules.{AreQueued};
+    ghost use Rattle.nova_kernel.specs.Revoking.{AreRunning};
 
-    ghost invariant = { λ k. IsCounted (shown k.parts) × AreQueued (shown k.parts) k.parts.queues.all };
+    ghost invariant = { λ k. IsCounted (shown k.parts) × (AreQueued (shown k.parts) k.parts.queues.all × AreRunning (shown k.parts) k.parts.revokes) };
 }
 
 impl Kernel {

@@ -187,6 +187,7 @@ impl Parts {
         requires { ec < length (shown self.old).messages }
         ensures shown { shown self.new ≡ with_message (shown self.old) ec message.now }
         ensures queues { self.new.queues ≡ self.old.queues }
+        ensures revokes { self.new.revokes ≡ self.old.revokes }
         ensures log { self.new.reach.room ≡ self.old.reach.room }
     {
         self.reach.set_message(ec, message);

@@ -1,9 +1,10 @@
-ghost use Rattle.std.specs.Prelude.{◌≡◌, length, option_map, IfOk};
+ghost use Rattle.std.specs.Prelude.{◌≡◌, ◌≤◌, length, option_map, IfOk};
 ghost use Rattle.nova_kernel.specs.Parts.{shown};
 ghost use Rattle.nova_kernel.specs.Views.{semaphore_at};
 
 use crate::guests::Guests;
 use crate::reach::Reach;
+use crate::revokes::Revokes;
 use nova_ec::Ecs;
 use nova_model::Transfer;
 use nova_objects::Objects;
@@ -13,7 +14,8 @@ use std::alloc::AllocError;
 
 /// The parts of a kernel, which a turn changes one by one; `Kernel` shows them as one state. Tables
 /// are by the number of the object: execution contexts, how far they are with the items that they give,
-/// the identifiers of portals, semaphores, and the stir counts of virtual CPUs. Scheduling contexts wait in queues.
+/// the identifiers of portals, semaphores, and the stir counts of virtual CPUs. Scheduling contexts wait in queues,
+/// and the revokes that run are in a list.
 #[derive(Drop)]
 pub struct Parts {
     pub reach: Reach,
@@ -27,6 +29,7 @@ pub struct Parts {
     pub cpus: u32,
     pub stirs: Vec<u64>,
     pub guests: Guests,
+    pub revokes: Revokes,
 }
 
 impl Parts {
@@ -46,6 +49,8 @@ impl Parts {
         ensures shown { IfOk result (λ p. shown p ≡ shown self.now) }
         ensures queues { IfOk result (λ p. p.queues.all ≡ self.now.queues.all) }
         ensures room { IfOk result (λ p. p.reach.room ≡ 0) }
+        ensures revokes { IfOk result (λ p. p.revokes.list ≡ self.now.revokes.list) }
+        ensures places { IfOk result (λ p. length self.now.objects.items ≤ p.revokes.places) }
     {
         Ok(Parts {
             reach: self.reach.copy()?,
@@ -59,6 +64,7 @@ impl Parts {
             cpus: self.cpus,
             stirs: Vec::from_slice(*self.stirs.allocator(), &self.stirs)?,
             guests: self.guests.copy()?,
+            revokes: self.revokes.copy(self.objects.len())?,
         })
     }
 }

@@ -53,6 +53,7 @@ fn is_moving(deed: Deed) -> bool
             | Deed::Steps
             | Deed::Gives { .. }
             | Deed::Skips { .. }
+            | Deed::Removes { .. }
             | Deed::Finishes {
                 after: Sequel::Item,
                 ..
@@ -88,6 +89,7 @@ impl Parts {
         requires { AreQueuedBut (Some cpu) (shown self.old) self.old.queues.all }
         ensures queued { AreQueued (shown self.new) self.new.queues.all }
         ensures shown { shown self.new ≡ shown self.old }
+        ensures revokes { self.new.revokes ≡ self.old.revokes }
         ensures log { self.new.reach.room ≡ self.old.reach.room }
     {
         mark_all(&mut self.queues, &self.objects, &self.contexts, cpu);

@@ -11,14 +11,16 @@ ghost use Rattle.nova_model.specs.Forest.{IsForest};
 ghost use Rattle.nova_model.specs.Transfers.{next_part, given, moved};
 ghost use Rattle.nova_nodes.specs.NodesStates.{IsPlaced, room};
 ghost use Rattle.nova_delegate.specs.Parts.{HasChild, IsUnderWay, MakesChild, done_of};
-ghost use Rattle.nova_kernel.specs.Reach.{never, loaded, reached, selector_range, stored, takes};
+ghost use Rattle.nova_kernel.specs.Reach.{loaded, reached, selector_range, stored, takes};
+ghost use Rattle.nova_kernel.specs.Revoking.{busy_under};
 
 use crate::messages::Messages;
+use crate::revokes::Running;
 use bitflags::Flags;
 use nova_delegate::{PartDone, part};
 use nova_frames::Frames;
 use nova_model::{Derivation, Job, Kind, Page, Rights};
-use nova_nodes::{ListIndex, NoGuard, Nodes};
+use nova_nodes::{ListIndex, Nodes};
 use nova_range::Range;
 use nova_utcb::Utcb;
 use rv_core::bus::Bus;
@@ -240,25 +242,24 @@ impl Reach {
         self.nodes.from_id(id)
     }
 
-    /// Gives the next part of an item. No revoke is in its way yet. It refuses for want of memory
-    /// alone, where a child would be made, and then no derivation has changed.
-    pub fn give(&mut self, job: &mut Job) -> Result<PartDone, AllocError>
+    /// Gives the next part of an item, while these revokes run. It refuses for want of memory alone, where a
+    /// child would be made, and then no derivation has changed.
+    pub fn give(&mut self, job: &mut Job, revokes: &[Running]) -> Result<PartDone, AllocError>
         requires next { self.old.nodes.delegations.next < 2 ^ 32 - 1 }
         requires forest { IsForest self.old.nodes.delegations }
         requires job { IsUnderWay job.old }
-        ensures done { IfOk result (λ r. r ≡ done_of job.old (next_part never self.old.nodes.delegations job.old)) }
-        ensures delegations { OnOk result (self.new.nodes.delegations ≡ given self.old.nodes.delegations (next_part never self.old.nodes.delegations job.old)) }
-        ensures job { OnOk result (job.new ≡ moved job.old (next_part never self.old.nodes.delegations job.old)) }
-        ensures there { OnOk result (HasChild self.new.nodes.delegations (next_part never self.old.nodes.delegations job.old)) }
+        ensures done { IfOk result (λ r. r ≡ done_of job.old (next_part (busy_under revokes.now self.old.nodes.delegations.list) self.old.nodes.delegations job.old)) }
+        ensures delegations { OnOk result (self.new.nodes.delegations ≡ given self.old.nodes.delegations (next_part (busy_under revokes.now self.old.nodes.delegations.list) self.old.nodes.delegations job.old)) }
+        ensures job { OnOk result (job.new ≡ moved job.old (next_part (busy_under revokes.now self.old.nodes.delegations.list) self.old.nodes.delegations job.old)) }
+        ensures there { OnOk result (HasChild self.new.nodes.delegations (next_part (busy_under revokes.now self.old.nodes.delegations.list) self.old.nodes.delegations job.old)) }
         ensures refused { OnErr result (self.new.nodes.delegations ≡ self.old.nodes.delegations) }
-        ensures wanted { OnErr result (MakesChild (next_part never self.old.nodes.delegations job.old)) }
+        ensures wanted { OnErr result (MakesChild (next_part (busy_under revokes.now self.old.nodes.delegations.list) self.old.nodes.delegations job.old)) }
         ensures memory { self.new.memory ≡ self.old.memory }
         ensures messages { self.new.messages ≡ self.old.messages }
         ensures consoles { self.new.consoles ≡ self.old.consoles }
         ensures log { self.new.room ≡ self.old.room }
     {
-        let revokes: [NoGuard; 0] = [];
-        part(&mut self.nodes, job, &revokes)
+        part(&mut self.nodes, job, revokes)
     }
 
     /// What a page leads to through the derivation of the last page, where that covers this one too.

@@ -61,6 +61,7 @@ impl Parts {
         requires woken { woken (semaphore (shown self.old).semaphores sm) ≡ Ok whom }
         ensures ups { shown self.new ≡ performed (shown self.old) ec (Deed.Ups sm whom) }
         ensures queues { self.new.queues ≡ self.old.queues }
+        ensures revokes { self.new.revokes ≡ self.old.revokes }
         ensures log { self.new.reach.room ≡ self.old.reach.room }
     {
         let _ = self.semaphores.up(sm);
@@ -78,6 +79,7 @@ impl Parts {
         requires answer { answer_of (semaphore (shown self.old).semaphores sm) ≡ Down.Done }
         ensures downs { shown self.new ≡ performed (shown self.old) ec (Deed.Downs sm) }
         ensures queues { self.new.queues ≡ self.old.queues }
+        ensures revokes { self.new.revokes ≡ self.old.revokes }
         ensures log { self.new.reach.room ≡ self.old.reach.room }
     {
         self.semaphores.keeps_room();
@@ -92,6 +94,7 @@ impl Parts {
         requires acts { acts (shown self.old).contexts ec ≡ true }
         ensures blocks { shown self.new ≡ performed (shown self.old) ec (Deed.Blocks sm) }
         ensures queues { self.new.queues ≡ self.old.queues }
+        ensures revokes { self.new.revokes ≡ self.old.revokes }
         ensures log { self.new.reach.room ≡ self.old.reach.room }
     {
         self.semaphores.keeps_room();

@@ -1,11 +1,12 @@
 ghost use Rattle.std.specs.Prelude.{◌≡◌, ◌-◌, ◌^◌, ◌<◌, ℕ, false, slice_get, IfSome};
 ghost use Rattle.std.specs.Bool.{OnFalse};
 ghost use Rattle.nova_model.specs.State.{entry};
+ghost use Rattle.nova_model.specs.Views.{is_memory_of};
 ghost use Rattle.nova_kernel.specs.Parts.{shown};
 ghost use Rattle.nova_kernel.specs.Stirs.{is_seen, is_stirring, risen_from, stirs_itself};
 
 use crate::parts::Parts;
-use nova_model::{Deed, Kind, Mark, Sequel};
+use nova_model::{Deed, Derivation, Kind, Mark, Sequel};
 
 /// Whether a deed of a virtual CPU's own is an input from outside: its exit is sent, or it ends.
 fn stirs_itself(deed: Deed) -> bool
@@ -15,6 +16,13 @@ fn stirs_itself(deed: Deed) -> bool
         deed,
         Deed::Sends { .. } | Deed::Dies { .. } | Deed::Aborts { .. }
     )
+}
+
+/// Whether a derivation is memory of a protection domain.
+fn is_memory_of(pd: u32, d: &Derivation) -> bool
+    ensures { result ≡ is_memory_of pd d.now }
+{
+    matches!(d.kind, Kind::Mem) && d.pd == pd
 }
 
 impl Parts {
@@ -48,9 +56,8 @@ impl Parts {
                 after: Sequel::Replied(caller, Mark::Exit),
                 ..
             } => caller == guest,
-            Deed::Gives { child, .. } => {
-                matches!(child.kind, Kind::Mem) && child.pd == self.pd(guest)
-            }
+            Deed::Gives { child, .. } => is_memory_of(self.pd(guest), &child),
+            Deed::Removes { leaf } => is_memory_of(self.pd(guest), &leaf),
             _ => false,
         }
     }
@@ -89,6 +96,7 @@ impl Parts {
           };
         } }
         ensures queues { self.new.queues ≡ self.old.queues }
+        ensures revokes { self.new.revokes ≡ self.old.revokes }
         ensures turns { self.new.turns ≡ self.old.turns }
         ensures cpus { self.new.cpus ≡ self.old.cpus }
         ensures log { self.new.reach.room ≡ self.old.reach.room }

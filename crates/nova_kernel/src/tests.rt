@@ -1,5 +1,7 @@
 ghost use Rattle.std.specs.Prelude.{◌≡◌, ◌+◌, ◌*◌, ◌^◌, ◌<◌, ◌≤◌, length, IfOk, OnOk};
 
+mod nested;
+
 use crate::{EcKind, Kernel, Object, Root};
 use bitflags::Flags;
 use nova_guest::{Guest, GuestState};

@@ -6,6 +6,7 @@ ghost use Rattle.nova_model.specs.Turn.{state_after, answer_of, turn};
 ghost use Rattle.nova_kernel.specs.Views.{IsMaking, turns_taken};
 ghost use Rattle.nova_kernel.specs.Parts.{shown, IsCounted, IsToBeStirred, KeepsCounts};
 ghost use Rattle.nova_kernel.specs.Acts.{Fits, is_step};
+ghost use Rattle.nova_kernel.specs.Revoking.{AreRunning};
 ghost use Rattle.nova_kernel.specs.Schedules.{AreQueued, schedule_after};
 ghost use Rattle.nova_kernel.specs.GuestTables.{numbers_from};
 ghost use Rattle.nova_kernel.specs.Stirs.{is_stirring, risen_in, written_by};
@@ -13,7 +14,7 @@ ghost use Rattle.nova_kernel.specs.Stirs.{is_stirring, risen_in, written_by};
 use crate::doing::is_over;
 use crate::events::{event, sign_of};
 use crate::parts::Parts;
-use nova_laws::turns_keep_what_they_find;
+use nova_laws::{running_revokes_are_their_runners, turns_keep_what_they_find};
 use nova_model::{Deed, EventKind, Turn};
 use std::alloc::AllocError;
 
@@ -25,6 +26,7 @@ impl Parts {
         requires acts { acts (shown self.old).contexts ec ≡ true }
         requires counted { IsCounted (shown self.old) }
         requires queued { AreQueued (shown self.old) self.old.queues.all }
+        requires running { AreRunning (shown self.old) self.old.revokes }
         requires turns { self.old.turns < 2 ^ 31 }
         requires log { 0 < self.old.reach.room }
         ensures deed { IfOk result (λ d. d ≡ deed (shown self.old) ec) }
@@ -32,11 +34,14 @@ impl Parts {
         ensures done { IfOk result (λ d. shown self.new ≡ done (shown self.old) ec d) }
         ensures queues { IfOk result (λ d. self.new.queues.all ≡ schedule_after (shown self.old) ec self.old.queues.all d) }
         ensures refused { OnErr result (self.new.queues.all ≡ self.old.queues.all) }
+        ensures running { IfOk result (λ d. AreRunning (shown self.new) self.new.revokes) }
+        ensures stays { OnErr result (AreRunning (shown self.old) self.new.revokes) }
         ensures memory { OnErr result ((shown self.new ≡ shown self.old) × (self.new.reach.room ≡ self.old.reach.room)) }
         ensures making { OnErr result (is_making (deed (shown self.old) ec) ≡ true) }
         ensures written { IfOk result (λ d. d ≡ Deed.Steps → self.new.reach.written ≡ written_by (shown self.old) ec) }
         ensures log { self.old.reach.room ≤ self.new.reach.room + 1 }
     {
+        running_revokes_are_their_runners();
         let deed = self.decide(ec)?;
         if let Deed::Steps = deed {
             return Ok(Deed::Steps);
@@ -56,11 +61,13 @@ impl Parts {
         requires acts { acts (shown self.old).contexts ec ≡ true }
         requires counted { IsCounted (shown self.old) }
         requires queued { AreQueued (shown self.old) self.old.queues.all }
+        requires running { AreRunning (shown self.old) self.old.revokes }
         requires turns { self.old.turns < 2 ^ 31 }
         requires log { 0 < self.old.reach.room }
         ensures deed { IfOk result (λ d. d ≡ deed (shown self.old) ec) }
         ensures done { IfOk result (λ d. shown self.new ≡ done (shown self.old) ec d) }
         ensures queued { AreQueued (shown self.new) self.new.queues.all }
+        ensures running { AreRunning (shown self.new) self.new.revokes }
         ensures memory { OnErr result ((shown self.new ≡ shown self.old) × (self.new.reach.room ≡ self.old.reach.room)) }
         ensures making { OnErr result (is_making (deed (shown self.old) ec) ≡ true) }
         ensures kept { OnOk result (KeepsCounts (shown self.old) (shown self.new)) }
@@ -99,6 +106,7 @@ impl Parts {
         ensures sign { result ≡ sign_of deed }
         ensures shown { shown self.new ≡ risen_in (shown self.old) (is_stirring (shown self.old) self.old.reach.written ec deed) }
         ensures queues { self.new.queues ≡ self.old.queues }
+        ensures revokes { self.new.revokes ≡ self.old.revokes }
         ensures turns { self.new.turns ≡ self.old.turns }
         ensures cpus { self.new.cpus ≡ self.old.cpus }
         ensures log { self.new.reach.room ≡ self.old.reach.room }
@@ -117,6 +125,7 @@ impl Parts {
     pub fn turn(&mut self, cpu: u32) -> Result<Turn, AllocError>
         requires counted { IsCounted (shown self.old) }
         requires queued { AreQueued (shown self.old) self.old.queues.all }
+        requires running { AreRunning (shown self.old) self.old.revokes }
         requires turns { self.old.turns < 2 ^ 31 }
         requires cpu { cpu < self.old.cpus }
         requires log { 0 < self.old.reach.room }
@@ -126,6 +135,7 @@ impl Parts {
         ensures making { OnErr result (IsMaking (shown self.old) cpu) }
         ensures counted { IsCounted (shown self.new) }
         ensures queued { AreQueued (shown self.new) self.new.queues.all }
+        ensures running { AreRunning (shown self.new) self.new.revokes }
         ensures log { self.old.reach.room ≤ self.new.reach.room + 1 }
         ensures idle { IfOk result (λ t. t ≡ Turn.Idle → self.new.reach.room ≡ self.old.reach.room) }
         ensures turns { IfOk result (λ t. self.new.turns ≡ self.old.turns + turns_taken t) }

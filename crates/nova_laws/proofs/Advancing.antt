@@ -16,7 +16,7 @@ use Rattle.nova_model.specs.declared.context.Mark.TheVariants as mark
 use Rattle.nova_model.specs.declared.context.State.{State}
 use Rattle.nova_model.specs.declared.context.State.TheVariants.{Blocked, Calling, Parked}
 use Rattle.nova_model.specs.declared.deed.Deed.{Deed}
-use Rattle.nova_model.specs.declared.deed.Deed.TheVariants.{Rests, Steps, Raises, Dies, Waits, Sends, Refuses, Makes, Recalls, Tells, Names, Opens, Gives, Skips, Finishes, Calls, Helps, Replies, Aborts, Ups, Downs, Blocks}
+use Rattle.nova_model.specs.declared.deed.Deed.TheVariants.{Rests, Steps, Raises, Dies, Waits, Sends, Refuses, Makes, Recalls, Tells, Names, Opens, Gives, Skips, Finishes, Calls, Helps, Replies, Aborts, Revokes, Removes, Returns, Ups, Downs, Blocks}
 use Rattle.nova_model.specs.declared.transfer.Delivery.{Delivery}
 use Rattle.nova_model.specs.declared.transfer.ItemEnd.{ItemEnd}
 use Rattle.nova_model.specs.declared.transfer.ItemWords.{ItemWords}
@@ -113,6 +113,7 @@ other_state : (k : KernelState) (a e : ℕ) (d : Deed) → Wants k a d → e ≢
 other_state k a e Rests wants other able serves gives = refl
 other_state k a e (Gives child cursor) wants other able serves gives = refl
 other_state k a e (Skips reason place cursor) wants other able serves gives = refl
+other_state k a e (Removes leaf) wants other able serves gives = refl
 other_state k a e Steps wants other able serves gives = stepped_state k a e (instruction k a) other
 other_state k a e (Makes call target made) wants other able serves gives =
     let own = set_other k.contexts a e (changed (context k a) (Makes call target made)) other in
@@ -144,6 +145,8 @@ other_state k a e (Refuses call status) wants other able serves gives = set_othe
 other_state k a e (Tells call value) wants other able serves gives = set_other k.contexts a e _ other
 other_state k a e (Names pt identifier) wants other able serves gives = set_other k.contexts a e _ other
 other_state k a e (Helps handler) wants other able serves gives = set_other k.contexts a e _ other
+other_state k a e (Revokes range own) wants other able serves gives = set_other k.contexts a e _ other
+other_state k a e Returns wants other able serves gives = set_other k.contexts a e _ other
 other_state k a e (Aborts handler mark) wants other able serves gives = set_other k.contexts a e _ other
 
 -- ITS OWN

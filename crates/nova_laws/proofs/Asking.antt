@@ -18,11 +18,13 @@ use Rattle.nova_objects.specs.declared.object.Object.TheVariants.{Pd, Ec, Sc, Pt
 use Rattle.nova_range.specs.declared.range.Range.{Range}
 use Rattle.nova_range.specs.declared.rights.Rights.{Rights}
 use Rattle.nova_range.specs.declared.status.Status.{Status}
-use Rattle.nova_range.specs.declared.status.Status.TheVariants.{BadHyp, BadCap, BadCpu}
+use Rattle.nova_range.specs.declared.status.Status.TheVariants.{BadCap, BadCpu, Busy}
 use Rattle.nova_model.specs.Capabilities.{bind_portal_right, bind_scheduling_right, control_right, create_right, is_ec, is_held, is_local, is_pd, is_pt, is_sc, is_schedulable, named}
 use Rattle.nova_model.specs.Deeds.{deed, deed_in, ready, signalled, stepping}
 use Rattle.nova_model.specs.Forest.{IsForest}
-use Rattle.nova_model.specs.Hypercalls.{and_then, create_sc, hypercall, is_built, is_scheduled, maker, makes, new_domain, or_refuses, row, schedules, ticks_in, unless}
+use Rattle.nova_model.specs.Hypercalls.{and_then, create_sc, hypercall, is_scheduled, maker, makes, new_domain, or_refuses, row, schedules, ticks_in, unless, unless_busy}
+use Rattle.nova_model.specs.Revokes.{Revocation}
+use Rattle.nova_model.specs.Running.{is_revoked}
 use Rattle.nova_model.specs.State.{KernelState, budget_at, context, pd_of, processor_in, processor_of}
 use Rattle.nova_model.specs.declared.deed.Deed.{Deed}
 use Rattle.nova_model.specs.declared.deed.Deed.TheVariants.{Makes, Names, Recalls, Tells}
@@ -30,9 +32,9 @@ use Rattle.nova_model.specs.declared.delegation.Derivation.{Derivation}
 use Rattle.nova_model.specs.declared.new_object.NewObject.{NewObject}
 use Rattle.nova_model.specs.declared.new_object.NewObject.TheVariants as new
 use Rattle.nova_forest.proofs.Walk.{IfDone, deed_holds, sm_ctrl_holds}
-use Rattle.nova_laws.specs.Asked.{AsksSchedule, HoldsAt, IsCalling, IsHeldAt}
-use Rattle.nova_laws.proofs.Holding.{IsNamedAt, free_from, from_free, named_at, named_is}
-use Rattle.nova_laws.proofs.Rows.{call_holds, named_holds, reply_holds}
+use Rattle.nova_laws.specs.Asked.{AsksSchedule, HoldsAt, IsCalling, IsHeldAt, IsRevokedAt}
+use Rattle.nova_laws.proofs.Holding.{IsNamedAt, free_from, from_free, from_idle, idle_from, named_at, named_is}
+use Rattle.nova_laws.proofs.Rows.{call_holds, named_holds, reply_holds, create_pd_holds}
 
 -- WITHOUT A SCHEDULING CONTEXT
 
@@ -172,15 +174,20 @@ AsAsked k domain r other = Unit {0}
 
 -- what holds of each object that a row makes
 makes_each : (P : Deed → Type 0) (k : KernelState) (domain number target pd : ℕ) (made : ℕ → Result NewObject Status) →
-    ((owner : ℕ) → maker k domain target pd ≡ Ok owner → IfDone (λ m. P (Makes number target m)) (made owner)) → IfDone P (makes k domain number target pd made)
+    ((owner : ℕ) → maker k domain target pd ≡ Ok owner → is_revoked k domain target ≡ false → IfDone (λ m. P (Makes number target m)) (made owner)) →
+    IfDone P (makes k domain number target pd made)
 makes_each P k domain number target pd made h = by_owner (maker k domain target pd) refl
   where
-    by_new : (r : Result NewObject Status) → IfDone (λ m. P (Makes number target m)) r → IfDone P (and_then r (λ m. Ok (Makes number target m)))
-    by_new (Ok m) holds = holds
-    by_new (Err status) holds = tt
+    by_new : (t : Bool) → is_revoked k domain target ≡ t → (r : Result NewObject Status) →
+        (is_revoked k domain target ≡ false → IfDone (λ m. P (Makes number target m)) r) → IfDone P (and_then r (λ m. unless t Busy (Ok (Makes number target m))))
+    by_new true is (Ok m) holds = tt
+    by_new true is (Err status) holds = tt
+    by_new false is (Ok m) holds = holds is
+    by_new false is (Err status) holds = tt
 
-    by_owner : (owner : Result ℕ Status) → maker k domain target pd ≡ owner → IfDone P (and_then owner (λ o. and_then (made o) (λ m. Ok (Makes number target m))))
-    by_owner (Ok o) is = by_new (made o) (h o is)
+    by_owner : (owner : Result ℕ Status) → maker k domain target pd ≡ owner →
+        IfDone P (and_then owner (λ o. and_then (made o) (λ m. unless_busy k domain target (Makes number target m))))
+    by_owner (Ok o) is = by_new (is_revoked k domain target) refl (made o) (h o is)
     by_owner (Err status) is = tt
 
 -- the maker's rules
@@ -198,9 +205,9 @@ maker_is k domain target pd owner is = by_named (named k domain is_pd create_rig
     by_named (Ok x) named false held same = record { named = named ∙ same; free = held }
 
 schedule_asked : (k : KernelState) (domain : ℕ) (r : Registers) (target pd its quantum priority owner : ℕ) → IsRead r target pd its quantum priority → IsMaker k domain target pd owner →
-    IfDone (λ m. AsAsked k domain r (Makes CREATE_SC target m))
+    is_revoked k domain target ≡ false → IfDone (λ m. AsAsked k domain r (Makes CREATE_SC target m))
     (and_then (named k domain is_schedulable bind_scheduling_right its) (λ ec. unless (is_scheduled k ec) BadCap (Ok (new.Sc ec (processor_of k ec) priority quantum))))
-schedule_asked k domain r target pd its quantum priority owner read m =
+schedule_asked k domain r target pd its quantum priority owner read m idle =
     by_named (named k domain is_schedulable bind_scheduling_right its) (named_at k domain is_schedulable bind_scheduling_right its)
   where
     by_alone : (ec : ℕ) → IsNamedAt k domain its bind_scheduling_right is_schedulable ec → (t : Bool) → is_scheduled k ec ≡ t →
@@ -215,6 +222,7 @@ schedule_asked k domain r target pd its quantum priority owner read m =
             place = read.place;
             below = read.places.0;
             free = free_from k domain target m.free;
+            idle = idle_from k domain target idle;
             owner = owner;
             creator = subst (λ (s : ℕ). HoldsAt k domain s create_right owner) (sym read.creator) (creator.holds read.places.1);
             opened = domain_there (slice_get k.objects owner) creator.object;
@@ -254,15 +262,16 @@ row_asked : (k : KernelState) (ec domain : ℕ) (r : Registers) (c : Call) → c
 row_asked k ec domain r (asks.Call portal flag) is = call_holds (AsAsked k domain r) k ec domain portal flag (λ pt sends. tt) (λ pt helps. tt)
 row_asked k ec domain r asks.Reply is = reply_holds (AsAsked k domain r) k ec (λ caller mark replies. tt)
 row_asked k ec domain r (asks.CreatePd target pd first) is =
-    named_holds (AsAsked k domain r) (maker k domain target pd) (λ owner. new_domain k target first) (λ owner. opens_asked k domain r target first)
+    create_pd_holds (AsAsked k domain r) k domain target pd first (opens_asked k domain r target first)
 row_asked k ec domain r (asks.CreateEc target pd cpu kind sp event) is =
-    makes_each (AsAsked k domain r) k domain CREATE_EC target pd _ (λ owner m. context_asked k domain r target owner cpu kind sp event (not (nat_lt cpu k.cpus)))
+    makes_each (AsAsked k domain r) k domain CREATE_EC target pd _ (λ owner m idle. context_asked k domain r target owner cpu kind sp event (not (nat_lt cpu k.cpus)))
 row_asked k ec domain r (asks.CreateSc target pd its quantum priority) is =
     makes_each (AsAsked k domain r) k domain CREATE_SC target pd _
-    (λ owner m. schedule_asked k domain r target pd its quantum priority owner (call_read r target pd its quantum priority is) (maker_is k domain target pd owner m))
+    (λ owner m idle.
+    schedule_asked k domain r target pd its quantum priority owner (call_read r target pd its quantum priority is) (maker_is k domain target pd owner m) idle)
 row_asked k ec domain r (asks.CreatePt target pd handler mtd ip) is =
-    makes_each (AsAsked k domain r) k domain CREATE_PT target pd _ (λ owner m. portal_asked k domain r target mtd.0 ip (named k domain is_local bind_portal_right handler))
-row_asked k ec domain r (asks.CreateSm target pd count) is = makes_each (AsAsked k domain r) k domain CREATE_SM target pd (λ o. Ok (new.Sm count)) (λ owner m. tt)
+    makes_each (AsAsked k domain r) k domain CREATE_PT target pd _ (λ owner m idle. portal_asked k domain r target mtd.0 ip (named k domain is_local bind_portal_right handler))
+row_asked k ec domain r (asks.CreateSm target pd count) is = makes_each (AsAsked k domain r) k domain CREATE_SM target pd (λ o. Ok (new.Sm count)) (λ owner m idle. tt)
 row_asked k ec domain r (asks.EcCtrl other) is = named_holds (AsAsked k domain r) (named k domain is_ec control_right other) (λ n. Recalls n) (λ n. tt)
 row_asked k ec domain r (asks.ScCtrl sc) is = named_holds (AsAsked k domain r) (named k domain is_sc control_right sc) (λ n. Tells SC_CTRL (ticks_in (budget_at k n))) (λ n. tt)
 row_asked k ec domain r (asks.PtCtrl pt identifier) is = named_holds (AsAsked k domain r) (named k domain is_pt control_right pt) (λ n. Names n identifier) (λ n. tt)
@@ -281,6 +290,8 @@ deed_asked k ec =
       waits = λ pt reason q0 q1 is. tt;
       sends = λ pt reason q0 q1 is. tt;
       aborts = λ handler is. tt;
+      removes = λ range own leaf is next. tt;
+      returns = λ range own is next. tt;
       rows = λ asks c is. row_asked k ec (pd_of k ec) (context k ec).regs c is;
     })
     (record { gives = λ d x g. tt; skips = λ d reason place is. tt; finishes = λ v end answer present is. tt })
@@ -292,35 +303,33 @@ made_as_asked k caller number target ec cpu priority quantum is = subst (AsAsked
 -- WHAT IS ASKED FOR IS MADE
 
 created : (k : KernelState) (domain target pd its quantum priority owner ec : ℕ) → named k domain is_pd create_right pd ≡ Ok owner → is_held k domain target ≡ false →
-    named k domain is_schedulable bind_scheduling_right its ≡ Ok ec → is_scheduled k ec ≡ false →
+    named k domain is_schedulable bind_scheduling_right its ≡ Ok ec → is_scheduled k ec ≡ false → is_revoked k domain target ≡ false →
     create_sc k domain target pd its quantum priority ≡ Ok (Makes CREATE_SC target (new.Sc ec (processor_of k ec) priority quantum))
-created k domain target pd its quantum priority owner ec creator free binder alone =
+created k domain target pd its quantum priority owner ec creator free binder alone idle =
     by_parts (named k domain is_pd create_right pd) (is_held k domain target) (named k domain is_schedulable bind_scheduling_right its) creator free binder
   where
-    by_alone : (t : Bool) → t ≡ false →
-        and_then (unless t BadCap (Ok (new.Sc ec (processor_of k ec) priority quantum))) (λ m. Ok (Makes CREATE_SC target m))
+    by_alone : (t v : Bool) → t ≡ false → v ≡ false →
+        and_then (unless t BadCap (Ok (new.Sc ec (processor_of k ec) priority quantum))) (λ m. unless v Busy (Ok (Makes CREATE_SC target m)))
         ≡ Ok (Makes CREATE_SC target (new.Sc ec (processor_of k ec) priority quantum))
-    by_alone true is = absurd (cc)
-    by_alone false is = refl
+    by_alone true v is none = absurd (cc)
+    by_alone false true is none = absurd (cc)
+    by_alone false false is none = refl
 
     by_parts : (c : Result ℕ Status) (t : Bool) (b : Result ℕ Status) → c ≡ Ok owner → t ≡ false → b ≡ Ok ec →
         and_then (and_then c (λ o. unless t BadCap (Ok o))) (λ o. and_then (and_then b (λ e. unless (is_scheduled k e) BadCap (Ok (new.Sc e (processor_of k e) priority quantum))))
-        (λ m. Ok (Makes CREATE_SC target m)))
+        (λ m. unless_busy k domain target (Makes CREATE_SC target m)))
         ≡ Ok (Makes CREATE_SC target (new.Sc ec (processor_of k ec) priority quantum))
     by_parts (Err status) t b c_is t_is b_is = absurd (cc)
     by_parts c true b c_is t_is b_is = absurd (cc)
     by_parts c t (Err status) c_is t_is b_is = absurd (cc)
     by_parts (Ok o) false (Ok e) c_is t_is b_is =
         let same : e ≡ ec = cc in
-        subst (λ (x : ℕ). and_then (unless (is_scheduled k x) BadCap (Ok (new.Sc x (processor_of k x) priority quantum))) (λ m. Ok (Makes CREATE_SC target m))
-        ≡ Ok (Makes CREATE_SC target (new.Sc ec (processor_of k ec) priority quantum))) (sym same) (by_alone (is_scheduled k ec) alone)
+        subst (λ (x : ℕ). and_then (unless (is_scheduled k x) BadCap (Ok (new.Sc x (processor_of k x) priority quantum))) (λ m. unless_busy k domain target (Makes CREATE_SC target m))
+        ≡ Ok (Makes CREATE_SC target (new.Sc ec (processor_of k ec) priority quantum))) (sym same) (by_alone (is_scheduled k ec) (is_revoked k domain target) alone idle)
 
-asked_is : (k : KernelState) (caller domain : ℕ) (r : Registers) (c : Call) (d : Deed) → reg r 17 ≡ CREATE_SC → call_of r ≡ Ok c → row k caller domain c ≡ Ok d →
+asked_is : (k : KernelState) (caller domain : ℕ) (r : Registers) (c : Call) (d : Deed) → call_of r ≡ Ok c → row k caller domain c ≡ Ok d →
     hypercall k caller domain r ≡ d
-asked_is k caller domain r c d number read gives =
-    ap (or_refuses (reg r 17)) (
-    ap (λ (n : ℕ). if is_built n then and_then (call_of r) (row k caller domain) else Err BadHyp) number
-    ∙ ap (λ (o : Result Call Status). and_then o (row k caller domain)) read ∙ gives)
+asked_is k caller domain r c d read gives = ap (or_refuses (reg r 17)) (ap (λ (o : Result Call Status). and_then o (row k caller domain)) read ∙ gives)
 
 pub asked_is_made : (k : KernelState) (caller domain : ℕ) (r : Registers) (target ec cpu priority quantum : ℕ) → IsForest k.delegations →
     AsksSchedule k domain r target ec cpu priority quantum → hypercall k caller domain r ≡ Makes CREATE_SC target (new.Sc ec cpu priority quantum)
@@ -336,8 +345,9 @@ asked_is_made k caller domain r target ec cpu priority quantum forest a =
     (named_is k domain is_pd create_right (reg r 11) a.owner Pd forest a.creator a.opened refl)
     (from_free k domain (reg r 10) (subst (λ (s : ℕ). (d : Derivation) → IsHeldAt k domain s d → ⊥) (sym a.place) a.free))
     (named_is k domain is_schedulable bind_scheduling_right (reg r 12) ec (Ec a.pd cpu a.kind a.event) forest a.binder a.object (schedulable_is a.pd cpu a.event a.kind a.schedulable))
-    (none_scheduled k.objects ec a.alone) in
-    asked_is k caller domain r (asks.CreateSc (reg r 10) (reg r 11) (reg r 12) (reg r 13 / 2 ^ 8) (reg r 13 % 2 ^ 8)) _ a.call (read_call r _ a.call read) makes
+    (none_scheduled k.objects ec a.alone)
+    (from_idle k domain (reg r 10) (subst (λ (s : ℕ). (x : Revocation) → IsRevokedAt k domain s x → ⊥) (sym a.place) a.idle)) in
+    asked_is k caller domain r (asks.CreateSc (reg r 10) (reg r 11) (reg r 12) (reg r 13 / 2 ^ 8) (reg r 13 % 2 ^ 8)) _ (read_call r _ a.call read) makes
     ∙ ap (λ (t : ℕ). Makes CREATE_SC t (new.Sc ec (processor_of k ec) (reg r 13 % 2 ^ 8) (reg r 13 / 2 ^ 8))) a.place
     ∙ ap (λ (c : ℕ). Makes CREATE_SC target (new.Sc ec c (reg r 13 % 2 ^ 8) (reg r 13 / 2 ^ 8))) here
     ∙ ap (λ (x : ℕ). Makes CREATE_SC target (new.Sc ec cpu x (reg r 13 / 2 ^ 8))) p

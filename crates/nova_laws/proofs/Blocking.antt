@@ -18,7 +18,7 @@ use Rattle.nova_model.specs.declared.context.Mark.TheVariants as mark
 use Rattle.nova_model.specs.declared.context.State.{State}
 use Rattle.nova_model.specs.declared.context.State.TheVariants.{Blocked, Calling, Granting, Parked, Ready}
 use Rattle.nova_model.specs.declared.deed.Deed.{Deed}
-use Rattle.nova_model.specs.declared.deed.Deed.TheVariants.{Rests, Steps, Raises, Dies, Waits, Sends, Refuses, Makes, Recalls, Tells, Names, Opens, Gives, Skips, Finishes, Calls, Helps, Replies, Aborts, Ups, Downs, Blocks}
+use Rattle.nova_model.specs.declared.deed.Deed.TheVariants.{Rests, Steps, Raises, Dies, Waits, Sends, Refuses, Makes, Recalls, Tells, Names, Opens, Gives, Skips, Finishes, Calls, Helps, Replies, Aborts, Revokes, Removes, Returns, Ups, Downs, Blocks}
 use Rattle.nova_model.specs.declared.new_object.NewObject.{NewObject}
 use Rattle.nova_model.specs.declared.new_object.NewObject.TheVariants as new
 use Rattle.nova_model.specs.declared.root.Root.{Root}
@@ -337,6 +337,9 @@ done_blocked k ec (Replies caller mark.Call false) actor asks tables served h = 
 done_blocked k ec (Replies caller mark.Exit false) actor asks tables served h = replies (is_local_thread k) k.contexts k.semaphores ec caller mark.Exit _ actor asks served h
 done_blocked k ec (Aborts handler mark.Call) actor asks tables served h = owns k ec _ actor refl h
 done_blocked k ec (Aborts handler mark.Exit) actor asks tables served h = owns k ec _ actor refl h
+done_blocked k ec (Revokes range own) actor asks tables served h = owns k ec _ actor refl h
+done_blocked k ec (Removes leaf) actor asks tables served h = h
+done_blocked k ec Returns actor asks tables served h = owns k ec _ actor refl h
 done_blocked k ec (Ups sm whom) actor asks tables served h = upped_settled k ec sm whom actor asks.1 h
 done_blocked k ec (Downs sm) actor asks tables served h = downs k.contexts k.semaphores sm ec _ (ap is_some actor.there) actor.unblocked refl asks.1 h
 done_blocked k ec (Blocks sm) actor asks tables served h =

@@ -15,12 +15,13 @@ use Rattle.nova_utcb.specs.Messages.{has_counts}
 use Rattle.nova_model.specs.Calls.{admitted}
 use Rattle.nova_model.specs.Capabilities.{call_right, control_right, is_ec, is_sc, is_pt, named}
 use Rattle.nova_model.specs.Choice.{Candidate, actor, candidate_with, candidate_of, candidates_from, candidates, choice, in_front}
-use Rattle.nova_model.specs.Deeds.{deed, deed_in}
+use Rattle.nova_model.specs.Deeds.{deed, deed_in, removes}
 use Rattle.nova_model.specs.Deliveries.{delivered, delivers, delivery, delivery_between, first_delivery, given_to, taken_from, told_by}
 use Rattle.nova_model.specs.Edges.{acts, acts_as, acts_by, edge_of, state_in}
 use Rattle.nova_model.specs.Exits.{raised_exit}
-use Rattle.nova_model.specs.Hypercalls.{and_then, called, maker, new_domain, replied, row, ticks_in}
+use Rattle.nova_model.specs.Hypercalls.{and_then, called, new_domain, replied, row, ticks_in}
 use Rattle.nova_model.specs.Portals.{handler_of}
+use Rattle.nova_model.specs.Revokes.{next_leaf}
 use Rattle.nova_model.specs.State.{KernelState, budget_at, context, context_in, ec_in, is_local_thread, message, pd_of, transfer}
 use Rattle.nova_model.specs.declared.admit.Admit.{Admit}
 use Rattle.nova_model.specs.declared.admit.Admit.TheVariants as admit
@@ -28,14 +29,15 @@ use Rattle.nova_model.specs.declared.budget.Budget.{Budget}
 use Rattle.nova_model.specs.declared.context.EcState.{EcState}
 use Rattle.nova_model.specs.declared.context.Mark.{Mark}
 use Rattle.nova_model.specs.declared.context.State.{State}
-use Rattle.nova_model.specs.declared.context.State.TheVariants.{Fresh, Ready, Parked, Calling, Helping, Exiting, Sending, Granting, Replying, Blocked, Dead}
+use Rattle.nova_model.specs.declared.context.State.TheVariants.{Fresh, Ready, Parked, Calling, Helping, Exiting, Sending, Granting, Replying, Revoking, Blocked, Dead}
 use Rattle.nova_model.specs.declared.deed.Deed.{Deed}
 use Rattle.nova_model.specs.declared.deed.Deed.TheVariants.{Rests, Recalls, Tells, Names}
+use Rattle.nova_model.specs.declared.delegation.Derivation.{Derivation}
 use Rattle.nova_model.specs.declared.new_object.NewObject.TheVariants.{Sm}
 use Rattle.nova_model.specs.declared.transfer.Delivery.{Delivery}
 use Rattle.nova_model.specs.declared.transfer.Sequel.TheVariants as sequel
 use Rattle.nova_laws.specs.Links.{IsWell, is_giving}
-use Rattle.nova_laws.proofs.Rows.{makes_hold, named_holds, unless_holds}
+use Rattle.nova_laws.proofs.Rows.{makes_hold, named_holds, unless_holds, create_pd_holds}
 use Rattle.nova_forest.proofs.Walk.{Holds, IfDone, asking_holds, delivered_holds, exits_holds, is_asking, ready_holds, sm_ctrl_holds}
 
 -- WHO IS CHOSEN ACTS
@@ -109,7 +111,7 @@ row_does k ec domain (call.Call portal flag) =
     unless_holds Does (not (has_counts (message k ec))) BadPar _ (called_does k ec flag (named k domain is_pt call_right portal))
 row_does k ec domain call.Reply =
     unless_holds Does (not (is_local_thread k ec)) BadPar _ (unless_holds Does (not (has_counts (message k ec))) BadPar _ (replied_does k ec (context k ec).caller))
-row_does k ec domain (call.CreatePd target pd first) = named_holds Does (maker k domain target pd) (λ owner. new_domain k target first) (λ owner. opens_does k target first)
+row_does k ec domain (call.CreatePd target pd first) = create_pd_holds Does k domain target pd first (opens_does k target first)
 row_does k ec domain (call.CreateEc target pd cpu kind sp event) = makes_hold Does CREATE_EC target (λ made. refl) k domain pd _
 row_does k ec domain (call.CreateSc target pd whose quantum priority) = makes_hold Does CREATE_SC target (λ made. refl) k domain pd _
 row_does k ec domain (call.CreatePt target pd handler mtd ip) = makes_hold Does CREATE_PT target (λ made. refl) k domain pd _
@@ -119,7 +121,7 @@ row_does k ec domain (call.EcCtrl whose) = named_holds Does (named k domain is_e
 row_does k ec domain (call.ScCtrl sc) = named_holds Does (named k domain is_sc control_right sc) (λ n. Tells SC_CTRL (ticks_in (budget_at k n))) (λ n. refl)
 row_does k ec domain (call.PtCtrl pt identifier) = named_holds Does (named k domain is_pt control_right pt) (λ n. Names n identifier) (λ n. refl)
 row_does k ec domain (call.SmCtrl sm action) = sm_ctrl_holds Does k domain sm action (λ n whom is wakes. refl) (λ n is answers. refl) (λ n is answers. refl)
-row_does k ec domain other = tt
+row_does k ec domain (call.Revoke range own) = refl
 
 own_does : (k : KernelState) (ec : ℕ) → Holds Does k ec
 own_does k ec = record {
@@ -130,6 +132,8 @@ own_does k ec = record {
   waits = λ pt reason q0 q1 is. refl;
   sends = λ pt reason q0 q1 is. refl;
   aborts = λ handler is. refl;
+  removes = λ range own leaf is next. refl;
+  returns = λ range own is next. refl;
   rows = λ asks c read. row_does k ec (pd_of k ec) c;
 }
 
@@ -149,6 +153,10 @@ replying_does k ec None is keeps some = absurd (cc)
 replying_does k ec (Some (caller, mark)) is keeps some =
     item_does k ec (delivery_between k ec caller (transfer k ec).item (told_by caller mark) (sequel.Replied caller mark)) (ap (delivery k ec) is ∙ ap (given_to k ec (transfer k ec).item) keeps)
 
+removes_does : (o : Option Derivation) → Does (removes o)
+removes_does None = refl
+removes_does (Some leaf) = refl
+
 state_does : (k : KernelState) (ec : ℕ) (s : State) → (context k ec).state ≡ s → acts_by s (option_and_then (state_in k.contexts) (edge_of s)) ≡ true →
     (is_giving (Some s) ≡ true → IsSome (context k ec).caller) → Does (deed_in k ec s)
 state_does k ec Fresh is acts giving = refl
@@ -161,6 +169,7 @@ state_does k ec (Sending reason q0 q1 h) is acts giving = exits_holds Does k ec 
 state_does k ec (Granting None) is acts giving = taking_does k ec (context k ec).caller is refl (giving refl)
 state_does k ec (Granting (Some new)) is acts giving = item_does k ec (first_delivery k ec new) (ap (delivery k ec) is)
 state_does k ec Replying is acts giving = replying_does k ec (context k ec).caller is refl (giving refl)
+state_does k ec (Revoking range own) is acts giving = removes_does (next_leaf (record { pd = pd_of k ec; range = range; own = own }) k.delegations)
 state_does k ec (Blocked sm) is acts giving = absurd (cc)
 state_does k ec Dead is acts giving = absurd (cc)
 

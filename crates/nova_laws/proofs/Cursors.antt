@@ -9,7 +9,7 @@ use Rattle.nova_model.specs.State.{KernelState, ec_in, entry, transfer, transfer
 use Rattle.nova_model.specs.Turn.{answer_of, event_of, turn, turn_by}
 use Rattle.nova_model.specs.Choice.{Candidate}
 use Rattle.nova_model.specs.declared.deed.Deed.{Deed}
-use Rattle.nova_model.specs.declared.deed.Deed.TheVariants.{Rests, Steps, Raises, Dies, Waits, Sends, Refuses, Makes, Recalls, Tells, Names, Opens, Gives, Skips, Finishes, Calls, Helps, Replies, Aborts, Ups, Downs, Blocks}
+use Rattle.nova_model.specs.declared.deed.Deed.TheVariants.{Rests, Steps, Raises, Dies, Waits, Sends, Refuses, Makes, Recalls, Tells, Names, Opens, Gives, Skips, Finishes, Calls, Helps, Replies, Aborts, Revokes, Removes, Returns, Ups, Downs, Blocks}
 use Rattle.nova_model.specs.declared.delegation.Derivation.{Derivation}
 use Rattle.nova_model.specs.declared.event.Event.{Event}
 use Rattle.nova_model.specs.declared.event.EventKind.TheVariants.{Made, Skip}
@@ -83,6 +83,9 @@ made (Helps handler) tells = absurd cc
 made (Replies caller mark true) tells = absurd cc
 made (Replies caller mark false) tells = absurd cc
 made (Aborts handler mark) tells = absurd cc
+made (Revokes range own) tells = absurd cc
+made (Removes leaf) tells = absurd cc
+made Returns tells = absurd cc
 made (Ups sm whom) tells = absurd cc
 made (Downs sm) tells = absurd cc
 made (Blocks sm) tells = absurd cc
@@ -118,6 +121,9 @@ skips (Helps handler) tells part = absurd cc
 skips (Replies caller mark true) tells part = absurd cc
 skips (Replies caller mark false) tells part = absurd cc
 skips (Aborts handler mark) tells part = absurd cc
+skips (Revokes range own) tells part = absurd cc
+skips (Removes leaf) tells part = absurd cc
+skips Returns tells part = absurd cc
 skips (Ups sm whom) tells part = absurd cc
 skips (Downs sm) tells part = absurd cc
 skips (Blocks sm) tells part = absurd cc

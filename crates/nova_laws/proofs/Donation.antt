@@ -20,7 +20,7 @@ use Rattle.nova_model.specs.declared.context.Mark.{Mark}
 use Rattle.nova_model.specs.declared.context.Mark.TheVariants as mark
 use Rattle.nova_model.specs.declared.context.State.TheVariants.{Blocked, Calling, Granting, Ready}
 use Rattle.nova_model.specs.declared.deed.Deed.{Deed}
-use Rattle.nova_model.specs.declared.deed.Deed.TheVariants.{Rests, Steps, Raises, Dies, Waits, Sends, Refuses, Makes, Recalls, Tells, Names, Opens, Gives, Skips, Finishes, Calls, Helps, Replies, Aborts, Ups, Downs, Blocks}
+use Rattle.nova_model.specs.declared.deed.Deed.TheVariants.{Rests, Steps, Raises, Dies, Waits, Sends, Refuses, Makes, Recalls, Tells, Names, Opens, Gives, Skips, Finishes, Calls, Helps, Replies, Aborts, Revokes, Removes, Returns, Ups, Downs, Blocks}
 use Rattle.nova_model.specs.declared.new_object.NewObject.{NewObject}
 use Rattle.nova_model.specs.declared.new_object.NewObject.TheVariants as new
 use Rattle.nova_model.specs.declared.transfer.ItemWords.{ItemWords}
@@ -152,6 +152,9 @@ done_edges k ec (Replies caller mark.Call false) actor asks fits sound = replied
 done_edges k ec (Replies caller mark.Exit false) actor asks fits sound = replied_edges k ec caller mark.Exit _ actor asks fits sound
 done_edges k ec (Aborts handler mark.Call) actor asks fits sound = free_on k.contexts ec _ (ap is_some actor.there) refl refl sound
 done_edges k ec (Aborts handler mark.Exit) actor asks fits sound = free_on k.contexts ec _ (ap is_some actor.there) refl refl sound
+done_edges k ec (Revokes range own) actor asks fits sound = free_on k.contexts ec _ (ap is_some actor.there) refl refl sound
+done_edges k ec (Removes leaf) actor asks fits sound = sound
+done_edges k ec Returns actor asks fits sound = free_on k.contexts ec _ (ap is_some actor.there) refl refl sound
 done_edges k ec (Ups sm whom) actor asks fits sound = upped_edges k ec sm whom actor asks.1 fits sound
 done_edges k ec (Downs sm) actor asks fits sound = free_on k.contexts ec _ (ap is_some actor.there) refl refl sound
 done_edges k ec (Blocks sm) actor asks fits sound = free_on k.contexts ec _ (ap is_some actor.there) refl refl sound

@@ -12,7 +12,7 @@ use Rattle.nova_model.specs.Turn.{event_of, answer_of, turn, turn_by}
 use Rattle.nova_model.specs.declared.context.State.{State}
 use Rattle.nova_model.specs.declared.context.State.TheVariants.{Granting, Replying}
 use Rattle.nova_model.specs.declared.deed.Deed.{Deed}
-use Rattle.nova_model.specs.declared.deed.Deed.TheVariants.{Rests, Steps, Raises, Dies, Waits, Sends, Refuses, Makes, Recalls, Tells, Names, Opens, Gives, Skips, Finishes, Calls, Helps, Replies, Aborts, Ups, Downs, Blocks}
+use Rattle.nova_model.specs.declared.deed.Deed.TheVariants.{Rests, Steps, Raises, Dies, Waits, Sends, Refuses, Makes, Recalls, Tells, Names, Opens, Gives, Skips, Finishes, Calls, Helps, Replies, Aborts, Revokes, Removes, Returns, Ups, Downs, Blocks}
 use Rattle.nova_model.specs.declared.event.Event.{Event}
 use Rattle.nova_model.specs.declared.event.EventKind.TheVariants.{Ended}
 use Rattle.nova_model.specs.declared.event.Turn.TheVariants.{Stepped}
@@ -60,6 +60,8 @@ deed_ends k ec =
       waits = λ pt reason q0 q1 is. tt;
       sends = λ pt reason q0 q1 is. tt;
       aborts = λ handler is. tt;
+      removes = λ range own leaf is next. tt;
+      returns = λ range own is next. tt;
       rows = λ asks c read. done_weaker IsWhole (EndsAs k ec) (row k ec (pd_of k ec) c) (whole_ends k ec) (row_whole k ec (pd_of k ec) c);
     })
     (record {
@@ -99,6 +101,9 @@ ends (Helps handler) tells = absurd cc
 ends (Replies caller mark true) tells = absurd cc
 ends (Replies caller mark false) tells = absurd cc
 ends (Aborts handler mark) tells = absurd cc
+ends (Revokes range own) tells = absurd cc
+ends (Removes leaf) tells = absurd cc
+ends Returns tells = absurd cc
 ends (Ups sm whom) tells = absurd cc
 ends (Downs sm) tells = absurd cc
 ends (Blocks sm) tells = absurd cc

@@ -23,7 +23,7 @@ use Rattle.nova_model.specs.declared.context.Mark.TheVariants as mark
 use Rattle.nova_model.specs.declared.context.State.{State}
 use Rattle.nova_model.specs.declared.context.State.TheVariants.{Calling, Fresh, Granting, Ready}
 use Rattle.nova_model.specs.declared.deed.Deed.{Deed}
-use Rattle.nova_model.specs.declared.deed.Deed.TheVariants.{Rests, Steps, Raises, Dies, Waits, Sends, Refuses, Makes, Recalls, Tells, Names, Opens, Gives, Skips, Finishes, Calls, Helps, Replies, Aborts, Ups, Downs, Blocks}
+use Rattle.nova_model.specs.declared.deed.Deed.TheVariants.{Rests, Steps, Raises, Dies, Waits, Sends, Refuses, Makes, Recalls, Tells, Names, Opens, Gives, Skips, Finishes, Calls, Helps, Replies, Aborts, Revokes, Removes, Returns, Ups, Downs, Blocks}
 use Rattle.nova_model.specs.declared.new_object.NewObject.{NewObject}
 use Rattle.nova_model.specs.declared.new_object.NewObject.TheVariants as new
 use Rattle.nova_model.specs.declared.transfer.ItemWords.{ItemWords}
@@ -91,6 +91,7 @@ done_tables k ec (Opens target domain) actor thread asks h now = made_fits _ (pd
 done_tables k ec (Gives child cursor) actor thread asks h now =
     with_transfer_fits (record k { delegations = _ }) ec _ (transfer_there k ec (ap is_some actor.there) h.tables) (with_delegations k _ h.tables)
 done_tables k ec (Skips reason place cursor) actor thread asks h now = with_transfer_fits k ec _ (transfer_there k ec (ap is_some actor.there) h.tables) h.tables
+done_tables k ec (Removes leaf) actor thread asks h now = with_delegations k _ h.tables
 done_tables k ec (Finishes item end words follows) actor thread asks h now =
     let y = after_item (context k ec) follows in
     let one = with_context k ec y in
@@ -273,6 +274,9 @@ done_served k ec (Aborts handler mark.Exit) actor asks blocked h served = owns k
 done_served k ec (Waits handler reason q0 q1) actor asks blocked h served = owns k ec _ actor refl refl (λ h is. cc) refl refl refl served
 done_served k ec (Sends handler ip identifier mtd reason q0 q1) actor asks blocked h served =
     sends_on (is_local_thread k) k.contexts ec handler mark.Exit ip identifier false (λ some. absurd (cc)) actor (exit_reaches k.contexts ec handler asks.admits) served
+done_served k ec (Revokes range own) actor asks blocked h served = owns k ec _ actor refl refl (λ h is. cc) refl refl refl served
+done_served k ec (Removes leaf) actor asks blocked h served = served
+done_served k ec Returns actor asks blocked h served = owns k ec _ actor refl refl (λ h is. cc) refl refl refl served
 done_served k ec (Ups sm whom) actor asks blocked h served =
     wakes k ec sm whom (answered (context k ec) Success None) actor asks.1 blocked (owns k ec _ actor refl refl (λ h is. cc) refl refl refl served)
 done_served k ec (Downs sm) actor asks blocked h served = owns k ec _ actor refl refl (λ h is. cc) refl refl refl served
@@ -283,7 +287,7 @@ done_served k ec (Blocks sm) actor asks blocked h served = owns k ec _ actor ref
 pub gives_there : (k : KernelState) (ec : ℕ) → is_some (context_at k ec) ≡ true → Fits k → option_map is_some (slice_get k.transfers ec) ≡ Some true
 gives_there k ec there h = transfer_there k ec there h.tables
 
-done_fits : (k : KernelState) (ec : ℕ) → IsActor k.contexts ec → Fits k → Fits (done k ec (deed k ec))
+pub done_fits : (k : KernelState) (ec : ℕ) → IsActor k.contexts ec → Fits k → Fits (done k ec (deed k ec))
 done_fits k ec actor h =
     let asks = deed_asks k ec in
     let thread = thread_does k ec (ap is_some actor.there) h.tables h.guests in record {

@@ -31,7 +31,7 @@ use Rattle.nova_model.specs.declared.transfer.Sequel.{Sequel}
 use Rattle.nova_model.specs.declared.transfer.Sequel.TheVariants as sequel
 use Rattle.nova_model.specs.Edges.{acts, state_in}
 use Rattle.nova_model.specs.declared.deed.Deed.{Deed}
-use Rattle.nova_model.specs.declared.deed.Deed.TheVariants.{Rests, Steps, Raises, Dies, Waits, Sends, Refuses, Makes, Recalls, Tells, Names, Opens, Gives, Skips, Finishes, Calls, Helps, Replies, Aborts, Ups, Downs, Blocks}
+use Rattle.nova_model.specs.declared.deed.Deed.TheVariants.{Rests, Steps, Raises, Dies, Waits, Sends, Refuses, Makes, Recalls, Tells, Names, Opens, Gives, Skips, Finishes, Calls, Helps, Replies, Aborts, Revokes, Removes, Returns, Ups, Downs, Blocks}
 use Rattle.nova_model.specs.declared.new_object.NewObject.{NewObject}
 use Rattle.nova_model.specs.declared.new_object.NewObject.TheVariants as new
 use Rattle.nova_model.specs.declared.transfer.Transfer.{Transfer}
@@ -350,6 +350,9 @@ done_for k ec (Aborts handler mark.Exit) wants able serves h = stays_for k ec (c
 done_for k ec (Waits handler reason q0 q1) wants able serves h = stays_for k ec (changed (context k ec) (Waits handler reason q0 q1)) wants refl h
 done_for k ec (Sends handler ip identifier mtd reason q0 q1) wants able serves h =
     exit_sent_for k ec handler ip identifier mtd reason q0 q1 wants.0 wants.1 h
+done_for k ec (Revokes range own) wants able serves h = stays_for k ec (changed (context k ec) (Revokes range own)) wants refl h
+done_for k ec (Removes leaf) wants able serves h = h
+done_for k ec Returns wants able serves h = stays_for k ec (changed (context k ec) Returns) wants refl h
 done_for k ec (Ups sm whom) wants able fits h = woken_for k ec sm whom wants.0 wants.1 fits.blocked h
 done_for k ec (Downs sm) wants able serves h = stays_for k ec (changed (context k ec) (Downs sm)) wants refl h
 done_for k ec (Blocks sm) wants able serves h = stays_for k ec (changed (context k ec) (Blocks sm)) wants refl h

@@ -1,23 +1,27 @@
 -- What a selector names, and capabilities there.
-use Rattle.std.proofs.Common.{◌≡◌, ◌<◌, ℕ, List, [], ◌∷◌, inl, inr, refl, sym, ap, ◌∙◌, subst, arith}
-use Rattle.std.specs.Prelude.{◌^◌, ◌==◌, ◌&&◌, Bool, true, false, if◌then◌else◌, is_some, nat_le, nat_lt, slice_get, Option, Some, None, option_and_then, Ok}
-use Rattle.std.specs.List.{AllByRecursion, find}
+use Rattle.std.proofs.Common.{◌≡◌, ◌<◌, ℕ, List, [], ◌∷◌, length, inl, inr, refl, sym, ap, ◌∙◌, subst, arith}
+use Rattle.std.specs.Prelude.{◌^◌, ◌==◌, ◌&&◌, ◌||◌, Bool, true, false, if◌then◌else◌, is_some, nat_le, nat_lt, slice_get, Option, Some, None, option_and_then, Ok}
+use Rattle.std.specs.List.{AllByRecursion, cons_option, filter_map, find, list_any, range_with_len}
 use Rattle.std.proofs.lemmas.Bool.{and_parts, eqb-true}
 use Rattle.std.proofs.lemmas.Bool.Decides.{nat_tests}
 use Rattle.nova_objects.specs.declared.object.Object.{Object}
 use Rattle.nova_range.specs.Ranges.{HasPlace, end_of, overlaps}
+use Rattle.nova_range.specs.declared.range.Kind.{Kind}
 use Rattle.nova_range.specs.declared.range.Kind.TheVariants.{Obj}
 use Rattle.nova_range.specs.declared.range.Range.{Range}
 use Rattle.nova_model.specs.Capabilities.{allowed, is_held, named, or_bad_cap}
 use Rattle.nova_model.specs.Delegations.{covers, has_place, is_same_kind, range_of}
 use Rattle.nova_range.specs.Rights.{allows}
 use Rattle.nova_model.specs.Forest.{AreApart, ArePairs, IsForest}
+use Rattle.nova_model.specs.Revokes.{Revocation}
+use Rattle.nova_model.specs.Running.{Running, is_of_objects, is_revoked, revoke_of, running, running_of}
 use Rattle.nova_model.specs.State.{KernelState}
 use Rattle.nova_model.specs.declared.delegation.Derivation.{Derivation}
-use Rattle.nova_forest.proofs.Members.{IsIn, all_at, contains_from_in, found_in, in_from_contains, none_found}
+use Rattle.nova_forest.proofs.Members.{IsIn, all_at, contains_from_in, found_in, in_from_contains, none_any, none_found}
+use Rattle.nova_forest.proofs.Running.{running_has}
 use Rattle.nova_forest.proofs.Transfers.{kinds_equal}
 use Rattle.nova_forest.proofs.Walk.{IfDone}
-use Rattle.nova_laws.specs.Asked.{HoldsAt, IsHeldAt}
+use Rattle.nova_laws.specs.Asked.{HoldsAt, IsHeldAt, IsRevokedAt}
 use Rattle.nova_laws.specs.Tables.{IsOf}
 
 -- ONE THAT COVERS
@@ -155,3 +159,49 @@ from_free k domain selector free = by_found (find (covers Obj domain selector) k
     by_found (Some d) is =
         let its = found_in (covers Obj domain selector) k.delegations.list d is in
         absurd (free d (held_from k domain selector d its.0 its.1))
+
+-- WHAT IS REVOKED
+
+revoked_from : (k : KernelState) (domain selector ec : ℕ) (r : Revocation) → revoke_of k ec ≡ Some r →
+    is_of_objects domain selector (record { ec = ec; revoke = r }) ≡ true → IsRevokedAt k domain selector r
+revoked_from k domain selector ec r runs h =
+    let parts = and_parts (is_same_kind r.range.kind Obj) (r.pd == domain && has_place r.range selector) h in
+    let rest = and_parts (r.pd == domain) (has_place r.range selector) parts.1 in
+    record {
+      ec = ec;
+      runs = runs;
+      revoker = eqb-true r.pd domain rest.0;
+      kind = kinds_equal r.range.kind Obj parts.0;
+      place = has_from r.range selector rest.1;
+    }
+
+from_revoked : (k : KernelState) (domain selector : ℕ) (r : Revocation) (h : IsRevokedAt k domain selector r) →
+    is_of_objects domain selector (record { ec = h.ec; revoke = r }) ≡ true
+from_revoked k domain selector r h =
+    let kind : is_same_kind r.range.kind Obj ≡ true = ap (λ (n : Kind). is_same_kind n Obj) h.kind in
+    let its : (r.pd == domain) ≡ true = let same = h.revoker in grind arith in
+    rw (kind, its) (from_has r.range selector h.place)
+
+pub idle_from : (k : KernelState) (domain selector : ℕ) → is_revoked k domain selector ≡ false → (r : Revocation) → IsRevokedAt k domain selector r → ⊥
+idle_from k domain selector none r h =
+    let one : Running = record { ec = h.ec; revoke = r } in
+    let fails = all_at (λ w. is_of_objects domain selector w ≡ false) (running k) one
+    (none_any (is_of_objects domain selector) (running k) none) (in_from_contains (running k) one (running_has k h.ec r h.runs)) in
+    let passes = from_revoked k domain selector r h in
+    absurd (cc)
+
+pub from_idle : (k : KernelState) (domain selector : ℕ) → ((r : Revocation) → IsRevokedAt k domain selector r → ⊥) → is_revoked k domain selector ≡ false
+from_idle k domain selector idle = among (range_with_len 0 (length k.contexts))
+  where
+    by_runs : (e : ℕ) (ws : List Running) (o : Option Revocation) → revoke_of k e ≡ o → list_any (is_of_objects domain selector) ws ≡ false →
+        list_any (is_of_objects domain selector) (cons_option (running_of e o) ws) ≡ false
+    by_runs e ws None is rest = rest
+    by_runs e ws (Some r) is rest = by_test (is_of_objects domain selector (record { ec = e; revoke = r })) refl
+      where
+        by_test : (t : Bool) → is_of_objects domain selector (record { ec = e; revoke = r }) ≡ t → (t || list_any (is_of_objects domain selector) ws) ≡ false
+        by_test true passes = absurd (idle r (revoked_from k domain selector e r is passes))
+        by_test false passes = rest
+
+    among : (es : List ℕ) → list_any (is_of_objects domain selector) (filter_map (λ e. running_of e (revoke_of k e)) es) ≡ false
+    among [] = refl
+    among (e ∷ es) = by_runs e (filter_map (λ n. running_of n (revoke_of k n)) es) (revoke_of k e) refl (among es)

@@ -49,3 +49,4 @@ pub mod Wording
 pub mod Raising
 pub mod Windows
 pub mod Stirring
+pub mod Revoking

@@ -16,7 +16,7 @@ use Rattle.nova_model.specs.Creation.{words_of}
 use Rattle.nova_model.specs.Deeds.{deed}
 use Rattle.nova_model.specs.Deliveries.{delivery, sequel_of, words_for}
 use Rattle.nova_model.specs.Edges.{acts, caller_in, is_dead, state_in}
-use Rattle.nova_model.specs.Hypercalls.{maker, new_domain, row, ticks_in}
+use Rattle.nova_model.specs.Hypercalls.{new_domain, row, ticks_in}
 use Rattle.nova_model.specs.State.{KernelState, Contexts, budget_at, context, ec_in, entry, message, message_in, no_words, pd_of, transfer}
 use Rattle.nova_model.specs.declared.context.EcState.{EcState}
 use Rattle.nova_model.specs.declared.context.Mark.{Mark}
@@ -31,7 +31,7 @@ use Rattle.nova_model.specs.declared.transfer.Sequel.{Sequel}
 use Rattle.nova_forest.proofs.Walk.{IfDone, deed_holds, sm_ctrl_holds}
 use Rattle.nova_laws.specs.Giving.{source_in}
 use Rattle.nova_laws.proofs.Giving.{more_at}
-use Rattle.nova_laws.proofs.Rows.{call_holds, makes_hold, named_holds, reply_holds}
+use Rattle.nova_laws.proofs.Rows.{call_holds, makes_hold, named_holds, reply_holds, create_pd_holds}
 use Rattle.nova_laws.proofs.Awaiting.{Serves, waits_dead}
 use Rattle.nova_laws.proofs.Setting.{entry_other}
 
@@ -128,7 +128,7 @@ row_shows : (k : KernelState) (ec domain : ℕ) (c : Call) → IfDone (Shows k e
 row_shows k ec domain (asks.Call portal flag) = call_holds (Shows k ec) k ec domain portal flag (λ pt is. (is.counts, refl)) (λ pt is. tt)
 row_shows k ec domain asks.Reply = reply_holds (Shows k ec) k ec (λ caller mark is. (is.counts, refl))
 row_shows k ec domain (asks.CreatePd target pd first) =
-    named_holds (Shows k ec) (maker k domain target pd) (λ owner. new_domain k target first) (λ owner. domain_shows k ec target first)
+    create_pd_holds (Shows k ec) k domain target pd first (domain_shows k ec target first)
 row_shows k ec domain (asks.CreateEc target pd cpu kind sp event) =
     makes_hold (Shows k ec) CREATE_EC target (λ made. tt) k domain pd _
 row_shows k ec domain (asks.CreateSc target pd its quantum priority) = makes_hold (Shows k ec) CREATE_SC target (λ made. tt) k domain pd _
@@ -153,6 +153,8 @@ deed_shows k ec =
       waits = λ pt reason q0 q1 is. tt;
       sends = λ pt reason q0 q1 is. tt;
       aborts = λ handler is. tt;
+      removes = λ range own leaf is next. tt;
+      returns = λ range own is next. tt;
       rows = λ asks c is. row_shows k ec (pd_of k ec) c;
     })
     (record {

@@ -52,6 +52,8 @@ deed_moves k ec =
       waits = λ pt reason q0 q1 is. tt;
       sends = λ pt reason q0 q1 is. tt;
       aborts = λ handler is. tt;
+      removes = λ range own leaf is next. tt;
+      returns = λ range own is next. tt;
       rows = λ asks c read. done_weaker IsWhole (Moves k ec) (row k ec (pd_of k ec) c) (whole_moves k ec) (row_whole k ec (pd_of k ec) c);
     })
     (record {

@@ -18,7 +18,7 @@ use Rattle.nova_model.specs.Calls.{admitted, exit_admitted, is_parked, is_same_c
 use Rattle.nova_model.specs.Deeds.{deed, deed_in}
 use Rattle.nova_model.specs.Deliveries.{delivery, delivers, given_to, sequel_of, taken_from}
 use Rattle.nova_model.specs.Edges.{circle, cpu_in, is_dead, state_in}
-use Rattle.nova_model.specs.Hypercalls.{maker, new_domain, row, ticks_in}
+use Rattle.nova_model.specs.Hypercalls.{new_domain, row, ticks_in}
 use Rattle.nova_model.specs.Portals.{handler_of}
 use Rattle.nova_model.specs.Semaphores.{semaphore, woken}
 use Rattle.nova_model.specs.State.{KernelState, budget_at, context, pd_of, transfer}
@@ -36,7 +36,7 @@ use Rattle.nova_model.specs.declared.deed.Deed.TheVariants.{Rests, Sends, Recall
 use Rattle.nova_model.specs.declared.new_object.NewObject.TheVariants.{Sm}
 use Rattle.nova_forest.proofs.Walk.{IfDone, Delivers, delivered_holds, own_holds, sm_ctrl_holds}
 use Rattle.nova_laws.specs.Giving.{is_giving}
-use Rattle.nova_laws.proofs.Rows.{call_holds, makes_hold, named_holds, reply_holds}
+use Rattle.nova_laws.proofs.Rows.{call_holds, makes_hold, named_holds, reply_holds, create_pd_holds}
 use Rattle.nova_laws.proofs.Tabling.{all_get}
 
 -- the word in x12 reads as a range
@@ -195,8 +195,8 @@ row_wants k ec domain (asks.Call portal flag) rests range =
     call_holds (Wants k ec) k ec domain portal flag (λ pt is. (rests, admits_parked k ec (handler_of k pt) flag is.admits)) (λ pt is. rests)
 row_wants k ec domain asks.Reply rests range = reply_holds (Wants k ec) k ec (λ caller mark is. (rests, is.serves))
 row_wants k ec domain (asks.CreatePd target pd first) rests range =
-    named_holds (Wants k ec) (maker k domain target pd) (λ owner. new_domain k target first)
-    (λ owner. new_domain_wants k ec target first rests (first_range (context k ec).regs target pd first range))
+    create_pd_holds (Wants k ec) k domain target pd first
+    (new_domain_wants k ec target first rests (first_range (context k ec).regs target pd first range))
 row_wants k ec domain (asks.CreateEc target pd cpu kind sp event) rests range =
     makes_hold (Wants k ec) CREATE_EC target (λ made. rests) k domain pd _
 row_wants k ec domain (asks.CreateSc target pd its quantum priority) rests range = makes_hold (Wants k ec) CREATE_SC target (λ made. rests) k domain pd _
@@ -210,7 +210,7 @@ row_wants k ec domain (asks.PtCtrl pt identifier) rests range =
     named_holds (Wants k ec) (named k domain is_pt control_right pt) (λ n. Names n identifier) (λ n. rests)
 row_wants k ec domain (asks.SmCtrl sm action) rests range =
     sm_ctrl_holds (Wants k ec) k domain sm action (λ n whom is wakes. (rests, wakes)) (λ n is answers. rests) (λ n is answers. rests)
-row_wants k ec domain other rests range = tt
+row_wants k ec domain (asks.Revoke range own) rests has = rests
 
 -- an item ends so
 delivery_goes : (k : KernelState) (ec : ℕ) (s : State) (v : Delivery) → delivery k ec s ≡ Some v → GoesTo k ec v.last
@@ -261,6 +261,8 @@ own_wants k ec rests = own_holds (Wants k ec) k ec rests (none_there k ec (conte
   waits = λ pt reason q0 q1 is. rests;
   sends = λ pt reason q0 q1 is. (rests, exit_parked k ec (handler_of k pt) is.admits);
   aborts = λ handler is. rests;
+  removes = λ range own leaf is next. rests;
+  returns = λ range own is next. rests;
   rows = λ asks c is. row_wants k ec (pd_of k ec) c rests (call_range (context k ec).regs c is);
 })
 

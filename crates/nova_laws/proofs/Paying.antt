@@ -50,7 +50,7 @@ woken_adds k s ec None h = h
 woken_adds k s ec (Some w) (AddsNone objects budgets next) = AddsNone objects budgets next
 woken_adds k s ec (Some w) (AddsOne made bound objects budgets next) = AddsOne made bound objects budgets next
 
-done_adds : (k : KernelState) (ec : ℕ) (d : Deed) → IsAllowed k ec d → Adds k (done k ec d) ec
+pub done_adds : (k : KernelState) (ec : ℕ) (d : Deed) → IsAllowed k ec d → Adds k (done k ec d) ec
 done_adds k ec Rests allowed = AddsNone refl refl refl
 done_adds k ec Steps allowed = stepped_adds k ec (instruction k ec)
 done_adds k ec (Makes call target made) asked = AddsOne made asked.bound refl refl refl

@@ -12,7 +12,7 @@ use Rattle.nova_model.specs.Choice.{Candidate}
 use Rattle.nova_model.specs.declared.context.EcState.{EcState}
 use Rattle.nova_model.specs.declared.context.Mark.TheVariants.{Call, Exit}
 use Rattle.nova_model.specs.declared.deed.Deed.{Deed}
-use Rattle.nova_model.specs.declared.deed.Deed.TheVariants.{Rests, Steps, Makes, Recalls, Names, Opens, Gives, Skips, Finishes, Replies, Ups}
+use Rattle.nova_model.specs.declared.deed.Deed.TheVariants.{Rests, Steps, Makes, Recalls, Names, Opens, Gives, Skips, Finishes, Replies, Removes, Ups}
 use Rattle.nova_forest.proofs.Stirred.{acted}
 use Rattle.nova_laws.proofs.Charges.{ended_is}
 
@@ -33,6 +33,7 @@ done_cpus k ec (Names pt identifier) = refl
 done_cpus k ec (Opens target domain) = refl
 done_cpus k ec (Gives child cursor) = refl
 done_cpus k ec (Skips reason place cursor) = refl
+done_cpus k ec (Removes leaf) = refl
 done_cpus k ec (Finishes item end words follows) = ap (λ (s : KernelState). s.cpus) (ended_is (with_context k ec (after_item (context k ec) follows)) ec item words follows)
 done_cpus k ec (Replies caller Call true) = refl
 done_cpus k ec (Replies caller Call false) = refl

@@ -21,7 +21,7 @@ use Rattle.nova_model.specs.declared.context.Mark.TheVariants as mark
 use Rattle.nova_model.specs.declared.context.State.{State}
 use Rattle.nova_model.specs.declared.context.State.TheVariants.{Parked, Calling, Granting, Replying}
 use Rattle.nova_model.specs.declared.deed.Deed.{Deed}
-use Rattle.nova_model.specs.declared.deed.Deed.TheVariants.{Rests, Steps, Raises, Dies, Waits, Sends, Refuses, Makes, Recalls, Tells, Names, Opens, Gives, Skips, Finishes, Calls, Helps, Replies, Aborts, Ups, Downs, Blocks}
+use Rattle.nova_model.specs.declared.deed.Deed.TheVariants.{Rests, Steps, Raises, Dies, Waits, Sends, Refuses, Makes, Recalls, Tells, Names, Opens, Gives, Skips, Finishes, Calls, Helps, Replies, Aborts, Revokes, Removes, Returns, Ups, Downs, Blocks}
 use Rattle.nova_model.specs.declared.transfer.Delivery.{Delivery}
 use Rattle.nova_model.specs.declared.transfer.ItemEnd.{ItemEnd}
 use Rattle.nova_model.specs.declared.transfer.ItemWords.{ItemWords}
@@ -312,6 +312,9 @@ done_bound k ec (Aborts handler mark.Exit) wants shows able serves sound keeps h
 done_bound k ec (Waits handler reason q0 q1) wants shows able serves sound keeps h = quiets k ec (changed (context k ec) (Waits handler reason q0 q1)) refl h
 done_bound k ec (Sends handler ip identifier mtd reason q0 q1) wants shows able serves sound keeps h =
     exit_sent_bound k ec handler ip identifier mtd reason q0 q1 keeps h
+done_bound k ec (Revokes range own) wants shows able serves sound keeps h = quiets k ec (changed (context k ec) (Revokes range own)) refl h
+done_bound k ec (Removes leaf) wants shows able serves sound keeps h = h
+done_bound k ec Returns wants shows able serves sound keeps h = quiets k ec (changed (context k ec) Returns) refl h
 done_bound k ec (Ups sm whom) wants shows able serves sound keeps h =
     woken_bound (record (with_context k ec (answered (context k ec) Success None)) { semaphores = upped k.semaphores sm }) whom
     (quiets k ec (answered (context k ec) Success None) refl h)

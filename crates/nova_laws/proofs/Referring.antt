@@ -11,7 +11,7 @@ use Rattle.nova_range.specs.declared.mtd.Mtd.{Mtd}
 use Rattle.nova_range.specs.declared.range.Range.{Range}
 use Rattle.nova_range.specs.declared.rights.Rights.{Rights}
 use Rattle.nova_range.specs.declared.status.Status.{Status}
-use Rattle.nova_range.specs.declared.status.Status.TheVariants.{BadCap, BadCpu, BadPar}
+use Rattle.nova_range.specs.declared.status.Status.TheVariants.{BadCap, BadCpu, BadPar, Busy}
 use Rattle.nova_utcb.specs.Messages.{has_counts}
 use Rattle.nova_model.specs.Calls.{admitted, exit_admitted}
 use Rattle.nova_model.specs.Capabilities.{allowed, bind_portal_right, bind_scheduling_right, call_right, capability, control_right, create_right, is_held, is_ec, is_local, is_pd, is_pt, is_sc, is_schedulable, is_sm, down_right, event_right, named, or_bad_cap, up_right}
@@ -19,9 +19,10 @@ use Rattle.nova_model.specs.Creation.{object_of}
 use Rattle.nova_model.specs.Deeds.{deed}
 use Rattle.nova_range.specs.Rights.{allows}
 use Rattle.nova_model.specs.Deliveries.{delivery, flag, given_to, sequel_of, taken_from, words_for}
-use Rattle.nova_model.specs.Hypercalls.{and_then, called, create_ec, is_scheduled, maker, makes, new_domain, replied, row, ticks_in, unless}
+use Rattle.nova_model.specs.Hypercalls.{and_then, called, create_ec, is_scheduled, maker, makes, new_domain, replied, row, ticks_in, unless, unless_busy}
 use Rattle.nova_model.specs.Portals.{descriptor, handler_in, handler_of, ip_in, ip_of, mtd_in}
 use Rattle.nova_model.specs.Semaphores.{answer_of, semaphore, woken}
+use Rattle.nova_model.specs.Running.{is_revoked}
 use Rattle.nova_model.specs.State.{KernelState, budget_at, context, is_local_thread, message, pd_of, processor_in, processor_of, transfer}
 use Rattle.nova_model.specs.declared.admit.Admit.{Admit}
 use Rattle.nova_model.specs.declared.admit.Admit.TheVariants.{Refused, Help, Send}
@@ -41,7 +42,7 @@ use Rattle.nova_model.specs.declared.transfer.ItemWords.{ItemWords}
 use Rattle.nova_model.specs.declared.transfer.Sequel.{Sequel}
 use Rattle.nova_model.specs.declared.transfer.Sequel.TheVariants as sequel
 use Rattle.nova_laws.specs.Tables.{IsOf, Refers, cpu_of}
-use Rattle.nova_laws.proofs.Rows.{named_holds, unless_holds}
+use Rattle.nova_laws.proofs.Rows.{unless_holds, create_pd_holds}
 use Rattle.nova_forest.proofs.Walk.{IfDone, IsExit, deed_holds, sm_ctrl_holds}
 
 -- a call that its handler, that of a portal, takes
@@ -120,11 +121,13 @@ makes_asks : (k : KernelState) (ec domain number target pd : ℕ) (new : ℕ →
     ((o : ℕ) → IsOf k.objects is_pd o → IfDone (λ made. Refers k.objects (object_of made)) (new o)) → IfDone (Asks k ec) (makes k domain number target pd new)
 makes_asks k ec domain number target pd new h = by_owner (maker k domain target pd) (maker_is k domain target pd)
   where
-    by_new : (r : Result NewObject Status) → IfDone (λ made. Refers k.objects (object_of made)) r → IfDone (Asks k ec) (and_then r (λ made. Ok (Makes number target made)))
-    by_new (Ok made) refers = refers
+    by_new : (r : Result NewObject Status) → IfDone (λ made. Refers k.objects (object_of made)) r →
+        IfDone (Asks k ec) (and_then r (λ made. unless_busy k domain target (Makes number target made)))
+    by_new (Ok made) refers = unless_holds (Asks k ec) (is_revoked k domain target) Busy (Ok (Makes number target made)) refers
     by_new (Err status) refers = tt
 
-    by_owner : (owner : Result ℕ Status) → IfDone (IsOf k.objects is_pd) owner → IfDone (Asks k ec) (and_then owner (λ o. and_then (new o) (λ made. Ok (Makes number target made))))
+    by_owner : (owner : Result ℕ Status) → IfDone (IsOf k.objects is_pd) owner →
+        IfDone (Asks k ec) (and_then owner (λ o. and_then (new o) (λ made. unless_busy k domain target (Makes number target made))))
     by_owner (Ok o) is = by_new (new o) (h o is)
     by_owner (Err status) is = tt
 
@@ -221,7 +224,7 @@ row_asks k ec domain (call.Call portal flag) = unless_holds (Asks k ec) (not (ha
 row_asks k ec domain call.Reply = unless_holds (Asks k ec) (not (is_local_thread k ec)) BadPar _
     (unless_holds (Asks k ec) (not (has_counts (message k ec))) BadPar _ (replied_asks k ec (context k ec).caller refl))
 row_asks k ec domain (call.CreatePd target pd first) =
-    named_holds (Asks k ec) (maker k domain target pd) (λ owner. new_domain k target first) (λ owner. opens_asks k ec target first)
+    create_pd_holds (Asks k ec) k domain target pd first (opens_asks k ec target first)
 row_asks k ec domain (call.CreateEc target pd cpu kind sp event) = create_ec_asks k ec domain target pd cpu kind sp event
 row_asks k ec domain (call.CreateSc target pd whose quantum priority) = makes_asks k ec domain CREATE_SC target pd _
     (λ o is. sc_refers k quantum priority (named k domain is_schedulable bind_scheduling_right whose) (named_is k domain is_schedulable bind_scheduling_right whose))
@@ -287,6 +290,8 @@ deed_asks k ec =
       waits = λ pt reason q0 q1 e. e.admits;
       sends = λ pt reason q0 q1 e. exit_asks k ec pt reason q0 q1 e;
       aborts = λ handler is. tt;
+      removes = λ range own leaf is next. tt;
+      returns = λ range own is next. tt;
       rows = λ asks c read. row_asks k ec (pd_of k ec) c;
     })
     (record {

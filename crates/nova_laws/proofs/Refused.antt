@@ -4,23 +4,25 @@ use Rattle.std.specs.Prelude.{◌≢◌, ◌==◌, Bool, true, false, if◌then�
 use Rattle.nova_range.specs.Statuses.{status_code}
 use Rattle.nova_range.specs.declared.status.Status.{Status}
 use Rattle.nova_model.specs.Choice.{choice}
-use Rattle.nova_model.specs.Deeds.{answered, deed, deed_in, done, sign_of, with_context}
+use Rattle.nova_model.specs.Deeds.{answered, deed, deed_in, done, sign_of, with_context, removes}
 use Rattle.nova_model.specs.Deliveries.{delivers, delivery}
 use Rattle.nova_model.specs.Inputs.{stirred}
 use Rattle.nova_model.specs.Exits.{exit_at, exit_portal, exit_to, exits}
 use Rattle.nova_model.specs.Calls.{exit_admitted}
 use Rattle.nova_model.specs.Portals.{handler_of}
+use Rattle.nova_model.specs.Revokes.{next_leaf}
 use Rattle.nova_model.specs.Runs.{after}
-use Rattle.nova_model.specs.State.{KernelState, Contexts, context, context_at, context_in, ec_in, ec_of, transfer}
+use Rattle.nova_model.specs.State.{KernelState, Contexts, context, context_at, context_in, ec_in, ec_of, transfer, pd_of}
 use Rattle.nova_model.specs.Turn.{charged, event_of, answer_of, turn, turn_by, state_after}
 use Rattle.nova_model.specs.Choice.{Candidate}
 use Rattle.nova_model.specs.declared.admit.ExitAdmit.{ExitAdmit}
 use Rattle.nova_model.specs.declared.admit.ExitAdmit.TheVariants as exit
 use Rattle.nova_model.specs.declared.context.EcState.{EcState}
 use Rattle.nova_model.specs.declared.context.State.{State}
-use Rattle.nova_model.specs.declared.context.State.TheVariants.{Fresh, Ready, Parked, Calling, Helping, Exiting, Sending, Granting, Replying, Blocked, Dead}
+use Rattle.nova_model.specs.declared.context.State.TheVariants.{Fresh, Ready, Parked, Calling, Helping, Exiting, Sending, Granting, Replying, Revoking, Blocked, Dead}
 use Rattle.nova_model.specs.declared.deed.Deed.{Deed}
-use Rattle.nova_model.specs.declared.deed.Deed.TheVariants.{Rests, Steps, Raises, Dies, Waits, Sends, Refuses, Makes, Recalls, Tells, Names, Opens, Gives, Skips, Finishes, Calls, Helps, Replies, Aborts, Ups, Downs, Blocks}
+use Rattle.nova_model.specs.declared.deed.Deed.TheVariants.{Rests, Steps, Raises, Dies, Waits, Sends, Refuses, Makes, Recalls, Tells, Names, Opens, Gives, Skips, Finishes, Calls, Helps, Replies, Aborts, Revokes, Removes, Returns, Ups, Downs, Blocks}
+use Rattle.nova_model.specs.declared.delegation.Derivation.{Derivation}
 use Rattle.nova_model.specs.declared.event.Event.{Event}
 use Rattle.nova_model.specs.declared.event.EventKind.TheVariants.{Answer}
 use Rattle.nova_model.specs.declared.event.Turn.TheVariants.{Stepped}
@@ -55,6 +57,9 @@ refuses (Helps handler) answers failed = absurd cc
 refuses (Replies caller mark true) answers failed = absurd cc
 refuses (Replies caller mark false) answers failed = absurd (failed refl)
 refuses (Aborts handler mark) answers failed = absurd cc
+refuses (Revokes range own) answers failed = absurd cc
+refuses (Removes leaf) answers failed = absurd cc
+refuses Returns answers failed = absurd (failed refl)
 refuses Rests answers failed = absurd cc
 refuses Steps answers failed = absurd cc
 refuses (Raises reason q0 q1) answers failed = absurd cc
@@ -91,6 +96,11 @@ exits_first k ec reason q0 q1 s = by_portal (exit_portal k ec reason)
     by_portal (Err status) = tt
     by_portal (Ok pt) = by_admit pt (exit_admitted k.contexts ec (handler_of k pt))
 
+-- and neither is what a revoke goes on with
+removes_first : (k : KernelState) (ec : ℕ) (s : State) (o : Option Derivation) → AsksFirst s (removes o)
+removes_first k ec s None = tt
+removes_first k ec s (Some leaf) = tt
+
 state_first : (k : KernelState) (ec : ℕ) (s : State) → (context k ec).state ≡ s → AsksFirst s (deed_in k ec s)
 state_first k ec Fresh is = tt
 state_first k ec Ready is = asks_first Ready _ refl
@@ -102,6 +112,7 @@ state_first k ec (Sending reason q0 q1 h) is = exits_first k ec reason q0 q1 (Se
 state_first k ec (Blocked sm) is = tt
 state_first k ec (Granting new) is = gives_first k ec (Granting new) (delivery k ec (Granting new)) (ap (delivery k ec) is)
 state_first k ec Replying is = gives_first k ec Replying (delivery k ec Replying) (ap (delivery k ec) is)
+state_first k ec (Revoking range own) is = removes_first k ec (Revoking range own) (next_leaf (record { pd = pd_of k ec; range = range; own = own }) k.delegations)
 state_first k ec Dead is = tt
 
 deed_first : (k : KernelState) (ec : ℕ) → AsksFirst (context k ec).state (deed k ec)

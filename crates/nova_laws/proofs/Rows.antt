@@ -6,13 +6,14 @@ use Rattle.nova_calls.specs.declared.call.Call.TheVariants as asks
 use Rattle.nova_calls.specs.declared.numbers.TheConstants.{CREATE_EC, CREATE_SC, CREATE_PT, CREATE_SM, SC_CTRL}
 use Rattle.nova_range.specs.declared.range.Range.{Range}
 use Rattle.nova_range.specs.declared.rights.Rights.{Rights}
-use Rattle.nova_range.specs.declared.status.Status.TheVariants.{BadPar}
+use Rattle.nova_range.specs.declared.status.Status.TheVariants.{BadPar, Busy}
 use Rattle.nova_utcb.specs.Messages.{has_counts, has_items}
 use Rattle.nova_model.specs.Capabilities.{is_ec, is_sc, is_pt, named, call_right, control_right}
 use Rattle.nova_model.specs.Calls.{admitted}
 use Rattle.nova_range.specs.declared.status.Status.{Status}
-use Rattle.nova_model.specs.Hypercalls.{and_then, call, called, maker, makes, new_domain, reply, replied, row, ticks_in, unless}
+use Rattle.nova_model.specs.Hypercalls.{and_then, call, called, create_pd, maker, makes, new_domain, reply, replied, row, ticks_in, unless, unless_busy}
 use Rattle.nova_model.specs.Portals.{handler_of, identifier, ip_of}
+use Rattle.nova_model.specs.Running.{is_revoked}
 use Rattle.nova_model.specs.State.{KernelState, budget_at, context, is_local_thread, message}
 use Rattle.nova_model.specs.declared.admit.Admit.{Admit}
 use Rattle.nova_model.specs.declared.admit.Admit.TheVariants.{Refused, Help, Send}
@@ -23,24 +24,34 @@ use Rattle.nova_model.specs.declared.new_object.NewObject.{NewObject}
 use Rattle.nova_model.specs.declared.new_object.NewObject.TheVariants.{Sm}
 use Rattle.nova_forest.proofs.Walk.{IfDone, sm_ctrl_holds}
 
--- what holds of each object that is made
-pub makes_hold : (P : Deed → Type 0) (number target : ℕ) → ((made : NewObject) → P (Makes number target made)) →
-    (k : KernelState) (domain pd : ℕ) (new : ℕ → Result NewObject Status) → IfDone P (makes k domain number target pd new)
-makes_hold P number target h k domain pd new = by_owner (maker k domain target pd)
-  where
-    by_new : (r : Result NewObject Status) → IfDone P (and_then r (λ made. Ok (Makes number target made)))
-    by_new (Ok made) = h made
-    by_new (Err status) = tt
-
-    by_owner : (owner : Result ℕ Status) → IfDone P (and_then owner (λ o. and_then (new o) (λ made. Ok (Makes number target made))))
-    by_owner (Ok o) = by_new (new o)
-    by_owner (Err status) = tt
-
--- and by the other rules that several rows share
+-- what holds where a test is passed
 pub unless_holds : (P : Deed → Type 0) (test : Bool) (status : Status) (r : Result Deed Status) → IfDone P r → IfDone P (unless test status r)
 unless_holds P true status r h = tt
 unless_holds P false status r h = h
 
+-- of each object that is made
+pub makes_hold : (P : Deed → Type 0) (number target : ℕ) → ((made : NewObject) → P (Makes number target made)) →
+    (k : KernelState) (domain pd : ℕ) (new : ℕ → Result NewObject Status) → IfDone P (makes k domain number target pd new)
+makes_hold P number target h k domain pd new = by_owner (maker k domain target pd)
+  where
+    by_new : (r : Result NewObject Status) → IfDone P (and_then r (λ made. unless_busy k domain target (Makes number target made)))
+    by_new (Ok made) = unless_holds P (is_revoked k domain target) Busy (Ok (Makes number target made)) (h made)
+    by_new (Err status) = tt
+
+    by_owner : (owner : Result ℕ Status) → IfDone P (and_then owner (λ o. and_then (new o) (λ made. unless_busy k domain target (Makes number target made))))
+    by_owner (Ok o) = by_new (new o)
+    by_owner (Err status) = tt
+
+-- and of a new protection domain
+pub create_pd_holds : (P : Deed → Type 0) (k : KernelState) (domain target pd : ℕ) (first : Option (Range × Rights)) → P (new_domain k target first) →
+    IfDone P (create_pd k domain target pd first)
+create_pd_holds P k domain target pd first h = by_owner (maker k domain target pd)
+  where
+    by_owner : (owner : Result ℕ Status) → IfDone P (and_then owner (λ o. unless_busy k domain target (new_domain k target first)))
+    by_owner (Ok o) = unless_holds P (is_revoked k domain target) Busy (Ok (new_domain k target first)) h
+    by_owner (Err status) = tt
+
+-- and by the other rules that several rows share
 pub named_holds : (P : Deed → Type 0) (r : Result ℕ Status) (d : ℕ → Deed) → ((n : ℕ) → P (d n)) → IfDone P (and_then r (λ n. Ok (d n)))
 named_holds P (Ok n) d h = h n
 named_holds P (Err status) d h = tt
@@ -119,7 +130,7 @@ pub row_whole : (k : KernelState) (ec domain : ℕ) (c : Call) → IfDone IsWhol
 row_whole k ec domain (asks.Call portal flag) = call_holds IsWhole k ec domain portal flag (λ pt is. refl) (λ pt is. refl)
 row_whole k ec domain asks.Reply = reply_holds IsWhole k ec (λ caller mark is. refl)
 row_whole k ec domain (asks.CreatePd target pd first) =
-    named_holds IsWhole (maker k domain target pd) (λ owner. new_domain k target first) (λ owner. new_domain_whole k target first)
+    create_pd_holds IsWhole k domain target pd first (new_domain_whole k target first)
 row_whole k ec domain (asks.CreateEc target pd cpu kind sp event) =
     makes_hold IsWhole CREATE_EC target (λ made. refl) k domain pd _
 row_whole k ec domain (asks.CreateSc target pd its quantum priority) = makes_hold IsWhole CREATE_SC target (λ made. refl) k domain pd _
@@ -132,4 +143,4 @@ row_whole k ec domain (asks.ScCtrl sc) =
 row_whole k ec domain (asks.PtCtrl pt identifier) = named_holds IsWhole (named k domain is_pt control_right pt) (λ n. Names n identifier) (λ n. refl)
 row_whole k ec domain (asks.SmCtrl sm action) =
     sm_ctrl_holds IsWhole k domain sm action (λ n whom is wakes. refl) (λ n is answers. refl) (λ n is answers. refl)
-row_whole k ec domain other = tt
+row_whole k ec domain (asks.Revoke range own) = refl

@@ -9,7 +9,8 @@ use Rattle.nova_range.specs.declared.range.Range.{Range}
 use Rattle.nova_range.specs.declared.rights.Rights.{Rights}
 use Rattle.nova_model.specs.Boot.{Scenario, boot}
 use Rattle.nova_model.specs.Deeds.{deed}
-use Rattle.nova_model.specs.Deliveries.{delivery, is_busy}
+use Rattle.nova_model.specs.Deliveries.{delivery}
+use Rattle.nova_model.specs.Running.{is_busy}
 use Rattle.nova_model.specs.Delegations.{is_same_kind}
 use Rattle.nova_range.specs.Rights.{allows}
 use Rattle.nova_model.specs.Forest.{IsAligned, IsForest}
@@ -196,6 +197,8 @@ deed_shares k ec =
       waits = λ pt reason q0 q1 is. tt;
       sends = λ pt reason q0 q1 is. tt;
       aborts = λ handler is. tt;
+      removes = λ range own leaf is next. tt;
+      returns = λ range own is next. tt;
       rows = λ asks c read. done_weaker IsWhole (Shares k ec) (row k ec (pd_of k ec) c) (whole_shares k ec) (row_whole k ec (pd_of k ec) c);
     })
     (record { gives = giving_shared k ec; skips = λ d reason place is. tt; finishes = λ v end answer present is. tt })

@@ -22,7 +22,7 @@ use Rattle.nova_model.specs.declared.context.EcState.{EcState}
 use Rattle.nova_model.specs.declared.context.Mark.{Mark}
 use Rattle.nova_model.specs.declared.context.Mark.TheVariants as mark
 use Rattle.nova_model.specs.declared.deed.Deed.{Deed}
-use Rattle.nova_model.specs.declared.deed.Deed.TheVariants.{Rests, Steps, Raises, Dies, Waits, Sends, Refuses, Makes, Recalls, Tells, Names, Opens, Gives, Skips, Finishes, Calls, Helps, Replies, Aborts, Ups, Downs, Blocks}
+use Rattle.nova_model.specs.declared.deed.Deed.TheVariants.{Rests, Steps, Raises, Dies, Waits, Sends, Refuses, Makes, Recalls, Tells, Names, Opens, Gives, Skips, Finishes, Calls, Helps, Replies, Aborts, Revokes, Removes, Returns, Ups, Downs, Blocks}
 use Rattle.nova_model.specs.declared.transfer.ItemWords.{ItemWords}
 use Rattle.nova_model.specs.declared.transfer.Sequel.{Sequel}
 use Rattle.nova_model.specs.declared.transfer.Sequel.TheVariants as sequel
@@ -76,6 +76,9 @@ changed_tag (Replies caller mark true) x = refl
 changed_tag (Replies caller mark false) x = refl
 changed_tag (Aborts handler mark.Call) x = refl
 changed_tag (Aborts handler mark.Exit) x = refl
+changed_tag (Revokes range own) x = refl
+changed_tag (Removes leaf) x = refl
+changed_tag Returns x = refl
 changed_tag (Ups sm woken) x = refl
 changed_tag (Downs sm) x = refl
 changed_tag (Blocks sm) x = refl

@@ -22,7 +22,7 @@ use Rattle.nova_model.specs.declared.context.Mark.TheVariants as mark
 use Rattle.nova_model.specs.declared.context.State.{State}
 use Rattle.nova_model.specs.declared.context.State.TheVariants.{Fresh, Ready, Calling, Exiting, Sending, Dead}
 use Rattle.nova_model.specs.declared.deed.Deed.{Deed}
-use Rattle.nova_model.specs.declared.deed.Deed.TheVariants.{Rests, Steps, Raises, Dies, Waits, Sends, Makes, Recalls, Opens, Gives, Skips, Finishes, Calls, Replies, Aborts, Ups}
+use Rattle.nova_model.specs.declared.deed.Deed.TheVariants.{Rests, Steps, Raises, Dies, Waits, Sends, Makes, Recalls, Opens, Gives, Skips, Finishes, Calls, Replies, Aborts, Removes, Ups}
 use Rattle.nova_model.specs.declared.new_object.NewObject.{NewObject}
 use Rattle.nova_model.specs.declared.new_object.NewObject.TheVariants as new
 use Rattle.nova_model.specs.declared.root.Root.{Root}
@@ -331,6 +331,7 @@ done_among k ec (Ups sm whom) thread asks served as_many h now = woken_among _ w
 done_among k ec (Finishes item end words follows) thread asks served as_many h now = followed_among _ ec follows (told_among _ item words now)
 done_among k ec (Gives child cursor) thread asks served as_many h now = h
 done_among k ec (Skips reason place cursor) thread asks served as_many h now = h
+done_among k ec (Removes leaf) thread asks served as_many h now = h
 done_among k ec other thread asks served as_many h now = now
 
 pub done_guests : (k : KernelState) (ec : ℕ) (d : Deed) → (is_guest_deed d ≡ false → is_thread k ec ≡ true) → Asks k ec d → HasTables k →

@@ -11,8 +11,9 @@ use Rattle.nova_range.specs.declared.rights.Rights.{Rights}
 use Rattle.nova_range.specs.declared.word.WordFault.{WordFault}
 use Rattle.nova_model.specs.Boot.{Scenario, boot}
 use Rattle.nova_model.specs.Deeds.{deed, deed_in}
-use Rattle.nova_model.specs.Deliveries.{answered_by, delegated, delivered, delivers, delivery, delivery_between, finished, first_delivery, flag, given_to, is_busy, part_deed, parted, range_given, sequel_of, taken_from, told_by, whole_of, words_for}
+use Rattle.nova_model.specs.Deliveries.{answered_by, delegated, delivered, delivers, delivery, delivery_between, finished, first_delivery, flag, given_to, part_deed, parted, range_given, sequel_of, taken_from, told_by, whole_of, words_for}
 use Rattle.nova_model.specs.Hypercalls.{row}
+use Rattle.nova_model.specs.Running.{is_busy}
 use Rattle.nova_model.specs.State.{KernelState, context, context_in, ec_in, is_thread, message, pd_of, transfer}
 use Rattle.nova_model.specs.Transfers.{Part, dest_of, job_of, next_part, read_as}
 use Rattle.nova_model.specs.Translations.{translated}
@@ -274,6 +275,8 @@ own_tells k ec rests = walk.own_holds (EndTells k ec) k ec rests tt (record {
   waits = λ pt reason q0 q1 is. tt;
   sends = λ pt reason q0 q1 is. tt;
   aborts = λ handler is. tt;
+  removes = λ range own leaf is next. tt;
+  returns = λ range own is next. tt;
   rows = λ asks c read. done_weaker IsWhole (EndTells k ec) (row k ec (pd_of k ec) c) (whole_tells k ec) (row_whole k ec (pd_of k ec) c);
 })
 

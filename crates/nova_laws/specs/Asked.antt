@@ -13,6 +13,8 @@ use Rattle.nova_model.specs.Capabilities.{bind_scheduling_right, create_right}
 use Rattle.nova_model.specs.Delegations.{range_of}
 use Rattle.nova_range.specs.Rights.{allows}
 use Rattle.nova_model.specs.Deeds.{instruction}
+use Rattle.nova_model.specs.Revokes.{Revocation}
+use Rattle.nova_model.specs.Running.{revoke_of}
 use Rattle.nova_model.specs.State.{KernelState, context, is_thread}
 use Rattle.nova_model.specs.declared.context.State.TheVariants.{Ready}
 use Rattle.nova_model.specs.declared.delegation.Derivation.{Derivation}
@@ -32,15 +34,24 @@ pub record HoldsAt (k : KernelState) (domain selector right number : ℕ) : Type
   pub leads : capability.target ≡ number
   pub allowed : allows capability.rights right ≡ true
 
+-- a revoke that an execution context of this protection domain runs, of an object range with the selector among its places
+pub record IsRevokedAt (k : KernelState) (domain selector : ℕ) (r : Revocation) : Type 0 where
+  pub ec : ℕ
+  pub runs : revoke_of k ec ≡ Some r
+  pub revoker : r.pd ≡ domain
+  pub kind : r.range.kind ≡ Obj
+  pub place : HasPlace r.range selector
+
 -- registers of a caller of this domain that ask for a scheduling context at selector `target`, and may: x17 is the number of create_sc; x10 is the
--- target, which is free; at x11 the domain holds a protection domain with the right to create; at x12 it holds the execution context, which is
--- of the processor, no local thread and without a scheduling context, with the right to bind one; and x13 has the quantum, at least 1, in bits
--- 8 to 31 and the priority in bits 0 to 7
+-- target, which is free, and no execution context of the domain revokes an object range with it; at x11 the domain holds a protection domain with
+-- the right to create; at x12 it holds the execution context, which is of the processor, no local thread and without a scheduling context, with
+-- the right to bind one; and x13 has the quantum, at least 1, in bits 8 to 31 and the priority in bits 0 to 7
 pub record AsksSchedule (k : KernelState) (domain : ℕ) (r : Registers) (target ec cpu priority quantum : ℕ) : Type 0 where
   pub call : reg r 17 ≡ CREATE_SC
   pub place : reg r 10 ≡ target
   pub below : target < 2 ^ 20
   pub free : (d : Derivation) → IsHeldAt k domain target d → ⊥
+  pub idle : (revoke : Revocation) → IsRevokedAt k domain target revoke → ⊥
   pub owner : ℕ
   pub creator : HoldsAt k domain (reg r 11) create_right owner
   pub opened : slice_get k.objects owner ≡ Some Pd

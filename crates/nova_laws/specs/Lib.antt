@@ -15,3 +15,4 @@ pub mod Keeping
 pub mod Waiting
 pub mod Windows
 pub mod Stirs
+pub mod Revoking

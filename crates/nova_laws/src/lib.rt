@@ -10,6 +10,7 @@ mod making;
 mod orders;
 mod quiet;
 mod refusals;
+mod revokes;
 mod rounds;
 mod scheduling;
 mod semaphores;
@@ -28,6 +29,7 @@ pub use making::a_schedule_is_made_as_asked;
 pub use orders::round_robin_runs_out;
 pub use quiet::quiet_is_every_processor_idle;
 pub use refusals::a_refused_call_changes_its_callers_registers;
+pub use revokes::running_revokes_are_their_runners;
 pub use rounds::round_robin_goes_round;
 pub use scheduling::{
     each_has_at_most_one_scheduling_context, stamps_are_given_once, the_chosen_pays,

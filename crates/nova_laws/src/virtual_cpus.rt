@@ -11,9 +11,9 @@ ghost use Rattle.nova_laws.specs.Tables.{IsOf};
 ghost use Rattle.nova_laws.specs.Virtual.{is_guest_state};
 
 /// Whatever list of turns is taken from whatever boot state, a virtual CPU runs, has raised an exit, waits
-/// for its reply or is dead: it is never parked or blocked, it helps nobody, and it gives no items. Who came
-/// by a call is a thread. A virtual CPU that waits for a handler is the caller that it keeps, and came by an
-/// exit.
+/// for its reply or is dead: it is never parked or blocked, it helps nobody, and it gives no items and revokes
+/// nothing. Who came by a call is a thread. A virtual CPU that waits for a handler is the caller that it keeps,
+/// and came by an exit.
 pub fn virtual_cpus_wait_for_their_exits_alone()
     ensures states { (scenario : Scenario) (turns : List ℕ) (g : ℕ)
         → IsOf (run (boot scenario) turns).objects is_vcpu g

@@ -2,7 +2,7 @@
 use Rattle.std.specs.Prelude.{ℕ, ◌+◌, ◌==◌, ◌&&◌, Bool, true, false, not, if◌then◌else◌, List, slice_set, Option, Some, None}
 use Rattle.rv_model.specs.Registers.{Registers, with_reg}
 use Rattle.rv_model.specs.Step.{Once, Raised, Went, Store, one, next, environment_call}
-use Rattle.nova_calls.specs.declared.numbers.TheConstants.{CALL, REPLY, CREATE_PD, EC_CTRL, PT_CTRL, SM_CTRL}
+use Rattle.nova_calls.specs.declared.numbers.TheConstants.{CALL, REPLY, CREATE_PD, REVOKE, EC_CTRL, PT_CTRL, SM_CTRL}
 use Rattle.nova_utcb.specs.Messages.{copied, exited, with_item, written_back}
 use Rattle.nova_range.specs.declared.mtd.Mtd.{Mtd}
 use Rattle.nova_range.specs.Statuses.{status_code}
@@ -12,18 +12,20 @@ use Rattle.nova_model.specs.AddressSpaces.{AddressSpace, space, space_through, a
 use Rattle.nova_model.specs.Memory.{Memory}
 use Rattle.nova_model.specs.Creation.{with_object}
 use Rattle.nova_model.specs.Hypercalls.{hypercall}
-use Rattle.nova_model.specs.Delegations.{added}
+use Rattle.nova_model.specs.Delegations.{added, without}
 use Rattle.nova_model.specs.Deliveries.{delivery, delivers}
 use Rattle.nova_model.specs.Exits.{exits}
+use Rattle.nova_model.specs.Revokes.{next_leaf}
 use Rattle.nova_model.specs.Semaphores.{upped, downed}
 use Rattle.nova_model.specs.State.{KernelState, with_ec, context_at, context, message, with_message, own_words, pd_of, is_thread, no_transfer, transfer}
 use Rattle.nova_model.specs.declared.context.EcState.{EcState}
 use Rattle.nova_model.specs.declared.context.Mark.{Mark}
 use Rattle.nova_model.specs.declared.context.Mark.TheVariants as mark
 use Rattle.nova_model.specs.declared.context.State.{State}
-use Rattle.nova_model.specs.declared.context.State.TheVariants.{Fresh, Ready, Parked, Calling, Helping, Exiting, Sending, Granting, Replying, Blocked, Dead}
+use Rattle.nova_model.specs.declared.context.State.TheVariants.{Fresh, Ready, Parked, Calling, Helping, Exiting, Sending, Granting, Replying, Revoking, Blocked, Dead}
 use Rattle.nova_model.specs.declared.deed.Deed.{Deed}
-use Rattle.nova_model.specs.declared.deed.Deed.TheVariants.{Rests, Steps, Raises, Dies, Waits, Sends, Refuses, Makes, Recalls, Tells, Names, Opens, Gives, Skips, Finishes, Calls, Helps, Replies, Aborts, Ups, Downs, Blocks}
+use Rattle.nova_model.specs.declared.delegation.Derivation.{Derivation}
+use Rattle.nova_model.specs.declared.deed.Deed.TheVariants.{Rests, Steps, Raises, Dies, Waits, Sends, Refuses, Makes, Recalls, Tells, Names, Opens, Gives, Skips, Finishes, Calls, Helps, Replies, Aborts, Revokes, Removes, Returns, Ups, Downs, Blocks}
 use Rattle.nova_model.specs.declared.event.EventKind.{EventKind}
 use Rattle.nova_model.specs.declared.event.EventKind.TheVariants as event
 use Rattle.nova_model.specs.declared.new_object.NewObject.TheVariants as new
@@ -74,6 +76,11 @@ abbrev pub mark_in : Option (ℕ × Mark) → Mark
 mark_in (Some (caller, mark)) = mark
 mark_in None = mark.Call
 
+-- one that revokes takes the next leaf away, and returns where there is none
+abbrev pub removes : Option Derivation → Deed
+removes None = Returns
+removes (Some leaf) = Removes leaf
+
 -- the deed of an execution context that acts in its state. One that helps makes its call again from its registers, and an exit that waits is looked up
 -- again. One that waits for a reply acts where its handler is dead, which keeps it as its caller.
 abbrev pub deed_in : KernelState → ℕ → State → Deed
@@ -85,6 +92,7 @@ deed_in k ec Dead = Rests
 deed_in k ec (Blocked sm) = Rests
 deed_in k ec (Granting new) = delivers k (transfer k ec) (delivery k ec (Granting new))
 deed_in k ec Replying = delivers k (transfer k ec) (delivery k ec Replying)
+deed_in k ec (Revoking range own) = removes (next_leaf (record { pd = pd_of k ec; range = range; own = own }) k.delegations)
 deed_in k ec (Calling handler) = Aborts handler (mark_in (context k handler).caller)
 deed_in k ec (Helping handler) = hypercall k ec (pd_of k ec) (context k ec).regs
 deed_in k ec (Sending reason q0 q1 handler) = exits k ec reason q0 q1
@@ -144,6 +152,9 @@ changed x (Helps handler) = record x { state = Helping handler }
 changed x (Replies caller mark true) = record x { state = Replying }
 changed x (Replies caller mark false) = parked x
 changed x (Aborts handler mark) = aborted x mark
+changed x (Revokes range own) = record x { state = Revoking range own }
+changed x (Removes leaf) = x
+changed x Returns = answered x Success None
 changed x (Ups sm woken) = answered x Success None
 changed x (Downs sm) = answered x Success None
 changed x (Blocks sm) = record x { state = Blocked sm }
@@ -264,6 +275,7 @@ done k ec Rests = k
 done k ec Steps = stepped k ec (instruction k ec)
 done k ec (Gives child cursor) = with_transfer (record k { delegations = added k.delegations child }) ec (gave (transfer k ec) cursor)
 done k ec (Skips reason place cursor) = with_transfer k ec (skipped (transfer k ec) cursor)
+done k ec (Removes leaf) = record k { delegations = without k.delegations leaf.id }
 done k ec (Finishes item end words after) = with_transfer (performed k ec (Finishes item end words after)) ec (transfer_after item after)
 done k ec other = performed k ec other
 
@@ -316,6 +328,9 @@ sign_of (Helps handler) = (event.Help, handler, mark_number mark.Call)
 sign_of (Replies caller mark true) = (event.Begin, REPLY, caller)
 sign_of (Replies caller mark false) = (event.Answer, REPLY, status_code Success)
 sign_of (Aborts handler mark) = (event.Abort, handler, mark_number mark)
+sign_of (Revokes range own) = (event.Begin, REVOKE, range.base)
+sign_of (Removes leaf) = (event.Gone, leaf.id, leaf.pd)
+sign_of Returns = (event.Answer, REVOKE, status_code Success)
 sign_of (Ups sm woken) = (event.Answer, SM_CTRL, status_code Success)
 sign_of (Downs sm) = (event.Answer, SM_CTRL, status_code Success)
 sign_of (Blocks sm) = (event.Begin, SM_CTRL, sm)

@@ -1,6 +1,6 @@
 -- Items that are given: a first range by the creator of a protection domain, those of a call by the handler that takes it, and those of a reply by
 -- the handler. One part of the present item is given in a turn. (NOVA specification, typed items.)
-use Rattle.std.specs.Prelude.{ℕ, ◌+◌, ◌%◌, ◌==◌, Bool, false, nat_lt, if◌then◌else◌, Option, Some, None, Result, Ok, Err}
+use Rattle.std.specs.Prelude.{ℕ, ◌+◌, ◌%◌, ◌==◌, nat_lt, if◌then◌else◌, Option, Some, None, Result, Ok, Err}
 use Rattle.rv_model.specs.Registers.{reg}
 use Rattle.nova_utcb.specs.Messages.{item_at, counted_items, translation_window, delegation_window}
 use Rattle.nova_range.specs.RangeWords.{meaning_of, word_of}
@@ -8,6 +8,7 @@ use Rattle.nova_range.specs.Ranges.{end_of}
 use Rattle.nova_range.specs.declared.range.Range.{Range}
 use Rattle.nova_range.specs.declared.rights.Rights.{Rights}
 use Rattle.nova_model.specs.Delegations.{range_of}
+use Rattle.nova_model.specs.Running.{is_busy}
 use Rattle.nova_model.specs.State.{KernelState, context, is_thread, pd_of, message, transfer}
 use Rattle.nova_model.specs.Transfers.{Part, read_as, job_of, dest_of, overlap_base, next_part}
 use Rattle.nova_model.specs.Translations.{translated}
@@ -28,10 +29,6 @@ use Rattle.nova_model.specs.declared.transfer.Sequel.{Sequel}
 use Rattle.nova_model.specs.declared.transfer.Sequel.TheVariants as sequel
 use Rattle.nova_model.specs.declared.transfer.Skip.{Skip}
 use Rattle.nova_model.specs.declared.transfer.Transfer.{Transfer}
-
--- no execution context revokes yet, so that no derivation is in the way of a revoke
-abbrev pub is_busy : KernelState → Derivation → Bool
-is_busy k x = false
 
 -- WHAT IS GIVEN
 

@@ -5,7 +5,7 @@ use Rattle.std.specs.List.{find, list_any}
 use Rattle.nova_model.specs.State.{Contexts, ec_in}
 use Rattle.nova_model.specs.declared.context.Mark.{Mark}
 use Rattle.nova_model.specs.declared.context.State.{State}
-use Rattle.nova_model.specs.declared.context.State.TheVariants.{Fresh, Ready, Parked, Calling, Helping, Exiting, Sending, Granting, Replying, Blocked, Dead}
+use Rattle.nova_model.specs.declared.context.State.TheVariants.{Fresh, Ready, Parked, Calling, Helping, Exiting, Sending, Granting, Replying, Revoking, Blocked, Dead}
 
 abbrev pub state_in : Contexts → ℕ → Option State
 state_in cs e = option_map (λ x. x.state) (ec_in cs e)
@@ -44,6 +44,7 @@ acts_by (Exiting reason q0 q1) handler = true
 acts_by (Sending reason q0 q1 h) handler = is_free handler
 acts_by (Granting new) handler = true
 acts_by Replying handler = true
+acts_by (Revoking range own) handler = true
 acts_by (Blocked sm) handler = false
 acts_by Dead handler = false
 

@@ -1,13 +1,13 @@
 -- The table of hypercalls: for each number its refusals in their order, each with its condition, and else the deed.
 -- (NOVA specification, hypercalls; the numbers and statuses are this project's.)
-use Rattle.std.specs.Prelude.{ℕ, ◌==◌, Bool, true, false, not, nat_lt, if◌then◌else◌, [], ◌∷◌, length, Option, Some, None, option_map, Result, Ok, Err}
+use Rattle.std.specs.Prelude.{ℕ, ◌==◌, Bool, true, false, not, nat_lt, length, Option, Some, None, option_map, Result, Ok, Err}
 use Rattle.std.specs.List.{find, list_any}
 use Rattle.rv_model.specs.Registers.{Registers, reg}
 use Rattle.nova_calls.specs.Hypercalls.{call_of}
 use Rattle.nova_calls.specs.declared.call.Call.{Call}
-use Rattle.nova_calls.specs.declared.numbers.TheConstants.{CALL, REPLY, CREATE_PD, CREATE_EC, CREATE_SC, CREATE_PT, CREATE_SM, LOOKUP, EC_CTRL, SC_CTRL, PT_CTRL, SM_CTRL}
+use Rattle.nova_calls.specs.declared.numbers.TheConstants.{CREATE_PD, CREATE_EC, CREATE_SC, CREATE_PT, CREATE_SM, LOOKUP, SC_CTRL}
 use Rattle.nova_calls.specs.declared.call.Call.TheVariants as asks
-use Rattle.nova_calls.specs.declared.call.Call.TheVariants.{CreatePd, CreateEc, CreateSc, CreatePt, CreateSm, Lookup, EcCtrl, ScCtrl, PtCtrl, SmCtrl}
+use Rattle.nova_calls.specs.declared.call.Call.TheVariants.{CreatePd, CreateEc, CreateSc, CreatePt, CreateSm, Revoke, Lookup, EcCtrl, ScCtrl, PtCtrl, SmCtrl}
 use Rattle.nova_calls.specs.declared.call.SmAction.{SmAction}
 use Rattle.nova_calls.specs.declared.call.SmAction.TheVariants as act
 use Rattle.nova_utcb.specs.Messages.{has_counts, has_items}
@@ -18,10 +18,11 @@ use Rattle.nova_range.specs.RangeWords.{word_of}
 use Rattle.nova_range.specs.declared.range.Range.{Range}
 use Rattle.nova_range.specs.declared.rights.Rights.{Rights}
 use Rattle.nova_range.specs.declared.status.Status.{Status}
-use Rattle.nova_range.specs.declared.status.Status.TheVariants.{BadHyp, BadCap, BadPar, BadCpu, Overflow}
+use Rattle.nova_range.specs.declared.status.Status.TheVariants.{BadCap, BadPar, BadCpu, Busy, Overflow}
 use Rattle.nova_model.specs.Capabilities.{create_right, control_right, call_right, bind_scheduling_right, bind_portal_right, is_pd, is_ec, is_local, is_schedulable, is_sc, is_pt, is_sm, up_right, down_right, is_held, named}
 use Rattle.nova_model.specs.Calls.{admitted}
 use Rattle.nova_model.specs.Portals.{handler_of, ip_of, identifier}
+use Rattle.nova_model.specs.Running.{is_revoked}
 use Rattle.nova_model.specs.Semaphores.{semaphore, woken, answer_of}
 use Rattle.nova_model.specs.Delegations.{covers, range_of}
 use Rattle.nova_model.specs.State.{KernelState, context, message, budget_at, processor_of, is_local_thread}
@@ -30,7 +31,7 @@ use Rattle.nova_model.specs.declared.admit.Admit.TheVariants.{Refused, Help, Sen
 use Rattle.nova_model.specs.declared.budget.Budget.{Budget}
 use Rattle.nova_model.specs.declared.context.Mark.{Mark}
 use Rattle.nova_model.specs.declared.deed.Deed.{Deed}
-use Rattle.nova_model.specs.declared.deed.Deed.TheVariants.{Refuses, Makes, Recalls, Tells, Names, Opens, Calls, Helps, Replies, Ups, Downs, Blocks}
+use Rattle.nova_model.specs.declared.deed.Deed.TheVariants.{Refuses, Makes, Recalls, Tells, Names, Opens, Calls, Helps, Replies, Revokes, Ups, Downs, Blocks}
 use Rattle.nova_model.specs.declared.new_object.NewObject.{NewObject}
 use Rattle.nova_model.specs.declared.new_object.NewObject.TheVariants as new
 use Rattle.nova_model.specs.declared.semaphore.Down.{Down}
@@ -54,11 +55,15 @@ maker k domain target pd_selector =
     and_then (named k domain is_pd create_right pd_selector) (λ owner.
     unless (is_held k domain target) BadCap (Ok owner))
 
--- the object that is made in that domain, by rules of its own after them
+-- and last BUSY, where an execution context of that domain revokes an object range that contains the target
+abbrev pub unless_busy : KernelState → ℕ → ℕ → Deed → Result Deed Status
+unless_busy k domain target deed = unless (is_revoked k domain target) Busy (Ok deed)
+
+-- the object that is made in the named domain, by rules of its own between them
 abbrev pub makes : KernelState → ℕ → ℕ → ℕ → ℕ → (ℕ → Result NewObject Status) → Result Deed Status
 makes k domain call target pd_selector new =
     and_then (maker k domain target pd_selector) (λ owner.
-    and_then (new owner) (λ made. Ok (Makes call target made)))
+    and_then (new owner) (λ made. unless_busy k domain target (Makes call target made)))
 
 -- create_pd: the create rules; it goes on where there is a first range to be given
 abbrev pub new_domain : KernelState → ℕ → Option (Range × Rights) → Deed
@@ -66,7 +71,7 @@ new_domain k target None = Makes CREATE_PD target new.Pd
 new_domain k target (Some range) = Opens target (length k.objects)
 
 abbrev pub create_pd : KernelState → ℕ → ℕ → ℕ → Option (Range × Rights) → Result Deed Status
-create_pd k domain target pd_selector first = and_then (maker k domain target pd_selector) (λ owner. Ok (new_domain k target first))
+create_pd k domain target pd_selector first = and_then (maker k domain target pd_selector) (λ owner. unless_busy k domain target (new_domain k target first))
 
 -- create_ec: the create rules; BAD_CPU where there is no such processor
 abbrev pub create_ec : KernelState → ℕ → ℕ → ℕ → ℕ → EcKind → ℕ → ℕ → Result Deed Status
@@ -143,8 +148,7 @@ abbrev pub sm_ctrl : KernelState → ℕ → ℕ → SmAction → Result Deed St
 sm_ctrl k domain selector act.Up = and_then (named k domain is_sm up_right selector) (λ sm. upped_by sm (woken (semaphore k.semaphores sm)))
 sm_ctrl k domain selector act.Down = and_then (named k domain is_sm down_right selector) (λ sm. Ok (downed_by sm (answer_of (semaphore k.semaphores sm))))
 
--- the rows. lookup has no refusal. ec_ctrl, sc_ctrl, pt_ctrl: BAD_CAP where the selector names no such object with control. A call that is not built
--- yet has none.
+-- the rows. revoke and lookup have no refusal. ec_ctrl, sc_ctrl, pt_ctrl: BAD_CAP where the selector names no such object with control.
 abbrev pub row : KernelState → ℕ → ℕ → Call → Result Deed Status
 row k ec domain (asks.Call portal flag) = call k ec domain portal flag
 row k ec domain asks.Reply = reply k ec
@@ -153,20 +157,16 @@ row k ec domain (CreateEc target pd cpu kind sp event) = create_ec k domain targ
 row k ec domain (CreateSc target pd whose quantum priority) = create_sc k domain target pd whose quantum priority
 row k ec domain (CreatePt target pd handler mtd ip) = create_pt k domain target pd handler mtd.0 ip
 row k ec domain (CreateSm target pd count) = create_sm k domain target pd count
+row k ec domain (Revoke range own) = Ok (Revokes range own)
 row k ec domain (Lookup range) = Ok (Tells LOOKUP (looked_up k domain range))
 row k ec domain (EcCtrl whose) = and_then (named k domain is_ec control_right whose) (λ n. Ok (Recalls n))
 row k ec domain (ScCtrl sc) = and_then (named k domain is_sc control_right sc) (λ n. Ok (Tells SC_CTRL (ticks_in (budget_at k n))))
 row k ec domain (PtCtrl pt identifier) = and_then (named k domain is_pt control_right pt) (λ n. Ok (Names n identifier))
 row k ec domain (SmCtrl sm action) = sm_ctrl k domain sm action
-row k ec domain other = Err BadHyp
 
--- the numbers that are built
-abbrev pub is_built : ℕ → Bool
-is_built number = list_any (λ n. n == number) (CALL ∷ REPLY ∷ CREATE_PD ∷ CREATE_EC ∷ CREATE_SC ∷ CREATE_PT ∷ CREATE_SM ∷ LOOKUP ∷ EC_CTRL ∷ SC_CTRL ∷ PT_CTRL ∷ SM_CTRL ∷ [])
-
--- a number that is not built is BAD_HYP, whatever its arguments are; else the arguments are read
+-- the arguments are read, and the row of the number says what is asked for
 abbrev pub asked : KernelState → ℕ → ℕ → Registers → Result Deed Status
-asked k ec domain r = if is_built (reg r 17) then and_then (call_of r) (row k ec domain) else Err BadHyp
+asked k ec domain r = and_then (call_of r) (row k ec domain)
 
 -- a refusal is a deed too
 abbrev pub or_refuses : ℕ → Result Deed Status → Deed

@@ -14,7 +14,7 @@ use Rattle.nova_model.specs.State.{KernelState, message, pd_of}
 use Rattle.nova_model.specs.Views.{is_memory_of}
 use Rattle.nova_model.specs.declared.context.Mark.TheVariants as mark
 use Rattle.nova_model.specs.declared.deed.Deed.{Deed}
-use Rattle.nova_model.specs.declared.deed.Deed.TheVariants.{Steps, Raises, Dies, Sends, Recalls, Gives, Finishes, Replies, Aborts}
+use Rattle.nova_model.specs.declared.deed.Deed.TheVariants.{Steps, Raises, Dies, Sends, Recalls, Gives, Removes, Finishes, Replies, Aborts}
 use Rattle.nova_model.specs.declared.delegation.Derivation.{Derivation}
 use Rattle.nova_model.specs.declared.transfer.Sequel.TheVariants.{Replied}
 
@@ -91,13 +91,14 @@ abbrev pub only_if : Bool → Input → Option Input
 only_if true i = Some i
 only_if false i = None
 
--- a store to its memory; a recall of it; a reply to its exit that completes; a memory derivation that is made in its domain
+-- a store to its memory; a recall of it; a reply to its exit that completes; a memory derivation that is made in its domain, or taken from it
 abbrev pub others_input : KernelState → ℕ → ℕ → Deed → Option Input
 others_input k ec g Steps = foreign k ec g
 others_input k ec g (Recalls whose) = only_if (whose == g) input.Recall
 others_input k ec g (Replies caller mark.Exit false) = only_if (caller == g) (reply_of (message k ec))
 others_input k ec g (Finishes item end words (Replied caller mark.Exit)) = only_if (caller == g) (reply_of (message k ec))
 others_input k ec g (Gives child cursor) = only_if (is_memory_of (pd_of k g) child) (given_of k child)
+others_input k ec g (Removes leaf) = only_if (is_memory_of (pd_of k g) leaf) (input.Taken leaf.base leaf.order)
 others_input k ec g other = None
 
 -- a deed of an execution context, for the virtual CPU g, which is there

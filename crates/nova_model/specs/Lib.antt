@@ -21,6 +21,7 @@ pub mod Boot
 pub mod Forest
 pub mod Lines
 pub mod Revokes
+pub mod Running
 pub mod Transfers
 pub mod Translations
 pub mod Deliveries

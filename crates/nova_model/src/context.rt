@@ -1,3 +1,4 @@
+use nova_range::Range;
 use rv_model::Regs;
 
 /// What an execution context is about to do.
@@ -22,6 +23,8 @@ pub enum State {
     Granting(Option<u32>),
     /// It gives the items of its reply.
     Replying,
+    /// It revokes this range; with true its domain's own derivations inside the range go too.
+    Revoking(Range, bool),
     /// It waits at this semaphore.
     Blocked(u32),
     /// It ended.

@@ -2,7 +2,7 @@ use crate::context::Mark;
 use crate::delegation::Derivation;
 use crate::new_object::NewObject;
 use crate::transfer::{ItemEnd, ItemWords, Reason, Sequel};
-use nova_range::{Mtd, Status};
+use nova_range::{Mtd, Range, Status};
 
 /// What an execution context does in its turn, and nothing of how it was found out. All that the turn
 /// does to others is in it, but for the store of an instruction: `Steps` stands for the instruction at
@@ -117,6 +117,17 @@ pub enum Deed {
         handler: u32,
         mark: Mark,
     },
+    /// Its hypercall begins a revoke of a range; with `own` the domain's own derivations inside it go too.
+    Revokes {
+        range: Range,
+        own: bool,
+    },
+    /// Its revoke takes away one derivation, which has no child.
+    Removes {
+        leaf: Derivation,
+    },
+    /// Its revoke returns: nothing is left of what it takes away.
+    Returns,
     /// Its up of a semaphore wakes the first that waits there, or raises the counter where nobody waits.
     Ups {
         sm: u32,

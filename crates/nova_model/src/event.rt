@@ -5,7 +5,7 @@ pub enum EventKind {
     Step,
     /// An exit was raised: reason, first qualification.
     Raise,
-    /// A hypercall ended in its own turn: number, status.
+    /// A hypercall ended, in its own turn or, a revoke, in the turn in which it returned: number, status.
     Answer,
     /// A hypercall goes on: number, and the handler, caller, domain, base or semaphore.
     Begin,

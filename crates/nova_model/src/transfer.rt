@@ -37,7 +37,7 @@ pub enum Reason {
     Rights,
     /// The receiver holds one of the places.
     Taken,
-    /// It would add to what is being revoked.
+    /// It would add to what is being revoked, or hold a place that its own domain is revoking.
     Busy,
 }
 

@@ -9,7 +9,7 @@ mod spaces;
 #[cfg(test)]
 mod tests;
 
-pub use guarded::{Guarded, NoGuard};
+pub use guarded::Guarded;
 pub use list_index::ListIndex;
 pub use nodes::Nodes;
 pub use nova_model::Derivation;

@@ -5,7 +5,7 @@ use Rattle.nova_model.specs.declared.event.EventKind.TheVariants.{Step, Raise, A
 use Rattle.nova_objects.specs.declared.object.EcKind.{EcKind}
 use Rattle.nova_objects.specs.declared.object.EcKind.TheVariants.{Local, Global, Vcpu}
 use Rattle.nova_model.specs.declared.context.State.{State}
-use Rattle.nova_model.specs.declared.context.State.TheVariants.{Fresh, Ready, Parked, Calling, Helping, Exiting, Sending, Granting, Replying, Blocked, Dead}
+use Rattle.nova_model.specs.declared.context.State.TheVariants.{Fresh, Ready, Parked, Calling, Helping, Exiting, Sending, Granting, Replying, Revoking, Blocked, Dead}
 use Rattle.nova_range.specs.declared.range.Kind.{Kind}
 use Rattle.nova_range.specs.declared.range.Kind.TheVariants.{Mem, Obj}
 
@@ -55,6 +55,7 @@ state_word (Exiting reason q0 q1) = codes "exiting"
 state_word (Sending reason q0 q1 handler) = codes "sending"
 state_word (Granting new) = codes "granting"
 state_word Replying = codes "replying"
+state_word (Revoking range own) = codes "revoking"
 state_word (Blocked sm) = codes "blocked"
 state_word Dead = codes "dead"
 

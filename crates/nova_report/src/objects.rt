@@ -32,6 +32,7 @@ fn state_word<'a>(state: State) -> &'a str
         State::Sending(..) => "sending",
         State::Granting(_) => "granting",
         State::Replying => "replying",
+        State::Revoking(..) => "revoking",
         State::Blocked(_) => "blocked",
         State::Dead => "dead",
     }

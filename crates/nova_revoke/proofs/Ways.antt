@@ -91,7 +91,7 @@ pub newest_there : (r : Revocation) (list : List Derivation) (id : ℕ) (c : Der
 newest_there r list id c is = contains_from_in list c (newest_in_is r list id c is).0
 
 -- a part that finds a leaf takes it, and it alone
-pub part_takes : (r : Revocation) (f left : Delegations) (d : Derivation) → IsForest f → next_leaf r f ≡ Some d → left ≡ without f d.id → IsPart r f left (Removed d.id d.pd)
+pub part_takes : (r : Revocation) (f left : Delegations) (d : Derivation) → IsForest f → next_leaf r f ≡ Some d → left ≡ without f d.id → IsPart r f left (Removed d)
 part_takes r f left d forest is gone =
     Takes d (leaf_facts r f d forest is) gone
     (part_takes_one r f d forest is ∙ ap (λ (g : Delegations). length g.list + 1) (ap (taken_away f) is ∙ sym gone))

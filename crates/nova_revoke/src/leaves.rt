@@ -15,8 +15,8 @@ use nova_range::Index;
 /// What a part of a revoke did.
 #[derive(Clone, Copy)]
 pub enum RevokeDone {
-    /// It took away the derivation of this id, which this protection domain held.
-    Removed(u32, u32),
+    /// It took away this derivation.
+    Removed(Derivation),
     /// Nothing was left to take.
     Ended,
 }
@@ -119,7 +119,7 @@ pub fn part<I: Index>(nodes: &mut Nodes<I>, revoke: &Revoke) -> RevokeDone
         None => RevokeDone::Ended,
         Some(d) => {
             nodes.remove_leaf(d.id);
-            RevokeDone::Removed(d.id, d.pd)
+            RevokeDone::Removed(d)
         }
     }
 }

@@ -48,7 +48,7 @@ fn of_page(pd: u32, own: bool) -> Revoke {
 /// What a part took, as a test compares it: id and domain, or nothing.
 fn told(done: RevokeDone) -> Option<(u32, u32)> {
     match done {
-        RevokeDone::Removed(id, pd) => Some((id, pd)),
+        RevokeDone::Removed(d) => Some((d.id, d.pd)),
         RevokeDone::Ended => None,
     }
 }

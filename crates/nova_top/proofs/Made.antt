@@ -14,6 +14,8 @@ use Rattle.nova_top.specs.Causes.{OrderRefused, TextRefused}
 use Rattle.nova_top.specs.Made.{ScenarioCame}
 use Rattle.nova_top.specs.Orders.{OrderCame}
 use Rattle.nova_top.specs.Outside.{Depots}
+use Rattle.nova_revocation.specs.Whole.{HasEnded}
+use Rattle.nova_top.specs.Runs.{IsReturned}
 use Rattle.nova_top.specs.Prepared.{IsOrderReadBy, IsReportOf, IsIdleFault, IsPrepared}
 use Rattle.nova_top.specs.declared.exit.Exit.{Exit}
 use Rattle.nova_top.specs.declared.exit.Exit.TheVariants as exit
@@ -22,6 +24,11 @@ use Rattle.nova_top.specs.declared.exit.OrderWhy.TheVariants as cause
 use Rattle.nova_top.specs.declared.outcome.Outcome.{Outcome}
 use Rattle.nova_top.proofs.Counts.{rose_in_all}
 use Rattle.nova_top.proofs.Reports.{boot_cpus}
+
+-- the laws that a run is told by
+pub record HasLaws : Type 0 where
+  pub forests : (s : Scenario) (turns : List ℕ) → IsForest (run (boot s) turns).delegations
+  pub revokes : (s : Scenario) (before : List ℕ) (cpu ec : ℕ) → IsReturned (run (boot s) before) cpu ec → HasEnded (run (boot s) before) cpu ec
 
 module _ {D : Type 0} (d : Depots D) where
   -- AN ORDER THAT WAS NOT READ, OR HAS AN IDLE TURN
@@ -91,8 +98,8 @@ module _ {D : Type 0} (d : Depots D) where
   made_rounds : (name : List ℕ) (most : ℕ) (old new : D) (from : ScenarioText) (made : Outcome) → ScenarioCame d name old from new →
       IsReportOf (boot (scenario_of from)) (rounds (boot (scenario_of from)) most) most made →
       (made.is_complete ≡ false → length (rounds (boot (scenario_of from)) most) ≡ most) →
-      ((s : Scenario) (order : List ℕ) → IsForest (run (boot s) order).delegations) → IsPrepared d (Solo name None most) old new (Ok made)
-  made_rounds name most old new from made came reported spent forest = record {
+      HasLaws → IsPrepared d (Solo name None most) old new (Ok made)
+  made_rounds name most old new from made came reported spent laws = record {
     from = from;
     between = new;
     came = came;
@@ -105,14 +112,15 @@ module _ {D : Type 0} (d : Depots D) where
       spent = spent;
       within = reported.within;
       processors = reported.processors;
-      forests = λ before after whole. forest (scenario_of from) before;
+      forests = λ before after whole. laws.forests (scenario_of from) before;
+      revokes = λ before after cpu ec whole. laws.revokes (scenario_of from) before cpu ec;
     };
   }
 
   made_by_order : (name order : List ℕ) (most : ℕ) (old between new : D) (from : ScenarioText) (list : BlockList) (made : Outcome) → ScenarioCame d name old from between →
       OrderCame d order from.cpus most between list.blocks new → IsReportOf (boot (scenario_of from)) (turns list.blocks) most made →
-      ((s : Scenario) (turns : List ℕ) → IsForest (run (boot s) turns).delegations) → IsPrepared d (Solo name (Some order) most) old new (Ok made)
-  made_by_order name order most old between new from list made came came_too reported forest = record {
+      HasLaws → IsPrepared d (Solo name (Some order) most) old new (Ok made)
+  made_by_order name order most old between new from list made came came_too reported laws = record {
     from = from;
     between = between;
     came = came;
@@ -129,7 +137,8 @@ module _ {D : Type 0} (d : Depots D) where
       spent = λ open_. tt;
       within = reported.within;
       processors = reported.processors;
-      forests = λ before after whole. forest (scenario_of from) before;
+      forests = λ before after whole. laws.forests (scenario_of from) before;
+      revokes = λ before after cpu ec whole. laws.revokes (scenario_of from) before cpu ec;
     };
   }
 
@@ -146,17 +155,17 @@ module _ {D : Type 0} (d : Depots D) where
   pub rounds_by : (name : List ℕ) (most : ℕ) (old new : D) (from : ScenarioText) (r : Result Outcome Exit) → ScenarioCame d name old from new →
       IfOk r (λ made. IsReportOf (boot (scenario_of from)) (rounds (boot (scenario_of from)) most) most made) →
       IfOk r (λ made. made.is_complete ≡ false → length (rounds (boot (scenario_of from)) most) ≡ most) →
-      IfErr r (λ e. e ≡ exit.Memory) → ((s : Scenario) (order : List ℕ) → IsForest (run (boot s) order).delegations) →
+      IfErr r (λ e. e ≡ exit.Memory) → HasLaws →
       IsPrepared d (Solo name None most) old new r
-  rounds_by name most old new from (Ok made) came reported spent memory forest = made_rounds name most old new from made came reported spent forest
-  rounds_by name most old new from (Err e) came reported spent memory forest =
+  rounds_by name most old new from (Ok made) came reported spent memory laws = made_rounds name most old new from made came reported spent laws
+  rounds_by name most old new from (Err e) came reported spent memory laws =
       subst (λ (x : Exit). IsPrepared d (Solo name None most) old new (Err x)) (sym memory) tt
 
   pub order_by : (name order : List ℕ) (most : ℕ) (old between new : D) (from : ScenarioText) (list : BlockList) (r : Result Outcome Exit) →
       ScenarioCame d name old from between → OrderCame d order from.cpus most between list.blocks new →
       IfOk r (λ made. IsReportOf (boot (scenario_of from)) (turns list.blocks) most made) → IfErr r (IsIdleFault (boot (scenario_of from)) list) →
-      ((s : Scenario) (order : List ℕ) → IsForest (run (boot s) order).delegations) → IsPrepared d (Solo name (Some order) most) old new r
-  order_by name order most old between new from list (Ok made) came came_too reported idle forest =
-      made_by_order name order most old between new from list made came came_too reported forest
-  order_by name order most old between new from list (Err e) came came_too reported idle forest =
+      HasLaws → IsPrepared d (Solo name (Some order) most) old new r
+  order_by name order most old between new from list (Ok made) came came_too reported idle laws =
+      made_by_order name order most old between new from list made came came_too reported laws
+  order_by name order most old between new from list (Err e) came came_too reported idle laws =
       idle_order name order from most old between new list e came came_too idle

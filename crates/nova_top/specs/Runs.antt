@@ -1,20 +1,30 @@
 -- What a command makes of a scenario: a text, and whether the command is complete.
-use Rattle.std.specs.Prelude.{◌≡◌, ℕ, ◌<◌, ◌≤◌, Bool, true, false, List, ◌++◌, length, codes}
+use Rattle.std.specs.Prelude.{◌≡◌, ℕ, ◌<◌, ◌≤◌, Bool, true, false, List, ◌∷◌, ◌++◌, length, codes}
 use Rattle.std.specs.List.{AllByRecursion}
 use Rattle.nova_model.specs.State.{KernelState}
 use Rattle.nova_model.specs.Choice.{is_quiet}
 use Rattle.nova_model.specs.Forest.{IsForest}
-use Rattle.nova_model.specs.Runs.{run, trace}
-use Rattle.nova_model.specs.Runs.{IsFreeOfIdle}
+use Rattle.nova_model.specs.Runs.{IsFreeOfIdle, run, trace}
+use Rattle.nova_model.specs.declared.event.EventKind.TheVariants.{Answer}
+use Rattle.nova_calls.specs.declared.numbers.TheConstants.{REVOKE}
+use Rattle.nova_range.specs.Statuses.{status_code}
+use Rattle.nova_range.specs.declared.status.Status.TheVariants.{Success}
+use Rattle.nova_revocation.specs.Along.{HasEvent}
+use Rattle.nova_revocation.specs.Whole.{HasEnded}
 use Rattle.nova_command.specs.declared.command.Command.{Command}
 use Rattle.nova_command.specs.declared.command.Command.TheVariants.{Solo, Check}
 use Rattle.nova_report.specs.Report.{report}
 use Rattle.nova_top.specs.Orders.{IsOrderOf, IsSpent, most_turns}
 use Rattle.nova_top.specs.Outside.{Depots}
 
+-- in the turn of the processor a revoke of this execution context is answered SUCCESS
+abbrev pub IsReturned : KernelState → ℕ → ℕ → Type 0
+IsReturned k cpu ec = HasEvent k cpu ec Answer REVOKE (status_code Success)
+
 -- a run of a command from a state: there is an order of turns, which is the command's; none of its turns is idle; and the text is the
 -- report of the run over it with its trace. The run is complete exactly where it ends quiet. The order has no more turns than the command
--- allows, and each is of a processor that is there. After each part of it, from the first turn on, delegations are a sound forest.
+-- allows, and each is of a processor that is there. After each part of it, from the first turn on, delegations are a sound forest. And each of its turns
+-- whose event answers SUCCESS to a revoke ends one that ran, with nothing left of its scope: no descendant of what was revoked.
 pub record IsRun {D : Type 0} (d : Depots D) (command : Command) (k : KernelState) (old new : D) (complete : Bool) (text : List ℕ) : Type 0 where
   pub order : List ℕ
   pub of_command : IsOrderOf d command k old new order
@@ -25,6 +35,7 @@ pub record IsRun {D : Type 0} (d : Depots D) (command : Command) (k : KernelStat
   pub within : length order ≤ most_turns command
   pub processors : AllByRecursion (λ cpu. cpu < k.cpus) order
   pub forests : (before after : List ℕ) → before ++ after ≡ order → IsForest (run k before).delegations
+  pub revokes : (before after : List ℕ) (cpu ec : ℕ) → before ++ cpu ∷ after ≡ order → IsReturned (run k before) cpu ec → HasEnded (run k before) cpu ec
 
 -- what a command makes of the boot state: check says that the scenario is valid, and any other command runs it
 abbrev pub IsDone : {D : Type 0} → Depots D → Command → KernelState → D → D → Bool → List ℕ → Type 0

@@ -44,7 +44,8 @@ fn serve<D: Depot, O: Sink>(alloc: Global, command: &Command, depot: &mut D, out
 /// `solo` runs the scenario from its boot state over an order of turns: round robin of at most N turns,
 /// or the order that was read from ORDER. None of its turns is idle, and the text is the report of the
 /// run over it with its trace. The order has at most N turns, and delegations are a sound forest after
-/// each part of it. The answer is Done exactly where the run ends quiet, and Limit exactly where it
+/// each part of it. Where the event of a turn answers SUCCESS to a revoke, that revoke ran, and after the
+/// turn nothing is left of what it took away. The answer is Done exactly where the run ends quiet, and Limit exactly where it
 /// doesn't; round robin has then taken N turns. `check` writes `ok` and answers Done.
 ///
 /// Other answers, in this order: Usage exactly where the words are no command. ReadFault only where the

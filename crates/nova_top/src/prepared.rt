@@ -12,6 +12,7 @@ use crate::outcome::{Outcome, run_in_order, run_rounds, valid};
 use nova_command::{Command, Name};
 use nova_forest::delegations_stay_a_forest;
 use nova_io::Depot;
+use nova_revocation::a_returned_revoke_left_nothing;
 use std::alloc::Global;
 
 /// `check`: fetches a scenario, and says that it is valid.
@@ -34,6 +35,7 @@ fn solo<D: Depot>(alloc: Global, depot: &mut D, name: &Name, limit: u32) -> Resu
     ensures files { D.files depot.new ≡ D.files depot.old }
 {
     delegations_stay_a_forest();
+    a_returned_revoke_left_nothing();
     let scenario = fetch_scenario(alloc, depot, name)?;
     run_rounds(alloc, &scenario, limit)
 }
@@ -53,6 +55,7 @@ fn solo_in_order<D: Depot>(
     ensures files { D.files depot.new ≡ D.files depot.old }
 {
     delegations_stay_a_forest();
+    a_returned_revoke_left_nothing();
     let scenario = fetch_scenario(alloc, depot, scenario)?;
     let order = fetch_order(alloc, depot, order, scenario.cpus, u64::from(limit))?;
     run_in_order(alloc, &scenario, &order, limit)

@@ -4,6 +4,7 @@ mod commands;
 mod exits;
 mod objects;
 mod orders;
+mod revokes;
 mod scheduling;
 mod semaphores;
 mod virtual_cpus;

@@ -1,4 +1,4 @@
-use Rattle.nova_forest.proofs.Lines.{reached_within, reached_line}
+use Rattle.nova_forest.proofs.Reached.{reached_within, reached_line}
 use Rattle.nova_forest.proofs.derivations_stay_within_their_lines.Goals as goal
 
 pub returns-clause-within : goal.returns-clause-within

@@ -21,4 +21,5 @@ returns-clause-prepared g c =
     c.run_in_order.result c.in_ok-scenario.ensures.read
     (subst (λ (n : ℕ). OrderCame (depots g.D.Depot.files g.D.Depot.gave g.D.Depot.fetch_failed g.D.Depot.fetch_faults) c.args.order.now c.in_ok-scenario.scenario.cpus n c.fetch_scenario.new.depot c.in_ok-order.order.blocks c.fetch_order.new.depot)
     same c.in_ok-order.ensures.read)
-    c.run_in_order.ensures.report c.run_in_order.ensures.idle c.delegations_stay_a_forest.ensures
+    c.run_in_order.ensures.report c.run_in_order.ensures.idle
+    (record { forests = c.delegations_stay_a_forest.ensures; revokes = c.a_returned_revoke_left_nothing.ensures.reached })

@@ -4,6 +4,7 @@ use Rattle.nova_kernel.specs.Parts.{IsCounted, shown}
 use Rattle.nova_kernel.specs.Schedules.{root_schedule}
 use Rattle.nova_kernel.proofs.Booted.{IsCounted_bare}
 use Rattle.nova_kernel.proofs.Moves.{queued_same}
+use Rattle.nova_kernel.proofs.Ongoing.{bare_runs}
 use Rattle.nova_kernel.proofs.Started.{queued_bare}
 use Rattle.nova_kernel.proofs.kernel.Kernel.new.Goals as goal
 
@@ -11,6 +12,10 @@ pub invariant_of-result : goal.invariant_of-result
 invariant_of-result c = (
   subst IsCounted (sym c.in_ok-parts.ensures.shown) (IsCounted_bare c.args.cpus c.args.ram c.args.consoles c.args.root c.requires.consoles
       (c.turns_keep_what_they_find.ensures.begins c.args.cpus c.args.ram c.args.consoles c.args.root)),
-  queued_same (bare c.args.cpus c.args.ram c.args.consoles c.args.root) (shown c.in_ok-parts.parts) (root_schedule c.args.cpus c.args.root)
-      c.in_ok-parts.parts.queues.all (queued_bare c.args.cpus c.args.ram c.args.consoles c.args.root) c.in_ok-parts.ensures.shown c.in_ok-parts.ensures.queues,
+  (
+    queued_same (bare c.args.cpus c.args.ram c.args.consoles c.args.root) (shown c.in_ok-parts.parts) (root_schedule c.args.cpus c.args.root)
+        c.in_ok-parts.parts.queues.all (queued_bare c.args.cpus c.args.ram c.args.consoles c.args.root) c.in_ok-parts.ensures.shown c.in_ok-parts.ensures.queues,
+    bare_runs c.args.cpus c.args.ram c.args.consoles c.args.root (shown c.in_ok-parts.parts) c.in_ok-parts.parts.revokes c.in_ok-parts.ensures.shown
+        c.in_ok-parts.ensures.revokes,
+  ),
 )

@@ -1,9 +1,11 @@
-use Rattle.std.proofs.Common.{◌≡◌, sym, ◌∙◌, subst}
+use Rattle.std.proofs.Common.{◌≡◌, ap, sym, ◌∙◌, subst, arith}
 use Rattle.std.specs.Prelude.{true, false}
 use Rattle.nova_model.specs.State.{KernelState, pd_of}
 use Rattle.nova_kernel.specs.Acts.{TakesFree, is_over}
 use Rattle.nova_kernel.specs.Parts.{shown}
+use Rattle.nova_kernel.specs.Revoking.{RevokesState}
 use Rattle.nova_kernel.proofs.Steps.{act-does, begun-later, begun-over, takes-free}
+use Rattle.nova_kernel.proofs.Ongoing.{IsDecided, begins_within, done_runs, over_runs}
 use Rattle.nova_kernel.proofs.parts.Parts.carry_out.Goals as goal
 
 pub perform-requires-clause-free : goal.perform-requires-clause-free
@@ -24,3 +26,64 @@ pub returns-else-not-is_over-clause-done : goal.returns-else-not-is_over-clause-
 returns-else-not-is_over-clause-done c =
     let over : is_over c.in_ok-deed.deed ≡ true = sym c.is_over.ensures ∙ c.if-not-is_over.false in
     begun-over (shown c.args.self.now) (shown c.decide.new.self) c.args.ec c.in_ok-deed.deed over c.in_ok-deed.ensures.begun
+
+pub perform-requires-clause-places : goal.perform-requires-clause-places
+perform-requires-clause-places c =
+    let k : KernelState = shown c.args.self.now in
+    let law = c.running_revokes_are_their_runners.ensures in
+    let decided : IsDecided k c.args.ec c.in_ok-deed.deed = record {
+      there = c.requires.there;
+      is = c.in_ok-deed.ensures.deed;
+      all = law.all k c.args.ec c.requires.counted.kept c.requires.acts;
+      begins = law.begins k c.args.ec;
+    } in
+    let more = c.in_ok-make_room.ensures.places in
+    let same = ap (λ (r : RevokesState). r.places) c.in_ok-deed.ensures.revokes in
+    begins_within k c.args.ec c.in_ok-deed.deed c.args.self.now.revokes c.make_room.new.self.revokes decided c.requires.running
+    (c.in_ok-make_room.ensures.revokes ∙ ap (λ (r : RevokesState). r.list) c.in_ok-deed.ensures.revokes) (omega (arith, more, same))
+
+pub returns-in_ok-make_room-clause-running : goal.returns-in_ok-make_room-clause-running
+returns-in_ok-make_room-clause-running c =
+    let k : KernelState = shown c.args.self.now in
+    let law = c.running_revokes_are_their_runners.ensures in
+    let decided : IsDecided k c.args.ec c.in_ok-deed.deed = record {
+      there = c.requires.there;
+      is = c.in_ok-deed.ensures.deed;
+      all = law.all k c.args.ec c.requires.counted.kept c.requires.acts;
+      begins = law.begins k c.args.ec;
+    } in
+    let later : is_over c.in_ok-deed.deed ≡ false = sym c.is_over.ensures ∙ c.if-not-is_over.true in
+    let same = begun-later k (shown c.make_room.new.self) c.args.ec c.in_ok-deed.deed later (c.make_room.ensures.shown ∙ c.in_ok-deed.ensures.begun) in
+    let more = c.in_ok-make_room.ensures.places in
+    let stays = ap (λ (r : RevokesState). r.places) c.in_ok-deed.ensures.revokes in
+    done_runs c.args.self.now c.make_room.new.self c.perform.new.self c.args.ec _ c.in_ok-deed.deed decided c.requires.running c.in_ok-deed.ensures.fits
+    c.requires.counted.tables same (c.in_ok-make_room.ensures.revokes ∙ ap (λ (r : RevokesState). r.list) c.in_ok-deed.ensures.revokes) (omega (arith, more, stays))
+    c.in_ok-make_room.ensures.room
+    (act-does k (shown c.make_room.new.self) (shown c.perform.new.self) c.args.ec c.in_ok-deed.deed same c.perform.ensures.done)
+    c.perform.ensures.revokes c.perform.ensures.places
+
+pub returns-else-not-is_over-clause-running : goal.returns-else-not-is_over-clause-running
+returns-else-not-is_over-clause-running c =
+    let k : KernelState = shown c.args.self.now in
+    let law = c.running_revokes_are_their_runners.ensures in
+    let decided : IsDecided k c.args.ec c.in_ok-deed.deed = record {
+      there = c.requires.there;
+      is = c.in_ok-deed.ensures.deed;
+      all = law.all k c.args.ec c.requires.counted.kept c.requires.acts;
+      begins = law.begins k c.args.ec;
+    } in
+    over_runs c.args.self.now c.decide.new.self c.args.ec c.in_ok-deed.deed decided c.requires.running c.in_ok-deed.ensures.fits c.requires.counted.tables
+    (sym c.is_over.ensures ∙ c.if-not-is_over.false) c.in_ok-deed.ensures.begun c.in_ok-deed.ensures.revokes
+
+pub returns-in-Steps-clause-running : goal.returns-in-Steps-clause-running
+returns-in-Steps-clause-running c =
+    let k : KernelState = shown c.args.self.now in
+    let law = c.running_revokes_are_their_runners.ensures in
+    let decided : IsDecided k c.args.ec c.in_ok-deed.deed = record {
+      there = c.requires.there;
+      is = c.in_ok-deed.ensures.deed;
+      all = law.all k c.args.ec c.requires.counted.kept c.requires.acts;
+      begins = law.begins k c.args.ec;
+    } in
+    over_runs c.args.self.now c.decide.new.self c.args.ec c.in_ok-deed.deed decided c.requires.running c.in_ok-deed.ensures.fits c.requires.counted.tables
+    (ap is_over c.in-Steps.is) c.in_ok-deed.ensures.begun c.in_ok-deed.ensures.revokes

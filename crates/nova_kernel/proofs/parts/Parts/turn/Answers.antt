@@ -9,6 +9,7 @@ use Rattle.nova_kernel.proofs.Budgets.{still_queued}
 use Rattle.nova_kernel.proofs.Charges.{queued_risen}
 use Rattle.nova_kernel.proofs.Counts.{IsCharged-kept, IsCharged-risen}
 use Rattle.nova_kernel.proofs.Making.{making-wants}
+use Rattle.nova_kernel.proofs.Ongoing.{settled_runs}
 use Rattle.nova_kernel.proofs.Taken.{IsSettled, settled_counts, settled_state, told_acts}
 use Rattle.nova_kernel.proofs.parts.Parts.turn.Goals as goal
 
@@ -69,3 +70,11 @@ returns-clause-counted c =
     } in
     settled_counts k (shown c.act.new.self) (shown c.charge.new.self) c.args.cpu c.in-Some.chosen c.in_ok-deed.deed c.act.new.self.reach.written settled
     c.in_ok-deed.ensures.kept c.requires.turns (c.turns_keep_what_they_find.ensures.turns k c.args.cpu c.requires.counted.kept) c.requires.counted
+
+pub returns-clause-running : goal.returns-clause-running
+returns-clause-running c =
+    let mid : KernelState = shown c.act.new.self in
+    settled_runs mid (shown c.note-sign.new.self) (shown c.charge.new.self)
+    (is_stirring mid c.act.new.self.reach.written c.in-Some.chosen.actor c.in_ok-deed.deed) c.args.cpu c.in-Some.chosen.sc c.act.new.self.revokes
+    c.note-sign.new.self.revokes c.charge.new.self.revokes c.in_ok-deed.ensures.running c.note-sign.ensures.shown c.note-sign.ensures.revokes
+    c.charge.ensures.charged c.charge.ensures.revokes

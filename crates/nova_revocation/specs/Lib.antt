@@ -1,0 +1,4 @@
+pub mod Sound
+pub mod Along
+pub mod Whole
+pub mod Refused
