@@ -40,7 +40,7 @@ others_turn k cpu ec r sound runs none = by_choice (choice k cpu) (turn_under k 
 
     by_choice : (o : Option Candidate) → ChangesUnder r ec o k.delegations (after k cpu).delegations → Shrinks k cpu ec r
     by_choice None same =
-        by_kept 0 (course_leads r k.delegations (after k cpu).delegations 0 sound.forest (record { steps = []; allowed = tt; ends = same; parts = refl }))
+        by_kept 0 (course_leads r k.delegations (after k cpu).delegations 0 sound.forest (record { steps = []; short = omega arith; allowed = tt; ends = same; parts = refl }))
     by_choice (Some c) change =
         by_kept (leaves_in change) (course_leads r k.delegations (after k cpu).delegations (leaves_in change) sound.forest
         (under_course r ec c.actor k.delegations (after k cpu).delegations change))
