@@ -1,5 +1,6 @@
 ghost use Rattle.std.specs.Prelude.{◌≤◌, ◌<◌, ◌+◌, ◌^◌, ◌-◌};
 
+use crate::tests::ForbidsNone;
 use crate::{job, part, translate};
 use bitflags::Flags;
 use nova_nodes::{ListIndex, Nodes};
