@@ -19,3 +19,5 @@ pub mod Leaves
 pub mod Running
 pub mod Courses
 pub mod Under
+pub mod Doing
+pub mod Turning

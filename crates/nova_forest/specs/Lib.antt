@@ -2,3 +2,5 @@ pub mod Made
 pub mod Changes
 pub mod Within
 pub mod Courses
+pub mod Effects
+pub mod Turns

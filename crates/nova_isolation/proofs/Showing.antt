@@ -3,7 +3,7 @@ use Rattle.std.proofs.Common.{◌≡◌, ℕ, List, [], ◌∷◌, ◌++◌, len
 use Rattle.std.specs.Prelude.{◌%◌, ◌==◌, Bool, true, false, slice_get, Option, Some, None, option_and_then, option_map, if◌then◌else◌}
 use Rattle.std.specs.List.{filter_map}
 use Rattle.std.proofs.lemmas.List.{drop_at, length-set}
-use Rattle.rv_model.specs.Step.{Once, Raised, Went, Store}
+use Rattle.rv_model.specs.Step.{Store}
 use Rattle.nova_guest.specs.Alone.{out_before, outputs}
 use Rattle.nova_guest.specs.declared.guest.Guest.{Guest}
 use Rattle.nova_guest.specs.declared.input.Input.{Input}
@@ -11,30 +11,22 @@ use Rattle.nova_guest.specs.declared.input.Out.{Out}
 use Rattle.nova_guest.specs.declared.input.Out.TheVariants as out
 use Rattle.nova_range.specs.Rights.{write_right}
 use Rattle.nova_model.specs.AddressSpaces.{frame_for, stored_at}
-use Rattle.nova_model.specs.Choice.{Candidate, choice, in_front}
-use Rattle.nova_model.specs.Deeds.{address_space, changed, deed, done, followed, instruction, recalled, replied_to, stepped, told, with_context, woken_in}
+use Rattle.nova_model.specs.Choice.{in_front}
 use Rattle.nova_model.specs.Guests.{input, inputs}
-use Rattle.nova_model.specs.Inputs.{stirred}
 use Rattle.nova_model.specs.Memory.{Memory, written_in}
 use Rattle.nova_model.specs.Runs.{after, trace}
-use Rattle.nova_model.specs.State.{KernelState, context}
-use Rattle.nova_model.specs.Turn.{Step, state_after, turn, turn_by}
+use Rattle.nova_model.specs.State.{KernelState}
+use Rattle.nova_model.specs.Turn.{Step, turn}
 use Rattle.nova_model.specs.Views.{view}
-use Rattle.nova_model.specs.declared.context.EcState.{EcState}
-use Rattle.nova_model.specs.declared.context.Mark.{Mark}
-use Rattle.nova_model.specs.declared.context.Mark.TheVariants as mark
-use Rattle.nova_model.specs.declared.deed.Deed.{Deed}
-use Rattle.nova_model.specs.declared.deed.Deed.TheVariants.{Steps, Recalls, Finishes, Replies, Ups}
 use Rattle.nova_model.specs.declared.event.Event.{Event}
 use Rattle.nova_model.specs.declared.log.LogByte.{LogByte}
-use Rattle.nova_model.specs.declared.transfer.ItemWords.{ItemWords}
-use Rattle.nova_model.specs.declared.transfer.Sequel.{Sequel}
-use Rattle.nova_model.specs.declared.transfer.Sequel.TheVariants as sequel
+use Rattle.nova_model.specs.AddressSpaces.{AddressSpace}
+use Rattle.nova_forest.specs.Effects.{memory_with}
+use Rattle.nova_forest.proofs.Turning.{after_keeps}
 use Rattle.nova_isolation.specs.Law.{PutsOut, PutsOutIn, answered, bytes_in, exit_in, raised_by}
 use Rattle.nova_isolation.specs.Shown.{acts_in, exits_in, gained, logged_in, raise_of, raises_in}
 use Rattle.nova_isolation.specs.Sound.{IsSound, IsVirtual}
 use Rattle.nova_isolation.proofs.Runs.{turn_is_one, turn_sound, turn_virtual}
-use Rattle.nova_isolation.proofs.Seen.{log_charged}
 
 outputs_front : (v : Guest) (i : Option Input) (is : List Input) → outputs v (in_front i is) ≡ out_before (answered v i).out (outputs (answered v i).guest is)
 outputs_front v None is = refl
@@ -92,60 +84,17 @@ stored_frames : (m : Memory) (s : Store) (f : ℕ) (b : Option (List ℕ)) → l
 stored_frames m s f None = refl
 stored_frames m s f (Some bytes) = length-set m.ram f _
 
-stepped_frames : (k : KernelState) (ec : ℕ) (o : Once) → length (stepped k ec o).memory.ram ≡ length k.memory.ram
-stepped_frames k ec (Raised reason q0 q1) = refl
-stepped_frames k ec (Went regs None) = refl
-stepped_frames k ec (Went regs (Some s)) = by_frame (frame_for (address_space k ec) write_right s.address)
+memory_frames : (m : Memory) (p : Option (AddressSpace × Store)) → length (memory_with m p).ram ≡ length m.ram
+memory_frames m None = refl
+memory_frames m (Some (a, s)) = by_frame (frame_for a write_right s.address)
   where
-    by_frame : (f : Option ℕ) → length (stored_at k.memory s f).ram ≡ length k.memory.ram
+    by_frame : (f : Option ℕ) → length (stored_at m s f).ram ≡ length m.ram
     by_frame None = refl
-    by_frame (Some f) = stored_frames k.memory s f (slice_get k.memory.ram f)
-
-recalled_memory : (k : KernelState) (whose : ℕ) (o : Option EcState) → (recalled k whose o).memory ≡ k.memory
-recalled_memory k whose None = refl
-recalled_memory k whose (Some x) = refl
-
-replied_memory : (k : KernelState) (ec caller : ℕ) (came : Mark) (items : Bool) → (replied_to k ec caller came items).memory ≡ k.memory
-replied_memory k ec caller mark.Call true = refl
-replied_memory k ec caller mark.Call false = refl
-replied_memory k ec caller mark.Exit true = refl
-replied_memory k ec caller mark.Exit false = refl
-
-told_memory : (k : KernelState) (item : ℕ) (words : Option ItemWords) → (told k item words).memory ≡ k.memory
-told_memory k item None = refl
-told_memory k item (Some w) = refl
-
-followed_memory : (k : KernelState) (ec : ℕ) (next : Sequel) → (followed k ec next).memory ≡ k.memory
-followed_memory k ec (sequel.Replied caller came) = refl
-followed_memory k ec sequel.Item = refl
-followed_memory k ec sequel.Opened = refl
-followed_memory k ec sequel.Taken = refl
-
-woken_memory : (k : KernelState) (whom : Option ℕ) → (woken_in k whom).memory ≡ k.memory
-woken_memory k None = refl
-woken_memory k (Some ec) = refl
-
-abbrev frames_of : Memory → ℕ
-frames_of m = length m.ram
-
-done_frames : (k : KernelState) (ec : ℕ) (d : Deed) → length (done k ec d).memory.ram ≡ length k.memory.ram
-done_frames k ec Steps = stepped_frames k ec (instruction k ec)
-done_frames k ec (Recalls whose) = ap frames_of (recalled_memory (with_context k ec (changed (context k ec) (Recalls whose))) whose _)
-done_frames k ec (Replies caller came items) = ap frames_of (replied_memory (with_context k ec (changed (context k ec) (Replies caller came items))) ec caller came items)
-done_frames k ec (Finishes item end words next) =
-    let s : KernelState = with_context k ec (changed (context k ec) (Finishes item end words next)) in
-    ap frames_of (followed_memory (told s item words) ec next ∙ told_memory s item words)
-done_frames k ec (Ups sm whom) = ap frames_of (woken_memory _ whom)
-done_frames k ec other = refl
+    by_frame (Some f) = stored_frames m s f (slice_get m.ram f)
 
 pub turn_frames : (k : KernelState) (cpu : ℕ) → length (after k cpu).memory.ram ≡ length k.memory.ram
-unfolding turn
-turn_frames k cpu = by_choice (choice k cpu)
-  where
-    by_choice : (c : Option Candidate) → length (state_after k (turn_by k cpu c)).memory.ram ≡ length k.memory.ram
-    by_choice None = refl
-    by_choice (Some c) =
-        ap frames_of (log_charged (stirred k c.actor (deed k c.actor) (done k c.actor (deed k c.actor))) cpu c.sc) ∙ done_frames k c.actor (deed k c.actor)
+turn_frames k cpu =
+    after_keeps (λ (s : KernelState). length s.memory.ram ≡ length k.memory.ram) (λ s c t e is same. memory_frames s.memory t.effect.store ∙ same) k cpu refl
 
 -- BYTES
 

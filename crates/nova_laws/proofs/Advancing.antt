@@ -127,27 +127,14 @@ other_state k a e (Finishes item end words after) wants other able serves gives 
     finished_state k a e item end words after wants.1 other able (serves_in k serves) gives
 other_state k a e (Calls handler ip identifier items) wants other able serves gives =
     two_set k.contexts a handler e _ _ other (gives_apart k.contexts e handler gives (quiet_by k.contexts handler Parked wants.1 refl))
-other_state k a e (Replies caller mark.Call true) wants other able serves gives = set_other k.contexts a e _ other
-other_state k a e (Replies caller mark.Exit true) wants other able serves gives = set_other k.contexts a e _ other
 other_state k a e (Replies caller mark.Call false) wants other able serves gives =
     two_set k.contexts a caller e _ _ other (waits_apart k a caller e mark.Call able (serves_in k serves) wants.1 gives)
 other_state k a e (Replies caller mark.Exit false) wants other able serves gives =
     two_set k.contexts a caller e _ _ other (waits_apart k a caller e mark.Exit able (serves_in k serves) wants.1 gives)
 other_state k a e (Sends handler ip identifier mtd reason q0 q1) wants other able serves gives =
     two_set k.contexts a handler e _ _ other (gives_apart k.contexts e handler gives (quiet_by k.contexts handler Parked wants.1 refl))
-other_state k a e (Waits handler reason q0 q1) wants other able serves gives = set_other k.contexts a e _ other
 other_state k a e (Ups sm whom) wants other able serves gives = woken_state k a e sm _ whom wants.1 other serves.blocked gives
-other_state k a e (Downs sm) wants other able serves gives = set_other k.contexts a e _ other
-other_state k a e (Blocks sm) wants other able serves gives = set_other k.contexts a e _ other
-other_state k a e (Raises reason q0 q1) wants other able serves gives = set_other k.contexts a e _ other
-other_state k a e (Dies reason q0) wants other able serves gives = set_other k.contexts a e _ other
-other_state k a e (Refuses call status) wants other able serves gives = set_other k.contexts a e _ other
-other_state k a e (Tells call value) wants other able serves gives = set_other k.contexts a e _ other
-other_state k a e (Names pt identifier) wants other able serves gives = set_other k.contexts a e _ other
-other_state k a e (Helps handler) wants other able serves gives = set_other k.contexts a e _ other
-other_state k a e (Revokes range own) wants other able serves gives = set_other k.contexts a e _ other
-other_state k a e Returns wants other able serves gives = set_other k.contexts a e _ other
-other_state k a e (Aborts handler mark) wants other able serves gives = set_other k.contexts a e _ other
+other_state k a e d wants other able serves gives = set_other k.contexts a e _ other
 
 -- ITS OWN
 

@@ -1,32 +1,28 @@
 -- Who is blocked waits at its semaphore, whatever is done: one row a deed.
 use Rattle.std.proofs.Common.{◌≡◌, ℕ, arith, [], ◌∷◌, ◌++◌, List, length, refl, ap, ◌∙◌, sym, subst, inl, inr}
 use Rattle.std.specs.Prelude.{◌≢◌, ◌==◌, ◌||◌, eqb, Bool, true, false, if◌then◌else◌, slice_get, Option, Some, None, IsSome, is_some, option_map, Result, Ok, Err}
-use Rattle.rv_model.specs.Step.{Once, Raised, Went}
 use Rattle.nova_objects.specs.declared.object.EcKind.TheVariants.{Local, Global, Vcpu}
 use Rattle.nova_range.specs.declared.status.Status.TheVariants.{Success}
 use Rattle.nova_model.specs.Boot.{root_context}
 use Rattle.nova_model.specs.Calls.{is_parked}
 use Rattle.nova_model.specs.Capabilities.{is_sm}
 use Rattle.nova_model.specs.Creation.{context_of, count_of, idle_semaphore}
-use Rattle.nova_model.specs.Deeds.{after_item, answered, deed, done, followed, instruction, parked, recalled, resumed, stepped, told, with_context}
+use Rattle.nova_model.specs.Deeds.{answered, deed, parked, resumed, told}
 use Rattle.nova_model.specs.Edges.{state_in}
 use Rattle.nova_model.specs.Semaphores.{Semaphores, answer_of, downed, greatest, has, semaphore, semaphore_at, upped, waits, woken, woken_of}
-use Rattle.nova_model.specs.State.{Contexts, KernelState, context, ec_in, ec_of, entry, is_local_thread, message, with_ec}
+use Rattle.nova_model.specs.State.{Contexts, KernelState, context, ec_in, ec_of, entry, is_local_thread, with_ec, context_at, context_in}
 use Rattle.nova_model.specs.declared.context.EcState.{EcState}
 use Rattle.nova_model.specs.declared.context.Mark.{Mark}
-use Rattle.nova_model.specs.declared.context.Mark.TheVariants as mark
 use Rattle.nova_model.specs.declared.context.State.{State}
 use Rattle.nova_model.specs.declared.context.State.TheVariants.{Blocked, Calling, Granting, Parked, Ready}
 use Rattle.nova_model.specs.declared.deed.Deed.{Deed}
-use Rattle.nova_model.specs.declared.deed.Deed.TheVariants.{Rests, Steps, Raises, Dies, Waits, Sends, Refuses, Makes, Recalls, Tells, Names, Opens, Gives, Skips, Finishes, Calls, Helps, Replies, Aborts, Revokes, Removes, Returns, Ups, Downs, Blocks}
+use Rattle.nova_model.specs.declared.deed.Deed.TheVariants.{Ups}
 use Rattle.nova_model.specs.declared.new_object.NewObject.{NewObject}
 use Rattle.nova_model.specs.declared.new_object.NewObject.TheVariants as new
 use Rattle.nova_model.specs.declared.root.Root.{Root}
 use Rattle.nova_model.specs.declared.semaphore.Down.TheVariants as down
 use Rattle.nova_model.specs.declared.semaphore.Overflow.{Overflow}
 use Rattle.nova_model.specs.declared.transfer.ItemWords.{ItemWords}
-use Rattle.nova_model.specs.declared.transfer.Sequel.{Sequel}
-use Rattle.nova_model.specs.declared.transfer.Sequel.TheVariants as sequel
 use Rattle.nova_sem.specs.Sound.{AreSound, IsFree}
 use Rattle.nova_sem.specs.Waiting.{AllWaitAsBefore, OthersWaitAsBefore}
 use Rattle.nova_sem.proofs.Sound.{each_waits_alone}
@@ -35,9 +31,11 @@ use Rattle.nova_laws.specs.Links.{AreServed, state_at}
 use Rattle.nova_laws.specs.Tables.{HasTables, IsOf}
 use Rattle.nova_laws.specs.Waiting.{AreBlocked}
 use Rattle.nova_laws.proofs.Links.{more_itself, more_other, past, place}
-use Rattle.nova_laws.proofs.Referring.{Asks, Follows, deed_asks}
-use Rattle.nova_laws.proofs.Serving.{IsActor, IsReached, awaited, exit_reaches, is_blocked, of_there, reached_apart, reached_there, resumed_is, send_reaches, state_there}
+use Rattle.nova_laws.proofs.Referring.{Asks, deed_asks}
+use Rattle.nova_laws.proofs.Serving.{IsActor, IsReached, awaited, is_blocked, of_there, reached_apart, reached_there, resumed_is, state_there}
 use Rattle.nova_laws.proofs.Setting.{entry_itself, entry_other}
+use Rattle.nova_forest.specs.Effects.{applied, effect, joined, made_by}
+use Rattle.nova_laws.proofs.Courses.{Courses, MayCome, deed_course}
 use Rattle.nova_laws.proofs.Tabling.{kinds_at}
 
 -- ONE IS SET
@@ -261,39 +259,15 @@ replies is_local cs all ec caller mark m actor keeps served are =
 abbrev Settled : KernelState → Type 0
 Settled k = AreBlocked k.contexts k.semaphores
 
--- it goes on in a state of its own
-owns : (k : KernelState) (ec : ℕ) (y : EcState) → IsActor k.contexts ec → is_blocked (Some y.state) ≡ false → Settled k → Settled (with_context k ec y)
-owns k ec y actor now h = goes_on k.contexts k.semaphores ec y (ap is_some actor.there) actor.unblocked now h
+-- a state to which one comes by itself is none in which one waits
+free_state : (k : KernelState) (ec : ℕ) (s : State) → MayCome k ec s → is_blocked (Some s) ≡ false
+free_state k ec (Blocked sm) may = absurd may
+free_state k ec other may = refl
 
-stepped_settled : (k : KernelState) (ec : ℕ) (o : Once) → IsActor k.contexts ec → Settled k → Settled (stepped k ec o)
-stepped_settled k ec (Raised reason q0 q1) actor h = h
-stepped_settled k ec (Went regs store) actor h = stays k.contexts k.semaphores ec _ (ap is_some actor.there) refl h
-
-recalled_settled : (k : KernelState) (other : ℕ) (o : Option EcState) → ec_in k.contexts other ≡ o → Settled k → Settled (recalled k other o)
-recalled_settled k other None is h = h
-recalled_settled k other (Some x) is h =
-    let same : x.state ≡ (ec_of k.contexts other).state = (let both : Some x ≡ Some (ec_of k.contexts other) = sym is ∙ of_there k.contexts other (ap is_some is) in cc) in
-    stays k.contexts k.semaphores other (record x { recall = true }) (ap is_some is) same h
-
--- what is told changes neither execution contexts nor semaphores
 pub told_same : (P : Contexts → Semaphores → Type 0) (k : KernelState) (item : ℕ) (words : Option ItemWords) → P k.contexts k.semaphores →
     P (told k item words).contexts (told k item words).semaphores
 told_same P k item None h = h
 told_same P k item (Some w) h = h
-
-finished_settled : (k : KernelState) (ec item : ℕ) (words : Option ItemWords) (follows : Sequel) → IsActor k.contexts ec → Follows k ec follows →
-    AreServed (is_local_thread k) k.contexts → Settled k → Settled (followed (told (with_context k ec (after_item (context k ec) follows)) item words) ec follows)
-finished_settled k ec item words sequel.Item actor back served h =
-    told_same AreBlocked (with_context k ec (context k ec)) item words (stays k.contexts k.semaphores ec (context k ec) (ap is_some actor.there) refl h)
-finished_settled k ec item words sequel.Opened actor back served h =
-    told_same AreBlocked (with_context k ec (after_item (context k ec) sequel.Opened)) item words (owns k ec _ actor refl h)
-finished_settled k ec item words sequel.Taken actor back served h =
-    told_same AreBlocked (with_context k ec (after_item (context k ec) sequel.Taken)) item words (owns k ec _ actor refl h)
-finished_settled k ec item words (sequel.Replied caller mark) actor back served h =
-    let one = with_context k ec (parked (context k ec)) in
-    let m = message (told one item words) ec in
-    told_same (λ (cs : Contexts) (all : Semaphores). AreBlocked (with_ec cs caller (resumed (ec_of cs caller) mark m)) all) one item words
-    (replies (is_local_thread k) k.contexts k.semaphores ec caller mark m actor back served h)
 
 semaphore_there : (k : KernelState) (sm : ℕ) → HasTables k → IsOf k.objects is_sm sm → IsSome (semaphore_at k.semaphores sm)
 semaphore_there k sm h is = by_entry (slice_get k.semaphores sm) (kinds_at is_sm k.semaphores k.objects sm h.semaphores ∙ is)
@@ -303,44 +277,31 @@ semaphore_there k sm h is = by_entry (slice_get k.semaphores sm) (kinds_at is_sm
     by_entry (Some None) at = absurd (cc)
     by_entry (Some (Some x)) at = refl
 
-upped_settled : (k : KernelState) (ec sm : ℕ) (whom : Option ℕ) → IsActor k.contexts ec → woken (semaphore k.semaphores sm) ≡ Ok whom → Settled k → Settled (done k ec (Ups sm whom))
-upped_settled k ec sm None actor wakes h = wakes_nobody _ k.semaphores sm wakes (owns k ec (answered (context k ec) Success None) actor refl h)
-upped_settled k ec sm (Some w) actor is h = wakes _ k.semaphores sm w is (owns k ec (answered (context k ec) Success None) actor refl h)
+blocked_courses : (k : KernelState) (ec : ℕ) → IsActor k.contexts ec → HasTables k → AreServed (is_local_thread k) k.contexts → Settled k → Courses k ec AreBlocked
+blocked_courses k ec actor tables served h = record {
+  rests = h;
+  stays = λ cs all w x y is self same now. stays cs all w y (ap is_some is) (same ∙ ap (λ (z : EcState). z.state) (sym (ap context_in is))) now;
+  goes = λ y self may. goes_on k.contexts k.semaphores ec y there actor.unblocked (free_state k ec y.state may) h;
+  sends = λ handler its ip identifier items of_call reached. sends k.contexts k.semaphores ec handler _ actor reached (begins_free items) h;
+  replies = λ caller its m keeps. replies (is_local_thread k) k.contexts k.semaphores ec caller its m actor keeps served h;
+  ups = λ sm is. wakes_nobody _ k.semaphores sm is answers;
+  wakes = λ sm w is. wakes _ k.semaphores sm w is answers;
+  downs = λ sm is. downs k.contexts k.semaphores sm ec _ there actor.unblocked refl is h;
+  blocks = λ sm is answer. blocks k.contexts k.semaphores sm ec _ there actor.unblocked refl (semaphore_there k sm tables is) answer h;
+}
+  where
+    there : is_some (context_at k ec) ≡ true
+    there = ap is_some actor.there
 
-pub done_blocked : (k : KernelState) (ec : ℕ) (d : Deed) → IsActor k.contexts ec → Asks k ec d → HasTables k → AreServed (is_local_thread k) k.contexts →
-    AreBlocked k.contexts k.semaphores → AreBlocked (done k ec d).contexts (done k ec d).semaphores
-done_blocked k ec Rests actor asks tables served h = h
-done_blocked k ec Steps actor asks tables served h = stepped_settled k ec (instruction k ec) actor h
-done_blocked k ec (Raises reason q0 q1) actor asks tables served h = owns k ec _ actor refl h
-done_blocked k ec (Dies reason q0) actor asks tables served h = owns k ec _ actor refl h
-done_blocked k ec (Waits handler reason q0 q1) actor asks tables served h = owns k ec _ actor refl h
-done_blocked k ec (Sends handler ip identifier mtd reason q0 q1) actor asks tables served h =
-    sends k.contexts k.semaphores ec handler _ actor (exit_reaches k.contexts ec handler asks.admits) refl h
-done_blocked k ec (Refuses call status) actor asks tables served h = owns k ec _ actor refl h
-done_blocked k ec (Makes call target made) actor asks tables served h =
-    joins _ (context_of (length k.objects) made) k.semaphores (count_of made) (born_free (length k.objects) made) (owns k ec (answered (context k ec) Success None) actor refl h)
-done_blocked k ec (Recalls other) actor asks tables served h =
-    recalled_settled (with_context k ec (answered (context k ec) Success None)) other _ refl (owns k ec _ actor refl h)
-done_blocked k ec (Tells call value) actor asks tables served h = owns k ec _ actor refl h
-done_blocked k ec (Names pt identifier) actor asks tables served h = owns k ec _ actor refl h
-done_blocked k ec (Opens target domain) actor asks tables served h =
-    joins _ None k.semaphores None refl (owns k ec (record (context k ec) { state = Granting (Some domain) }) actor refl h)
-done_blocked k ec (Gives child cursor) actor asks tables served h = h
-done_blocked k ec (Skips reason place cursor) actor asks tables served h = h
-done_blocked k ec (Finishes item end words follows) actor asks tables served h = finished_settled k ec item words follows actor asks.1 served h
-done_blocked k ec (Calls handler ip identifier items) actor asks tables served h =
-    sends k.contexts k.semaphores ec handler _ actor (send_reaches k.contexts ec handler asks.flag asks.admits) (begins_free items) h
-done_blocked k ec (Helps handler) actor asks tables served h = owns k ec _ actor refl h
-done_blocked k ec (Replies caller mark.Call true) actor asks tables served h = owns k ec _ actor refl h
-done_blocked k ec (Replies caller mark.Exit true) actor asks tables served h = owns k ec _ actor refl h
-done_blocked k ec (Replies caller mark.Call false) actor asks tables served h = replies (is_local_thread k) k.contexts k.semaphores ec caller mark.Call (message k ec) actor asks served h
-done_blocked k ec (Replies caller mark.Exit false) actor asks tables served h = replies (is_local_thread k) k.contexts k.semaphores ec caller mark.Exit _ actor asks served h
-done_blocked k ec (Aborts handler mark.Call) actor asks tables served h = owns k ec _ actor refl h
-done_blocked k ec (Aborts handler mark.Exit) actor asks tables served h = owns k ec _ actor refl h
-done_blocked k ec (Revokes range own) actor asks tables served h = owns k ec _ actor refl h
-done_blocked k ec (Removes leaf) actor asks tables served h = h
-done_blocked k ec Returns actor asks tables served h = owns k ec _ actor refl h
-done_blocked k ec (Ups sm whom) actor asks tables served h = upped_settled k ec sm whom actor asks.1 h
-done_blocked k ec (Downs sm) actor asks tables served h = downs k.contexts k.semaphores sm ec _ (ap is_some actor.there) actor.unblocked refl asks.1 h
-done_blocked k ec (Blocks sm) actor asks tables served h =
-    blocks k.contexts k.semaphores sm ec _ (ap is_some actor.there) actor.unblocked refl (semaphore_there k sm tables asks.0) asks.1 h
+    answers : AreBlocked (with_ec k.contexts ec (answered (context k ec) Success None)) k.semaphores
+    answers = goes_on k.contexts k.semaphores ec _ there actor.unblocked refl h
+
+joined_blocked : (n : ℕ) (cs : Contexts) (all : Semaphores) (made : Option NewObject) → AreBlocked cs all →
+    AreBlocked (joined cs (option_map (context_of n) made)) (joined all (option_map (λ m. option_map idle_semaphore (count_of m)) made))
+joined_blocked n cs all None h = h
+joined_blocked n cs all (Some made) h = joins cs (context_of n made) all (count_of made) (born_free n made) h
+
+pub applied_blocked : (k : KernelState) (ec : ℕ) (d : Deed) → IsActor k.contexts ec → Asks k ec d → HasTables k → AreServed (is_local_thread k) k.contexts → Settled k →
+    Settled (applied k (effect k ec d))
+applied_blocked k ec d actor asks tables served h =
+    joined_blocked (length k.objects) _ _ (made_by d) (deed_course k ec AreBlocked d actor asks (blocked_courses k ec actor tables served h))

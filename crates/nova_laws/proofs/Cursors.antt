@@ -19,6 +19,7 @@ use Rattle.nova_model.specs.declared.transfer.Reason.{Reason}
 use Rattle.nova_model.specs.declared.transfer.Skip.TheVariants as skip
 use Rattle.nova_model.specs.declared.transfer.Transfer.{Transfer}
 use Rattle.nova_forest.proofs.Stirred.{acted}
+use Rattle.nova_forest.proofs.Turning.{of_event}
 use Rattle.nova_laws.specs.Giving.{HasMoved, MovesCursor}
 use Rattle.nova_laws.proofs.Charges.{charge_leaves}
 use Rattle.nova_laws.proofs.Chosen.{Acts, choice_acts}
@@ -62,33 +63,9 @@ record IsMade (d : Deed) : Type 0 where
 
 made : (d : Deed) → (sign_of d).0 ≡ Made → IsMade d
 made (Gives child cursor) tells = record { child = child; cursor = cursor; is = refl }
-made (Skips reason place cursor) tells = absurd cc
 made (Finishes item (Given children) words after) tells = absurd cc
-made (Finishes item (Skipped skip) words after) tells = absurd cc
-made (Finishes item (Translated word) words after) tells = absurd cc
-made Rests tells = absurd cc
-made Steps tells = absurd cc
-made (Raises reason q0 q1) tells = absurd cc
-made (Dies reason q0) tells = absurd cc
-made (Waits handler reason q0 q1) tells = absurd cc
-made (Sends handler ip identifier mtd reason q0 q1) tells = absurd cc
-made (Refuses call status) tells = absurd cc
-made (Makes call target new) tells = absurd cc
-made (Recalls ec) tells = absurd cc
-made (Tells call value) tells = absurd cc
-made (Names pt identifier) tells = absurd cc
-made (Opens target domain) tells = absurd cc
-made (Calls handler ip identifier items) tells = absurd cc
-made (Helps handler) tells = absurd cc
 made (Replies caller mark true) tells = absurd cc
-made (Replies caller mark false) tells = absurd cc
-made (Aborts handler mark) tells = absurd cc
-made (Revokes range own) tells = absurd cc
-made (Removes leaf) tells = absurd cc
-made Returns tells = absurd cc
-made (Ups sm whom) tells = absurd cc
-made (Downs sm) tells = absurd cc
-made (Blocks sm) tells = absurd cc
+made other tells = absurd cc
 
 record IsSkipped (d : Deed) : Type 0 where
   reason : Reason
@@ -99,34 +76,10 @@ record IsSkipped (d : Deed) : Type 0 where
 -- a part, and no whole item
 skips : (d : Deed) → (sign_of d).0 ≡ Skip → 2 < (sign_of d).1 → IsSkipped d
 skips (Skips reason place cursor) tells part = record { reason = reason; place = place; cursor = cursor; is = refl }
-skips (Gives child cursor) tells part = absurd cc
-skips (Finishes item (Given children) words after) tells part = absurd cc
 skips (Finishes item (Skipped skip.Empty) words after) tells part = absurd (omega (arith, part))
 skips (Finishes item (Skipped skip.Window) words after) tells part = absurd (omega (arith, part))
-skips (Finishes item (Translated word) words after) tells part = absurd cc
-skips Rests tells part = absurd cc
-skips Steps tells part = absurd cc
-skips (Raises reason q0 q1) tells part = absurd cc
-skips (Dies reason q0) tells part = absurd cc
-skips (Waits handler reason q0 q1) tells part = absurd cc
-skips (Sends handler ip identifier mtd reason q0 q1) tells part = absurd cc
-skips (Refuses call status) tells part = absurd cc
-skips (Makes call target new) tells part = absurd cc
-skips (Recalls ec) tells part = absurd cc
-skips (Tells call value) tells part = absurd cc
-skips (Names pt identifier) tells part = absurd cc
-skips (Opens target domain) tells part = absurd cc
-skips (Calls handler ip identifier items) tells part = absurd cc
-skips (Helps handler) tells part = absurd cc
 skips (Replies caller mark true) tells part = absurd cc
-skips (Replies caller mark false) tells part = absurd cc
-skips (Aborts handler mark) tells part = absurd cc
-skips (Revokes range own) tells part = absurd cc
-skips (Removes leaf) tells part = absurd cc
-skips Returns tells part = absurd cc
-skips (Ups sm whom) tells part = absurd cc
-skips (Downs sm) tells part = absurd cc
-skips (Blocks sm) tells part = absurd cc
+skips other tells part = absurd cc
 
 -- who is chosen has an entry
 has_entry : (s : Scenario) (turns : List ℕ) (cpu : ℕ) (c : Candidate) → choice (run (boot s) turns) cpu ≡ Some c → IsSome (transfer_at (run (boot s) turns) c.actor)
@@ -176,26 +129,12 @@ chosen_skips s turns cpu c chosen tells part =
 
 pub made_moves : (s : Scenario) (turns : List ℕ) (cpu : ℕ) (e : Event) → answer_of (turn (run (boot s) turns) cpu) ≡ Stepped e → e.kind ≡ Made →
     MovesCursor (run (boot s) turns) (after (run (boot s) turns) cpu) e.ec 1
-unfolding turn
-made_moves s turns cpu e steps tells = by_choice (choice (run (boot s) turns) cpu) refl steps
-  where
-    by_choice : (o : Option Candidate) → choice (run (boot s) turns) cpu ≡ o → answer_of (turn_by (run (boot s) turns) cpu o) ≡ Stepped e →
-        MovesCursor (run (boot s) turns) (after (run (boot s) turns) cpu) e.ec 1
-    by_choice None is h = absurd cc
-    by_choice (Some c) is h =
-        let same : event_of cpu c (deed (run (boot s) turns) c.actor) ≡ e = cc in
-        subst (λ (f : Event). MovesCursor (run (boot s) turns) (after (run (boot s) turns) cpu) f.ec 1) same
-        (chosen_made s turns cpu c is (ap (λ (f : Event). f.kind) same ∙ tells))
+made_moves s turns cpu e steps tells =
+    let k = run (boot s) turns in
+    of_event (λ (f : Event). f.kind ≡ Made → MovesCursor k (after k cpu) f.ec 1) k cpu e steps (λ c chosen state kind. chosen_made s turns cpu c chosen kind) tells
 
 pub skipped_moves : (s : Scenario) (turns : List ℕ) (cpu : ℕ) (e : Event) → answer_of (turn (run (boot s) turns) cpu) ≡ Stepped e → e.kind ≡ Skip → 2 < e.a →
     MovesCursor (run (boot s) turns) (after (run (boot s) turns) cpu) e.ec 0
-unfolding turn
-skipped_moves s turns cpu e steps tells part = by_choice (choice (run (boot s) turns) cpu) refl steps
-  where
-    by_choice : (o : Option Candidate) → choice (run (boot s) turns) cpu ≡ o → answer_of (turn_by (run (boot s) turns) cpu o) ≡ Stepped e →
-        MovesCursor (run (boot s) turns) (after (run (boot s) turns) cpu) e.ec 0
-    by_choice None is h = absurd cc
-    by_choice (Some c) is h =
-        let same : event_of cpu c (deed (run (boot s) turns) c.actor) ≡ e = cc in
-        subst (λ (f : Event). MovesCursor (run (boot s) turns) (after (run (boot s) turns) cpu) f.ec 0) same
-        (chosen_skips s turns cpu c is (ap (λ (f : Event). f.kind) same ∙ tells) (subst (λ (n : ℕ). 2 < n) (sym (ap (λ (f : Event). f.a) same)) part))
+skipped_moves s turns cpu e steps tells part =
+    let k = run (boot s) turns in
+    of_event (λ (f : Event). f.kind ≡ Skip → 2 < f.a → MovesCursor k (after k cpu) f.ec 0) k cpu e steps (λ c chosen state kind a. chosen_skips s turns cpu c chosen kind a) tells part

@@ -22,6 +22,7 @@ use Rattle.nova_model.specs.declared.transfer.ItemEnd.TheVariants.{Given, Skippe
 use Rattle.nova_model.specs.declared.transfer.ItemWords.{ItemWords}
 use Rattle.nova_model.specs.declared.transfer.Sequel.{Sequel}
 use Rattle.nova_forest.proofs.Walk as walk
+use Rattle.nova_forest.proofs.Turning.{of_event}
 use Rattle.nova_laws.specs.Giving.{IsEndOfItem, is_giving}
 use Rattle.nova_laws.proofs.Counting.{counts_children}
 use Rattle.nova_laws.proofs.Rows.{IsWhole, done_weaker, is_part, row_whole}
@@ -80,33 +81,8 @@ record IsEnd (d : Deed) : Type 0 where
 
 ends : (d : Deed) → (sign_of d).0 ≡ Ended → IsEnd d
 ends (Finishes item (Given children) words after) tells = record { item = item; children = children; words = words; after = after; is = refl }
-ends (Finishes item (Skipped skip) words after) tells = absurd cc
-ends (Finishes item (Translated word) words after) tells = absurd cc
-ends Rests tells = absurd cc
-ends Steps tells = absurd cc
-ends (Raises reason q0 q1) tells = absurd cc
-ends (Dies reason q0) tells = absurd cc
-ends (Waits handler reason q0 q1) tells = absurd cc
-ends (Sends handler ip identifier mtd reason q0 q1) tells = absurd cc
-ends (Refuses call status) tells = absurd cc
-ends (Makes call target made) tells = absurd cc
-ends (Recalls ec) tells = absurd cc
-ends (Tells call value) tells = absurd cc
-ends (Names pt identifier) tells = absurd cc
-ends (Opens target domain) tells = absurd cc
-ends (Gives child cursor) tells = absurd cc
-ends (Skips reason place cursor) tells = absurd cc
-ends (Calls handler ip identifier items) tells = absurd cc
-ends (Helps handler) tells = absurd cc
 ends (Replies caller mark true) tells = absurd cc
-ends (Replies caller mark false) tells = absurd cc
-ends (Aborts handler mark) tells = absurd cc
-ends (Revokes range own) tells = absurd cc
-ends (Removes leaf) tells = absurd cc
-ends Returns tells = absurd cc
-ends (Ups sm whom) tells = absurd cc
-ends (Downs sm) tells = absurd cc
-ends (Blocks sm) tells = absurd cc
+ends other tells = absurd cc
 
 -- of who is chosen
 chosen_ends : (s : Scenario) (turns : List ℕ) (cpu : ℕ) (c : Candidate) → (sign_of (deed (run (boot s) turns) c.actor)).0 ≡ Ended →
@@ -122,11 +98,6 @@ chosen_ends s turns cpu c tells =
 
 pub tells_children : (s : Scenario) (turns : List ℕ) (cpu : ℕ) (e : Event) → answer_of (turn (run (boot s) turns) cpu) ≡ Stepped e → e.kind ≡ Ended →
     IsEndOfItem (run (boot s) turns) (trace (boot s) turns) e
-unfolding turn
-tells_children s turns cpu e steps tells = by_choice (choice (run (boot s) turns) cpu) steps
-  where
-    by_choice : (o : Option Candidate) → answer_of (turn_by (run (boot s) turns) cpu o) ≡ Stepped e → IsEndOfItem (run (boot s) turns) (trace (boot s) turns) e
-    by_choice None h = absurd cc
-    by_choice (Some c) h =
-        let same : event_of cpu c (deed (run (boot s) turns) c.actor) ≡ e = cc in
-        subst (IsEndOfItem (run (boot s) turns) (trace (boot s) turns)) same (chosen_ends s turns cpu c (ap (λ (f : Event). f.kind) same ∙ tells))
+tells_children s turns cpu e steps tells =
+    let k = run (boot s) turns in
+    of_event (λ (f : Event). f.kind ≡ Ended → IsEndOfItem k (trace (boot s) turns) f) k cpu e steps (λ c chosen state kind. chosen_ends s turns cpu c kind) tells

@@ -1,6 +1,6 @@
 -- Tables fit the objects, and callers stay with those who serve them: one row a deed, the charge, and the fold over turns.
 use Rattle.std.proofs.Common.{◌≡◌, ℕ, List, [], ◌∷◌, ◌++◌, length, refl, ap, ◌∙◌, sym, subst, inl, inr}
-use Rattle.std.specs.Prelude.{◌≢◌, Bool, true, false, slice_get, Option, Some, None, IfSome, Ok, is_some, option_map}
+use Rattle.std.specs.Prelude.{◌≢◌, Bool, true, false, slice_get, Option, Some, None, IfSome, IsSome, Ok, is_some, option_map}
 use Rattle.rv_model.specs.Step.{Once, Raised, Went}
 use Rattle.nova_objects.specs.declared.object.EcKind.TheVariants.{Local, Global, Vcpu}
 use Rattle.nova_objects.specs.declared.object.Object.{Object}
@@ -8,40 +8,48 @@ use Rattle.nova_range.specs.declared.status.Status.TheVariants.{Success}
 use Rattle.nova_model.specs.Boot.{Image, Scenario, bare, boot, root_context, root_objects, with_image, with_images}
 use Rattle.nova_model.specs.Calls.{is_parked}
 use Rattle.nova_model.specs.Choice.{Candidate, choice}
-use Rattle.nova_model.specs.Creation.{context_of, object_of, with_object}
-use Rattle.nova_model.specs.Deeds.{after_item, answered, changed, deed, done, followed, instruction, parked, recalled, resumed, serving, stepped, told, with_context, woken_in}
+use Rattle.nova_model.specs.Creation.{context_of, object_of}
+use Rattle.nova_model.specs.Deeds.{answered, deed, done, instruction}
 use Rattle.nova_model.specs.Edges.{acts, acts_as, state_in}
-use Rattle.nova_model.specs.Inputs.{stirred}
 use Rattle.nova_model.specs.Runs.{after, run}
-use Rattle.nova_model.specs.Semaphores.{semaphore, upped, woken}
-use Rattle.nova_model.specs.State.{Contexts, KernelState, budget_at, context, context_at, context_in, ec_in, ec_of, is_local_in, is_local_thread, is_thread, message, pd_of, with_ec}
-use Rattle.nova_model.specs.Turn.{charged, counted, paid_by, quantum_in, state_after, turn, turn_by}
-use Rattle.nova_model.specs.declared.budget.Budget.{Budget}
+use Rattle.nova_model.specs.Semaphores.{semaphore, woken}
+use Rattle.nova_model.specs.State.{Contexts, KernelState, context, context_at, context_in, ec_in, ec_of, is_local_in, is_local_thread, is_thread, message, with_ec}
 use Rattle.nova_model.specs.declared.context.EcState.{EcState}
 use Rattle.nova_model.specs.declared.context.Mark.{Mark}
 use Rattle.nova_model.specs.declared.context.Mark.TheVariants as mark
 use Rattle.nova_model.specs.declared.context.State.{State}
-use Rattle.nova_model.specs.declared.context.State.TheVariants.{Calling, Fresh, Granting, Ready}
+use Rattle.nova_model.specs.declared.context.State.TheVariants.{Blocked, Parked, Replying, Calling, Fresh, Granting, Ready}
 use Rattle.nova_model.specs.declared.deed.Deed.{Deed}
-use Rattle.nova_model.specs.declared.deed.Deed.TheVariants.{Rests, Steps, Raises, Dies, Waits, Sends, Refuses, Makes, Recalls, Tells, Names, Opens, Gives, Skips, Finishes, Calls, Helps, Replies, Aborts, Revokes, Removes, Returns, Ups, Downs, Blocks}
+use Rattle.nova_model.specs.declared.deed.Deed.TheVariants.{Rests, Steps, Sends, Makes, Recalls, Names, Gives, Skips, Finishes, Calls, Replies, Removes, Ups}
 use Rattle.nova_model.specs.declared.new_object.NewObject.{NewObject}
 use Rattle.nova_model.specs.declared.new_object.NewObject.TheVariants as new
 use Rattle.nova_model.specs.declared.transfer.ItemWords.{ItemWords}
 use Rattle.nova_model.specs.declared.transfer.Sequel.{Sequel}
 use Rattle.nova_model.specs.declared.transfer.Sequel.TheVariants as sequel
 use Rattle.nova_model.specs.declared.root.Root.{Root}
+use Rattle.rv_model.specs.Step.{Store}
+use Rattle.nova_model.specs.AddressSpaces.{words_at}
+use Rattle.nova_model.specs.Deeds.{address_space}
+use Rattle.nova_model.specs.Inputs.{store_of}
+use Rattle.nova_model.specs.Capabilities.{is_pt}
+use Rattle.nova_model.specs.declared.event.Event.{Event}
+use Rattle.nova_forest.specs.Effects.{all_edited, joined, Answers, Becomes, Edit, Parks, edit_at, edited, edits_by, effect, follows_by, identifier_by, item_words, made_by, recalls_by, steps_by, store_words, transfer_by, wakes_by, words_by, words_stored, applied}
+use Rattle.nova_forest.specs.Turns.{Acts, IsTurning, Turning, acting, settled, turned}
+use Rattle.nova_forest.proofs.Doing.{done_is}
+use Rattle.nova_forest.proofs.Turning.{after_keeps, along}
+use Rattle.nova_laws.specs.Tables.{IsOf, Refers}
 use Rattle.nova_laws.specs.Links.{AreServed, IsLinked, is_giving, state_at}
 use Rattle.nova_laws.specs.Tables.{HasTables}
 use Rattle.nova_laws.specs.Virtual.{AreGuests}
 use Rattle.nova_laws.specs.Waiting.{AreBlocked}
-use Rattle.nova_laws.proofs.Blocking.{bare_blocked, done_blocked, woken_blocked}
-use Rattle.nova_laws.proofs.Chosen.{Acts, choice_acts}
+use Rattle.nova_laws.proofs.Courses.{Courses, IsSelf, MayCome, deed_course, edited_length}
+use Rattle.nova_laws.proofs.Blocking.{applied_blocked, bare_blocked, woken_blocked}
+use Rattle.nova_laws.proofs.Chosen.{choice_acts}
 use Rattle.nova_laws.proofs.Links.{IsNewborn, is_taking, served_more}
 use Rattle.nova_laws.proofs.Referring.{Asks, Follows, IsCallerOf, TellsIn, deed_asks}
 use Rattle.nova_laws.proofs.Serving.{IsActor, acts_on, actor_of, awaited, blocked_there, exit_reaches, is_blocked, replies_on, reached_there, send_reaches, sends_on, stays_on, wakes_on}
-use Rattle.nova_laws.proofs.Setting.{entry_other, get_last, joined_other, set_length}
-use Rattle.nova_laws.proofs.Tabling.{changed_tag, contexts_length, downed_fits, edited, followed_fits, named_fits, paid_tables, passed_fits, recalled_fits, replied_fits, set_there, stepped_fits, stirred_tables, told_contexts, told_fits, transfer_there, upped_fits, with_delegations, with_memory, with_message_fits, with_transfer_fits, woken_fits}
-use Rattle.nova_laws.proofs.Tags.{made_fits}
+use Rattle.nova_laws.proofs.Setting.{entry_other, get_last, joined_other}
+use Rattle.nova_laws.proofs.Tabling.{AreThere, IsPlaced, applied_tables, contexts_length, owner_thread, set_there, settled_tables, transfer_there, with_memory}
 use Rattle.nova_laws.proofs.Virtual.{among_of, caller_thread, done_guests, guests_of, is_guest_deed, reached_thread, root_among, thread_does}
 
 abbrev Served : KernelState → Type 0
@@ -58,69 +66,89 @@ pub record Fits (k : KernelState) : Type 0 where
 pub caller_there : (k : KernelState) (ec caller : ℕ) (mark : Mark) → IsActor k.contexts ec → IsCallerOf k ec caller mark → Served k → is_some (context_at k caller) ≡ true
 caller_there k ec caller mark actor keeps served = ap is_some (awaited (is_local_thread k) k.contexts ec caller mark actor keeps served).there
 
-told_threads : (k : KernelState) (ec : ℕ) (words : Option ItemWords) → is_thread k ec ≡ true → AreGuests k → TellsIn k ec words → IfSome words (λ w. is_thread k w.ec ≡ true)
-told_threads k ec None thread guests h = tt
-told_threads k ec (Some w) thread guests (inl same) = rw same thread
-told_threads k ec (Some w) thread guests (inr calls) = caller_thread k ec w.ec mark.Call guests calls refl
+stored_thread : (k : KernelState) (ec : ℕ) (s : Option Store) → IfSome (store_words (address_space k ec) ec s) (λ w. is_thread k w.0 ≡ true)
+stored_thread k ec None = tt
+stored_thread k ec (Some s) = by_words (words_at (address_space k ec) s.address) refl
+  where
+    by_words : (o : Option (List ℕ)) → words_at (address_space k ec) s.address ≡ o → IfSome (words_stored ec s o) (λ w. is_thread k w.0 ≡ true)
+    by_words None is = tt
+    by_words (Some m) is = owner_thread (is_thread k ec) (message k ec) _ m is
 
-followed_there : (k : KernelState) (ec : ℕ) (y : EcState) (follows : Sequel) (caller : ℕ) (mark : Mark) → IsActor k.contexts ec → Served k → Follows k ec follows →
-    follows ≡ sequel.Replied caller mark → is_some (context_at (with_context k ec y) caller) ≡ true
-followed_there k ec y follows caller mark actor served h is =
-    set_there k.contexts ec y caller (caller_there k ec caller mark actor (subst (Follows k ec) is h) served)
+item_thread : (k : KernelState) (ec item : ℕ) (words : Option ItemWords) → is_thread k ec ≡ true → Fits k → TellsIn k ec words →
+    IfSome (item_words k item words) (λ w. is_thread k w.0 ≡ true)
+item_thread k ec item None thread h tells = tt
+item_thread k ec item (Some w) thread h (inl same) = rw same thread
+item_thread k ec item (Some w) thread h (inr calls) = caller_thread k ec w.ec mark.Call h.guests calls refl
 
-followed_stays : (k : KernelState) (ec : ℕ) (follows : Sequel) (n : ℕ) → is_some (context_at k n) ≡ true → is_some (context_at (followed k ec follows) n) ≡ true
-followed_stays k ec sequel.Item n there = there
-followed_stays k ec sequel.Opened n there = there
-followed_stays k ec sequel.Taken n there = there
-followed_stays k ec (sequel.Replied caller mark) n there = set_there k.contexts caller _ n there
+words_placed : (k : KernelState) (ec : ℕ) (d : Deed) → (is_guest_deed d ≡ false → is_thread k ec ≡ true) → Asks k ec d → Fits k → IfSome (words_by k ec d) (λ w. is_thread k w.0 ≡ true)
+words_placed k ec Steps thread asks h = stored_thread k ec (store_of (instruction k ec))
+words_placed k ec (Calls handler ip identifier items) thread asks h = reached_thread k ec handler (send_reaches k.contexts ec handler asks.flag asks.admits) h.served
+words_placed k ec (Sends handler ip identifier mtd reason q0 q1) thread asks h = reached_thread k ec handler (exit_reaches k.contexts ec handler asks.admits) h.served
+words_placed k ec (Replies caller mark.Call items) thread asks h = caller_thread k ec caller mark.Call h.guests asks refl
+words_placed k ec (Finishes item end words after) thread asks h = item_thread k ec item words (thread refl) h asks.0
+words_placed k ec other thread asks h = tt
 
--- who is woken is there
-waking_there : (k : KernelState) (ec sm : ℕ) (y : EcState) (whom : Option ℕ) → woken (semaphore k.semaphores sm) ≡ Ok whom → AreBlocked k.contexts k.semaphores →
-    IfSome whom (λ w. is_some (context_at (with_context k ec y) w) ≡ true)
-waking_there k ec sm y None wakes blocked = tt
-waking_there k ec sm y (Some w) wakes blocked =
-    set_there k.contexts ec y w (ap is_some (blocked_there k.contexts w sm (woken_blocked k sm w wakes blocked)))
+-- one after another: the second is there still
+then_there : (cs : Contexts) (e n : ℕ) (first : Edit) → is_some (ec_in cs e) ≡ true → is_some (ec_in cs n) ≡ true →
+    (is_some (ec_in cs e) ≡ true) × ((is_some (ec_in (edit_at cs e first) n) ≡ true) × Unit {0})
+then_there cs e n first there also = (there, (set_there cs e (edited (ec_of cs e) first) n also, tt))
 
-done_tables : (k : KernelState) (ec : ℕ) (d : Deed) → IsActor k.contexts ec → (is_guest_deed d ≡ false → is_thread k ec ≡ true) → Asks k ec d → Fits k →
-    HasTables (with_context k ec (changed (context k ec) d)) → HasTables (done k ec d)
-done_tables k ec Rests actor thread asks h now = h.tables
-done_tables k ec Steps actor thread asks h now = stepped_fits k ec (instruction k ec) (ap is_some actor.there) h.tables
-done_tables k ec (Makes call target made) actor thread asks h now = made_fits _ (pd_of k ec) target made asks now
-done_tables k ec (Recalls other) actor thread asks h now = recalled_fits _ other _ refl now
-done_tables k ec (Opens target domain) actor thread asks h now = made_fits _ (pd_of k ec) target new.Pd tt now
-done_tables k ec (Gives child cursor) actor thread asks h now =
-    with_transfer_fits (record k { delegations = _ }) ec _ (transfer_there k ec (ap is_some actor.there) h.tables) (with_delegations k _ h.tables)
-done_tables k ec (Skips reason place cursor) actor thread asks h now = with_transfer_fits k ec _ (transfer_there k ec (ap is_some actor.there) h.tables) h.tables
-done_tables k ec (Removes leaf) actor thread asks h now = with_delegations k _ h.tables
-done_tables k ec (Finishes item end words follows) actor thread asks h now =
-    let y = after_item (context k ec) follows in
-    let one = with_context k ec y in
-    let two = told_fits one item words (told_threads k ec words (thread refl) h.guests asks.0) now in
-    let there : (caller : ℕ) (its : Mark) → follows ≡ sequel.Replied caller its → is_some (context_at (told one item words) caller) ≡ true =
-    (λ caller its is. rw (told_contexts one item words) (followed_there k ec y follows caller its actor h.served asks.1 is)) in
-    let three = followed_fits (told one item words) ec follows there two in
-    let still : is_some (context_at (told one item words) ec) ≡ true = rw (told_contexts one item words) (set_there k.contexts ec y ec (ap is_some actor.there)) in
-    with_transfer_fits _ ec _ (transfer_there _ ec (followed_stays (told one item words) ec follows ec still) three) three
-done_tables k ec (Names pt identifier) actor thread asks h now = named_fits _ pt identifier asks now
-done_tables k ec (Calls handler ip identifier items) actor thread asks h now =
-    let y : EcState = changed (context k ec) (Calls handler ip identifier items) in
-    let reached = send_reaches k.contexts ec handler asks.flag asks.admits in
-    edited _ handler (λ x. serving x ec mark.Call ip identifier items) (λ x. refl) (set_there k.contexts ec y handler (reached_there k.contexts ec handler reached))
-    (passed_fits (with_context k ec y) ec handler (reached_thread k ec handler reached h.served) now)
-done_tables k ec (Replies caller its items) actor thread asks h now =
-    let y : EcState = changed (context k ec) (Replies caller its items) in
-    replied_fits (with_context k ec y) ec caller its items (set_there k.contexts ec y caller (caller_there k ec caller its actor asks h.served))
-    (caller_thread k ec caller its h.guests asks) now
-done_tables k ec (Sends handler ip identifier mtd reason q0 q1) actor thread asks h now =
-    let y : EcState = changed (context k ec) (Sends handler ip identifier mtd reason q0 q1) in
-    let reached = exit_reaches k.contexts ec handler asks.admits in
-    edited _ handler (λ x. serving x ec mark.Exit ip identifier false) (λ x. refl) (set_there k.contexts ec y handler (reached_there k.contexts ec handler reached))
-    (with_message_fits (with_context k ec y) handler _ (reached_thread k ec handler reached h.served) now)
-done_tables k ec (Ups sm whom) actor thread asks h now =
-    woken_fits _ whom (waking_there k ec sm (changed (context k ec) (Ups sm whom)) whom asks.1 h.blocked) (upped_fits _ sm now)
-done_tables k ec (Downs sm) actor thread asks h now = downed_fits _ sm ec now
-done_tables k ec (Blocks sm) actor thread asks h now = downed_fits _ sm ec now
-done_tables k ec other actor thread asks h now = now
+steps_there : (cs : Contexts) (ec : ℕ) (o : Once) → is_some (ec_in cs ec) ≡ true → AreThere cs (steps_by ec o)
+steps_there cs ec (Raised reason q0 q1) there = tt
+steps_there cs ec (Went regs store) there = (there, tt)
+
+recalls_there : (cs : Contexts) (whose : ℕ) (o : Option EcState) → ec_in cs whose ≡ o → AreThere cs (recalls_by whose o)
+recalls_there cs whose None is = tt
+recalls_there cs whose (Some x) is = (ap is_some is, tt)
+
+wakes_there : (k : KernelState) (ec sm : ℕ) (whom : Option ℕ) → is_some (context_at k ec) ≡ true → woken (semaphore k.semaphores sm) ≡ Ok whom → Fits k →
+    AreThere k.contexts ((ec, Answers Success None) ∷ wakes_by whom)
+wakes_there k ec sm None there is h = (there, tt)
+wakes_there k ec sm (Some w) there is h = then_there k.contexts ec w (Answers Success None) there (ap is_some (blocked_there k.contexts w sm (woken_blocked k sm w is h.blocked)))
+
+follows_there : (k : KernelState) (ec : ℕ) (m : List ℕ) (after : Sequel) → IsActor k.contexts ec → Follows k ec after → Fits k → AreThere k.contexts (follows_by ec m after)
+follows_there k ec m (sequel.Replied caller came) actor follows h = then_there k.contexts ec caller Parks (ap is_some actor.there) (caller_there k ec caller came actor follows h.served)
+follows_there k ec m other actor follows h = (ap is_some actor.there, tt)
+
+edits_placed : (k : KernelState) (ec : ℕ) (d : Deed) → IsActor k.contexts ec → Asks k ec d → Fits k → AreThere k.contexts (edits_by k ec d)
+edits_placed k ec Rests actor asks h = tt
+edits_placed k ec (Gives child cursor) actor asks h = tt
+edits_placed k ec (Skips reason place cursor) actor asks h = tt
+edits_placed k ec (Removes leaf) actor asks h = tt
+edits_placed k ec Steps actor asks h = steps_there k.contexts ec (instruction k ec) (ap is_some actor.there)
+edits_placed k ec (Recalls whose) actor asks h = (ap is_some actor.there, recalls_there (edit_at k.contexts ec (Answers Success None)) whose _ refl)
+edits_placed k ec (Calls handler ip identifier items) actor asks h =
+    then_there k.contexts ec handler (Becomes (Calling handler)) (ap is_some actor.there) (reached_there k.contexts ec handler (send_reaches k.contexts ec handler asks.flag asks.admits))
+edits_placed k ec (Sends handler ip identifier mtd reason q0 q1) actor asks h =
+    then_there k.contexts ec handler (Becomes (Calling handler)) (ap is_some actor.there) (reached_there k.contexts ec handler (exit_reaches k.contexts ec handler asks.admits))
+edits_placed k ec (Replies caller came true) actor asks h = (ap is_some actor.there, tt)
+edits_placed k ec (Replies caller came false) actor asks h = then_there k.contexts ec caller Parks (ap is_some actor.there) (caller_there k ec caller came actor asks h.served)
+edits_placed k ec (Finishes item end words after) actor asks h = follows_there k ec _ after actor asks.1 h
+edits_placed k ec (Ups sm whom) actor asks h = wakes_there k ec sm whom (ap is_some actor.there) asks.1 h
+edits_placed k ec other actor asks h = (ap is_some actor.there, tt)
+
+made_placed : (k : KernelState) (ec : ℕ) (d : Deed) → Asks k ec d → IfSome (made_by d) (λ m. Refers k.objects (object_of m))
+made_placed k ec (Makes call target made) asks = asks
+made_placed k ec other asks = tt
+
+transfer_placed : (k : KernelState) (ec : ℕ) (d : Deed) → is_some (context_at k ec) ≡ true → IfSome (transfer_by k ec d) (λ t. is_some (context_at k t.0) ≡ true)
+transfer_placed k ec (Gives child cursor) there = there
+transfer_placed k ec (Skips reason place cursor) there = there
+transfer_placed k ec (Finishes item end words after) there = there
+transfer_placed k ec other there = tt
+
+identifier_placed : (k : KernelState) (ec : ℕ) (d : Deed) → Asks k ec d → IfSome (identifier_by d) (λ p. IsOf k.objects is_pt p.0)
+identifier_placed k ec (Names pt identifier) asks = asks
+identifier_placed k ec other asks = tt
+
+pub effect_placed : (k : KernelState) (ec : ℕ) (d : Deed) → IsActor k.contexts ec → (is_guest_deed d ≡ false → is_thread k ec ≡ true) → Asks k ec d → Fits k → IsPlaced k (effect k ec d)
+effect_placed k ec d actor thread asks h = record {
+  made = made_placed k ec d asks;
+  edits = edits_placed k ec d actor asks h;
+  words = words_placed k ec d thread asks h;
+  transfer = transfer_placed k ec d (ap is_some actor.there);
+  identifier = identifier_placed k ec d asks;
+}
 
 -- A DEED AND CALLERS
 
@@ -178,174 +206,111 @@ born n (new.Sm count) = none_born false
 locals_stay : (os : List Object) (o : Object) (h : ℕ) → h ≢ length os → is_local_in (slice_get (os ++ o ∷ []) h) ≡ is_local_in (slice_get os h)
 locals_stay os o h other = ap is_local_in (joined_other os o h other)
 
-more_served : (k : KernelState) (domain target : ℕ) (made : NewObject) → length k.contexts ≡ length k.objects → Served k → Served (with_object k domain target made)
-more_served k domain target made as_many served =
-    let os = k.objects ++ object_of made ∷ [] in
-    let new : IsNewborn (is_local_in (slice_get os (length k.contexts))) (context_of (length k.objects) made) =
-    rw (as_many, get_last k.objects (object_of made)) (born (length k.objects) made) in
-    served_more (is_local_thread k) (λ h. is_local_in (slice_get os h)) k.contexts (context_of (length k.objects) made) served new
-    (λ h other. locals_stay k.objects (object_of made) h (λ same. other (same ∙ sym as_many)))
+joined_served : (os : List Object) (cs : Contexts) (made : Option NewObject) → length cs ≡ length os → AreServed (λ h. is_local_in (slice_get os h)) cs →
+    AreServed (λ h. is_local_in (slice_get (joined os (option_map object_of made)) h)) (joined cs (option_map (context_of (length os)) made))
+joined_served os cs None as_many served = served
+joined_served os cs (Some made) as_many served =
+    let all = os ++ object_of made ∷ [] in
+    let new : IsNewborn (is_local_in (slice_get all (length cs))) (context_of (length os) made) = rw (as_many, get_last os (object_of made)) (born (length os) made) in
+    served_more (λ h. is_local_in (slice_get os h)) (λ h. is_local_in (slice_get all h)) cs (context_of (length os) made) served new
+    (λ h other. locals_stay os (object_of made) h (λ same. other (same ∙ sym as_many)))
 
-recalled_served : (k : KernelState) (other : ℕ) (o : Option EcState) → ec_in k.contexts other ≡ o → Served k → Served (recalled k other o)
-recalled_served k other None is served = served
-recalled_served k other (Some x) is served =
-    let same : ec_of k.contexts other ≡ x = ap context_in is in
-    stays_on (is_local_thread k) k.contexts other (record x { recall = true }) (ap is_some is)
-    (ap (λ (y : EcState). y.caller) (sym same)) (ap (λ (y : EcState). y.cpu) (sym same)) (ap (λ (y : EcState). y.state) (sym same)) served
+-- what a state to which one comes by itself has
+record IsPlain (k : KernelState) (ec : ℕ) (s : State) : Type 0 where
+  calls : (h : ℕ) → s ≢ Calling h
+  works : is_parked (Some s) ≡ false
+  gives : is_giving (Some s) ≡ true → IsSome (context k ec).caller
+  takes : is_taking (Some s) ≡ false
 
-stepped_served : (k : KernelState) (ec : ℕ) (o : Once) → is_some (context_at k ec) ≡ true → Served k → Served (stepped k ec o)
-stepped_served k ec (Raised reason q0 q1) there served = served
-stepped_served k ec (Went regs store) there served = stays_on (is_local_thread k) k.contexts ec _ there refl refl refl served
+plain : (k : KernelState) (ec : ℕ) (s : State) → MayCome k ec s → IsPlain k ec s
+plain k ec (Calling h) may = absurd may
+plain k ec Parked may = absurd may
+plain k ec (Granting None) may = absurd may
+plain k ec Replying may = record { calls = λ h is. cc; works = refl; gives = λ is. may; takes = refl }
+plain k ec other may = record { calls = λ h is. cc; works = refl; gives = λ is. absurd cc; takes = refl }
 
--- it goes on in a state of its own
-owns : (k : KernelState) (ec : ℕ) (y : EcState) → IsActor k.contexts ec → y.caller ≡ (context k ec).caller → y.cpu ≡ (context k ec).cpu →
-    ((h : ℕ) → y.state ≢ Calling h) → is_parked (Some y.state) ≡ false → is_giving (Some y.state) ≡ false → is_taking (Some y.state) ≡ false →
-    Served k → Served (with_context k ec y)
-owns k ec y actor caller cpu calls works gives takes served =
-    acts_on (is_local_thread k) k.contexts ec y actor caller cpu calls works (λ is. absurd (cc)) takes served
-
--- what is told changes no context
-tells : (k : KernelState) (item : ℕ) (words : Option ItemWords) → Served k → Served (told k item words)
-tells k item None served = served
-tells k item (Some w) served = served
-
--- whom it served goes on by what its message is
-replied_served : (k : KernelState) (ec caller : ℕ) (mark : Mark) (m : List ℕ) → IsActor k.contexts ec → IsCallerOf k ec caller mark → Served k →
-    AreServed (is_local_thread k)
-    (with_ec (with_ec k.contexts ec (parked (context k ec))) caller (resumed (ec_of (with_ec k.contexts ec (parked (context k ec))) caller) mark m))
-replied_served k ec caller mark m actor keeps served = replies_on (is_local_thread k) k.contexts ec caller mark m actor keeps served
-
-finished_served : (k : KernelState) (ec item : ℕ) (words : Option ItemWords) (follows : Sequel) → IsActor k.contexts ec → Follows k ec follows → Served k →
-    Served (followed (told (with_context k ec (after_item (context k ec) follows)) item words) ec follows)
-finished_served k ec item words sequel.Item actor asks served =
-    tells (with_context k ec (context k ec)) item words (stays_on (is_local_thread k) k.contexts ec (context k ec) (ap is_some actor.there) refl refl refl served)
-finished_served k ec item words sequel.Opened actor asks served =
-    let y = answered (context k ec) Success None in
-    tells (with_context k ec y) item words (owns k ec y actor refl refl (λ h is. cc) refl refl refl served)
-finished_served k ec item words sequel.Taken actor asks served =
-    let y : EcState = record (context k ec) { state = Ready } in
-    tells (with_context k ec y) item words (owns k ec y actor refl refl (λ h is. cc) refl refl refl served)
-finished_served k ec item None (sequel.Replied caller mark) actor keeps served = replied_served k ec caller mark _ actor keeps served
-finished_served k ec item (Some w) (sequel.Replied caller mark) actor keeps served = replied_served k ec caller mark _ actor keeps served
-
--- who is woken goes on, and is another than the one who acts
-wakes : (k : KernelState) (ec sm : ℕ) (whom : Option ℕ) (y : EcState) → IsActor k.contexts ec → woken (semaphore k.semaphores sm) ≡ Ok whom →
-    AreBlocked k.contexts k.semaphores → Served (with_context k ec y) → Served (woken_in (record (with_context k ec y) { semaphores = upped k.semaphores sm }) whom)
-wakes k ec sm None y actor is blocked served = served
-wakes k ec sm (Some w) y actor is blocked served =
-    let waits = woken_blocked k sm w is blocked in
-    let apart : w ≢ ec = (λ same.
+-- who is woken is another than the one who acts
+woken_apart : (k : KernelState) (ec sm w : ℕ) → IsActor k.contexts ec → state_in k.contexts w ≡ Some (Blocked sm) → w ≢ ec
+woken_apart k ec sm w actor waits same =
     let at = ap (λ (n : ℕ). is_blocked (state_in k.contexts n)) (sym same) ∙ ap is_blocked waits in
-    let none = actor.unblocked in absurd (cc)) in
-    wakes_on (is_local_thread k) (with_ec k.contexts ec y) w sm (ap state_at (entry_other k.contexts ec w y apart) ∙ waits) served
+    let none = actor.unblocked in absurd cc
 
-done_served : (k : KernelState) (ec : ℕ) (d : Deed) → IsActor k.contexts ec → Asks k ec d → AreBlocked k.contexts k.semaphores → HasTables k → Served k →
-    Served (done k ec d)
-done_served k ec Rests actor asks blocked h served = served
-done_served k ec Steps actor asks blocked h served = stepped_served k ec (instruction k ec) (ap is_some actor.there) served
-done_served k ec (Raises reason q0 q1) actor asks blocked h served = owns k ec _ actor refl refl (λ h is. cc) refl refl refl served
-done_served k ec (Dies reason q0) actor asks blocked h served = owns k ec _ actor refl refl (λ h is. cc) refl refl refl served
-done_served k ec (Refuses call status) actor asks blocked h served = owns k ec _ actor refl refl (λ h is. cc) refl refl refl served
-done_served k ec (Makes call target made) actor asks blocked h served =
-    let y = answered (context k ec) Success None in
-    more_served (with_context k ec y) (pd_of k ec) target made (set_length k.contexts ec (Some y) ∙ contexts_length k h) (owns k ec y actor refl refl (λ h is. cc) refl refl refl served)
-done_served k ec (Recalls other) actor asks blocked h served =
-    let y = answered (context k ec) Success None in
-    recalled_served (with_context k ec y) other _ refl (owns k ec y actor refl refl (λ h is. cc) refl refl refl served)
-done_served k ec (Tells call value) actor asks blocked h served = owns k ec _ actor refl refl (λ h is. cc) refl refl refl served
-done_served k ec (Names pt identifier) actor asks blocked h served = owns k ec _ actor refl refl (λ h is. cc) refl refl refl served
-done_served k ec (Opens target domain) actor asks blocked h served =
-    let y : EcState = record (context k ec) { state = Granting (Some domain) } in
-    more_served (with_context k ec y) (pd_of k ec) target new.Pd (set_length k.contexts ec (Some y) ∙ contexts_length k h) (owns k ec y actor refl refl (λ h is. cc) refl refl refl served)
-done_served k ec (Gives child cursor) actor asks blocked h served = served
-done_served k ec (Skips reason place cursor) actor asks blocked h served = served
-done_served k ec (Finishes item end words follows) actor asks blocked h served = finished_served k ec item words follows actor asks.1 served
-done_served k ec (Calls handler ip identifier items) actor asks blocked h served =
-    sends_on (is_local_thread k) k.contexts ec handler mark.Call ip identifier items (λ some. refl) actor (send_reaches k.contexts ec handler asks.flag asks.admits) served
-done_served k ec (Helps handler) actor asks blocked h served = owns k ec _ actor refl refl (λ h is. cc) refl refl refl served
-done_served k ec (Replies caller mark.Call true) actor asks blocked h served =
-    acts_on (is_local_thread k) k.contexts ec _ actor refl refl (λ h is. cc) refl (λ gives. rw asks refl) refl served
-done_served k ec (Replies caller mark.Exit true) actor asks blocked h served =
-    acts_on (is_local_thread k) k.contexts ec _ actor refl refl (λ h is. cc) refl (λ gives. rw asks refl) refl served
-done_served k ec (Replies caller mark.Call false) actor asks blocked h served = replied_served k ec caller mark.Call (message k ec) actor asks served
-done_served k ec (Replies caller mark.Exit false) actor asks blocked h served = replied_served k ec caller mark.Exit (message k ec) actor asks served
-done_served k ec (Aborts handler mark.Call) actor asks blocked h served = owns k ec _ actor refl refl (λ h is. cc) refl refl refl served
-done_served k ec (Aborts handler mark.Exit) actor asks blocked h served = owns k ec _ actor refl refl (λ h is. cc) refl refl refl served
-done_served k ec (Waits handler reason q0 q1) actor asks blocked h served = owns k ec _ actor refl refl (λ h is. cc) refl refl refl served
-done_served k ec (Sends handler ip identifier mtd reason q0 q1) actor asks blocked h served =
-    sends_on (is_local_thread k) k.contexts ec handler mark.Exit ip identifier false (λ some. absurd (cc)) actor (exit_reaches k.contexts ec handler asks.admits) served
-done_served k ec (Revokes range own) actor asks blocked h served = owns k ec _ actor refl refl (λ h is. cc) refl refl refl served
-done_served k ec (Removes leaf) actor asks blocked h served = served
-done_served k ec Returns actor asks blocked h served = owns k ec _ actor refl refl (λ h is. cc) refl refl refl served
-done_served k ec (Ups sm whom) actor asks blocked h served =
-    wakes k ec sm whom (answered (context k ec) Success None) actor asks.1 blocked (owns k ec _ actor refl refl (λ h is. cc) refl refl refl served)
-done_served k ec (Downs sm) actor asks blocked h served = owns k ec _ actor refl refl (λ h is. cc) refl refl refl served
-done_served k ec (Blocks sm) actor asks blocked h served = owns k ec _ actor refl refl (λ h is. cc) refl refl refl served
+served_courses : (k : KernelState) (ec : ℕ) → IsActor k.contexts ec → AreBlocked k.contexts k.semaphores → Served k → Courses k ec (λ cs all. AreServed (is_local_thread k) cs)
+served_courses k ec actor blocked served = record {
+  rests = served;
+  stays = λ cs all w x y is self same h. remains_on cs w x y is self same h;
+  goes = λ y self may. goes_on y self may;
+  sends = λ handler its ip identifier items of_call reached. sends_on (is_local_thread k) k.contexts ec handler its ip identifier items of_call actor reached served;
+  replies = λ caller its m keeps. replies_on (is_local_thread k) k.contexts ec caller its m actor keeps served;
+  ups = λ sm is. answers;
+  wakes = λ sm w is.
+      let waits = woken_blocked k sm w is blocked in
+      wakes_on (is_local_thread k) (with_ec k.contexts ec (answered (context k ec) Success None)) w sm
+      (ap state_at (entry_other k.contexts ec w (answered (context k ec) Success None) (woken_apart k ec sm w actor waits)) ∙ waits) answers;
+  downs = λ sm is. answers;
+  blocks = λ sm is answer. acts_on (is_local_thread k) k.contexts ec _ actor refl refl (λ h same. cc) refl (λ gives. absurd cc) refl served;
+}
+  where
+    goes_on : (y : EcState) → IsSelf (context k ec) y → MayCome k ec y.state → AreServed (is_local_thread k) (with_ec k.contexts ec y)
+    goes_on y self may =
+        let its = plain k ec y.state may in
+        acts_on (is_local_thread k) k.contexts ec y actor self.caller self.cpu its.calls its.works its.gives its.takes served
+
+    answers : AreServed (is_local_thread k) (with_ec k.contexts ec (answered (context k ec) Success None))
+    answers = goes_on (answered (context k ec) Success None) (record { id = refl; cpu = refl; caller = refl }) tt
+
+    remains_on : (cs : Contexts) (w : ℕ) (x y : EcState) → ec_in cs w ≡ Some x → IsSelf x y → y.state ≡ x.state → AreServed (is_local_thread k) cs →
+        AreServed (is_local_thread k) (with_ec cs w y)
+    remains_on cs w x y is self same h =
+        let at : ec_of cs w ≡ x = ap context_in is in
+        stays_on (is_local_thread k) cs w y (ap is_some is) (self.caller ∙ ap (λ (z : EcState). z.caller) (sym at)) (self.cpu ∙ ap (λ (z : EcState). z.cpu) (sym at))
+        (same ∙ ap (λ (z : EcState). z.state) (sym at)) h
+
+applied_served : (k : KernelState) (ec : ℕ) (d : Deed) → IsActor k.contexts ec → Asks k ec d → AreBlocked k.contexts k.semaphores → HasTables k → Served k → Served (applied k (effect k ec d))
+applied_served k ec d actor asks blocked h served =
+    joined_served k.objects (all_edited k.contexts (edits_by k ec d)) (made_by d) (edited_length k.contexts (edits_by k ec d) ∙ contexts_length k h)
+    (deed_course k ec (λ cs all. AreServed (is_local_thread k) cs) d actor asks (served_courses k ec actor blocked served))
 
 -- A TURN
 
 pub gives_there : (k : KernelState) (ec : ℕ) → is_some (context_at k ec) ≡ true → Fits k → option_map is_some (slice_get k.transfers ec) ≡ Some true
 gives_there k ec there h = transfer_there k ec there h.tables
 
-pub done_fits : (k : KernelState) (ec : ℕ) → IsActor k.contexts ec → Fits k → Fits (done k ec (deed k ec))
-done_fits k ec actor h =
+applied_fits : (k : KernelState) (ec : ℕ) → IsActor k.contexts ec → Fits k → Fits (applied k (effect k ec (deed k ec)))
+applied_fits k ec actor h =
     let asks = deed_asks k ec in
     let thread = thread_does k ec (ap is_some actor.there) h.tables h.guests in record {
-      tables = done_tables k ec (deed k ec) actor thread asks h
-          (edited k ec (λ x. changed x (deed k ec)) (changed_tag (deed k ec)) (ap is_some actor.there) h.tables);
-      served = done_served k ec (deed k ec) actor asks h.blocked h.tables h.served;
-      blocked = done_blocked k ec (deed k ec) actor asks h.tables h.served h.blocked;
-      guests = done_guests k ec (deed k ec) thread asks h.tables h.served h.guests;
+      tables = applied_tables k (effect k ec (deed k ec)) (effect_placed k ec (deed k ec) actor thread asks h) h.tables;
+      served = applied_served k ec (deed k ec) actor asks h.blocked h.tables h.served;
+      blocked = applied_blocked k ec (deed k ec) actor asks h.tables h.served h.blocked;
+      guests = subst AreGuests (done_is k ec (deed k ec)) (done_guests k ec (deed k ec) thread asks h.tables h.served h.guests);
     }
 
-stirred_fits : (k : KernelState) (ec : ℕ) (d : Deed) (s : KernelState) → Fits s → Fits (stirred k ec d s)
-stirred_fits k ec d s h = record {
-  tables = stirred_tables k ec d s h.tables;
+pub done_fits : (k : KernelState) (ec : ℕ) → IsActor k.contexts ec → Fits k → Fits (done k ec (deed k ec))
+done_fits k ec actor h = subst Fits (sym (done_is k ec (deed k ec))) (applied_fits k ec actor h)
+
+settled_fits : (s : KernelState) (cpu : ℕ) (t : Turning) → Fits s → Fits (settled s cpu t)
+settled_fits s cpu t h = record {
+  tables = settled_tables s cpu t h.tables;
   served = h.served;
   blocked = h.blocked;
   guests = guests_of _ (among_of s h.guests);
 }
 
-paid_served : (k : KernelState) (cpu sc quantum : ℕ) (o : Option Budget) → Served k → Served (counted (paid_by k sc quantum o) cpu)
-paid_served k cpu sc quantum None h = h
-paid_served k cpu sc quantum (Some b) h = h
-
-abbrev Waiting : KernelState → Type 0
-Waiting k = AreBlocked k.contexts k.semaphores
-
-paid_blocked : (k : KernelState) (cpu sc quantum : ℕ) (o : Option Budget) → Waiting k → Waiting (counted (paid_by k sc quantum o) cpu)
-paid_blocked k cpu sc quantum None h = h
-paid_blocked k cpu sc quantum (Some b) h = h
-
-paid_guests : (k : KernelState) (cpu sc quantum : ℕ) (o : Option Budget) → AreGuests k → AreGuests (counted (paid_by k sc quantum o) cpu)
-paid_guests k cpu sc quantum None h = guests_of _ (among_of k h)
-paid_guests k cpu sc quantum (Some b) h = guests_of _ (among_of k h)
-
-charged_fits : (k : KernelState) (cpu sc : ℕ) → Fits k → Fits (charged k cpu sc)
-unfolding charged
-charged_fits k cpu sc h = record {
-  tables = paid_tables k cpu sc (quantum_in (slice_get k.objects sc)) (budget_at k sc) refl h.tables;
-  served = paid_served k cpu sc (quantum_in (slice_get k.objects sc)) (budget_at k sc) h.served;
-  blocked = paid_blocked k cpu sc (quantum_in (slice_get k.objects sc)) (budget_at k sc) h.blocked;
-  guests = paid_guests k cpu sc (quantum_in (slice_get k.objects sc)) (budget_at k sc) h.guests;
-}
+pub chosen_acts : (k : KernelState) (cpu : ℕ) (c : Candidate) → choice k cpu ≡ Some c → acts k.contexts c.actor ≡ true
+chosen_acts k cpu c chosen = subst (λ (o : Option Candidate). IfSome o (λ d. acts k.contexts d.actor ≡ true)) chosen (choice_acts k cpu)
 
 pub entry_acts : (cs : Contexts) (o : Option EcState) → acts_as cs (option_map (λ x. x.state) o) ≡ true → is_some o ≡ true
 entry_acts cs None h = absurd (cc)
 entry_acts cs (Some x) h = refl
 
-turn_by_fits : (k : KernelState) (cpu : ℕ) (c : Option Candidate) → IfSome c (Acts k) → Fits k → Fits (state_after k (turn_by k cpu c))
-turn_by_fits k cpu None acts h = h
-turn_by_fits k cpu (Some c) acts h =
-    charged_fits _ cpu c.sc (stirred_fits k c.actor (deed k c.actor) _ (done_fits k c.actor (actor_of k.contexts c.actor acts) h))
+pub turned_fits : (k : KernelState) (cpu : ℕ) (t : Turning) (e : Event) → IsTurning k cpu t e → Fits k → Fits (turned k cpu t)
+turned_fits k cpu t e (Acts c chosen is event) h =
+    subst (λ (u : Turning). Fits (turned k cpu u)) (sym is)
+    (settled_fits _ cpu (acting k c) (applied_fits k c.actor (actor_of k.contexts c.actor (chosen_acts k cpu c chosen)) h))
 
 pub after_fits : (k : KernelState) (cpu : ℕ) → Fits k → Fits (after k cpu)
-unfolding turn
-after_fits k cpu h = turn_by_fits k cpu (choice k cpu) (choice_acts k cpu) h
-
-run_fits : (k : KernelState) (turns : List ℕ) → Fits k → Fits (run k turns)
-run_fits k [] h = h
-run_fits k (cpu ∷ turns) h = run_fits (after k cpu) turns (after_fits k cpu h)
+after_fits k cpu h = after_keeps Fits turned_fits k cpu h
 
 images_fit : (k : KernelState) (images : List Image) → Fits k → Fits (with_images k images)
 images_fit k [] h = h
@@ -376,4 +341,4 @@ boot_fits s = images_fit (bare s.cpus s.ram s.consoles s.root) s.images (record 
 })
 
 pub boot_run_fits : (s : Scenario) (turns : List ℕ) → Fits (run (boot s) turns)
-boot_run_fits s turns = run_fits (boot s) turns (boot_fits s)
+boot_run_fits s turns = along Fits (record { begins = boot_fits; turns = turned_fits }) s turns

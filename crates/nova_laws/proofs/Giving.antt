@@ -325,17 +325,12 @@ serves_in k fits = serves_of (is_local_thread k) k.contexts fits.served
 pub done_for : (k : KernelState) (ec : ℕ) (d : Deed) → Wants k ec d → acts k.contexts ec ≡ true → Fits k → Sound k → Sound (done k ec d)
 done_for k ec Rests wants able serves h = h
 done_for k ec Steps wants able serves h = stepped_for k ec (instruction k ec) wants h
-done_for k ec (Raises reason q0 q1) wants able serves h = stays_for k ec (changed (context k ec) (Raises reason q0 q1)) wants refl h
-done_for k ec (Dies reason q0) wants able serves h = stays_for k ec (changed (context k ec) (Dies reason q0)) wants refl h
-done_for k ec (Refuses call status) wants able serves h = stays_for k ec (changed (context k ec) (Refuses call status)) wants refl h
 done_for k ec (Makes call target made) wants able serves h =
     joins_for k.objects (object_of made) _ (context_of (length k.objects) made) k.transfers (transfer_of (object_of made))
     (new_rests (k.objects ++ object_of made ∷ []) (length k.objects) made) (new_transfer (object_of made))
     (stays_for k ec (changed (context k ec) (Makes call target made)) wants refl h)
 done_for k ec (Recalls other) wants able serves h =
     recalled_for (with_context k ec (changed (context k ec) (Recalls other))) other _ refl (stays_for k ec (changed (context k ec) (Recalls other)) wants refl h)
-done_for k ec (Tells call value) wants able serves h = stays_for k ec (changed (context k ec) (Tells call value)) wants refl h
-done_for k ec (Names pt identifier) wants able serves h = stays_for k ec (changed (context k ec) (Names pt identifier)) wants refl h
 done_for k ec (Opens target domain) wants able serves h = opened_for k ec domain (changed (context k ec) (Opens target domain)) wants.1 refl wants.2 h
 done_for k ec (Gives child cursor) wants able serves h =
     give_for k.objects k.contexts k.transfers ec _ (entry_anywhere k.objects (ec_in k.contexts ec) _ _ wants (h ec)) h
@@ -343,19 +338,13 @@ done_for k ec (Skips reason place cursor) wants able serves h =
     give_for k.objects k.contexts k.transfers ec _ (entry_anywhere k.objects (ec_in k.contexts ec) _ _ wants (h ec)) h
 done_for k ec (Finishes item end words after) wants able fits h = finished_for k ec item end words after wants.0 wants.1 able (serves_in k fits) h
 done_for k ec (Calls handler ip identifier items) wants able serves h = sent_for k ec handler ip identifier items wants.0 wants.1 h
-done_for k ec (Helps handler) wants able serves h = stays_for k ec (changed (context k ec) (Helps handler)) wants refl h
 done_for k ec (Replies caller mark items) wants able fits h = replied_for k ec caller mark items wants.0 wants.1 able (serves_in k fits) h
 done_for k ec (Aborts handler mark.Call) wants able serves h = stays_for k ec (changed (context k ec) (Aborts handler mark.Call)) wants refl h
-done_for k ec (Aborts handler mark.Exit) wants able serves h = stays_for k ec (changed (context k ec) (Aborts handler mark.Exit)) wants refl h
-done_for k ec (Waits handler reason q0 q1) wants able serves h = stays_for k ec (changed (context k ec) (Waits handler reason q0 q1)) wants refl h
 done_for k ec (Sends handler ip identifier mtd reason q0 q1) wants able serves h =
     exit_sent_for k ec handler ip identifier mtd reason q0 q1 wants.0 wants.1 h
-done_for k ec (Revokes range own) wants able serves h = stays_for k ec (changed (context k ec) (Revokes range own)) wants refl h
 done_for k ec (Removes leaf) wants able serves h = h
-done_for k ec Returns wants able serves h = stays_for k ec (changed (context k ec) Returns) wants refl h
 done_for k ec (Ups sm whom) wants able fits h = woken_for k ec sm whom wants.0 wants.1 fits.blocked h
-done_for k ec (Downs sm) wants able serves h = stays_for k ec (changed (context k ec) (Downs sm)) wants refl h
-done_for k ec (Blocks sm) wants able serves h = stays_for k ec (changed (context k ec) (Blocks sm)) wants refl h
+done_for k ec other wants able serves h = stays_for k ec (changed (context k ec) other) wants refl h
 
 -- TURNS
 

@@ -50,3 +50,4 @@ pub mod Raising
 pub mod Windows
 pub mod Stirring
 pub mod Revoking
+pub mod Courses

@@ -11,6 +11,7 @@ use Rattle.nova_model.specs.Turn.{answer_of, event_of, turn, turn_by}
 use Rattle.nova_model.specs.declared.budget.Budget.{Budget}
 use Rattle.nova_model.specs.declared.event.Event.{Event}
 use Rattle.nova_model.specs.declared.event.Turn.TheVariants.{Stepped}
+use Rattle.nova_forest.proofs.Turning.{of_event}
 use Rattle.nova_laws.specs.Events.{ActsFor, NamesChosen}
 use Rattle.nova_laws.proofs.Candidates.{schedule_of, the_chosen}
 use Rattle.nova_laws.proofs.Chosen.{choice_acts}
@@ -115,11 +116,4 @@ unfolding turn
 none_chosen k cpu = none_by k cpu (choice k cpu)
 
 pub event_names : (k : KernelState) (cpu : ℕ) (e : Event) → answer_of (turn k cpu) ≡ Stepped e → NamesChosen k cpu e
-unfolding turn
-event_names k cpu e steps = by_choice (choice k cpu) refl steps
-  where
-    by_choice : (o : Option Candidate) → choice k cpu ≡ o → answer_of (turn_by k cpu o) ≡ Stepped e → NamesChosen k cpu e
-    by_choice None is h = absurd cc
-    by_choice (Some c) is h =
-        let same : event_of cpu c (deed k c.actor) ≡ e = cc in
-        subst (NamesChosen k cpu) same (names k cpu c is)
+event_names k cpu e steps = of_event (NamesChosen k cpu) k cpu e steps (λ c chosen state. names k cpu c chosen)

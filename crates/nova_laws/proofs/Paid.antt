@@ -16,6 +16,7 @@ use Rattle.nova_model.specs.declared.event.Event.{Event}
 use Rattle.nova_model.specs.declared.event.Turn.TheVariants.{Stepped}
 use Rattle.nova_model.specs.declared.new_object.NewObject.{NewObject}
 use Rattle.nova_model.specs.declared.new_object.NewObject.TheVariants as new
+use Rattle.nova_forest.proofs.Turning.{of_event}
 use Rattle.nova_laws.specs.Scheduling.{GoesOn, IsPaidBy, IsUsed, Renewed, is_on, turns_paid_by}
 use Rattle.nova_laws.proofs.Fitting.{boot_run_fits}
 use Rattle.nova_laws.proofs.Paying.{Adds, AddsNone, AddsOne, Comes, Idles, IsTurn, Takes, comes, spent_ticks, still_budget, turn_is}
@@ -196,11 +197,5 @@ new_whole s turns cpu n b = after_whole (run (boot s) turns) cpu n b (lengths (r
 -- THE EVENT OF A TURN NAMES WHO PAYS
 
 pub turn_paid : (k : KernelState) (cpu : ℕ) (e : Event) → answer_of (turn k cpu) ≡ Stepped e → IsPaidBy k (after k cpu) cpu e.sc
-unfolding turn
-turn_paid k cpu e steps = by_choice (choice k cpu) refl steps
-  where
-    by_choice : (o : Option Candidate) → choice k cpu ≡ o → answer_of (turn_by k cpu o) ≡ Stepped e → IsPaidBy k (after k cpu) cpu e.sc
-    by_choice None is h = absurd cc
-    by_choice (Some c) is h =
-        let same : event_of cpu c (deed k c.actor) ≡ e = cc in
-        subst (λ (f : Event). IsPaidBy k (after k cpu) cpu f.sc) same (paid_by_chosen k (after k cpu) cpu c (turn_is k cpu c is))
+turn_paid k cpu e steps =
+    of_event (λ (f : Event). IsPaidBy k (after k cpu) cpu f.sc) k cpu e steps (λ c chosen state. paid_by_chosen k (after k cpu) cpu c (turn_is k cpu c chosen))

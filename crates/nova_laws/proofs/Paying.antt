@@ -24,6 +24,8 @@ use Rattle.nova_model.specs.declared.new_object.NewObject.TheVariants as new
 use Rattle.nova_forest.specs.Made.{IsBoundBy}
 use Rattle.nova_forest.proofs.Allowed.{IsAllowed, deed_allowed}
 use Rattle.nova_forest.proofs.Stirred.{acted}
+use Rattle.nova_forest.specs.Effects.{joined, made_by, stamp_with}
+use Rattle.nova_forest.proofs.Doing.{done_is}
 use Rattle.nova_laws.proofs.Candidates.{HasSchedule, schedule_of, the_chosen}
 use Rattle.nova_laws.proofs.Charges.{ended_is}
 use Rattle.nova_laws.proofs.Refused.{turn_chosen}
@@ -37,34 +39,16 @@ pub data Adds (old new : KernelState) (ec : ℕ) : Type 0 where
   AddsOne : (made : NewObject) → IsBoundBy old (pd_of old ec) (object_of made) → new.objects ≡ old.objects ++ object_of made ∷ [] →
       new.budgets ≡ old.budgets ++ budget_of old.next_stamp made ∷ [] → new.next_stamp ≡ stamp_past old.next_stamp made → Adds old new ec
 
-stepped_adds : (k : KernelState) (ec : ℕ) (o : Once) → Adds k (stepped k ec o) ec
-stepped_adds k ec (Raised reason q0 q1) = AddsNone refl refl refl
-stepped_adds k ec (Went regs store) = AddsNone refl refl refl
-
-recalled_adds : (k : KernelState) (ec other : ℕ) (x : EcState) (o : Option EcState) → Adds k (recalled (with_context k ec x) other o) ec
-recalled_adds k ec other x None = AddsNone refl refl refl
-recalled_adds k ec other x (Some y) = AddsNone refl refl refl
-
-woken_adds : (k s : KernelState) (ec : ℕ) (whom : Option ℕ) → Adds k s ec → Adds k (woken_in s whom) ec
-woken_adds k s ec None h = h
-woken_adds k s ec (Some w) (AddsNone objects budgets next) = AddsNone objects budgets next
-woken_adds k s ec (Some w) (AddsOne made bound objects budgets next) = AddsOne made bound objects budgets next
+adds : (k new : KernelState) (ec : ℕ) (d : Deed) → IsAllowed k ec d → new.objects ≡ joined k.objects (option_map object_of (made_by d)) →
+    new.budgets ≡ joined k.budgets (option_map (budget_of k.next_stamp) (made_by d)) → new.next_stamp ≡ stamp_with k.next_stamp (made_by d) → Adds k new ec
+adds k s ec (Makes call target made) asked objects budgets next = AddsOne made asked.bound objects budgets next
+adds k s ec (Opens target number) allowed objects budgets next = AddsOne new.Pd tt objects budgets next
+adds k s ec other allowed objects budgets next = AddsNone objects budgets next
 
 pub done_adds : (k : KernelState) (ec : ℕ) (d : Deed) → IsAllowed k ec d → Adds k (done k ec d) ec
-done_adds k ec Rests allowed = AddsNone refl refl refl
-done_adds k ec Steps allowed = stepped_adds k ec (instruction k ec)
-done_adds k ec (Makes call target made) asked = AddsOne made asked.bound refl refl refl
-done_adds k ec (Opens target number) allowed = AddsOne new.Pd tt refl refl refl
-done_adds k ec (Recalls other) allowed = recalled_adds k ec other _ _
-done_adds k ec (Finishes item end words follows) allowed =
-    let is = ended_is (with_context k ec (after_item (context k ec) follows)) ec item words follows in
-    AddsNone (ap (λ (s : KernelState). s.objects) is) (ap (λ (s : KernelState). s.budgets) is) (ap (λ (s : KernelState). s.next_stamp) is)
-done_adds k ec (Replies caller mark.Call true) allowed = AddsNone refl refl refl
-done_adds k ec (Replies caller mark.Call false) allowed = AddsNone refl refl refl
-done_adds k ec (Replies caller mark.Exit true) allowed = AddsNone refl refl refl
-done_adds k ec (Replies caller mark.Exit false) allowed = AddsNone refl refl refl
-done_adds k ec (Ups sm whom) allowed = woken_adds k _ ec whom (AddsNone refl refl refl)
-done_adds k ec other allowed = AddsNone refl refl refl
+done_adds k ec d allowed =
+    let is = done_is k ec d in
+    adds k (done k ec d) ec d allowed (ap (λ (s : KernelState). s.objects) is) (ap (λ (s : KernelState). s.budgets) is) (ap (λ (s : KernelState). s.next_stamp) is)
 
 -- and so does a state with the same
 same_adds : (k s new : KernelState) (ec : ℕ) → new.objects ≡ s.objects → new.budgets ≡ s.budgets → new.next_stamp ≡ s.next_stamp → Adds k s ec → Adds k new ec
@@ -76,31 +60,9 @@ pub record KeepsCounts (old new : KernelState) : Type 0 where
   pub processors : new.stirs.processors ≡ old.stirs.processors
   pub turns : new.turns ≡ old.turns
 
-stepped_counts : (k : KernelState) (ec : ℕ) (o : Once) → KeepsCounts k (stepped k ec o)
-stepped_counts k ec (Raised reason q0 q1) = record { processors = refl; turns = refl }
-stepped_counts k ec (Went regs store) = record { processors = refl; turns = refl }
-
-recalled_counts : (k : KernelState) (ec other : ℕ) (x : EcState) (o : Option EcState) → KeepsCounts k (recalled (with_context k ec x) other o)
-recalled_counts k ec other x None = record { processors = refl; turns = refl }
-recalled_counts k ec other x (Some y) = record { processors = refl; turns = refl }
-
-woken_counts : (k s : KernelState) (whom : Option ℕ) → KeepsCounts k s → KeepsCounts k (woken_in s whom)
-woken_counts k s None h = h
-woken_counts k s (Some w) h = record { processors = h.processors; turns = h.turns }
-
 done_counts : (k : KernelState) (ec : ℕ) (d : Deed) → KeepsCounts k (done k ec d)
-done_counts k ec Rests = record { processors = refl; turns = refl }
-done_counts k ec Steps = stepped_counts k ec (instruction k ec)
-done_counts k ec (Recalls other) = recalled_counts k ec other _ _
-done_counts k ec (Finishes item end words follows) =
-    let is = ended_is (with_context k ec (after_item (context k ec) follows)) ec item words follows in
-    record { processors = ap (λ (s : KernelState). s.stirs.processors) is; turns = ap (λ (s : KernelState). s.turns) is }
-done_counts k ec (Replies caller mark.Call true) = record { processors = refl; turns = refl }
-done_counts k ec (Replies caller mark.Call false) = record { processors = refl; turns = refl }
-done_counts k ec (Replies caller mark.Exit true) = record { processors = refl; turns = refl }
-done_counts k ec (Replies caller mark.Exit false) = record { processors = refl; turns = refl }
-done_counts k ec (Ups sm whom) = woken_counts k _ whom (record { processors = refl; turns = refl })
-done_counts k ec other = record { processors = refl; turns = refl }
+done_counts k ec d =
+    let is = done_is k ec d in record { processors = ap (λ (s : KernelState). s.stirs.processors) is; turns = ap (λ (s : KernelState). s.turns) is }
 
 -- what is there stays
 pub still_budget : (k s : KernelState) (ec n : ℕ) (b : Budget) → Adds k s ec → budget_at k n ≡ Some b → budget_at s n ≡ Some b

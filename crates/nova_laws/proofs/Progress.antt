@@ -286,16 +286,11 @@ pub done_bound : (k : KernelState) (ec : ℕ) (d : Deed) → Wants k ec d → Sh
     Keeps k (done k ec d).messages → Bound k → Bound (done k ec d)
 done_bound k ec Rests wants shows able serves sound keeps h = h
 done_bound k ec Steps wants shows able serves sound keeps h = stepped_bound k ec (instruction k ec) wants keeps h
-done_bound k ec (Raises reason q0 q1) wants shows able serves sound keeps h = quiets k ec (changed (context k ec) (Raises reason q0 q1)) refl h
-done_bound k ec (Dies reason q0) wants shows able serves sound keeps h = quiets k ec (changed (context k ec) (Dies reason q0)) refl h
-done_bound k ec (Refuses call status) wants shows able serves sound keeps h = quiets k ec (changed (context k ec) (Refuses call status)) refl h
 done_bound k ec (Makes call target made) wants shows able serves sound keeps h =
     joins_bounded k.messages (with_ec k.contexts ec (changed (context k ec) (Makes call target made))) k.transfers (object_of made) (context_of (length k.objects) made)
     (new_quiet (length k.objects) made _) (quiets k ec (changed (context k ec) (Makes call target made)) refl h)
 done_bound k ec (Recalls other) wants shows able serves sound keeps h =
     recalled_bound (with_context k ec (changed (context k ec) (Recalls other))) other _ refl (quiets k ec (changed (context k ec) (Recalls other)) refl h)
-done_bound k ec (Tells call value) wants shows able serves sound keeps h = quiets k ec (changed (context k ec) (Tells call value)) refl h
-done_bound k ec (Names pt identifier) wants shows able serves sound keeps h = quiets k ec (changed (context k ec) (Names pt identifier)) refl h
 done_bound k ec (Opens target domain) wants shows able serves sound keeps h = opened_bound k ec target domain wants.0 sound h
 done_bound k ec (Gives child cursor) wants shows able serves sound keeps h =
     give_bounded k.messages k.contexts k.transfers ec _ (entry_item k.messages ec (ec_in k.contexts ec) (transfer k ec) _ refl (h ec)) h
@@ -304,19 +299,13 @@ done_bound k ec (Skips reason place cursor) wants shows able serves sound keeps 
 done_bound k ec (Finishes item end words after) wants shows able serves sound keeps h = finished_bound k ec item end words after shows keeps h
 done_bound k ec (Calls handler ip identifier items) wants shows able serves sound keeps h =
     sent_bound k ec handler ip identifier items wants.1 (parked_apart k ec handler able wants.1) shows sound keeps h
-done_bound k ec (Helps handler) wants shows able serves sound keeps h = quiets k ec (changed (context k ec) (Helps handler)) refl h
 done_bound k ec (Replies caller mark items) wants shows able serves sound keeps h =
     replied_bound k ec caller mark items wants.0 (caller_apart k ec caller mark able serves wants.1) shows sound keeps h
 done_bound k ec (Aborts handler mark.Call) wants shows able serves sound keeps h = quiets k ec (changed (context k ec) (Aborts handler mark.Call)) refl h
-done_bound k ec (Aborts handler mark.Exit) wants shows able serves sound keeps h = quiets k ec (changed (context k ec) (Aborts handler mark.Exit)) refl h
-done_bound k ec (Waits handler reason q0 q1) wants shows able serves sound keeps h = quiets k ec (changed (context k ec) (Waits handler reason q0 q1)) refl h
 done_bound k ec (Sends handler ip identifier mtd reason q0 q1) wants shows able serves sound keeps h =
     exit_sent_bound k ec handler ip identifier mtd reason q0 q1 keeps h
-done_bound k ec (Revokes range own) wants shows able serves sound keeps h = quiets k ec (changed (context k ec) (Revokes range own)) refl h
 done_bound k ec (Removes leaf) wants shows able serves sound keeps h = h
-done_bound k ec Returns wants shows able serves sound keeps h = quiets k ec (changed (context k ec) Returns) refl h
 done_bound k ec (Ups sm whom) wants shows able serves sound keeps h =
     woken_bound (record (with_context k ec (answered (context k ec) Success None)) { semaphores = upped k.semaphores sm }) whom
     (quiets k ec (answered (context k ec) Success None) refl h)
-done_bound k ec (Downs sm) wants shows able serves sound keeps h = quiets k ec (changed (context k ec) (Downs sm)) refl h
-done_bound k ec (Blocks sm) wants shows able serves sound keeps h = quiets k ec (changed (context k ec) (Blocks sm)) refl h
+done_bound k ec other wants shows able serves sound keeps h = quiets k ec (changed (context k ec) other) refl h

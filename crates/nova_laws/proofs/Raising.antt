@@ -12,6 +12,7 @@ use Rattle.nova_model.specs.declared.context.State.TheVariants.{Parked}
 use Rattle.nova_model.specs.declared.deed.Deed.TheVariants.{Sends}
 use Rattle.nova_model.specs.declared.event.Event.{Event}
 use Rattle.nova_model.specs.declared.event.Turn.TheVariants.{Stepped}
+use Rattle.nova_forest.proofs.Turning.{of_event}
 use Rattle.nova_laws.specs.Words.{words_at, written_by}
 use Rattle.nova_laws.proofs.Awaiting.{not_parked}
 use Rattle.nova_laws.proofs.Chosen.{Acts, choice_acts}
@@ -20,14 +21,9 @@ use Rattle.nova_laws.proofs.Wording.{others_keep}
 
 -- who is chosen acts, and so the event names one that acts
 named_acts : (k : KernelState) (cpu : ℕ) (e : Event) → answer_of (turn k cpu) ≡ Stepped e → acts k.contexts e.ec ≡ true
-unfolding turn
-named_acts k cpu e steps = by_choice (choice k cpu) (choice_acts k cpu) steps
-  where
-    by_choice : (o : Option Candidate) → IfSome o (Acts k) → answer_of (turn_by k cpu o) ≡ Stepped e → acts k.contexts e.ec ≡ true
-    by_choice None able h = absurd (cc)
-    by_choice (Some c) able h =
-        let same : event_of cpu c (deed k c.actor) ≡ e = cc in
-        subst (λ (f : Event). acts k.contexts f.ec ≡ true) same able
+named_acts k cpu e steps =
+    of_event (λ (f : Event). acts k.contexts f.ec ≡ true) k cpu e steps
+    (λ c chosen state. subst (λ (o : Option Candidate). IfSome o (λ (d : Candidate). acts k.contexts d.actor ≡ true)) chosen (choice_acts k cpu))
 
 pub raised_keep : (k : KernelState) (cpu : ℕ) (e : Event) (handler ip identifier : ℕ) (mtd : Mtd) (reason q0 q1 : ℕ) (words : List ℕ) → answer_of (turn k cpu) ≡ Stepped e →
     deed k e.ec ≡ Sends handler ip identifier mtd reason q0 q1 → words_at k e.ec ≡ Some words → words_at (after k cpu) e.ec ≡ Some words

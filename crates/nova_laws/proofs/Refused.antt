@@ -29,6 +29,7 @@ use Rattle.nova_model.specs.declared.event.Turn.TheVariants.{Stepped}
 use Rattle.nova_model.specs.declared.transfer.Delivery.{Delivery}
 use Rattle.nova_model.specs.declared.transfer.ItemEnd.TheVariants.{Given, Skipped, Translated}
 use Rattle.nova_forest.proofs.Stirred.{acted, refusal_stirred}
+use Rattle.nova_forest.proofs.Turning.{of_event}
 use Rattle.nova_laws.specs.Refusals.{IsAnswered, IsRefusal, LeavesRest, is_asking}
 use Rattle.nova_forest.proofs.Walk.{delivers_holds}
 use Rattle.nova_laws.proofs.Charges.{charge_leaves}
@@ -42,33 +43,9 @@ record IsRefused (d : Deed) : Type 0 where
 
 refuses : (d : Deed) → (sign_of d).0 ≡ Answer → (sign_of d).2 ≢ 0 → IsRefused d
 refuses (Refuses call status) answers failed = record { call = call; status = status; is = refl }
-refuses (Makes call target new) answers failed = absurd (failed refl)
-refuses (Recalls ec) answers failed = absurd (failed refl)
-refuses (Tells call value) answers failed = absurd (failed refl)
-refuses (Names pt identifier) answers failed = absurd (failed refl)
-refuses (Opens target domain) answers failed = absurd cc
-refuses (Gives child cursor) answers failed = absurd cc
-refuses (Skips reason place cursor) answers failed = absurd cc
 refuses (Finishes item (Given children) words follows) answers failed = absurd cc
-refuses (Finishes item (Skipped skip) words follows) answers failed = absurd cc
-refuses (Finishes item (Translated word) words follows) answers failed = absurd cc
-refuses (Calls handler ip identifier items) answers failed = absurd cc
-refuses (Helps handler) answers failed = absurd cc
 refuses (Replies caller mark true) answers failed = absurd cc
-refuses (Replies caller mark false) answers failed = absurd (failed refl)
-refuses (Aborts handler mark) answers failed = absurd cc
-refuses (Revokes range own) answers failed = absurd cc
-refuses (Removes leaf) answers failed = absurd cc
-refuses Returns answers failed = absurd (failed refl)
-refuses Rests answers failed = absurd cc
-refuses Steps answers failed = absurd cc
-refuses (Raises reason q0 q1) answers failed = absurd cc
-refuses (Dies reason q0) answers failed = absurd cc
-refuses (Waits handler reason q0 q1) answers failed = absurd cc
-refuses (Sends handler ip identifier mtd reason q0 q1) answers failed = absurd cc
-refuses (Ups sm whom) answers failed = absurd (failed refl)
-refuses (Downs sm) answers failed = absurd (failed refl)
-refuses (Blocks sm) answers failed = absurd cc
+refuses other answers failed = absurd (first_of (cc, search (failed, refl)))
 
 -- and it makes a hypercall, whose state is asking
 abbrev AsksFirst : State → Deed → Type 0
@@ -196,12 +173,5 @@ chosen_refusal k cpu c chosen answers failed =
     ∙ ap (λ (s : KernelState). charged s cpu c.sc) (refusal_stirred k c.actor r.call r.status answers))
 
 pub refusal : (k : KernelState) (cpu : ℕ) (e : Event) → answer_of (turn k cpu) ≡ Stepped e → e.kind ≡ Answer → e.b ≢ 0 → IsRefusal k cpu e
-unfolding turn
-refusal k cpu e steps answers failed = by_choice (choice k cpu) refl steps
-  where
-    by_choice : (o : Option Candidate) → choice k cpu ≡ o → answer_of (turn_by k cpu o) ≡ Stepped e → IsRefusal k cpu e
-    by_choice None is h = absurd cc
-    by_choice (Some c) is h =
-        let same : event_of cpu c (deed k c.actor) ≡ e = cc in
-        subst (λ (f : Event). IsRefusal k cpu f) same
-        (chosen_refusal k cpu c is (ap (λ (f : Event). f.kind) same ∙ answers) (λ none. failed (sym (ap (λ (f : Event). f.b) same) ∙ none)))
+refusal k cpu e steps answers failed =
+    of_event (λ (f : Event). f.kind ≡ Answer → f.b ≢ 0 → IsRefusal k cpu f) k cpu e steps (λ c chosen state kind b. chosen_refusal k cpu c chosen kind b) answers failed

@@ -247,34 +247,23 @@ done_runs : (k : KernelState) (ec e : ℕ) (d : Deed) → Idle k ec d → Wants 
     revoke_of (done k ec d) e ≡ revoke_after k ec d e
 done_runs k ec e Rests idle wants able fits = refl
 done_runs k ec e Steps idle wants able fits = stepped_same k ec e (instruction k ec) idle
-done_runs k ec e (Raises reason q0 q1) idle wants able fits = owns k ec e (changed (context k ec) (Raises reason q0 q1)) idle refl
-done_runs k ec e (Dies reason q0) idle wants able fits = owns k ec e (changed (context k ec) (Dies reason q0)) idle refl
-done_runs k ec e (Waits handler reason q0 q1) idle wants able fits = owns k ec e (changed (context k ec) (Waits handler reason q0 q1)) idle refl
 done_runs k ec e (Sends handler ip identifier mtd reason q0 q1) idle wants able fits = begins k ec handler e mark.Exit ip identifier false idle wants.1
-done_runs k ec e (Refuses call status) idle wants able fits = owns k ec e (changed (context k ec) (Refuses call status)) idle refl
 done_runs k ec e (Makes call target made) idle wants able fits = made_same k ec e target (changed (context k ec) (Makes call target made)) made idle refl fits
 done_runs k ec e (Recalls other) idle wants able fits =
     recalled_same (with_context k ec (changed (context k ec) (Recalls other))) other e _ refl ∙ owns k ec e (changed (context k ec) (Recalls other)) idle refl
-done_runs k ec e (Tells call value) idle wants able fits = owns k ec e (changed (context k ec) (Tells call value)) idle refl
-done_runs k ec e (Names pt identifier) idle wants able fits = owns k ec e (changed (context k ec) (Names pt identifier)) idle refl
 done_runs k ec e (Opens target domain) idle wants able fits = made_same k ec e target (changed (context k ec) (Opens target domain)) new.Pd idle refl fits
 done_runs k ec e (Gives child cursor) idle wants able fits = refl
 done_runs k ec e (Skips reason place cursor) idle wants able fits = refl
 done_runs k ec e (Finishes item end words follows) idle wants able fits = finished_same k ec e item end words follows idle wants.1 able fits
 done_runs k ec e (Calls handler ip identifier items) idle wants able fits = begins k ec handler e mark.Call ip identifier items idle wants.1
-done_runs k ec e (Helps handler) idle wants able fits = owns k ec e (changed (context k ec) (Helps handler)) idle refl
-done_runs k ec e (Replies caller mark.Call true) idle wants able fits = owns k ec e (changed (context k ec) (Replies caller mark.Call true)) idle refl
-done_runs k ec e (Replies caller mark.Exit true) idle wants able fits = owns k ec e (changed (context k ec) (Replies caller mark.Exit true)) idle refl
 done_runs k ec e (Replies caller mark.Call false) idle wants able fits = frees k ec caller e mark.Call (message k ec) idle able fits wants.1
 done_runs k ec e (Replies caller mark.Exit false) idle wants able fits = frees k ec caller e mark.Exit (message k ec) idle able fits wants.1
 done_runs k ec e (Aborts handler mark.Call) idle wants able fits = owns k ec e (changed (context k ec) (Aborts handler mark.Call)) idle refl
-done_runs k ec e (Aborts handler mark.Exit) idle wants able fits = owns k ec e (changed (context k ec) (Aborts handler mark.Exit)) idle refl
 done_runs k ec e (Revokes range own) idle wants able fits = runs_own k ec e (changed (context k ec) (Revokes range own)) _ (acts_there k.contexts ec able) refl
 done_runs k ec e (Removes leaf) idle wants able fits = refl
 done_runs k ec e Returns idle wants able fits = runs_own k ec e (changed (context k ec) Returns) None (acts_there k.contexts ec able) refl
 done_runs k ec e (Ups sm whom) idle wants able fits = woken_same k ec e sm whom idle wants.1 fits.blocked
-done_runs k ec e (Downs sm) idle wants able fits = owns k ec e (changed (context k ec) (Downs sm)) idle refl
-done_runs k ec e (Blocks sm) idle wants able fits = owns k ec e (changed (context k ec) (Blocks sm)) idle refl
+done_runs k ec e other idle wants able fits = owns k ec e (changed (context k ec) other) idle refl
 
 deed_runs : (k : KernelState) (ec : ℕ) → acts k.contexts ec ≡ true → Fits k → (e : ℕ) → revoke_of (done k ec (deed k ec)) e ≡ revoke_after k ec (deed k ec) e
 deed_runs k ec able fits e = done_runs k ec e (deed k ec) (deed_idle k ec) (deed_wants k ec) able fits

@@ -47,14 +47,14 @@ tags_length n (o ∷ os) = ap suc (tags_length (n + 1) os)
 
 -- ONE OBJECT MORE
 
-tag_new : (n : ℕ) (made : NewObject) → tag (context_of n made) ≡ tag_of n (object_of made)
+pub tag_new : (n : ℕ) (made : NewObject) → tag (context_of n made) ≡ tag_of n (object_of made)
 tag_new n new.Pd = refl
 tag_new n (new.Ec pd cpu kind sp event) = refl
 tag_new n (new.Sc ec cpu priority quantum) = refl
 tag_new n (new.Pt ec mtd ip) = refl
 tag_new n (new.Sm count) = refl
 
-words_new : (o : Object) → is_some (words_of o) ≡ has_words o
+pub words_new : (o : Object) → is_some (words_of o) ≡ has_words o
 words_new Pd = refl
 words_new (Ec pd cpu Local event) = refl
 words_new (Ec pd cpu Global event) = refl
@@ -63,7 +63,7 @@ words_new (Sc ec cpu priority quantum) = refl
 words_new (Pt ec mtd ip) = refl
 words_new Sm = refl
 
-guest_new : (o : Object) → is_some (stir_count_of o) ≡ is_vcpu o
+pub guest_new : (o : Object) → is_some (stir_count_of o) ≡ is_vcpu o
 guest_new Pd = refl
 guest_new (Ec pd cpu Local event) = refl
 guest_new (Ec pd cpu Global event) = refl
@@ -72,35 +72,35 @@ guest_new (Sc ec cpu priority quantum) = refl
 guest_new (Pt ec mtd ip) = refl
 guest_new Sm = refl
 
-transfer_new : (o : Object) → is_some (transfer_of o) ≡ is_ec o
+pub transfer_new : (o : Object) → is_some (transfer_of o) ≡ is_ec o
 transfer_new Pd = refl
 transfer_new (Ec pd cpu kind event) = refl
 transfer_new (Sc ec cpu priority quantum) = refl
 transfer_new (Pt ec mtd ip) = refl
 transfer_new Sm = refl
 
-budget_new : (stamp : ℕ) (made : NewObject) → is_some (budget_of stamp made) ≡ is_sc (object_of made)
+pub budget_new : (stamp : ℕ) (made : NewObject) → is_some (budget_of stamp made) ≡ is_sc (object_of made)
 budget_new stamp new.Pd = refl
 budget_new stamp (new.Ec pd cpu kind sp event) = refl
 budget_new stamp (new.Sc ec cpu priority quantum) = refl
 budget_new stamp (new.Pt ec mtd ip) = refl
 budget_new stamp (new.Sm count) = refl
 
-identifier_new : (made : NewObject) → is_some (identifier_of made) ≡ is_pt (object_of made)
+pub identifier_new : (made : NewObject) → is_some (identifier_of made) ≡ is_pt (object_of made)
 identifier_new new.Pd = refl
 identifier_new (new.Ec pd cpu kind sp event) = refl
 identifier_new (new.Sc ec cpu priority quantum) = refl
 identifier_new (new.Pt ec mtd ip) = refl
 identifier_new (new.Sm count) = refl
 
-semaphore_new : (made : NewObject) → is_some (option_map idle_semaphore (count_of made)) ≡ is_sm (object_of made)
+pub semaphore_new : (made : NewObject) → is_some (option_map idle_semaphore (count_of made)) ≡ is_sm (object_of made)
 semaphore_new new.Pd = refl
 semaphore_new (new.Ec pd cpu kind sp event) = refl
 semaphore_new (new.Sc ec cpu priority quantum) = refl
 semaphore_new (new.Pt ec mtd ip) = refl
 semaphore_new (new.Sm count) = refl
 
-maps_more : {T : Type 0} (is : Object → Bool) (xs : List (Option T)) (os : List Object) (x : Option T) (o : Object) → map is_some xs ≡ map is os → is_some x ≡ is o →
+pub maps_more : {T : Type 0} (is : Object → Bool) (xs : List (Option T)) (os : List Object) (x : Option T) (o : Object) → map is_some xs ≡ map is os → is_some x ≡ is o →
     map is_some (xs ++ x ∷ []) ≡ map is (os ++ o ∷ [])
 maps_more is xs os x o h new =
     map_more is_some xs x ∙ ap (λ (l : List Bool). l ++ is_some x ∷ []) h ∙ ap (λ (b : Bool). map is os ++ b ∷ []) new ∙ sym (map_more is os o)
@@ -120,7 +120,7 @@ refers_more os o (Sc ec cpu priority quantum) h = cpu_more os o ec cpu (slice_ge
 refers_more os o (Pt ec mtd ip) h = kind_more os o is_local ec (slice_get os ec) refl h
 refers_more os o Sm h = tt
 
-all_refer : (os : List Object) (o : Object) (xs : List Object) → AllByRecursion (Refers os) xs → Refers os o → AllByRecursion (Refers (os ++ o ∷ [])) (xs ++ o ∷ [])
+pub all_refer : (os : List Object) (o : Object) (xs : List Object) → AllByRecursion (Refers os) xs → Refers os o → AllByRecursion (Refers (os ++ o ∷ [])) (xs ++ o ∷ [])
 all_refer os o [] h last = (refers_more os o o last, tt)
 all_refer os o (x ∷ xs) h last = (refers_more os o x h.0, all_refer os o xs h.1 last)
 

@@ -29,12 +29,12 @@ use Rattle.nova_model.specs.declared.admit.ExitAdmit.TheVariants as exit
 use Rattle.nova_model.specs.declared.context.State.{State}
 use Rattle.nova_model.specs.declared.context.State.TheVariants.{Fresh, Ready, Parked, Calling, Helping, Exiting, Sending, Granting, Replying, Revoking, Blocked, Dead}
 use Rattle.nova_model.specs.declared.deed.Deed.{Deed}
-use Rattle.nova_model.specs.declared.deed.Deed.TheVariants.{Rests, Steps, Raises, Dies, Waits, Sends, Refuses, Makes, Recalls, Tells, Names, Opens, Gives, Skips, Finishes, Calls, Helps, Replies, Aborts, Revokes, Removes, Returns, Ups, Downs, Blocks}
+use Rattle.nova_model.specs.declared.deed.Deed.TheVariants.{Refuses, Makes, Recalls, Tells, Names, Finishes, Replies, Returns}
 use Rattle.nova_model.specs.declared.delegation.Derivation.{Derivation}
 use Rattle.nova_model.specs.declared.event.EventKind.TheVariants.{Answer}
 use Rattle.nova_model.specs.declared.new_object.NewObject.TheVariants.{Sm}
 use Rattle.nova_model.specs.declared.transfer.Delivery.{Delivery}
-use Rattle.nova_model.specs.declared.transfer.ItemEnd.TheVariants.{Given, Skipped, Translated}
+use Rattle.nova_model.specs.declared.transfer.ItemEnd.TheVariants.{Given}
 use Rattle.nova_forest.proofs.Walk.{IfDone, delivers_holds, sm_ctrl_holds}
 use Rattle.nova_laws.proofs.Rows.{call_holds, create_pd_holds, makes_hold, named_holds, reply_holds}
 
@@ -180,30 +180,9 @@ is_return (Refuses call status) h kind number code =
     absurd (cc)
 is_return (Makes call target new) h kind number code = let same = eq-eqb call REVOKE number in absurd (cc)
 is_return (Tells call value) h kind number code = let same = eq-eqb call REVOKE number in absurd (cc)
-is_return (Recalls ec) h kind number code = absurd (cc)
-is_return (Names pt identifier) h kind number code = absurd (cc)
-is_return (Opens target domain) h kind number code = absurd (cc)
-is_return (Gives child cursor) h kind number code = absurd (cc)
-is_return (Skips reason place cursor) h kind number code = absurd (cc)
 is_return (Finishes item (Given children) words follows) h kind number code = absurd (cc)
-is_return (Finishes item (Skipped skip) words follows) h kind number code = absurd (cc)
-is_return (Finishes item (Translated word) words follows) h kind number code = absurd (cc)
-is_return (Calls handler ip identifier items) h kind number code = absurd (cc)
-is_return (Helps handler) h kind number code = absurd (cc)
 is_return (Replies caller mark true) h kind number code = absurd (cc)
-is_return (Replies caller mark false) h kind number code = absurd (cc)
-is_return (Aborts handler mark) h kind number code = absurd (cc)
-is_return (Revokes range own) h kind number code = absurd (cc)
-is_return (Removes leaf) h kind number code = absurd (cc)
-is_return Rests h kind number code = absurd (cc)
-is_return Steps h kind number code = absurd (cc)
-is_return (Raises reason q0 q1) h kind number code = absurd (cc)
-is_return (Dies reason q0) h kind number code = absurd (cc)
-is_return (Waits handler reason q0 q1) h kind number code = absurd (cc)
-is_return (Sends handler ip identifier mtd reason q0 q1) h kind number code = absurd (cc)
-is_return (Ups sm whom) h kind number code = absurd (cc)
-is_return (Downs sm) h kind number code = absurd (cc)
-is_return (Blocks sm) h kind number code = absurd (cc)
+is_return other h kind number code = absurd (cc)
 
 pub answer_returns : (k : KernelState) (ec : ℕ) → (sign_of (deed k ec)).0 ≡ Answer → (sign_of (deed k ec)).1 ≡ REVOKE → (sign_of (deed k ec)).2 ≡ 0 →
     deed k ec ≡ Returns
