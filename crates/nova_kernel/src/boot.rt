@@ -10,7 +10,7 @@ ghost use Rattle.nova_kernel.specs.Reach.{page_range, selector_range};
 use crate::creation::NO_TRANSFER;
 use crate::guests::Guests;
 use crate::messages::Messages;
-use crate::parts::Parts;
+use crate::parts::{Counts, Entries, Parts, Tables, together};
 use crate::reach::Reach;
 use crate::revokes::Revokes;
 use bitflags::Flags;
@@ -253,6 +253,55 @@ fn first_stirs(alloc: Global, cpus: u32) -> Result<Vec<u64>, AllocError>
     vec![in alloc; 0; cpus as usize]
 }
 
+/// The first three tables.
+fn root_tables(alloc: Global, root: Root) -> Result<Tables, AllocError>
+    ensures objects { IfOk result (λ t. t.objects.items ≡ root_objects root) }
+    ensures contexts { IfOk result (λ t. t.contexts.items ≡ None ∷ Some (root_context root) ∷ None ∷ []) }
+    ensures transfers { IfOk result (λ t. t.transfers.items ≡ None ∷ Some no_transfer ∷ None ∷ []) }
+{
+    let objects = root_objects(alloc, root)?;
+    let contexts = root_contexts(alloc, root)?;
+    let transfers = root_transfers(alloc)?;
+    Ok(Tables {
+        objects,
+        contexts,
+        transfers,
+    })
+}
+
+/// The next three tables.
+fn root_entries(alloc: Global, cpus: u32, root: Root) -> Result<Entries, AllocError>
+    ensures queues { IfOk result (λ t. t.queues.all ≡ root_schedule cpus root) }
+    ensures identifiers { IfOk result (λ t. t.identifiers.items ≡ None ∷ None ∷ None ∷ []) }
+    ensures semaphores { IfOk result (λ t. t.semaphores.all ≡ None ∷ None ∷ None ∷ []) }
+{
+    let queues = root_queues(alloc, cpus, root)?;
+    let identifiers = no_entries(alloc)?;
+    let semaphores = root_semaphores(alloc)?;
+    Ok(Entries {
+        queues,
+        identifiers,
+        semaphores,
+    })
+}
+
+/// The last three tables.
+fn root_counts(alloc: Global, cpus: u32) -> Result<Counts, AllocError>
+    ensures stirs { IfOk result (λ t. t.stirs.items ≡ replicate cpus 0) }
+    ensures guests { IfOk result (λ t. t.guests.counts ≡ None ∷ None ∷ None ∷ []) }
+    ensures revokes { IfOk result (λ t. t.revokes.list ≡ []) }
+    ensures places { IfOk result (λ t. 3 ≤ t.revokes.places) }
+{
+    let stirs = first_stirs(alloc, cpus)?;
+    let guests = root_guests(alloc)?;
+    let revokes = root_revokes(alloc)?;
+    Ok(Counts {
+        stirs,
+        guests,
+        revokes,
+    })
+}
+
 impl Parts {
     /// The parts of a machine that boots, without images.
     #[tactic(auto, using(crate::proofs::Started::started))]
@@ -272,29 +321,10 @@ impl Parts {
         ensures revokes { IfOk result (λ p. (p.revokes.list ≡ []) × (3 ≤ p.revokes.places)) }
     {
         let reach = Reach::new(alloc, ram, consoles, log_room)?;
-        let objects = root_objects(alloc, root)?;
-        let contexts = root_contexts(alloc, root)?;
-        let transfers = root_transfers(alloc)?;
-        let queues = root_queues(alloc, cpus, root)?;
-        let identifiers = no_entries(alloc)?;
-        let semaphores = root_semaphores(alloc)?;
-        let stirs = first_stirs(alloc, cpus)?;
-        let guests = root_guests(alloc)?;
-        let revokes = root_revokes(alloc)?;
-        Ok(Parts {
-            reach,
-            objects,
-            contexts,
-            queues,
-            transfers,
-            identifiers,
-            semaphores,
-            turns: 0,
-            cpus,
-            stirs,
-            guests,
-            revokes,
-        })
+        let tables = root_tables(alloc, root)?;
+        let entries = root_entries(alloc, cpus, root)?;
+        let counts = root_counts(alloc, cpus)?;
+        Ok(together(reach, tables, entries, counts, 0, cpus))
     }
 }
 

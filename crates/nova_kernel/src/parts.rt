@@ -32,6 +32,57 @@ pub struct Parts {
     pub revokes: Revokes,
 }
 
+/// The first three tables.
+#[derive(Drop)]
+pub(crate) struct Tables {
+    pub objects: Objects,
+    pub contexts: Ecs,
+    pub transfers: Vec<Option<Transfer>>,
+}
+
+/// The next three.
+#[derive(Drop)]
+pub(crate) struct Entries {
+    pub queues: Queues,
+    pub identifiers: Vec<Option<u32>>,
+    pub semaphores: Sems,
+}
+
+/// The last three.
+#[derive(Drop)]
+pub(crate) struct Counts {
+    pub stirs: Vec<u64>,
+    pub guests: Guests,
+    pub revokes: Revokes,
+}
+
+/// The parts of a kernel, of what they are made from.
+pub(crate) fn together(
+    reach: Reach,
+    tables: Tables,
+    entries: Entries,
+    counts: Counts,
+    turns: u64,
+    cpus: u32,
+) -> Parts
+    ensures { result ≡ record { reach = reach; objects = tables.objects; contexts = tables.contexts; queues = entries.queues; transfers = tables.transfers; identifiers = entries.identifiers; semaphores = entries.semaphores; turns = turns; cpus = cpus; stirs = counts.stirs; guests = counts.guests; revokes = counts.revokes } }
+{
+    Parts {
+        reach,
+        objects: tables.objects,
+        contexts: tables.contexts,
+        queues: entries.queues,
+        transfers: tables.transfers,
+        identifiers: entries.identifiers,
+        semaphores: entries.semaphores,
+        turns,
+        cpus,
+        stirs: counts.stirs,
+        guests: counts.guests,
+        revokes: counts.revokes,
+    }
+}
+
 impl Parts {
     /// The counter of a semaphore and how many wait at it.
     pub fn semaphore(&self, sm: u32) -> Option<(u32, u32)>
@@ -52,19 +103,59 @@ impl Parts {
         ensures revokes { IfOk result (λ p. p.revokes.list ≡ self.now.revokes.list) }
         ensures places { IfOk result (λ p. length self.now.objects.items ≤ p.revokes.places) }
     {
-        Ok(Parts {
-            reach: self.reach.copy()?,
-            objects: self.objects.copy()?,
-            contexts: self.contexts.copy()?,
-            queues: self.queues.copy()?,
-            transfers: Vec::from_slice(*self.transfers.allocator(), &self.transfers)?,
-            identifiers: Vec::from_slice(*self.identifiers.allocator(), &self.identifiers)?,
-            semaphores: self.semaphores.copy()?,
-            turns: self.turns,
-            cpus: self.cpus,
-            stirs: Vec::from_slice(*self.stirs.allocator(), &self.stirs)?,
-            guests: self.guests.copy()?,
-            revokes: self.revokes.copy(self.objects.len())?,
+        let reach = self.reach.copy()?;
+        let tables = self.copied_tables()?;
+        let entries = self.copied_entries()?;
+        let counts = self.copied_counts()?;
+        Ok(together(reach, tables, entries, counts, self.turns, self.cpus))
+    }
+
+    /// The first three tables in memory of their own.
+    fn copied_tables(&self) -> Result<Tables, AllocError>
+        ensures objects { IfOk result (λ t. t.objects.items ≡ self.now.objects.items) }
+        ensures contexts { IfOk result (λ t. t.contexts.items ≡ self.now.contexts.items) }
+        ensures transfers { IfOk result (λ t. t.transfers.items ≡ self.now.transfers.items) }
+    {
+        let objects = self.objects.copy()?;
+        let contexts = self.contexts.copy()?;
+        let transfers = Vec::from_slice(*self.transfers.allocator(), &self.transfers)?;
+        Ok(Tables {
+            objects,
+            contexts,
+            transfers,
+        })
+    }
+
+    /// The next three tables in memory of their own.
+    fn copied_entries(&self) -> Result<Entries, AllocError>
+        ensures queues { IfOk result (λ t. t.queues.all ≡ self.now.queues.all) }
+        ensures identifiers { IfOk result (λ t. t.identifiers.items ≡ self.now.identifiers.items) }
+        ensures semaphores { IfOk result (λ t. t.semaphores.all ≡ self.now.semaphores.all) }
+    {
+        let queues = self.queues.copy()?;
+        let identifiers = Vec::from_slice(*self.identifiers.allocator(), &self.identifiers)?;
+        let semaphores = self.semaphores.copy()?;
+        Ok(Entries {
+            queues,
+            identifiers,
+            semaphores,
+        })
+    }
+
+    /// The last three tables in memory of their own.
+    fn copied_counts(&self) -> Result<Counts, AllocError>
+        ensures stirs { IfOk result (λ t. t.stirs.items ≡ self.now.stirs.items) }
+        ensures guests { IfOk result (λ t. t.guests.counts ≡ self.now.guests.counts) }
+        ensures revokes { IfOk result (λ t. t.revokes.list ≡ self.now.revokes.list) }
+        ensures places { IfOk result (λ t. length self.now.objects.items ≤ t.revokes.places) }
+    {
+        let stirs = Vec::from_slice(*self.stirs.allocator(), &self.stirs)?;
+        let guests = self.guests.copy()?;
+        let revokes = self.revokes.copy(self.objects.len())?;
+        Ok(Counts {
+            stirs,
+            guests,
+            revokes,
         })
     }
 }
