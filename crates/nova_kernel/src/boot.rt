@@ -17,11 +17,12 @@ use bitflags::Flags;
 use nova_ec::Ecs;
 use nova_frames::Frames;
 use nova_model::{EcKind, EcState, Kind, Object, Rights, Root, State, Transfer};
-use nova_nodes::{ListIndex, Nodes};
+use nova_nodes::Nodes;
 use nova_objects::Objects;
 use nova_range::{Range, Target};
 use nova_sched::Queues;
 use nova_sem::Sems;
+use nova_space::Space;
 use nova_utcb::Utcb;
 use rv_core::Regs;
 use std::alloc::{AllocError, Global};
@@ -122,7 +123,7 @@ fn no_entries(alloc: Global) -> Result<Vec<Option<u32>>, AllocError>
 }
 
 /// Adds all RAM, to be read, written and executed, and each console's page, to be read and written.
-fn add_memory(nodes: &mut Nodes<ListIndex>, order: u8, consoles: u32)
+fn add_memory(nodes: &mut Nodes<Space>, order: u8, consoles: u32)
     requires order { order ≤ 14 }
     requires consoles { consoles ≤ 16 }
     requires empty { nodes.old.delegations ≡ record { list = []; next = 0 } }
@@ -163,7 +164,7 @@ fn page_range(page: u32) -> Range
 }
 
 /// Adds a console's page, after RAM and the consoles before it.
-fn add_console(nodes: &mut Nodes<ListIndex>, order: u8, console: u32)
+fn add_console(nodes: &mut Nodes<Space>, order: u8, console: u32)
     requires order { order ≤ 14 }
     requires console { console < 16 }
     requires before { nodes.old.delegations ≡ record { list = ram_derivation order ∷ map (console_derivation order) (range_with_len 0 console); next = 1 + console } }
@@ -188,7 +189,7 @@ fn selector_range(selector: u32) -> Range
 
 /// Adds the root's own three objects, at the selectors of their numbers: its protection domain, its
 /// execution context and its scheduling context.
-fn add_objects(nodes: &mut Nodes<ListIndex>, order: u8, consoles: u32)
+fn add_objects(nodes: &mut Nodes<Space>, order: u8, consoles: u32)
     requires consoles { consoles ≤ 16 }
     requires before { nodes.old.delegations ≡ record { list = ram_derivation order ∷ map (console_derivation order) (range_with_len 0 consoles); next = 1 + consoles } }
     requires room { 3 ≤ room nodes.old 0 }
@@ -200,7 +201,7 @@ fn add_objects(nodes: &mut Nodes<ListIndex>, order: u8, consoles: u32)
 }
 
 /// What the root holds: RAM, the consoles, and its own three objects.
-fn root_nodes(alloc: Global, order: u8, consoles: u32) -> Result<Nodes<ListIndex>, AllocError>
+fn root_nodes(alloc: Global, order: u8, consoles: u32) -> Result<Nodes<Space>, AllocError>
     requires order { order ≤ 14 }
     requires consoles { consoles ≤ 16 }
     ensures { IfOk result (λ n. n.delegations ≡ record { list = root_derivations order consoles; next = consoles + 4 }) }

@@ -20,8 +20,9 @@ use bitflags::Flags;
 use nova_delegate::{PartDone, part};
 use nova_frames::Frames;
 use nova_model::{Derivation, Job, Kind, Page, Rights};
-use nova_nodes::{ListIndex, Nodes};
+use nova_nodes::Nodes;
 use nova_range::Range;
+use nova_space::Space;
 use nova_utcb::Utcb;
 use rv_core::bus::Bus;
 use std::alloc::AllocError;
@@ -39,7 +40,7 @@ const MESSAGE_SIZE: u32 = 512;
 #[derive(Drop)]
 pub struct Reach {
     pub frames: Frames,
-    pub nodes: Nodes<ListIndex>,
+    pub nodes: Nodes<Space>,
     pub messages: Messages,
     pub last: Option<Derivation>,
     pub ec: u32,

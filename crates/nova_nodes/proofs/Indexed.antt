@@ -172,7 +172,7 @@ entries_apart spaces list x indexed apart = all_from (λ e. overlaps e.range (ra
     ap (λ (y : Entry). overlaps y.range (range_of x)) of.entry ∙ far)
 
 -- members of two lists that are joined
-in_left : {T : Type 0} (xs ys : List T) (x : T) → IsIn xs x → IsIn (xs ++ ys) x
+pub in_left : {T : Type 0} (xs ys : List T) (x : T) → IsIn xs x → IsIn (xs ++ ys) x
 in_left [] ys x i = absurd i
 in_left (y ∷ xs) ys x (inl e) = inl e
 in_left (y ∷ xs) ys x (inr i) = inr (in_left xs ys x i)
@@ -181,7 +181,7 @@ in_right : {T : Type 0} (xs ys : List T) (x : T) → IsIn ys x → IsIn (xs ++ y
 in_right [] ys x i = i
 in_right (y ∷ xs) ys x i = inr (in_right xs ys x i)
 
-in_either : {T : Type 0} (xs ys : List T) (x : T) → IsIn (xs ++ ys) x → IsIn xs x ⊎ IsIn ys x
+pub in_either : {T : Type 0} (xs ys : List T) (x : T) → IsIn (xs ++ ys) x → IsIn xs x ⊎ IsIn ys x
 in_either [] ys x i = inr i
 in_either (y ∷ xs) ys x (inl e) = inl (inl e)
 in_either (y ∷ xs) ys x (inr i) = later (in_either xs ys x i)

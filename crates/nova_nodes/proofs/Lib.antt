@@ -8,4 +8,12 @@ pub mod Last
 pub mod Rooms
 pub mod Kept
 pub mod Points
+pub mod Stores
+pub mod Most
+pub mod Links
+pub mod Unlinking
+pub mod Linking
+pub mod Changes
+pub mod Members
+pub mod Ways
 pub mod Bounds

@@ -1,66 +1,65 @@
--- Of derivations by rising id: where those begin that have an id or a greater one.
+-- Of what is numbered by rising numbers: where those begin that have a number or a greater one.
 use Rattle.std.proofs.Common.{◌≡◌, ℕ, ◌<◌, ◌≤◌, List, [], ◌∷◌, refl, ap, sym, ◌∙◌, arith}
 use Rattle.std.specs.Prelude.{Bool, true, false, ◌==◌, nat_lt, zero, suc, length, slice_get, slice_index_or, if◌then◌else◌, Option, Some, None}
 use Rattle.std.specs.List.{AllByRecursion, find}
 use Rattle.std.specs.List.Sorted.{IsPartitionPoint, IsPartitionedBy}
-use Rattle.nova_model.specs.Delegations.{is_from, from_id, with_id}
 use Rattle.nova_model.specs.Forest.{ArePairs}
-use Rattle.nova_model.specs.declared.delegation.Derivation.{Derivation}
-use Rattle.nova_nodes.proofs.Last.{from_first}
+use Rattle.nova_nodes.specs.Stores.{is_after, is_number}
 
--- those below an id stand first
+abbrev pub AreNumbered : {T : Type 0} → (T → ℕ) → List T → Type 0
+AreNumbered number xs = ArePairs (λ a b. number a < number b) xs
 
-below_first : (id i j : ℕ) (ds : List Derivation) (other : Derivation) → ArePairs (λ a b. a.id < b.id) ds → i ≤ j → j < length ds →
-    nat_lt (slice_index_or ds j other).id id ≡ true → nat_lt (slice_index_or ds i other).id id ≡ true
-below_first id i j [] other rising h low t = absurd (omega arith)
-below_first id zero zero (d ∷ ds) other rising h low t = t
-below_first id zero (suc j) (d ∷ ds) other rising h low t =
-    let above = at_index ds j other rising.0 (omega arith) in
+-- those below a number stand first
+
+below_first : {T : Type 0} (number : T → ℕ) (id i j : ℕ) (xs : List T) (other : T) → AreNumbered number xs → i ≤ j → j < length xs →
+    nat_lt (number (slice_index_or xs j other)) id ≡ true → nat_lt (number (slice_index_or xs i other)) id ≡ true
+below_first number id i j [] other rising h low t = absurd (omega arith)
+below_first number id zero zero (x ∷ xs) other rising h low t = t
+below_first {T} number id zero (suc j) (x ∷ xs) other rising h low t =
+    let above = at_index xs j other rising.0 (omega arith) in
     grind (arith, above, t)
   where
-    at_index : (es : List Derivation) (k : ℕ) (e : Derivation) → AllByRecursion (λ b. d.id < b.id) es → k < length es → d.id < (slice_index_or es k e).id
+    at_index : (es : List T) (k : ℕ) (e : T) → AllByRecursion (λ b. number x < number b) es → k < length es → number x < number (slice_index_or es k e)
     at_index [] k e all less = absurd (omega arith)
-    at_index (x ∷ xs) zero e all less = all.0
-    at_index (x ∷ xs) (suc k) e all less = at_index xs k e all.1 (omega arith)
-below_first id (suc i) zero (d ∷ ds) other rising h low t = absurd (omega arith)
-below_first id (suc i) (suc j) (d ∷ ds) other rising h low t = below_first id i j ds other rising.1 (omega arith) (omega arith) t
+    at_index (y ∷ ys) zero e all less = all.0
+    at_index (y ∷ ys) (suc k) e all less = at_index ys k e all.1 (omega arith)
+below_first number id (suc i) zero (x ∷ xs) other rising h low t = absurd (omega arith)
+below_first number id (suc i) (suc j) (x ∷ xs) other rising h low t = below_first number id i j xs other rising.1 (omega arith) (omega arith) t
 
-pub parted : (id : ℕ) (ds : List Derivation) → ArePairs (λ a b. a.id < b.id) ds → IsPartitionedBy (λ (d : Derivation). nat_lt d.id id) ds
-parted id ds rising i j other h low t = below_first id i j ds other rising h low t
+pub parted : {T : Type 0} (number : T → ℕ) (id : ℕ) (xs : List T) → AreNumbered number xs → IsPartitionedBy (λ x. nat_lt (number x) id) xs
+parted number id xs rising i j other h low t = below_first number id i j xs other rising h low t
 
-pub at_point : (id : ℕ) (ds : List Derivation) (i : ℕ) → IsPartitionPoint (λ (d : Derivation). nat_lt d.id id ≡ true) (λ (d : Derivation). nat_lt d.id id ≡ false) ds i →
-    slice_get ds i ≡ find (is_from id) ds
-at_point id [] zero point = refl
-at_point id [] (suc i) point = refl
-at_point id (d ∷ ds) zero point =
-    let stops = point.1 0 d (omega arith) (omega arith) in
-    let from : is_from id d ≡ true = grind (arith, stops) in
+pub at_point : {T : Type 0} (number : T → ℕ) (id : ℕ) (xs : List T) (i : ℕ) → IsPartitionPoint (λ x. nat_lt (number x) id ≡ true) (λ x. nat_lt (number x) id ≡ false) xs i →
+    slice_get xs i ≡ find (is_after number id) xs
+at_point number id [] zero point = refl
+at_point number id [] (suc i) point = refl
+at_point number id (x ∷ xs) zero point =
+    let stops = point.1 0 x (omega arith) (omega arith) in
+    let from : is_after number id x ≡ true = grind (arith, stops) in
     rw from refl
-at_point id (d ∷ ds) (suc i) point =
-    let below = point.0 0 d (omega arith) (omega arith) in
-    let before : is_from id d ≡ false = grind (arith, below) in
-    rw before (at_point id ds i (λ k e low high. point.0 (suc k) e (omega arith) (omega arith), λ k e low high. point.1 (suc k) e (omega arith) (omega arith)))
+at_point number id (x ∷ xs) (suc i) point =
+    let below = point.0 0 x (omega arith) (omega arith) in
+    let before : is_after number id x ≡ false = grind (arith, below) in
+    rw before (at_point number id xs i (λ k e low high. point.0 (suc k) e (omega arith) (omega arith), λ k e low high. point.1 (suc k) e (omega arith) (omega arith)))
 
--- the derivation of an id is the first from it on, if that has the id
-abbrev pub of_its_id : ℕ → Option Derivation → Option Derivation
-of_its_id id None = None
-of_its_id id (Some d) = if d.id == id then Some d else None
+-- that of a number is the first from it on, if that has the number
+abbrev pub of_number : {T : Type 0} → (T → ℕ) → ℕ → Option T → Option T
+of_number number id None = None
+of_number number id (Some x) = if is_number number id x then Some x else None
 
-with_id_first : (id : ℕ) (ds : List Derivation) → ArePairs (λ a b. a.id < b.id) ds → with_id ds id ≡ of_its_id id (find (is_from id) ds)
-with_id_first id [] rising = refl
-with_id_first id (d ∷ ds) rising = by_test (is_from id d) refl (with_id_first id ds rising.1)
+pub its_number : {T : Type 0} (number : T → ℕ) (id : ℕ) (xs : List T) → AreNumbered number xs → find (is_number number id) xs ≡ of_number number id (find (is_after number id) xs)
+its_number number id [] rising = refl
+its_number {T} number id (x ∷ xs) rising = by_test (is_after number id x) refl (its_number number id xs rising.1)
   where
-    none : (es : List Derivation) → AllByRecursion (λ b. d.id < b.id) es → is_from id d ≡ true → with_id es id ≡ None
+    none : (ys : List T) → AllByRecursion (λ b. number x < number b) ys → is_after number id x ≡ true → find (is_number number id) ys ≡ None
     none [] all h = refl
-    none (x ∷ xs) all h = let above = all.0 in let other : (x.id == id) ≡ false = grind (arith, above, h) in rw other (none xs all.1 h)
+    none (y ∷ ys) all h = let above = all.0 in let other : is_number number id y ≡ false = grind (arith, above, h) in rw other (none ys all.1 h)
 
-    by_test : (t : Bool) → is_from id d ≡ t → with_id ds id ≡ of_its_id id (find (is_from id) ds) → with_id (d ∷ ds) id ≡ of_its_id id (if t then Some d else find (is_from id) ds)
-    by_test true h rest = by_id (d.id == id)
+    by_test : (t : Bool) → is_after number id x ≡ t → find (is_number number id) xs ≡ of_number number id (find (is_after number id) xs) →
+        find (is_number number id) (x ∷ xs) ≡ of_number number id (if t then Some x else find (is_after number id) xs)
+    by_test true h rest = by_id (is_number number id x)
       where
-        by_id : (b : Bool) → (if b then Some d else with_id ds id) ≡ (if b then Some d else None)
+        by_id : (b : Bool) → (if b then Some x else find (is_number number id) xs) ≡ (if b then Some x else None)
         by_id true = refl
-        by_id false = none ds rising.0 h
-    by_test false h rest = let other : (d.id == id) ≡ false = grind (arith, h) in rw other rest
-
-pub its_id : (id : ℕ) (ds : List Derivation) (o : Option Derivation) → ArePairs (λ a b. a.id < b.id) ds → o ≡ from_id ds id → of_its_id id o ≡ with_id ds id
-its_id id ds o rising is = ap (of_its_id id) (is ∙ from_first id ds rising) ∙ sym (with_id_first id ds rising)
+        by_id false = none xs rising.0 h
+    by_test false h rest = let other : is_number number id x ≡ false = grind (arith, h) in rw other rest

@@ -1,4 +1,6 @@
 pub mod ListIndices
 pub mod Spaces
 pub mod NodesStates
-pub mod Searches
+pub mod Stores
+pub mod Links
+pub mod Trails

@@ -2,10 +2,13 @@
 #![tactic(auto)]
 
 pub mod guarded;
+mod linked;
 pub mod list_index;
+pub mod node;
 pub mod nodes;
 mod space;
 mod spaces;
+mod store;
 #[cfg(test)]
 mod tests;
 

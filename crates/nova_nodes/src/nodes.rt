@@ -1,51 +1,46 @@
-ghost use Rattle.std.specs.Prelude.{◌≡◌, ◌<◌, ◌≤◌, ◌+◌, ◌-◌, ◌^◌, ℕ, [], IfSome, IsSome, IsOk, IfOk, OnOk, OnErr, Some, None, option_map};
+ghost use Rattle.std.specs.Prelude.{◌≡◌, ◌<◌, ◌≤◌, ◌+◌, ◌-◌, ◌^◌, ℕ, [], Contains, IfSome, IsSome, IsOk, IfOk, OnOk, OnErr, Some, None, option_map};
 ghost use Rattle.std.specs.List.{find, list_any};
 ghost use Rattle.nova_model.specs.Inputs.{leads_to};
 ghost use Rattle.nova_model.specs.Delegations.{covers, first_from, with_id, from_id, is_child_of, newest_child, older_child, parent_of, derived, added, without, id_of};
 ghost use Rattle.nova_model.specs.Forest.{IsFitting, IsChildless};
+ghost use Rattle.nova_model.specs.Revokes.{leaf_by};
+ghost use Rattle.nova_nodes.specs.Trails.{IsOnWay, step_back};
 ghost use Rattle.nova_nodes.specs.NodesStates.{HasSpaces, IsPlaced, IsSound, room};
-ghost use Rattle.nova_nodes.specs.Searches.{child_below};
 
+use crate::linked::Linked;
+use crate::node::Trail;
 use crate::spaces::Spaces;
 use nova_model::Derivation;
 use nova_range::{Index, Kind, Range, Rights};
 use std::alloc::{AllocError, Global};
 use std::marker::Model;
 
-/// The delegations: derivations by rising id, the id of the next one, and for each protection domain
+/// The delegations: derivations by rising id with links between parents and children, the id of the next one, and for each protection domain
 /// an index of its memory and one of its objects. Room for more is reserved before they are added, for
 /// each domain by itself.
 #[derive(Drop)]
 pub struct Nodes<I: Index> {
-    list: Vec<Derivation>,
+    list: Linked,
     next: u32,
     spare: usize,
     spaces: Spaces<I>,
+    trail: Trail,
 }
 
 impl<I: Index> Model for Nodes<I> {
-    ghost use Rattle.std.specs.Prelude.{◌+◌, ◌≤◌, map, vec_len, vec_capacity};
+    ghost use Rattle.std.specs.Prelude.{◌≤◌, map};
     ghost use Rattle.nova_nodes.specs.NodesStates.{NodesState, IsSound};
     ghost use Rattle.nova_nodes.specs.Spaces.{IsIndexed, shown_room, total_room};
+    ghost use Rattle.nova_nodes.specs.Trails.{IsTrail};
 
     ghost Value = { NodesState };
 
     ghost view = { λ n. record {
-      delegations = record { list = n.list.items; next = n.next };
+      delegations = record { list = n.list.list; next = n.next };
       rooms = map shown_room n.spaces;
     } };
 
-    ghost invariant = { λ n. IsSound (record { list = n.list.items; next = n.next }) × (IsIndexed n.spaces n.list.items × ((total_room n.spaces ≤ n.spare) × (vec_len n.list + n.spare ≤ vec_capacity n.list))) };
-}
-
-/// Whether a derivation is a child of this parent.
-fn is_child_of(d: &Derivation, parent: u32) -> bool
-    ensures { result ≡ is_child_of parent d.now }
-{
-    match d.parent {
-        Some(id) => id == parent,
-        None => false,
-    }
+    ghost invariant = { λ n. IsSound (record { list = n.list.list; next = n.next }) × (IsIndexed n.spaces n.list.list × ((total_room n.spaces ≤ n.spare) × ((n.spare ≤ n.list.spare) × IsTrail (record { list = n.list.list; next = n.next }) n.trail))) };
 }
 
 /// Whether a derivation is of the memory of a protection domain, and leads to a frame.
@@ -59,6 +54,19 @@ fn leads_to(d: &Derivation, pd: u32, frame: u32) -> bool
         && frame - d.target < 1 << d.order
 }
 
+/// The id before the end of a way: of the parent, or of the beginning where that is the end.
+fn step_back(from: &Derivation, leaf: &Derivation) -> u32
+    ensures { result ≡ step_back from.now leaf.now }
+{
+    if leaf.id == from.id {
+        return from.id;
+    }
+    match leaf.parent {
+        Some(parent) => parent,
+        None => from.id,
+    }
+}
+
 impl<I: Index> Nodes<I> {
     /// No derivations, and room for none. The first one that is added has id 0.
     pub fn new(alloc: Global) -> Nodes<I>
@@ -66,10 +74,15 @@ impl<I: Index> Nodes<I> {
         ensures room { (pd : ℕ) → room result pd ≡ 0 }
     {
         Nodes {
-            list: Vec::new(alloc),
+            list: Linked::new(alloc),
             next: 0,
             spare: 0,
             spaces: Spaces::new(alloc),
+            trail: Trail {
+                from: 0,
+                at: 0,
+                next: 0,
+            },
         }
     }
 
@@ -79,13 +92,14 @@ impl<I: Index> Nodes<I> {
         ensures same { IfOk result (λ copy. copy.delegations ≡ self.now.delegations) }
         ensures spaces { IfOk result (λ copy. (pd : ℕ) → HasSpaces self.now pd → HasSpaces copy pd) }
     {
-        let list = Vec::from_slice(*self.list.allocator(), self.list.as_slice())?;
+        let list = self.list.copy()?;
         let spaces = self.spaces.copy()?;
         Ok(Nodes {
             list,
             next: self.next,
             spare: 0,
             spaces,
+            trail: self.trail,
         })
     }
 
@@ -93,7 +107,15 @@ impl<I: Index> Nodes<I> {
     pub fn leads_to(&self, pd: u32, frame: u32) -> bool
         ensures { result ≡ list_any (leads_to pd frame) self.now.delegations.list }
     {
-        self.list.iter().any(|d| leads_to(d, pd, frame))
+        for i in 0..self.list.len() {
+            let Some(d) = self.list.nth(i) else {
+                unreachable!()
+            };
+            if leads_to(&d, pd, frame) {
+                return true;
+            }
+        }
+        false
     }
 
     /// The id that the next derivation takes.
@@ -168,7 +190,7 @@ impl<I: Index> Nodes<I> {
         ensures there { with_id self.new.delegations.list result ≡ Some (derived self.old.delegations.next parent pd range rights target) }
     {
         let id = self.next;
-        self.list.push_reserved(Derivation {
+        self.list.push(Derivation {
             id,
             pd,
             kind: range.kind,
@@ -225,7 +247,7 @@ impl<I: Index> Nodes<I> {
     {
         let Some(d) = self.get(id) else { return };
         self.spaces.remove(d.pd, d.kind, d.base);
-        self.list.retain(|d| d.id != id);
+        self.list.remove(id);
     }
 
     /// The derivation of an id, or nothing where none has it.
@@ -234,8 +256,7 @@ impl<I: Index> Nodes<I> {
         ensures placed { IfSome result IsPlaced }
         ensures sound { IsSound self.now.delegations }
     {
-        let d = self.from_id(id)?;
-        if d.id == id { Some(d) } else { None }
+        self.list.get(id)
     }
 
     /// The derivation of least id at or after the given one, or nothing where there is none.
@@ -244,8 +265,7 @@ impl<I: Index> Nodes<I> {
         ensures placed { IfSome result IsPlaced }
         ensures sound { IsSound self.now.delegations }
     {
-        let at = self.list.partition_point(|d| d.id < id);
-        self.list.get(at).copied()
+        self.list.from_id(id)
     }
 
     /// The derivation that covers a place of a protection domain's space, or nothing where none does.
@@ -290,20 +310,57 @@ impl<I: Index> Nodes<I> {
         ensures found { result ≡ option_map id_of (newest_child self.now.delegations.list id) }
         ensures sound { IsSound self.now.delegations }
     {
-        self.child_below(id, self.next)
+        self.list.newest(id)
     }
 
-    /// The child of a parent of greatest id below another.
-    fn child_below(&self, parent: u32, bound: u32) -> Option<u32>
-        ensures found { result ≡ option_map id_of (child_below self.now.delegations.list parent bound) }
+    /// How far the way from a derivation from newest child to newest child is known.
+    fn resume(&self, from: &Derivation) -> Derivation
+        requires there { Contains self.now.delegations.list from.now }
+        ensures way { IsOnWay self.now.delegations.list from.now result }
+        ensures there { Contains self.now.delegations.list result }
     {
-        let mut last: Option<u32> = None;
-        for d in &self.list {
-            if d.id < bound && is_child_of(d, parent) {
-                last = Some(d.id);
+        if self.trail.from == from.id && self.trail.next == self.next {
+            match self.get(self.trail.at) {
+                Some(d) => d,
+                None => *from,
             }
+        } else {
+            *from
         }
-        last
+    }
+
+    /// The end of the way from a derivation from newest child to newest child.
+    fn walk(&self, from: Derivation) -> Derivation
+        requires there { Contains self.now.delegations.list from }
+        ensures leaf { IsOnWay self.now.delegations.list from result }
+        ensures last { newest_child self.now.delegations.list result.id ≡ None }
+    {
+        let mut at = from;
+        while let Some(child) = self.newest_child(at.id) {
+            let Some(c) = self.get(child) else {
+                unreachable!()
+            };
+            at = c;
+        }
+        at
+    }
+
+    /// The derivation at the end of the way from one that is there from newest child to newest child. The
+    /// search begins one before where the last one from there ended, if none has joined since; what is
+    /// kept stays.
+    pub fn leaf_below(&mut self, from: Derivation) -> Derivation
+        requires { Contains self.old.delegations.list from }
+        ensures leaf { result ≡ leaf_by self.old.delegations.next self.old.delegations.list from }
+        ensures kept { self.new ≡ self.old }
+    {
+        let start = self.resume(&from);
+        let leaf = self.walk(start);
+        self.trail = Trail {
+            from: from.id,
+            at: step_back(&from, &leaf),
+            next: self.next,
+        };
+        leaf
     }
 
     /// Of the children of a derivation's parent the one of greatest id below its own, or nothing where
@@ -313,11 +370,7 @@ impl<I: Index> Nodes<I> {
         ensures found { IfSome (with_id self.now.delegations.list id) (λ d. result ≡ option_map id_of (older_child self.now.delegations.list d)) }
         ensures sound { IsSound self.now.delegations }
     {
-        let Some(d) = self.get(id) else {
-            unreachable!()
-        };
-        let parent = d.parent?;
-        self.child_below(parent, d.id)
+        self.list.older(id)
     }
 
     /// The parent of a derivation, which is there; nothing where it has none.

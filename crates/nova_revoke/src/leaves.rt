@@ -74,32 +74,17 @@ fn entry<I: Index>(nodes: &Nodes<I>, revoke: &Revoke) -> Option<Derivation>
     None
 }
 
-/// The leaf at the end of the way from a derivation.
-fn leaf_below<I: Index>(nodes: &Nodes<I>, d: Derivation) -> Derivation
-    requires sound { IsSound nodes.now.delegations }
-    requires there { Contains nodes.now.delegations.list d }
-    ensures { result ≡ leaf_by nodes.now.delegations.next nodes.now.delegations.list d }
-{
-    let mut at = d;
-    while let Some(child) = nodes.newest_child(at.id) {
-        let Some(c) = nodes.get(child) else {
-            unreachable!()
-        };
-        at = c;
-    }
-    at
-}
-
 /// The leaf that goes next.
-fn next_leaf<I: Index>(nodes: &Nodes<I>, revoke: &Revoke) -> Option<Derivation>
-    ensures found { result ≡ next_leaf revoke.now nodes.now.delegations }
-    ensures childless { IfSome result (λ d. IsChildless nodes.now.delegations.list d.id) }
-    ensures sound { IsSound nodes.now.delegations }
+fn next_leaf<I: Index>(nodes: &mut Nodes<I>, revoke: &Revoke) -> Option<Derivation>
+    ensures found { result ≡ next_leaf revoke.now nodes.old.delegations }
+    ensures childless { IfSome result (λ d. IsChildless nodes.old.delegations.list d.id) }
+    ensures sound { IsSound nodes.old.delegations }
+    ensures kept { nodes.new ≡ nodes.old }
 {
     let d = entry(nodes, revoke)?;
     match newest_in(nodes, revoke, d.id) {
         None => Some(d),
-        Some(c) => Some(leaf_below(nodes, c)),
+        Some(c) => Some(nodes.leaf_below(c)),
     }
 }
 

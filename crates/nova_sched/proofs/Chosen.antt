@@ -6,13 +6,11 @@ use Rattle.nova_model.specs.Choice.{in_front}
 use Rattle.nova_sched.specs.Queues.{Schedule, queued_at, next, runnables, runnables_from, runs_before}
 use Rattle.nova_sched.specs.Lists.{entry_in}
 use Rattle.nova_sched.specs.Best.{foremost}
+use Rattle.nova_sched.specs.Ready.{as_runnable}
 use Rattle.nova_sched.specs.Precedence.{MayRun, NobodyMayRun, IsNotBehind, IsForemost, ChosenIsForemost}
 use Rattle.nova_sched.specs.declared.queued.Queued.{Queued}
 use Rattle.nova_sched.specs.declared.queued.Runnable.{Runnable}
 use Rattle.nova_sched.proofs.Foremost.{best_of, best_of-foremost}
-
-abbrev as_runnable : ℕ → Queued → Runnable
-as_runnable sc e = record { sc = sc; priority = e.priority; stamp = e.budget.stamp }
 
 -- what passes of all that are runnable passes of each that may run
 
@@ -100,7 +98,7 @@ none_runnable (r ∷ rs) h =
     let none : is_some (foremost (r ∷ rs)) ≡ false = ap is_some h in
     absurd (cc)
 
-not_behind : (a b : Queued) (n m : ℕ) → not (runs_before (as_runnable m b) (as_runnable n a)) ≡ true → IsNotBehind a b
+pub not_behind : (a b : Queued) (n m : ℕ) → not (runs_before (as_runnable m b) (as_runnable n a)) ≡ true → IsNotBehind a b
 not_behind a b n m h = by_priority (nat_lt b.priority a.priority) refl
   where
     by_priority : (t : Bool) → nat_lt b.priority a.priority ≡ t → IsNotBehind a b

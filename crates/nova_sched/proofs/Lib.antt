@@ -4,3 +4,6 @@ pub mod Changes
 pub mod Others
 pub mod Chosen
 pub mod Stamps
+pub mod Placing
+pub mod Readiness
+pub mod Readies

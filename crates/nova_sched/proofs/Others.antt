@@ -33,7 +33,7 @@ nothing_else zero (suc other) x h = refl
 nothing_else (suc k) zero x h = refl
 nothing_else (suc k) (suc other) x h = nothing_else k other x (λ same. h (ap suc same))
 
-appended_other : (os : List (Option Queued)) (k other : ℕ) (x : Queued) → ¬ (other ≡ length os + k) →
+pub appended_other : (os : List (Option Queued)) (k other : ℕ) (x : Queued) → ¬ (other ≡ length os + k) →
     entry_in ((os ++ replicate k None) ++ Some x ∷ []) other ≡ entry_in os other
 appended_other [] k other x h = nothing_else k other x (λ same. h (omega arith))
 appended_other (o ∷ os) k zero x h = refl

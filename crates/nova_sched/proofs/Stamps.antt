@@ -59,12 +59,12 @@ stamped_at s t sc are at = record {
 
 -- what stands where one was put
 
-set_same : (os : List (Option Queued)) (sc : ℕ) (x y : Queued) → entry_in os sc ≡ Some x → entry_in (slice_set os sc (Some y)) sc ≡ Some y
+pub set_same : (os : List (Option Queued)) (sc : ℕ) (x y : Queued) → entry_in os sc ≡ Some x → entry_in (slice_set os sc (Some y)) sc ≡ Some y
 set_same [] sc x y is = absurd cc
 set_same (o ∷ os) zero x y is = refl
 set_same (o ∷ os) (suc sc) x y is = set_same os sc x y is
 
-appended_same : (os : List (Option Queued)) (k : ℕ) (x : Queued) → entry_in ((os ++ replicate k None) ++ Some x ∷ []) (length os + k) ≡ Some x
+pub appended_same : (os : List (Option Queued)) (k : ℕ) (x : Queued) → entry_in ((os ++ replicate k None) ++ Some x ∷ []) (length os + k) ≡ Some x
 appended_same [] zero x = refl
 appended_same [] (suc k) x = ap (entry_in (None ∷ (replicate k None ++ Some x ∷ []))) (let e : 0 + suc k ≡ suc (0 + k) = omega arith in e) ∙ appended_same [] k x
 appended_same (o ∷ os) k x =

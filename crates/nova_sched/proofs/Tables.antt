@@ -85,7 +85,7 @@ length_replicate : {T : Type 0} (k : ℕ) (x : T) → length (replicate k x) ≡
 length_replicate zero x = refl
 length_replicate (suc k) x = ap suc (length_replicate k x)
 
-length_padded : (n : ℕ) (os : List (Option Queued)) → length os ≤ n → length (padded n os) ≡ n
+pub length_padded : (n : ℕ) (os : List (Option Queued)) → length os ≤ n → length (padded n os) ≡ n
 length_padded n os le =
     let more : length (replicate (n - length os) None) ≡ n - length os = length_replicate {T = Option Queued} (n - length os) None in
     length-append os (replicate (n - length os) None) ∙ omega (arith, more, le)
@@ -99,12 +99,12 @@ padded_more n os lt =
     ∙ append_assoc os (None ∷ []) (replicate (n - (length os + 1)) None)
     ∙ sym (ap (λ (k : ℕ). os ++ replicate k None) rest)
 
-members_set_same : (queues : List QueueState) (cpu : ℕ) (q : QueueState) → cpu < length queues → members_at (slice_set queues cpu q) cpu ≡ q.members
+pub members_set_same : (queues : List QueueState) (cpu : ℕ) (q : QueueState) → cpu < length queues → members_at (slice_set queues cpu q) cpu ≡ q.members
 members_set_same [] cpu q lt = absurd (omega arith)
 members_set_same (p ∷ queues) zero q lt = refl
 members_set_same (p ∷ queues) (suc cpu) q lt = members_set_same queues cpu q (omega arith)
 
-members_set_other : (queues : List QueueState) (cpu : ℕ) (q : QueueState) (other : ℕ) → ¬ (other ≡ cpu) → members_at (slice_set queues cpu q) other ≡ members_at queues other
+pub members_set_other : (queues : List QueueState) (cpu : ℕ) (q : QueueState) (other : ℕ) → ¬ (other ≡ cpu) → members_at (slice_set queues cpu q) other ≡ members_at queues other
 members_set_other [] cpu q other h = refl
 members_set_other (p ∷ queues) zero q zero h = absurd (h refl)
 members_set_other (p ∷ queues) zero q (suc other) h = refl
@@ -159,7 +159,7 @@ queues_none zero cpu = refl
 queues_none (suc n) zero = refl
 queues_none (suc n) (suc cpu) = queues_none n cpu
 
-members_unroomed : (queues : List QueueState) (cpu : ℕ) → members_at (unroomed queues) cpu ≡ members_at queues cpu
+pub members_unroomed : (queues : List QueueState) (cpu : ℕ) → members_at (unroomed queues) cpu ≡ members_at queues cpu
 members_unroomed [] cpu = refl
 members_unroomed (q ∷ queues) zero = refl
 members_unroomed (q ∷ queues) (suc cpu) = members_unroomed queues cpu

@@ -4,3 +4,4 @@ pub mod Queues
 pub mod Lists
 pub mod Best
 pub mod Precedence
+pub mod Ready

@@ -7,6 +7,7 @@ pub mod laws;
 mod queue;
 pub mod queued;
 pub mod queues;
+mod ready;
 #[cfg(test)]
 mod tests;
 

@@ -1,20 +1,24 @@
-ghost use Rattle.std.specs.Prelude.{◌≡◌, ℕ, ◌+◌, ◌^◌, ◌<◌, ◌≤◌, ◌-◌, [], length, is_some, replicate, vec_len, vec_capacity, IsSome, IfSome, IfOk, OnOk, Some};
+ghost use Rattle.std.specs.Prelude.{◌≡◌, ℕ, true, false, ◌+◌, ◌^◌, ◌<◌, ◌≤◌, ◌-◌, [], length, max, is_some, replicate, vec_len, vec_capacity, IsSome, IfSome, IfOk, OnOk, OnErr, Some, slice_get};
 ghost use Rattle.nova_sched.specs.Queues.{HasRoom, queued_at, choose, members, padded, added, marked, charged};
+ghost use Rattle.nova_model.specs.Forest.{ArePairs};
 ghost use Rattle.nova_sched.specs.Lists.{unroomed};
+ghost use Rattle.nova_sched.specs.Ready.{IsBehind, as_runnable, dropped, items_at, placed, renewed, requeued, room_at};
 
 use crate::charge::{is_spent, pay};
-use crate::choice::foremost;
 use crate::queue::Queue;
-use crate::queued::Queued;
+use crate::queued::{Queued, Runnable};
+use crate::ready::Ready;
 use nova_model::Budget;
 use std::alloc::{AllocError, Global};
 use std::marker::Model;
 
-/// The scheduling contexts of a machine, in a queue for each processor.
+/// The scheduling contexts of a machine: for each processor the numbers of all, and in the order in which
+/// they run those that are runnable.
 #[derive(Drop)]
 pub struct Queues {
     entries: Vec<Option<Queued>>,
     queues: Vec<Queue>,
+    readies: Vec<Ready>,
     reserved: usize,
     next_stamp: u64,
     alloc: Global,
@@ -24,6 +28,7 @@ impl Model for Queues {
     ghost use Rattle.std.specs.Prelude.{◌≤◌, length, map, vec_capacity};
     ghost use Rattle.nova_sched.specs.Queues.{QueuesState};
     ghost use Rattle.nova_sched.specs.Lists.{AreQueues};
+    ghost use Rattle.nova_sched.specs.Ready.{AreReady};
 
     ghost Value = { QueuesState };
 
@@ -33,7 +38,7 @@ impl Model for Queues {
       rooms = map (λ x. x.spare) q.queues.items;
     } };
 
-    ghost invariant = { λ q. AreQueues q.queues.items q.entries.items × (q.reserved ≤ vec_capacity q.entries) };
+    ghost invariant = { λ q. AreQueues q.queues.items q.entries.items × ((q.reserved ≤ vec_capacity q.entries) × AreReady q.queues.items q.readies.items (record { entries = q.entries.items; next_stamp = q.next_stamp; cpus = length q.queues.items })) };
 }
 
 /// Empty queues, one for each processor. It refuses for want of memory alone.
@@ -45,6 +50,120 @@ fn empty_queues(alloc: Global, cpus: u32) -> Result<Vec<Queue>, AllocError>
         queues.push(Queue::new(alloc))?;
     }
     Ok(queues)
+}
+
+/// For each processor nobody that may run. It refuses for want of memory alone.
+fn nobody(alloc: Global, cpus: u32) -> Result<Vec<Ready>, AllocError>
+    ensures { IfOk result (λ v. v.items ≡ replicate cpus (record { items = []; room = 0 })) }
+{
+    let mut readies = Vec::new(alloc);
+    for _ in 0..cpus {
+        readies.push(Ready::new(alloc))?;
+    }
+    Ok(readies)
+}
+
+/// Puts a scheduling context among those of its processor that may run.
+fn admit(readies: &mut Vec<Ready>, cpu: u32, r: Runnable)
+    requires cpu { cpu < length readies.old.items }
+    requires room { length (items_at readies.old.items cpu) < room_at readies.old.items cpu }
+    requires order { ArePairs IsBehind (items_at readies.old.items cpu) }
+    ensures here { items_at readies.new.items cpu ≡ placed r (items_at readies.old.items cpu) }
+    ensures others { (other : ℕ) → ¬ (other ≡ cpu) → items_at readies.new.items other ≡ items_at readies.old.items other }
+    ensures rooms { (other : ℕ) → room_at readies.new.items other ≡ room_at readies.old.items other }
+    ensures cpus { length readies.new.items ≡ length readies.old.items }
+{
+    readies[cpu as usize].insert(r);
+}
+
+/// Takes a scheduling context out of those of its processor that may run.
+fn dismiss(readies: &mut Vec<Ready>, cpu: u32, r: Runnable)
+    requires cpu { cpu < length readies.old.items }
+    requires order { ArePairs IsBehind (items_at readies.old.items cpu) }
+    ensures here { items_at readies.new.items cpu ≡ dropped r (items_at readies.old.items cpu) }
+    ensures others { (other : ℕ) → ¬ (other ≡ cpu) → items_at readies.new.items other ≡ items_at readies.old.items other }
+    ensures rooms { (other : ℕ) → room_at readies.new.items other ≡ room_at readies.old.items other }
+    ensures cpus { length readies.new.items ≡ length readies.old.items }
+{
+    readies[cpu as usize].remove(r);
+}
+
+/// Makes room for so many of a processor in all. It refuses for want of memory alone.
+fn make_room(readies: &mut Vec<Ready>, cpu: u32, n: usize) -> Result<(), AllocError>
+    requires { cpu < length readies.old.items }
+    ensures items { (other : ℕ) → items_at readies.new.items other ≡ items_at readies.old.items other }
+    ensures others { (other : ℕ) → ¬ (other ≡ cpu) → room_at readies.new.items other ≡ room_at readies.old.items other }
+    ensures ok { OnOk result (room_at readies.new.items cpu ≡ max (room_at readies.old.items cpu) n) }
+    ensures err { OnErr result (room_at readies.new.items cpu ≡ room_at readies.old.items cpu) }
+    ensures cpus { length readies.new.items ≡ length readies.old.items }
+{
+    readies[cpu as usize].reserve(n)
+}
+
+/// Who of a processor runs first.
+fn first(readies: &[Ready], cpu: u32) -> Option<Runnable>
+    ensures { result ≡ slice_get (items_at readies.now cpu) 0 }
+{
+    match readies.get(cpu as usize) {
+        Some(ready) => ready.first(),
+        None => None,
+    }
+}
+
+/// Those that may run once more, with as much room. It refuses for want of memory alone.
+fn ready_copies(alloc: Global, readies: &[Ready]) -> Result<Vec<Ready>, AllocError>
+    ensures { IfOk result (λ v. v.items ≡ readies.now) }
+{
+    let mut copies = Vec::new(alloc);
+    for ready in readies {
+        copies.push(ready.copy(alloc)?)?;
+    }
+    Ok(copies)
+}
+
+/// A scheduling context as it waits for its turn.
+fn runner(sc: u32, entry: &Queued) -> Runnable
+    ensures { result ≡ as_runnable sc entry.now }
+{
+    Runnable {
+        sc,
+        priority: entry.priority,
+        stamp: entry.budget.stamp,
+    }
+}
+
+/// Puts a scheduling context that may run from now on among those that may, and takes out one that may
+/// no longer.
+fn requeue(readies: &mut Vec<Ready>, sc: u32, before: &Queued, is_runnable: bool)
+    requires cpu { before.now.cpu < length readies.old.items }
+    requires room { before.now.is_runnable ≡ false → length (items_at readies.old.items before.now.cpu) < room_at readies.old.items before.now.cpu }
+    requires order { ArePairs IsBehind (items_at readies.old.items before.now.cpu) }
+    ensures here { items_at readies.new.items before.now.cpu ≡ requeued before.now.is_runnable is_runnable (as_runnable sc before.now) (items_at readies.old.items before.now.cpu) }
+    ensures others { (other : ℕ) → ¬ (other ≡ before.now.cpu) → items_at readies.new.items other ≡ items_at readies.old.items other }
+    ensures rooms { (other : ℕ) → room_at readies.new.items other ≡ room_at readies.old.items other }
+    ensures cpus { length readies.new.items ≡ length readies.old.items }
+{
+    match (before.is_runnable, is_runnable) {
+        (false, true) => admit(readies, before.cpu, runner(sc, before)),
+        (true, false) => dismiss(readies, before.cpu, runner(sc, before)),
+        _ => {}
+    }
+}
+
+/// Puts a scheduling context that may run and took a new stamp in its new place.
+fn renew(readies: &mut Vec<Ready>, sc: u32, before: &Queued, after: &Queued)
+    requires cpu { before.now.cpu < length readies.old.items }
+    requires room { before.now.is_runnable ≡ true → length (dropped (as_runnable sc before.now) (items_at readies.old.items before.now.cpu)) < room_at readies.old.items before.now.cpu }
+    requires order { ArePairs IsBehind (items_at readies.old.items before.now.cpu) }
+    ensures here { items_at readies.new.items before.now.cpu ≡ renewed before.now.is_runnable (as_runnable sc before.now) (as_runnable sc after.now) (items_at readies.old.items before.now.cpu) }
+    ensures others { (other : ℕ) → ¬ (other ≡ before.now.cpu) → items_at readies.new.items other ≡ items_at readies.old.items other }
+    ensures rooms { (other : ℕ) → room_at readies.new.items other ≡ room_at readies.old.items other }
+    ensures cpus { length readies.new.items ≡ length readies.old.items }
+{
+    if before.is_runnable {
+        dismiss(readies, before.cpu, runner(sc, before));
+        admit(readies, before.cpu, runner(sc, after));
+    }
 }
 
 /// Puts nothing at each number before `n` that the table hasn't reached, in room that was made.
@@ -78,6 +197,7 @@ impl Queues {
         Ok(Queues {
             entries: Vec::new(alloc),
             queues: empty_queues(alloc, cpus)?,
+            readies: nobody(alloc, cpus)?,
             reserved: 0,
             next_stamp: 0,
             alloc,
@@ -96,6 +216,8 @@ impl Queues {
         self.entries
             .reserve(numbers.saturating_sub(self.entries.len()))?;
         self.reserved = self.reserved.max(numbers);
+        let all = self.queues[cpu as usize].members().len() + 1;
+        make_room(&mut self.readies, cpu, all)?;
         self.queues[cpu as usize].reserve()
     }
 
@@ -137,7 +259,7 @@ impl Queues {
         ensures choice { result ≡ choose self.now.all cpu }
         ensures there { IfSome result (λ sc. IsSome (queued_at self.now.all sc)) }
     {
-        Some(foremost(&self.entries, self.members(cpu))?.sc)
+        Some(first(&self.readies, cpu)?.sc)
     }
 
     /// The scheduling contexts of a processor by rising number; none of a processor that isn't there.
@@ -171,7 +293,9 @@ impl Queues {
         let Some(entry) = &mut self.entries[sc as usize] else {
             unreachable!();
         };
+        let before = *entry;
         entry.is_runnable = is_runnable;
+        requeue(&mut self.readies, sc, &before, is_runnable);
     }
 
     /// A turn is charged to a scheduling context: one tick more, one turn less of what is left of its
@@ -187,10 +311,13 @@ impl Queues {
         let Some(payer) = &mut self.entries[sc as usize] else {
             unreachable!();
         };
+        let before = *payer;
         let renews = is_spent(&payer.budget);
         pay(payer, self.next_stamp);
+        let after = *payer;
         if renews {
             self.next_stamp += 1;
+            renew(&mut self.readies, sc, &before, &after);
         }
     }
 
@@ -216,10 +343,12 @@ impl Queues {
     {
         let entries = Vec::from_slice(self.alloc, &self.entries)?;
         let queues = copies(self.alloc, &self.queues)?;
+        let readies = ready_copies(self.alloc, &self.readies)?;
         Ok(Queues {
             reserved: entries.len(),
             entries,
             queues,
+            readies,
             next_stamp: self.next_stamp,
             alloc: self.alloc,
         })

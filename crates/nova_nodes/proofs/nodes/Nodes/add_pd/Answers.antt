@@ -7,7 +7,7 @@ use Rattle.nova_nodes.proofs.nodes.Nodes.add_pd.Goals as goal
 
 pub invariant_of-self : goal.invariant_of-self
 invariant_of-self g c =
-    let indexed = indexed_same c.self.inside.spaces c.add_pd.new.self c.self.inside.list.items c.add_pd.ensures.entries c.self.invariant.1.0 in
+    let indexed = indexed_same c.self.inside.spaces c.add_pd.new.self c.self.inside.list.list c.add_pd.ensures.entries c.self.invariant.1.0 in
     let total = total_same c.self.inside.spaces c.add_pd.new.self c.add_pd.ensures.rooms in
     let room = c.self.invariant.1.1.0 in
     (c.self.invariant.0, (indexed, (omega arith, c.self.invariant.1.1.1)))

@@ -8,7 +8,7 @@ use Rattle.nova_nodes.proofs.nodes.Nodes.at.Goals as goal
 
 pub returns-in_err-id-clause-found : goal.returns-in_err-id-clause-found
 returns-in_err-id-clause-found g c =
-    let list = c.self.inside.list.items in
+    let list = c.self.inside.list.list in
     let none : key_at c.args.place (entries_at c.self.inside.spaces c.args.pd c.args.kind) ≡ None = search rules in
     let is = at_is c.self.inside.spaces (record { list = list; next = c.self.inside.next }) c.args.pd c.args.kind c.args.place c.self.invariant.0.forest c.self.invariant.1.0 in
     let gives : c.from_residual.result ≡ None = search rules in
@@ -16,7 +16,7 @@ returns-in_err-id-clause-found g c =
 
 pub returns-clause-found : goal.returns-clause-found
 returns-clause-found g c =
-    let list = c.self.inside.list.items in
+    let list = c.self.inside.list.list in
     let some : key_at c.args.place (entries_at c.self.inside.spaces c.args.pd c.args.kind) ≡ Some c.in_ok-id.id = search rules in
     let is = at_is c.self.inside.spaces (record { list = list; next = c.self.inside.next }) c.args.pd c.args.kind c.args.place c.self.invariant.0.forest c.self.invariant.1.0 in
     let gives : c.get.result ≡ with_id list c.in_ok-id.id = search rules in

@@ -15,7 +15,7 @@ given list place first = option_and_then (λ (p : Range × ℕ). if nat_le p.0.b
 
 pub returns-in_err-range-clause-found : goal.returns-in_err-range-clause-found
 returns-in_err-range-clause-found g c =
-    let list = c.self.inside.list.items in
+    let list = c.self.inside.list.list in
     let none : range_from c.args.place (entries_at c.self.inside.spaces c.args.pd c.args.kind) ≡ None = search rules in
     let sorted : IsSorted (entries_at c.self.inside.spaces c.args.pd c.args.kind) = search rules in
     let is = covering_is c.self.inside.spaces (record { list = list; next = c.self.inside.next }) c.args.pd c.args.kind c.args.place c.self.invariant.0.forest c.self.invariant.1.0 sorted in
@@ -25,7 +25,7 @@ returns-in_err-range-clause-found g c =
 
 pub returns-then-range-place-clause-found : goal.returns-then-range-place-clause-found
 returns-then-range-place-clause-found g c =
-    let list = c.self.inside.list.items in
+    let list = c.self.inside.list.list in
     let some : range_from c.args.place (entries_at c.self.inside.spaces c.args.pd c.args.kind) ≡ Some (c.in_ok-range.range, c.in_ok-range.id) = search rules in
     let sorted : IsSorted (entries_at c.self.inside.spaces c.args.pd c.args.kind) = search rules in
     let is = covering_is c.self.inside.spaces (record { list = list; next = c.self.inside.next }) c.args.pd c.args.kind c.args.place c.self.invariant.0.forest c.self.invariant.1.0 sorted in
@@ -36,7 +36,7 @@ returns-then-range-place-clause-found g c =
 
 pub returns-clause-found : goal.returns-clause-found
 returns-clause-found g c =
-    let list = c.self.inside.list.items in
+    let list = c.self.inside.list.list in
     let some : range_from c.args.place (entries_at c.self.inside.spaces c.args.pd c.args.kind) ≡ Some (c.in_ok-range.range, c.in_ok-range.id) = search rules in
     let sorted : IsSorted (entries_at c.self.inside.spaces c.args.pd c.args.kind) = search rules in
     let is = covering_is c.self.inside.spaces (record { list = list; next = c.self.inside.next }) c.args.pd c.args.kind c.args.place c.self.invariant.0.forest c.self.invariant.1.0 sorted in

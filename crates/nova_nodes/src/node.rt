@@ -1,0 +1,27 @@
+use nova_model::Derivation;
+
+/// A derivation with links, by id: to its newest child, and of its parent's children to the next older
+/// and the next younger one.
+#[derive(Clone, Copy)]
+pub struct Node {
+    pub derivation: Derivation,
+    pub newest: Option<u32>,
+    pub older: Option<u32>,
+    pub younger: Option<u32>,
+}
+
+/// Where the node of an id is kept.
+#[derive(Clone, Copy)]
+pub struct Place {
+    pub id: u32,
+    pub key: usize,
+}
+
+/// How far the way from a derivation from newest child to newest child was gone, and which id was the
+/// next one then.
+#[derive(Clone, Copy)]
+pub struct Trail {
+    pub from: u32,
+    pub at: u32,
+    pub next: u32,
+}

@@ -1,0 +1,33 @@
+use Rattle.std.proofs.Common.{rules, ◌≡◌, ◌≤◌, ◌<◌, ◌∙◌, ℕ, List, length, ap, ap₂, sym, subst}
+use Rattle.std.specs.List.{remove}
+use Rattle.std.proofs.lemmas.List.Sorted.{IsPartitionPoint-from_clause}
+use Rattle.nova_model.specs.Forest.{ArePairs}
+use Rattle.nova_sched.specs.Queues.{runs_before}
+use Rattle.nova_sched.specs.Ready.{IsBehind, ReadyState, dropped}
+use Rattle.nova_sched.specs.declared.queued.Runnable.{Runnable}
+use Rattle.nova_sched.proofs.Placing.{none_removed, parted, removed}
+use Rattle.nova_sched.proofs.ready.Ready.remove.Goals as goal
+
+pub returns-then-at-len : goal.returns-then-at-len
+returns-then-at-len c =
+    let items = c.deref.result.now in
+    let seen : c.args.self.now.items ≡ items = search rules in
+    let inside : c.self.inside.items.items ≡ items = search rules in
+    let order = subst (ArePairs IsBehind) seen c.requires.order in
+    let point = IsPartitionPoint-from_clause (λ (q : Runnable). runs_before q c.args.r) items c.partition_point-at.result c.partition_point-at.ensures.partitioned (parted c.args.r items order) (λ a r q k. search rules) in
+    let low : c.partition_point-at.result < length items = search rules in
+    let is : c.remove.new.self.items ≡ dropped c.args.r c.args.self.now.items =
+    c.remove.ensures.items ∙ ap (λ (l : List Runnable). remove l c.partition_point-at.result) inside ∙ removed c.args.r items c.partition_point-at.result low point ∙ ap (dropped c.args.r) (sym seen) in
+    let room : c.self.inside.room ≡ c.args.self.now.room = search rules in
+    let made : List Runnable → ℕ → ReadyState = λ rs n. record { items = rs; room = n } in
+    ap₂ made is room
+
+pub returns-else-at-len : goal.returns-else-at-len
+returns-else-at-len c =
+    let items = c.deref.result.now in
+    let seen : c.args.self.now.items ≡ items = search rules in
+    let order = subst (ArePairs IsBehind) seen c.requires.order in
+    let point = IsPartitionPoint-from_clause (λ (q : Runnable). runs_before q c.args.r) items c.partition_point-at.result c.partition_point-at.ensures.partitioned (parted c.args.r items order) (λ a r q k. search rules) in
+    let low : length items ≤ c.partition_point-at.result = search rules in
+    let having : List Runnable → ReadyState = λ rs. record c.args.self.now { items = rs } in
+    ap having (seen ∙ sym (none_removed c.args.r items c.partition_point-at.result low point) ∙ ap (dropped c.args.r) (sym seen))

@@ -1,0 +1,93 @@
+ghost use Rattle.std.specs.Prelude.{◌≡◌, ◌<◌, [], length, max, slice_get, IfOk, OnOk, OnErr};
+ghost use Rattle.std.specs.List.{insert, remove};
+ghost use Rattle.nova_model.specs.Forest.{ArePairs};
+ghost use Rattle.nova_sched.specs.Ready.{IsBehind, placed, dropped};
+
+use crate::choice::precedes;
+use crate::queued::Runnable;
+use std::alloc::{AllocError, Global};
+use std::marker::Model;
+
+/// The scheduling contexts of one processor that are runnable, in the order in which they run: by falling
+/// priority, and of one priority by rising stamp. There is room for all of the processor.
+#[derive(Drop)]
+pub(crate) struct Ready {
+    items: Vec<Runnable>,
+    room: usize,
+}
+
+impl Model for Ready {
+    ghost use Rattle.std.specs.Prelude.{◌≤◌, vec_capacity};
+    ghost use Rattle.nova_sched.specs.Ready.{ReadyState};
+
+    ghost Value = { ReadyState };
+
+    ghost view = { λ r. record { items = r.items.items; room = r.room } };
+
+    ghost invariant = { λ r. r.room ≤ vec_capacity r.items };
+}
+
+impl Ready {
+    /// Nobody, and room for nobody.
+    pub(crate) fn new(alloc: Global) -> Ready
+        ensures { result ≡ record { items = []; room = 0 } }
+    {
+        Ready {
+            items: Vec::new(alloc),
+            room: 0,
+        }
+    }
+
+    /// Makes room for `n` in all. It refuses for want of memory alone, and then nothing has changed.
+    pub(crate) fn reserve(&mut self, n: usize) -> Result<(), AllocError>
+        ensures ok { OnOk result (self.new ≡ record self.old { room = max self.old.room n }) }
+        ensures err { OnErr result (self.new ≡ self.old) }
+    {
+        let room = self.room.max(n);
+        self.items.reserve(room.saturating_sub(self.items.len()))?;
+        self.room = room;
+        Ok(())
+    }
+
+    /// Who runs first.
+    pub(crate) fn first(&self) -> Option<Runnable>
+        ensures { result ≡ slice_get self.now.items 0 }
+    {
+        self.items.first().copied()
+    }
+
+    /// Puts one in behind those that run before it, in room that was made.
+    pub(crate) fn insert(&mut self, r: Runnable)
+        requires room { length self.old.items < self.old.room }
+        requires order { ArePairs IsBehind self.old.items }
+        ensures { self.new ≡ record self.old { items = placed r self.old.items } }
+    {
+        let at = self.items.partition_point(|q| precedes(q, &r));
+        let Ok(()) = self.items.insert(at, r) else {
+            unreachable!()
+        };
+    }
+
+    /// Takes out the first that does not run before one.
+    pub(crate) fn remove(&mut self, r: Runnable)
+        requires order { ArePairs IsBehind self.old.items }
+        ensures { self.new ≡ record self.old { items = dropped r self.old.items } }
+    {
+        let at = self.items.partition_point(|q| precedes(q, &r));
+        if at < self.items.len() {
+            self.items.remove(at);
+        }
+    }
+
+    /// The same once more, with as much room. It refuses for want of memory alone.
+    pub(crate) fn copy(&self, alloc: Global) -> Result<Ready, AllocError>
+        ensures { IfOk result (λ r. r ≡ self.now) }
+    {
+        let mut items = Vec::from_slice(alloc, self.items.as_slice())?;
+        items.reserve(self.room.saturating_sub(items.len()))?;
+        Ok(Ready {
+            items,
+            room: self.room,
+        })
+    }
+}

@@ -1,0 +1,5 @@
+pub mod Members
+pub mod Bounds
+pub mod Sorted
+pub mod Bases
+pub mod Kept

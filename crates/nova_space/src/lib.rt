@@ -1,0 +1,10 @@
+//! A sorted index from ranges of places to keys, which looks first at what it found last.
+#![tactic(auto)]
+
+mod cache;
+pub mod space;
+#[cfg(test)]
+mod tests;
+
+pub use nova_range::{Entry, Index, Range};
+pub use space::Space;
