@@ -13,8 +13,8 @@ use Rattle.nova_order.specs.declared.block.Block.{Block}
 use Rattle.nova_order.proofs.BlockLemmas.{turns_push, length_turns}
 use Rattle.nova_run.specs.Finished.{IsFinished, IsIdleLine, IsFreeOfIdle}
 use Rattle.nova_run.specs.UnderWay.{IsReady, Passed, IsAlong, IsBlockTaken, taken}
-use Rattle.nova_run.specs.declared.finished.Finished.{Finished}
-use Rattle.nova_run.proofs.Passing.{Passed-through, Finished-on}
+use Rattle.nova_shared.specs.declared.finished.Finished.{Finished}
+use Rattle.nova_shared.proofs.Passing.{Passed-through, Finished-on}
 
 -- two parts of an order, each free of idle turns
 pub free_append : (k : KernelState) (xs ys : List ℕ) → IsFreeOfIdle k xs → IsFreeOfIdle (run k xs) ys → IsFreeOfIdle k (xs ++ ys)

@@ -1,3 +1,4 @@
-pub mod Passing
 pub mod Passes
 pub mod Blocks
+pub mod Seated
+pub mod Ends

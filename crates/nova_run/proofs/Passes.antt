@@ -7,9 +7,9 @@ use Rattle.nova_model.specs.Turn.{turn}
 use Rattle.nova_model.specs.Runs.{after, run, pass, passes, rounds}
 use Rattle.nova_laws.proofs.Passes.{passes_none, nothing}
 use Rattle.nova_run.specs.Finished.{IsFinished}
-use Rattle.nova_run.specs.UnderWay.{IsReady, Passed, IsUnderWay, IsRunning, left, taken}
-use Rattle.nova_run.specs.declared.finished.Finished.{Finished}
-use Rattle.nova_run.proofs.Passing.{Passed-through, Finished-on}
+use Rattle.nova_run.specs.UnderWay.{IsReady, Passed, IsUnderWay, left, taken}
+use Rattle.nova_shared.specs.declared.finished.Finished.{Finished}
+use Rattle.nova_shared.proofs.Passing.{Passed-through, Finished-on}
 
 pass-zero : (k : KernelState) (cpu count : ℕ) → pass k cpu count 0 ≡ []
 pass-zero k cpu zero = refl
@@ -59,53 +59,63 @@ IsUnderWay-turn a b c cpu cpus all h way turned =
           ∙ way.whole;
     }
 
--- a round robin that begins
-pub IsRunning-first : (k : KernelState) (f : Finished) (limit : ℕ) → IsFinished k [] limit f → IsReady f →
-    IsRunning k limit f (passes (limit - 0) f.kernel.state (left f)) (rounds k limit)
+-- passes that begin
+pub IsUnderWay-first : (a : Finished) (n : ℕ) → IsReady a → n ≡ left a → IsUnderWay a a (passes (n - 0) a.kernel.state (left a)) (rounds a.kernel.state (left a))
 unfolding rounds
-IsRunning-first k f limit begun ready = record {
+IsUnderWay-first a n ready is = record {
   done = [];
-  finished = begun;
-  ready = ready;
-  whole =
-      let same : limit - 0 ≡ limit = omega arith in
-      let most : left f ≡ limit = let l = begun.limit in let none = ap length begun.trace in omega arith in
-      ap₂ (λ (count : ℕ) (s : KernelState). passes count s (left f)) same begun.kernel ∙ ap (λ (m : ℕ). passes limit k m) most;
+  passed = record {
+    opening = refl;
+    kernel = refl;
+    order = sym (append-nil _);
+    trace = sym (append-nil _);
+    count = omega arith;
+    limit = refl;
+    cpus = refl;
+    ready = ready;
+  };
+  whole = let same : n - 0 ≡ left a = omega (arith, is) in ap (λ (count : ℕ). passes count a.kernel.state (left a)) same;
 }
 
-module _ (k : KernelState) (b c : Finished) (limit n : ℕ) (all : List ℕ) (turned : Passed b (pass b.kernel.state 0 b.kernel.state.cpus (left b)) c) where
+module _ (a b c : Finished) (all : List ℕ) (turned : Passed b (pass b.kernel.state 0 b.kernel.state.cpus (left b)) c) where
   one : List ℕ
   one = pass b.kernel.state 0 b.kernel.state.cpus (left b)
 
-  -- a pass on the way of a round robin
-  pub IsRunning-pass : n < limit → IsRunning k limit b (passes (limit - n) b.kernel.state (left b)) all →
-      IsRunning k limit c (passes (limit - (n + 1)) c.kernel.state (left c)) all
+  -- a pass on the way
+  pub IsUnderWay-pass : (most n : ℕ) → n < most → IsUnderWay a b (passes (most - n) b.kernel.state (left b)) all →
+      IsUnderWay a c (passes (most - (n + 1)) c.kernel.state (left c)) all
   unfolding one
-  IsRunning-pass h way = record {
+  IsUnderWay-pass most n h way = record {
     done = way.done ++ one;
-    finished = Finished-on k way.done one limit b c way.finished turned;
-    ready = turned.ready;
+    passed = Passed-through a b c way.done one way.passed turned;
     whole =
-        let e : limit - n ≡ suc (limit - (n + 1)) = omega arith in
-        append_assoc way.done one (passes (limit - (n + 1)) c.kernel.state (left c))
+        let e : most - n ≡ suc (most - (n + 1)) = omega arith in
+        append_assoc way.done one (passes (most - (n + 1)) c.kernel.state (left c))
         ∙ ap (λ (l : List ℕ). way.done ++ l)
-        (ap₂ (λ (s : KernelState) (most : ℕ). one ++ passes (limit - (n + 1)) s most) turned.kernel (left_by b c one turned)
+        (ap₂ (λ (s : KernelState) (rest : ℕ). one ++ passes (most - (n + 1)) s rest) turned.kernel (left_by b c one turned)
         ∙ ap (λ (count : ℕ). passes count b.kernel.state (left b)) (sym e))
         ∙ way.whole;
   }
 
-  -- a round robin that ends by a pass without a turn
-  pub Finished-ended : IsRunning k limit b (passes n b.kernel.state (left b)) all → length c.trace.items ≡ length b.trace.items → IsFinished k all limit c
+  -- passes that end by one without a turn
+  pub Passed-ended : (n : ℕ) → IsUnderWay a b (passes n b.kernel.state (left b)) all → length c.trace.items ≡ length b.trace.items → Passed a all c
   unfolding one
-  Finished-ended way same =
+  Passed-ended n way same =
       let none : one ≡ [] = nothing one (let e = turned.count in omega arith) in
       let rest : passes n b.kernel.state (left b) ≡ [] = passes_none n b.kernel.state (left b) none in
-      subst (λ (l : List ℕ). IsFinished k l limit c) (ap (λ (l : List ℕ). way.done ++ l) (none ∙ sym rest) ∙ way.whole)
-      (Finished-on k way.done one limit b c way.finished turned)
+      subst (λ (l : List ℕ). Passed a l c) (ap (λ (l : List ℕ). way.done ++ l) (none ∙ sym rest) ∙ way.whole)
+      (Passed-through a b c way.done one way.passed turned)
 
--- a round robin that took as many passes as there may be turns
-pub Finished-all : (k : KernelState) (f : Finished) (limit n : ℕ) (all : List ℕ) → IsRunning k limit f (passes n f.kernel.state (left f)) all → n ≡ 0 →
-    IsFinished k all limit f
-Finished-all k f limit n all way none =
-    let rest : passes n f.kernel.state (left f) ≡ [] = ap (λ (m : ℕ). passes m f.kernel.state (left f)) none in
-    subst (λ (l : List ℕ). IsFinished k l limit f) (sym (append-nil way.done) ∙ ap (λ (l : List ℕ). way.done ++ l) (sym rest) ∙ way.whole) way.finished
+-- as many passes as there may be turns
+pub Passed-all : (a b : Finished) (n : ℕ) (all : List ℕ) → IsUnderWay a b (passes n b.kernel.state (left b)) all → n ≡ 0 → Passed a all b
+Passed-all a b n all way none =
+    let rest : passes n b.kernel.state (left b) ≡ [] = ap (λ (m : ℕ). passes m b.kernel.state (left b)) none in
+    subst (λ (l : List ℕ). Passed a l b) (sym (append-nil way.done) ∙ ap (λ (l : List ℕ). way.done ++ l) (sym rest) ∙ way.whole) way.passed
+
+-- a round robin from a state
+pub Finished-rounds : (k : KernelState) (f g : Finished) (limit : ℕ) → IsFinished k [] limit f → Passed f (rounds f.kernel.state (left f)) g →
+    IsFinished k (rounds k limit) limit g
+Finished-rounds k f g limit begun ran =
+    let most : left f ≡ limit = let l = begun.limit in let none = ap length begun.trace in omega arith in
+    subst (λ (l : List ℕ). IsFinished k l limit g) (ap₂ (λ (s : KernelState) (m : ℕ). rounds s m) begun.kernel most)
+    (Finished-on k [] (rounds f.kernel.state (left f)) limit f g begun ran)

@@ -1,19 +1,11 @@
 -- What a finished run is, and where an order is idle first.
 use Rattle.std.specs.Prelude.{◌≡◌, ℕ, ◌+◌, List, [], ◌∷◌, ◌++◌, length}
 use Rattle.nova_model.specs.State.{KernelState}
-use Rattle.nova_model.specs.Runs.{run, trace}
+use Rattle.nova_model.specs.Runs.{run}
 pub use Rattle.nova_model.specs.Runs.{IsFreeOfIdle}
 use Rattle.nova_order.specs.Blocks.{turns}
 use Rattle.nova_order.specs.declared.block.Block.{Block}
-use Rattle.nova_run.specs.declared.finished.Finished.{Finished}
-
--- a finished run from a state, of these turns
-pub record IsFinished (k : KernelState) (list : List ℕ) (most : ℕ) (f : Finished) : Type 0 where
-  pub opening : f.opening.state ≡ k
-  pub kernel : f.kernel.state ≡ run k list
-  pub order : turns f.order.blocks ≡ list
-  pub trace : f.trace.items ≡ trace k list
-  pub limit : f.limit ≡ most
+pub use Rattle.nova_shared.specs.Finished.{IsFinished}
 
 -- the first idle turn of an order is one of the block of this line, counted from 1
 pub record IsIdleLine (k : KernelState) (blocks : List Block) (line : ℕ) : Type 0 where

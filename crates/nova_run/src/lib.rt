@@ -1,16 +1,20 @@
-//! Runs of a kernel by one thread: along a given order of turns, and by round robin.
+//! Runs of a kernel: by one thread, along a given order of turns and by round robin; and by a thread for each processor.
 #![tactic(auto)]
 
 mod fault;
-mod finished;
+mod gate;
 mod orders;
 mod rounds;
 #[cfg(test)]
 mod tests;
+mod turns;
+mod workers;
 
 pub use fault::RunFault;
-pub use finished::Finished;
+pub use gate::{Gate, Open};
 pub use nova_kernel::{Event, Kernel};
 pub use nova_order::Order;
+pub use nova_shared::Finished;
 pub use orders::run_order;
 pub use rounds::round_robin;
+pub use workers::run_workers;

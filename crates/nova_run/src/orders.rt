@@ -5,9 +5,10 @@ ghost use Rattle.nova_run.specs.Finished.{IsFinished, IsIdleLine, IsFreeOfIdle};
 ghost use Rattle.nova_run.specs.UnderWay.{IsReady, Passed, IsBlockTaken};
 
 use crate::fault::RunFault;
-use crate::finished::Finished;
+use crate::turns::{begin, turn};
 use nova_kernel::Kernel;
 use nova_order::Order;
+use nova_shared::Finished;
 use std::alloc::{AllocError, Global};
 
 /// Turns of one processor, until one is idle; and whether none was.
@@ -18,7 +19,7 @@ fn take(run: &mut Finished, cpu: u32, count: u64) -> Result<bool, AllocError>
     ensures { IfOk result (λ all. IsBlockTaken run.old (replicate count cpu) all run.new) }
 {
     for _turn in 0..count {
-        if !run.turn(cpu)? {
+        if !turn(run, cpu)? {
             return Ok(false);
         }
     }
@@ -44,7 +45,7 @@ pub fn run_order(
     ensures no_idle { OnOk result (IsFreeOfIdle kernel.state (turns order.now.blocks)) }
     ensures idle { (line : ℕ) → result ≡ Err (OrderIdle line) → IsIdleLine kernel.state order.now.blocks line }
 {
-    let mut run = Finished::begin(alloc, kernel, limit, order.sum())?;
+    let mut run = begin(alloc, kernel, limit, order.sum())?;
     for (index, block) in order.blocks().iter().enumerate() {
         if !take(&mut run, block.cpu, block.count)? {
             return Err(RunFault::OrderIdle(index as u64 + 1));

@@ -5,8 +5,9 @@ ghost use Rattle.nova_run.specs.Finished.{IsFinished};
 ghost use Rattle.nova_run.specs.UnderWay.{IsReady, Passed, left};
 
 use crate::fault::RunFault;
-use crate::finished::Finished;
+use crate::turns::{begin, turn};
 use nova_kernel::Kernel;
+use nova_shared::Finished;
 use std::alloc::{AllocError, Global};
 
 /// A turn of a processor that is not idle, where there may be one more.
@@ -16,7 +17,7 @@ fn turn_within(run: &mut Finished, cpu: u32) -> Result<(), AllocError>
     ensures { OnOk result (Passed run.old (pass run.old.kernel.state cpu 1 (left run.old)) run.new) }
 {
     if (run.trace.len() as u64) < run.limit {
-        run.turn(cpu)?;
+        turn(run, cpu)?;
     }
     Ok(())
 }
@@ -33,6 +34,21 @@ fn pass(run: &mut Finished) -> Result<(), AllocError>
     Ok(())
 }
 
+/// Passes until one takes no turn or there are as many turns as there may be.
+pub(crate) fn run_out(run: &mut Finished) -> Result<(), AllocError>
+    requires ready { IsReady run.old }
+    ensures { OnOk result (Passed run.old (rounds run.old.kernel.state (left run.old)) run.new) }
+{
+    for _pass in 0..run.limit - run.trace.len() as u64 {
+        let before = run.trace.len();
+        pass(run)?;
+        if run.trace.len() == before {
+            return Ok(());
+        }
+    }
+    Ok(())
+}
+
 /// Runs a kernel by passes over its processors in rising number, one turn each where it is not idle,
 /// until a pass takes no turn or `limit` turns were taken. The kernel has room in its log for as many.
 /// The only error is `Memory`, where memory is refused.
@@ -42,13 +58,7 @@ pub fn round_robin(alloc: Global, kernel: Kernel, limit: u64) -> Result<Finished
     ensures finished { IfOk result (IsFinished kernel.state (rounds kernel.state limit) limit) }
     ensures memory { IfErr result (λ fault. fault ≡ Memory) }
 {
-    let mut run = Finished::begin(alloc, kernel, limit, limit)?;
-    for _pass in 0..limit {
-        let before = run.trace.len();
-        pass(&mut run)?;
-        if run.trace.len() == before {
-            return Ok(run);
-        }
-    }
+    let mut run = begin(alloc, kernel, limit, limit)?;
+    run_out(&mut run)?;
     Ok(run)
 }

@@ -1,5 +1,7 @@
 ghost use Rattle.std.specs.Prelude.{◌≡◌, IfOk};
 
+mod workers;
+
 use crate::{Finished, Kernel, Order, RunFault, round_robin, run_order};
 use nova_model::Root;
 use std::alloc::{AllocError, Global};

@@ -1,12 +1,14 @@
 -- What is made before the first byte goes out.
-use Rattle.std.specs.Prelude.{◌≡◌, ℕ, ◌<◌, ◌≤◌, List, length, Result, Ok, Err}
+use Rattle.std.specs.Prelude.{◌≡◌, ℕ, ◌<◌, ◌≤◌, false, List, length, Result, Ok, Err}
 use Rattle.std.specs.List.{AllByRecursion}
 use Rattle.nova_command.specs.declared.command.Command.{Command}
 use Rattle.nova_model.specs.State.{KernelState}
 use Rattle.nova_model.specs.Choice.{is_quiet}
 use Rattle.nova_model.specs.Runs.{run, trace}
 use Rattle.nova_model.specs.Runs.{IsFreeOfIdle}
-use Rattle.nova_order.specs.Blocks.{BlockList}
+use Rattle.nova_order.specs.Blocks.{BlockList, IsOrder, turns}
+use Rattle.nova_order.specs.Text.{text_of}
+use Rattle.nova_order.specs.declared.block.Block.{Block}
 use Rattle.nova_report.specs.Report.{report}
 use Rattle.nova_scenario.specs.declared.scenario.Scenario.{Scenario as ScenarioText}
 use Rattle.nova_top.specs.Causes.{IsReadFault, IsScenarioFault, IsOrderFault, ScenarioRefused, TextRefused}
@@ -55,6 +57,15 @@ pub record IsReportOf (k : KernelState) (order : List ℕ) (most : ℕ) (made : 
   pub quiet : made.is_complete ≡ is_quiet (run k order)
   pub within : length order ≤ most
   pub processors : AllByRecursion (λ cpu. cpu < k.cpus) order
+
+-- the report of a run with a thread for each processor: of one order of turns, whose text these bytes are. Where it does not end quiet it has
+-- as many turns as it may have
+pub record IsTogether (k : KernelState) (most : ℕ) (made : Outcome) (text : List ℕ) : Type 0 where
+  pub blocks : List Block
+  pub order : IsOrder blocks
+  pub written : text ≡ text_of blocks
+  pub reported : IsReportOf k (turns blocks) most made
+  pub spent : made.is_complete ≡ false → length (turns blocks) ≡ most
 
 -- an order that was read is not run only for an idle turn, or for want of memory
 abbrev pub IsIdleFault : KernelState → BlockList → Exit → Type 0

@@ -7,7 +7,7 @@ ghost use Rattle.nova_model.specs.Runs.{rounds};
 ghost use Rattle.nova_order.specs.Blocks.{turns, is_within};
 ghost use Rattle.nova_report.specs.Report.{report};
 ghost use Rattle.nova_scenario.specs.Sound.{IsSound};
-ghost use Rattle.nova_top.specs.Prepared.{IsReportOf, IsIdleFault};
+ghost use Rattle.nova_top.specs.Prepared.{IsReportOf, IsTogether, IsIdleFault};
 ghost use Rattle.nova_top.specs.declared.exit.Exit.TheVariants.{Memory};
 
 use crate::exit::Exit;
@@ -15,9 +15,11 @@ use nova_boot::boot;
 use nova_laws::round_robin_runs_out;
 use nova_order::Order;
 use nova_report::report;
-use nova_run::{Finished, round_robin, run_order};
+use nova_run::{Finished, Gate, round_robin, run_order, run_workers};
 use nova_scenario::Scenario;
 use std::alloc::{AllocError, Global};
+use std::sync::Wait;
+use std::thread::Threads;
 
 /// What a command makes: the text that it writes, and whether it is complete, as a run is that ends
 /// quiet.
@@ -80,4 +82,26 @@ pub fn run_in_order(
     let kernel = boot(alloc, scenario, most)?;
     let finished = run_order(alloc, kernel, order, most)?;
     Ok(reported(alloc, &finished)?)
+}
+
+/// Boots a scenario and runs it with a thread for each processor, for at most `limit` turns; and the text of the order of turns that this came to.
+pub fn run_together<R: Threads + Wait + Sync, G: Gate + Sync>(
+    rt: &R,
+    alloc: Global,
+    scenario: &Scenario,
+    limit: u32,
+    gate: &G,
+) -> Result<(Outcome, Vec<u8>), Exit>
+    requires sound { IsSound scenario.now }
+    requires limit { IsLimit limit }
+    ensures run { IfOk result (λ made. IsTogether (boot (scenario_of scenario.now)) limit made.0 made.1.items) }
+    ensures memory { IfErr result (λ exit. exit ≡ Memory) }
+{
+    let most = u64::from(limit);
+    let kernel = boot(alloc, scenario, most)?;
+    let finished = run_workers(rt, alloc, kernel, most, gate)?;
+    let _blocks = finished.order.blocks();
+    let order = finished.order.text()?;
+    let outcome = reported(alloc, &finished)?;
+    Ok((outcome, order))
 }

@@ -12,4 +12,4 @@ returns-then-not-branch c =
 pub loop-turn-preserved : goal.loop-turn-preserved
 loop-turn-preserved c =
     let there : is_some (turn c.loop-turn.run.kernel.state c.args.cpu) ≡ true = search rules in
-    turn_on c.args.run.now c.loop-turn.run c.turn.new.self c.args.cpu c.loop-turn._turn c.loop-turn.invariant c.in_ok-turn.ensures.passed there
+    turn_on c.args.run.now c.loop-turn.run c.turn.new.run c.args.cpu c.loop-turn._turn c.loop-turn.invariant c.in_ok-turn.ensures.passed there

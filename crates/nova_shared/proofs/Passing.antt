@@ -2,6 +2,7 @@
 use Rattle.std.proofs.Common.{◌≡◌, ℕ, List, [], ◌∷◌, ◌++◌, refl, ap, ap₂, sym, ◌∙◌, arith, append_assoc}
 use Rattle.std.specs.Prelude.{Option, Some, None, option_map}
 use Rattle.std.proofs.lemmas.List.{length-append}
+use Rattle.nova_kernel.specs.Views.{KernelView}
 use Rattle.nova_model.specs.State.{KernelState}
 use Rattle.nova_model.specs.Choice.{in_front}
 use Rattle.nova_model.specs.Turn.{turn, Step}
@@ -9,9 +10,9 @@ use Rattle.nova_model.specs.Runs.{after, run, trace}
 use Rattle.nova_model.specs.declared.event.Event.{Event}
 use Rattle.nova_laws.proofs.Passes.{run_append}
 use Rattle.nova_order.specs.Blocks.{turns}
-use Rattle.nova_run.specs.Finished.{IsFinished}
-use Rattle.nova_run.specs.UnderWay.{Passed}
-use Rattle.nova_run.specs.declared.finished.Finished.{Finished}
+use Rattle.nova_shared.specs.Finished.{IsFinished}
+use Rattle.nova_shared.specs.UnderWay.{Passed}
+use Rattle.nova_shared.specs.declared.finished.Finished.{Finished}
 
 in_front-append : {T : Type 0} → (o : Option T) (xs ys : List T) → in_front o (xs ++ ys) ≡ in_front o xs ++ ys
 in_front-append None xs ys = refl
@@ -49,7 +50,7 @@ Passed-through a b c xs ys p q = record {
 -- a run that goes on
 pub Finished-on : (k : KernelState) (xs ys : List ℕ) (most : ℕ) (b c : Finished) → IsFinished k xs most b → Passed b ys c → IsFinished k (xs ++ ys) most c
 Finished-on k xs ys most b c f p = record {
-  opening = p.opening ∙ f.opening;
+  opening = ap (λ (v : KernelView). v.state) p.opening ∙ f.opening;
   kernel = run_on k xs ys b.kernel.state c.kernel.state f.kernel p.kernel;
   order = p.order ∙ ap (λ (l : List ℕ). l ++ ys) f.order;
   trace = trace_on k xs ys b.kernel.state [] b.trace.items c.trace.items f.kernel f.trace p.trace;

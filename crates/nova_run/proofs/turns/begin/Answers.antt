@@ -1,7 +1,7 @@
 use Rattle.std.proofs.Common.{refl, ap}
 use Rattle.nova_order.specs.Blocks.{BlockList}
-use Rattle.nova_run.proofs.Passing.{Finished-none}
-use Rattle.nova_run.proofs.finished.Finished.begin.Goals as goal
+use Rattle.nova_shared.proofs.Passing.{Finished-none}
+use Rattle.nova_run.proofs.turns.begin.Goals as goal
 
 pub returns-clause-finished : goal.returns-clause-finished
 returns-clause-finished c =

@@ -1,0 +1,8 @@
+//! The text of a scenario that makes many domains and takes them all away, of whatever size is asked for.
+#![tactic(auto)]
+
+mod bench;
+#[cfg(test)]
+mod tests;
+
+pub use bench::generate;

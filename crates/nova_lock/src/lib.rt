@@ -1,0 +1,11 @@
+//! A ticket lock whose value has a history: what a seat saw of it begins every later history, and whoever closes the lock learns what all
+//! seats saw.
+#![tactic(auto)]
+
+mod called;
+mod lock;
+mod plays;
+mod view;
+
+pub use called::{Historied, LockCall};
+pub use lock::{HistoryLock, Seat};

@@ -1,0 +1,139 @@
+ghost use Rattle.std.specs.Prelude.{◌≡◌, ◌+◌, ◌^◌, ◌<◌, ◌≤◌, ℕ, length, slice_index_or, All, IfOk, IfErr};
+ghost use Rattle.nova_laws.specs.Orders.{IsRunOut};
+ghost use Rattle.nova_lock.specs.Seats.{SeatView};
+ghost use Rattle.nova_order.specs.Blocks.{turns};
+ghost use Rattle.nova_run.specs.declared.fault.RunFault.TheVariants.{Memory};
+ghost use Rattle.nova_run.specs.Finished.{IsFinished};
+ghost use Rattle.nova_shared.specs.Ran.{Ran, IsCpuSeat, AreCpuSeats};
+
+use crate::fault::RunFault;
+use crate::gate::Gate;
+use crate::rounds::run_out;
+use nova_kernel::Kernel;
+use nova_shared::{CpuSeat, Finished, Shared, SharedTurn};
+use std::alloc::Global;
+use std::sync::Wait;
+use std::thread;
+use std::thread::Threads;
+
+/// How many steps a worker goes on in one round.
+const STEPS: u32 = 4096;
+
+/// One worker's steps in a round: until its processor is idle, there are as many turns as there may be, memory is refused, or it took
+/// `STEPS` turns.
+fn work<R: Wait, G: Gate>(rt: &R, shared: &Shared, gate: &G, seat: &mut CpuSeat)
+    requires { IsCpuSeat shared.now seat.old }
+    ensures { seat.new ≡ record seat.old { front = seat.new.front } }
+{
+    for _step in 0..STEPS {
+        gate.at(seat.cpu(), seat.mine());
+        match shared.turn(rt, seat) {
+            Ok(SharedTurn::Stepped(_)) => {}
+            Ok(SharedTurn::Idle(_)) | Ok(SharedTurn::AtLimit(_)) | Err(_) => return,
+        }
+    }
+}
+
+/// A round: each processor has a worker, in a thread of its own.
+fn round<R: Threads + Wait + Sync, G: Gate + Sync>(
+    rt: &R,
+    shared: &Shared,
+    gate: &G,
+    seats: &mut [CpuSeat],
+)
+    requires own { All (λ s. IsCpuSeat shared.now s) seats.old }
+    requires some { 0 < length seats.old }
+    ensures len { length seats.new ≡ length seats.old }
+    ensures each { (i : ℕ) (d : SeatView Ran) → i < length seats.old → slice_index_or seats.new i d ≡ record (slice_index_or seats.old i d) { front = (slice_index_or seats.new i d).front } }
+{
+    let threads = seats.len();
+    thread::for_each_mut(rt, seats, threads, &|_, seat| {
+        work(rt, shared, gate, seat)
+    });
+}
+
+/// A sweep: one turn of each processor in rising number, where it is not idle; and whether another round follows. It does not where no turn was
+/// taken, where there are as many as there may be, or where memory was refused.
+fn sweep<R: Wait>(rt: &R, shared: &Shared, seats: &mut [CpuSeat]) -> bool
+    requires own { All (λ s. IsCpuSeat shared.now s) seats.old }
+    ensures len { length seats.new ≡ length seats.old }
+    ensures each { (i : ℕ) (d : SeatView Ran) → i < length seats.old → slice_index_or seats.new i d ≡ record (slice_index_or seats.old i d) { front = (slice_index_or seats.new i d).front } }
+{
+    let mut taken = false;
+    for i in 0..seats.len() {
+        match shared.turn(rt, &mut seats[i]) {
+            Ok(SharedTurn::Stepped(_)) => taken = true,
+            Ok(SharedTurn::Idle(_)) => {}
+            Ok(SharedTurn::AtLimit(_)) | Err(_) => return false,
+        }
+    }
+    taken
+}
+
+/// A sweep, and a round after it unless it was the last; and whether another sweep follows.
+#[tactic(auto, using(crate::proofs::Seated::each_there, crate::proofs::Seated::still_seats))]
+fn go_on<R: Threads + Wait + Sync, G: Gate + Sync>(
+    rt: &R,
+    shared: &Shared,
+    gate: &G,
+    seats: &mut [CpuSeat],
+) -> bool
+    requires seats { AreCpuSeats shared.now seats.old }
+    ensures seats { AreCpuSeats shared.now seats.new }
+{
+    if !sweep(rt, shared, seats) {
+        return false;
+    }
+    round(rt, shared, gate, seats);
+    true
+}
+
+/// Sweeps and rounds until a sweep was the last, but at most `limit + 1` sweeps.
+fn work_together<R: Threads + Wait + Sync, G: Gate + Sync>(
+    rt: &R,
+    shared: &Shared,
+    gate: &G,
+    limit: u64,
+    seats: &mut [CpuSeat],
+)
+    requires limit { limit ≤ 2 ^ 31 }
+    requires seats { AreCpuSeats shared.now seats.old }
+    ensures seats { AreCpuSeats shared.now seats.new }
+{
+    for _sweep in 0..limit + 1 {
+        if !go_on(rt, shared, gate, seats) {
+            return;
+        }
+    }
+}
+
+/// Runs a kernel with a thread for each of its processors, of which there is one or more, for at most `limit` turns; the kernel has room in its
+/// log for as many. In turn come sweeps, in which each processor has a turn that is not idle, and rounds, in which each has up to 4,096, until a
+/// sweep takes no turn or there are `limit` turns. Before each step in a round its worker calls the gate, with the processor and how many turns
+/// of it there were.
+///
+/// Whatever the workers did, there is one order of turns, and what comes is the run over it. It ends quiet or has `limit` turns. The only error is
+/// `Memory`, where memory is refused. It may wait; what it promises holds if it returns.
+pub fn run_workers<R: Threads + Wait + Sync, G: Gate + Sync>(
+    rt: &R,
+    alloc: Global,
+    kernel: Kernel,
+    limit: u64,
+    gate: &G,
+) -> Result<Finished, RunFault>
+    requires cpus { 0 < kernel.state.cpus }
+    requires room { limit ≤ kernel.room }
+    requires turns { kernel.state.turns + limit ≤ 2 ^ 31 }
+    ensures finished { IfOk result (λ run. IsFinished kernel.state (turns run.order.blocks) limit run) }
+    ensures out { IfOk result (λ run. IsRunOut kernel.state limit (turns run.order.blocks)) }
+    ensures memory { IfErr result (λ fault. fault ≡ Memory) }
+{
+    let (shared, mut seats) = match Shared::new(alloc, kernel, limit) {
+        Ok(made) => made,
+        Err(_) => return Err(RunFault::Memory),
+    };
+    work_together(rt, &shared, gate, limit, seats.as_mut_slice());
+    let mut run = shared.finish(seats);
+    run_out(&mut run)?;
+    Ok(run)
+}

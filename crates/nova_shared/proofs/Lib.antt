@@ -1,0 +1,3 @@
+pub mod Passing
+pub mod Shares
+pub mod Seats

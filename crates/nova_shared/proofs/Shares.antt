@@ -1,0 +1,120 @@
+-- Turns of a run that is shared.
+use Rattle.std.proofs.Common.{◌≡◌, ◌≢◌, ℕ, ◌+◌, ◌<◌, ◌≤◌, ◌^◌, List, [], ◌∷◌, ◌++◌, length, refl, ap, ap₂, sym, ◌∙◌, subst, arith}
+use Rattle.std.specs.Prelude.{vec_capacity, Bool, true, false, is_some, IsSome, None, if◌then◌else◌, Option, Some}
+use Rattle.std.proofs.lemmas.List.{append-nil}
+use Rattle.nova_kernel.specs.Views.{KernelView, IsMaking}
+use Rattle.nova_model.specs.State.{KernelState}
+use Rattle.nova_model.specs.Turn.{turn, Step}
+use Rattle.nova_model.specs.Runs.{IsFreeOfIdle, after, run, trace}
+use Rattle.nova_laws.proofs.Processors.{run_cpus}
+use Rattle.nova_order.specs.Blocks.{turns, total}
+use Rattle.nova_order.specs.declared.block.Block.{Block}
+use Rattle.nova_order.proofs.BlockLemmas.{length_turns}
+use Rattle.nova_shared.specs.Runs.{IsSharedRun}
+use Rattle.nova_shared.specs.Told.{IsTold, IsRefused}
+use Rattle.nova_shared.specs.UnderWay.{HasRoom, Passed, taken}
+use Rattle.nova_shared.specs.declared.finished.Finished.{Finished}
+use Rattle.nova_shared.specs.declared.turn.SharedTurn.TheVariants.{Stepped, Idle, AtLimit}
+use Rattle.nova_shared.proofs.Passing.{run_on, trace_on}
+
+-- two parts of an order, each free of idle turns
+pub free_append : (k : KernelState) (xs ys : List ℕ) → IsFreeOfIdle k xs → IsFreeOfIdle (run k xs) ys → IsFreeOfIdle k (xs ++ ys)
+free_append k [] ys first then_ = then_
+free_append k (x ∷ xs) ys first then_ = (first.0, free_append (after k x) xs ys first.1 then_)
+
+-- the turn of a processor that is not idle is no idle one
+pub free_taken : (k : KernelState) (cpu : ℕ) → IsFreeOfIdle k (taken k cpu)
+free_taken k cpu = by_test (is_some (turn k cpu)) refl
+  where
+    by_test : (t : Bool) → is_some (turn k cpu) ≡ t → IsFreeOfIdle k (if t then cpu ∷ [] else [])
+    by_test true there = (there, tt)
+    by_test false there = tt
+
+taken_some : (k : KernelState) (cpu : ℕ) → is_some (turn k cpu) ≡ true → taken k cpu ≡ cpu ∷ []
+taken_some k cpu there = ap (λ (t : Bool). if t then cpu ∷ [] else []) there
+
+taken_none : (k : KernelState) (cpu : ℕ) → is_some (turn k cpu) ≡ false → taken k cpu ≡ []
+taken_none k cpu idle = ap (λ (t : Bool). if t then cpu ∷ [] else []) idle
+
+none_there : (o : Option Step) → is_some o ≡ false → o ≡ None
+none_there None h = refl
+none_there (Some s) h = cc
+
+module _ (f g : Finished) (cpu : ℕ) (was : IsSharedRun f) where
+  k : KernelState
+  k = f.opening.state
+
+  xs : List ℕ
+  xs = turns f.order.blocks
+
+  -- as many turns as events
+  pub long : length (turns f.order.blocks) ≡ length f.trace.items
+  long = length_turns f.order.blocks ∙ was.ready.order
+
+  module _ (passed : Passed f (taken f.kernel.state cpu) g) where
+    -- a turn more, if there is one
+    pub shared_on : HasRoom g → IsSharedRun g
+    unfolding k xs
+    shared_on room =
+        let ys : List ℕ = taken f.kernel.state cpu in
+        let free : IsFreeOfIdle k (xs ++ ys) = free_append k xs ys was.no_idle (subst (λ (s : KernelState). IsFreeOfIdle s ys) was.kernel (free_taken f.kernel.state cpu)) in record {
+          kernel = run_on k xs ys f.kernel.state g.kernel.state was.kernel passed.kernel ∙ ap₂ (λ (o : KernelView) (l : List ℕ). run o.state l) (sym passed.opening) (sym passed.order);
+          trace = trace_on k xs ys f.kernel.state [] f.trace.items g.trace.items was.kernel was.trace passed.trace ∙ ap₂ (λ (o : KernelView) (l : List ℕ). trace o.state l) (sym passed.opening) (sym passed.order);
+          no_idle = subst (λ (z : KernelView × List ℕ). IsFreeOfIdle z.0.state z.1) (λ i. (sym passed.opening i, sym passed.order i)) free;
+          ready = passed.ready;
+          room = room;
+        }
+
+    -- the turn was taken
+    pub told_stepped : (n : ℕ) → n ≡ length f.trace.items → is_some (turn f.kernel.state cpu) ≡ true → n ≢ f.limit
+        → IsTold f.opening.state f.limit cpu (turns f.order.blocks) (turns g.order.blocks) (Stepped (n + 1))
+    told_stepped n is there fewer = let within = was.ready.within in (
+      passed.order ∙ ap (λ (l : List ℕ). turns f.order.blocks ++ l) (taken_some f.kernel.state cpu there),
+      omega (arith, long, is),
+      omega (arith, fewer, is, within),
+      ap (λ (s : KernelState). is_some (turn s cpu)) (sym was.kernel) ∙ there,
+    )
+
+    -- the processor is idle
+    pub told_idle : (n : ℕ) → n ≡ length f.trace.items → is_some (turn f.kernel.state cpu) ≡ false → n ≢ f.limit
+        → IsTold f.opening.state f.limit cpu (turns f.order.blocks) (turns g.order.blocks) (Idle n)
+    told_idle n is idle fewer = let within = was.ready.within in (
+      passed.order ∙ ap (λ (l : List ℕ). turns f.order.blocks ++ l) (taken_none f.kernel.state cpu idle) ∙ append-nil (turns f.order.blocks),
+      is ∙ sym long,
+      omega (arith, fewer, is, within),
+      none_there _ (ap (λ (s : KernelState). is_some (turn s cpu)) (sym was.kernel) ∙ idle),
+    )
+
+  -- there are as many turns as there may be
+  pub told_limit : (n : ℕ) → n ≡ length f.trace.items → n ≡ f.limit → IsTold f.opening.state f.limit cpu (turns f.order.blocks) (turns f.order.blocks) (AtLimit n)
+  told_limit n is full = (refl, is ∙ sym long, full)
+
+  -- memory was refused
+  pub told_refused : g ≡ f → (n : ℕ) → n ≡ length f.trace.items → IsMaking f.kernel.state cpu → n ≢ f.limit
+      → (n ≡ length (turns f.order.blocks)) × IsRefused f.opening.state f.limit cpu (turns f.order.blocks) (turns g.order.blocks)
+  told_refused same n is making fewer = let within = was.ready.within in (
+    is ∙ sym long,
+    (ap (λ (h : Finished). turns h.order.blocks) same, omega (arith, long, fewer, is, within), subst (λ (s : KernelState). IsMaking s cpu) was.kernel making),
+  )
+
+  -- the processor is there
+  pub there_on : cpu < f.opening.state.cpus → cpu < f.kernel.state.cpus
+  there_on less = let same = ap (λ (s : KernelState). s.cpus) was.kernel ∙ run_cpus f.opening.state (turns f.order.blocks) in omega arith
+
+-- no turns
+pub turns_none : (blocks : List Block) → blocks ≡ [] → turns blocks ≡ []
+unfolding turns
+turns_none blocks none = ap turns none
+
+-- a run that took no turn
+pub shared_none : (f : Finished) → f.opening.state ≡ f.kernel.state → f.order.blocks ≡ [] → f.trace.items ≡ [] → f.limit ≤ f.kernel.room → f.kernel.state.turns + f.limit ≤ 2 ^ 31
+    → f.limit ≤ f.order.spare → f.limit ≤ vec_capacity f.trace → IsSharedRun f
+shared_none f opening blocks events room few places capacity =
+    let none : turns f.order.blocks ≡ [] = turns_none f.order.blocks blocks in
+    let long : length f.trace.items ≡ 0 = ap length events in record {
+      kernel = sym opening ∙ ap (λ (l : List ℕ). run f.opening.state l) (sym none);
+      trace = events ∙ ap (λ (l : List ℕ). trace f.opening.state l) (sym none);
+      no_idle = subst (IsFreeOfIdle f.opening.state) (sym none) tt;
+      ready = record { within = omega arith; room = omega arith; turns = omega arith; order = ap total blocks ∙ sym long };
+      room = record { order = omega arith; trace = capacity };
+    }

@@ -1,0 +1,258 @@
+ghost use Rattle.std.specs.Prelude.{◌≡◌, ◌≢◌, ◌+◌, ◌^◌, ◌<◌, ◌≤◌, ◌++◌, List, [], ◌∷◌, ℕ, length, drop, vec_len, vec_capacity, slice_index_or, All, IfOk, IfErr, OnErr};
+ghost use Rattle.std.specs.List.{AllByRecursion};
+ghost use Rattle.nova_lock.specs.History.{entries, IsFrontOf};
+ghost use Rattle.nova_lock.specs.Seats.{SeatView};
+ghost use Rattle.nova_model.specs.Runs.{IsFreeOfIdle};
+ghost use Rattle.nova_order.specs.Blocks.{turns};
+ghost use Rattle.nova_shared.specs.Finished.{IsFinished};
+ghost use Rattle.nova_shared.specs.Ran.{Ran, IsCpuSeat, AreCpuSeats};
+ghost use Rattle.nova_shared.specs.Told.{IsTold, IsRefused};
+ghost use Rattle.nova_shared.specs.UnderWay.{IsReady, HasRoom};
+
+use crate::finished::Finished;
+use crate::running::Running;
+use crate::turn::{OneTurn, SharedTurn};
+use nova_kernel::Kernel;
+use nova_lock::{HistoryLock, Seat};
+use std::alloc::{AllocError, Global};
+use std::marker::Model;
+use std::sync::Wait;
+
+/// The right of one processor to take turns of a shared kernel. It knows the order of turns of all processors as its last turn left it, its front,
+/// which is empty before its first turn.
+#[derive(Drop)]
+pub struct CpuSeat {
+    seat: Seat<Running>,
+    seen: u64,
+    mine: u64,
+
+    // Of processor 0: the room in which all seats are handed back.
+    spare: Vec<Seat<Running>>,
+}
+
+impl Model for CpuSeat {
+    ghost use Rattle.std.specs.Prelude.{◌≡◌, ◌≤◌, [], length, vec_capacity};
+    ghost use Rattle.nova_lock.specs.History.{entries};
+    ghost use Rattle.nova_lock.specs.Seats.{SeatView};
+    ghost use Rattle.nova_shared.specs.Ran.{Ran};
+
+    ghost Value = { SeatView Ran };
+
+    ghost view = { λ s. s.seat };
+
+    ghost invariant = { λ s. (s.seen ≡ length s.seat.front) × (s.mine ≡ entries s.seat.number s.seat.front) × (s.spare.items ≡ []) × (s.seat.number ≡ 0 → s.seat.made ≤ vec_capacity s.spare) };
+}
+
+impl CpuSeat {
+    /// A seat that was not used yet, with room for the seats that are handed back with it.
+    fn new(seat: Seat<Running>, spare: Vec<Seat<Running>>) -> CpuSeat
+        requires front { seat.front ≡ [] }
+        requires room { (spare.items ≡ []) × (seat.number ≡ 0 → seat.made ≤ vec_capacity spare) }
+        ensures { result ≡ seat }
+    {
+        CpuSeat {
+            seat,
+            seen: 0,
+            mine: 0,
+            spare,
+        }
+    }
+
+    /// Its processor.
+    pub fn cpu(&self) -> u32
+        ensures { result ≡ self.now.number }
+    {
+        self.seat.number()
+    }
+
+    /// How many turns of all processors its last turn saw, its own included.
+    pub fn seen(&self) -> u64
+        ensures { result ≡ length self.now.front }
+    {
+        self.seen
+    }
+
+    /// How many turns of its processor there were.
+    pub fn mine(&self) -> u64
+        ensures { result ≡ entries self.now.number self.now.front }
+    {
+        self.mine
+    }
+}
+
+/// Adds the seat of a processor, in the room of a list.
+fn add(out: &mut Vec<CpuSeat>, seat: Seat<Running>, spare: Vec<Seat<Running>>)
+    requires room { vec_len out.old < vec_capacity out.old }
+    requires front { seat.front ≡ [] }
+    requires spare { (spare.items ≡ []) × (seat.number ≡ 0 → seat.made ≤ vec_capacity spare) }
+    ensures items { out.new.items ≡ out.old.items ++ seat ∷ [] }
+    ensures len { vec_len out.new ≡ vec_len out.old + 1 }
+    ensures room { vec_capacity out.old ≤ vec_capacity out.new }
+{
+    let Ok(()) = out.push(CpuSeat::new(seat, spare)) else {
+        unreachable!()
+    };
+}
+
+/// The seats of processors, in the room of a list. The first keeps the room in which all are handed back.
+fn wrapped(
+    alloc: Global,
+    mut seats: Vec<Seat<Running>>,
+    mut out: Vec<CpuSeat>,
+    spare: Vec<Seat<Running>>,
+) -> Vec<CpuSeat>
+    requires room { (out.items ≡ []) × (0 < vec_len seats) × (vec_len seats ≤ vec_capacity out) × (spare.items ≡ []) }
+    requires fresh { All (λ s. s.front ≡ []) seats.items }
+    requires first { (d : SeatView Ran) → (slice_index_or seats.items 0 d).made ≤ vec_capacity spare }
+    requires others { All (λ s. s.number ≢ 0) (drop 1 seats.items) }
+    ensures { result.items ≡ seats.items }
+{
+    let first = seats.remove(0);
+    add(&mut out, first, spare);
+    for seat in seats {
+        add(&mut out, seat, Vec::new(alloc));
+    }
+    out
+}
+
+/// The seats of the lock, in the room that the first processor's seat kept.
+fn bare(mut seats: Vec<CpuSeat>) -> Vec<Seat<Running>>
+    requires { (0 < vec_len seats) × ((d : SeatView Ran) → ((slice_index_or seats.items 0 d).number ≡ 0) × (vec_len seats ≤ (slice_index_or seats.items 0 d).made)) }
+    ensures { result.items ≡ seats.items }
+{
+    let CpuSeat {
+        seat,
+        seen: _,
+        mine: _,
+        spare: mut out,
+    } = seats.remove(0);
+    let Ok(()) = out.push(seat) else {
+        unreachable!()
+    };
+    for seat in seats {
+        let CpuSeat {
+            seat,
+            seen: _,
+            mine: _,
+            spare,
+        } = seat;
+        spare.destroy_empty();
+        let Ok(()) = out.push(seat) else {
+            unreachable!()
+        };
+    }
+    out
+}
+
+/// A kernel whose processors take turns by their seats, in whatever order they come, one at a time. The turns of all have one order, which begins with
+/// what each seat saw.
+///
+/// It has to be finished: that gives the kernel back.
+pub struct Shared {
+    lock: HistoryLock<Running>,
+}
+
+impl Model for Shared {
+    ghost use Rattle.nova_lock.specs.Seats.{LockView};
+    ghost use Rattle.nova_shared.specs.Ran.{Ran};
+
+    ghost Value = { LockView Ran };
+
+    ghost view = { λ s. s.lock };
+}
+
+impl Shared {
+    /// Shares a kernel among its processors, of which there is one or more, for at most `limit` turns. The seats are in the order of their
+    /// processors. The kernel has room in its log for so many turns; room for their order and events is made here. It refuses for want of
+    /// memory alone, and then gives the kernel back.
+    pub fn new(
+        alloc: Global,
+        kernel: Kernel,
+        limit: u64,
+    ) -> Result<(Shared, Vec<CpuSeat>), (Kernel, AllocError)>
+        requires cpus { 0 < kernel.state.cpus }
+        requires room { limit ≤ kernel.room }
+        requires turns { kernel.state.turns + limit ≤ 2 ^ 31 }
+        ensures opening { IfOk result (λ r. (r.0.opened.opening.kernel.state ≡ kernel.state) × (r.0.opened.opening.limit ≡ limit)) }
+        ensures seats { IfOk result (λ r. AreCpuSeats r.0 r.1.items) }
+        ensures fronts { IfOk result (λ r. All (λ s. s.front ≡ []) r.1.items) }
+        ensures kernel { IfErr result (λ e. e.0 ≡ kernel) }
+    {
+        let cpus = kernel.cpus();
+        let Ok(spare) = Vec::with_capacity(alloc, cpus as usize) else {
+            return Err((kernel, AllocError));
+        };
+        let Ok(room) = Vec::with_capacity(alloc, cpus as usize) else {
+            return Err((kernel, AllocError));
+        };
+        let run = match Finished::begin(alloc, kernel, limit) {
+            Ok(run) => run,
+            Err(kernel) => return Err((kernel, AllocError)),
+        };
+        match HistoryLock::new(alloc, Running::new(run), cpus) {
+            Ok((lock, seats)) => Ok((Shared { lock }, wrapped(alloc, seats, room, spare))),
+            Err((value, failed)) => Err((value.into_kernel(), failed)),
+        }
+    }
+
+    /// One use of the lock, in which the processor of a seat takes a turn.
+    fn take(&self, rt: &impl Wait, seat: &mut Seat<Running>) -> Result<SharedTurn, u64>
+        requires own { IsCpuSeat self.now seat.old }
+        ensures seat { seat.new ≡ record seat.old { front = seat.new.front } }
+        ensures told { (found : List ℕ) × IsFrontOf seat.old.number seat.old.front found
+            × IfOk result (IsTold self.now.opened.opening.kernel.state self.now.opened.opening.limit seat.old.number found seat.new.front)
+            × IfErr result (λ taken. (taken ≡ length found) × IsRefused self.now.opened.opening.kernel.state self.now.opened.opening.limit seat.old.number found seat.new.front) }
+    {
+        let mut call = OneTurn {
+            cpu: seat.number(),
+        };
+        self.lock.with(rt, seat, &mut call)
+    }
+
+    /// One turn of the processor of a seat, where it is not idle and there are fewer turns of all processors than there may be. The order of turns that
+    /// it finds begins with the seat's front and has all turns that the seat ever took; the order that it leaves is the seat's new front. It
+    /// refuses for want of memory alone, only in a turn that makes an object or a derivation, and then no turn was taken.
+    ///
+    /// It may wait for other processors; what it promises holds if it returns.
+    #[tactic(auto, using(crate::proofs::Seats::stepped_mine, crate::proofs::Seats::mine_most))]
+    pub fn turn(&self, rt: &impl Wait, seat: &mut CpuSeat) -> Result<SharedTurn, AllocError>
+        requires own { IsCpuSeat self.now seat.old }
+        ensures seat { seat.new ≡ record seat.old { front = seat.new.front } }
+        ensures told { (found : List ℕ) × IsFrontOf seat.old.number seat.old.front found
+            × IfOk result (IsTold self.now.opened.opening.kernel.state self.now.opened.opening.limit seat.old.number found seat.new.front)
+            × OnErr result (IsRefused self.now.opened.opening.kernel.state self.now.opened.opening.limit seat.old.number found seat.new.front) }
+    {
+        let told = match self.take(rt, &mut seat.seat) {
+            Ok(told) => told,
+            Err(taken) => {
+                seat.seen = taken;
+                return Err(AllocError);
+            }
+        };
+        match told {
+            SharedTurn::Stepped(n) => {
+                seat.seen = n;
+                seat.mine += 1;
+            }
+            SharedTurn::Idle(n) | SharedTurn::AtLimit(n) => seat.seen = n,
+        }
+        Ok(told)
+    }
+
+    /// The run that the seats came to, from all seats of this kernel in the order of their processors. Each seat's front begins the order of turns, which
+    /// has no more turns of its processor. Order, trace and console log have room for the turns up to `limit`. It takes no memory and waits for
+    /// nobody.
+    pub fn finish(self, seats: Vec<CpuSeat>) -> Finished
+        requires seats { AreCpuSeats self seats.items }
+        ensures finished { IsFinished self.opened.opening.kernel.state (turns result.order.blocks) self.opened.opening.limit result }
+        ensures no_idle { IsFreeOfIdle self.opened.opening.kernel.state (turns result.order.blocks) }
+        ensures ready { IsReady result }
+        ensures room { HasRoom result }
+        ensures fronts { (i : ℕ) (d : SeatView Ran) → i < self.seats → IsFrontOf i (slice_index_or seats.items i d).front (turns result.order.blocks) }
+        ensures processors { AllByRecursion (λ cpu. cpu < self.opened.opening.kernel.state.cpus) (turns result.order.blocks) }
+    {
+        let Shared { lock } = self;
+        let value = lock.close(bare(seats));
+        value.into_run()
+    }
+}

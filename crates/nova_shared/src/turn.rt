@@ -1,0 +1,44 @@
+ghost use Rattle.std.specs.Prelude.{◌≡◌, ◌<◌, length, IfOk, IfErr};
+ghost use Rattle.nova_shared.specs.Told.{IsTold, IsRefused};
+
+use crate::running::Running;
+use nova_lock::LockCall;
+
+/// What came of a turn of a shared kernel.
+#[derive(Clone, Copy, Debug, PartialEq, Eq)]
+pub enum SharedTurn {
+    /// It was taken, and this is its place in the order of all turns, counted from 1.
+    Stepped(u64),
+
+    /// The processor is idle, after so many turns of all processors.
+    Idle(u64),
+
+    /// There were as many turns of all processors as there may be: so many.
+    AtLimit(u64),
+}
+
+/// A use of the lock in which a processor takes a turn.
+#[derive(Clone, Copy)]
+pub struct OneTurn {
+    pub cpu: u32,
+}
+
+impl LockCall<Running> for OneTurn {
+    ghost use Rattle.std.specs.Prelude.{◌≡◌, ◌<◌, length, IfOk, IfErr};
+    ghost use Rattle.nova_shared.specs.Told.{IsTold, IsRefused};
+
+    type Out = Result<SharedTurn, u64>;
+
+    ghost number = { λ t. t.cpu };
+
+    ghost ready = { λ t o h. t.cpu < o.kernel.state.cpus };
+
+    ghost did = { λ o t found left next out. IfOk out (IsTold o.kernel.state o.limit t.cpu found left)
+        × IfErr out (λ taken. (taken ≡ length found) × IsRefused o.kernel.state o.limit t.cpu found left) };
+
+    fn act(&mut self, value: &mut Running) -> Result<SharedTurn, u64> {
+        let out = value.turn(self.cpu);
+        value.count();
+        out
+    }
+}
