@@ -1,23 +1,28 @@
 -- What a turn is for a virtual CPU is an input that the guest alone admits.
 use Rattle.std.proofs.Common.{◌≡◌, ℕ, zero, suc, ◌*◌, ◌^◌, ◌≤◌, ◌+◌, ◌⊎◌, List, [], ◌∷◌, length, take, drop, ◌∙◌, refl, inl, inr, arith}
 use Rattle.std.specs.Prelude.{Bool, true, false, ◌==◌, ◌%◌, IfSome, Option, Some, None, option_and_then, if◌then◌else◌}
+use Rattle.std.specs.List.{All}
 use Rattle.std.proofs.lemmas.List.{length-take-le, length-drop}
+use Rattle.std.proofs.lemmas.List.Elements.{All-cons, All-nil}
 use Rattle.rv_model.specs.Step.{Once, Raised, Went}
 use Rattle.nova_forest.proofs.Allowed.{IsAllowed, deed_allowed}
 use Rattle.nova_forest.proofs.Members.{all_at, in_from_contains}
 use Rattle.nova_guest.specs.Cells.{page_size}
-use Rattle.nova_guest.specs.Conditions.{AreContents, IsInput}
+use Rattle.nova_forest.proofs.Turning.{run_keeps}
+use Rattle.nova_guest.specs.Conditions.{AreContents, IsGuest, IsInput}
 use Rattle.nova_guest.specs.declared.input.Input.{Input}
 use Rattle.nova_guest.specs.declared.input.Input.TheVariants as input_as
 use Rattle.nova_model.specs.AddressSpaces.{space}
-use Rattle.nova_model.specs.Choice.{Candidate, choice}
+use Rattle.nova_model.specs.Boot.{Scenario, boot}
+use Rattle.nova_model.specs.Choice.{Candidate, choice, in_front}
 use Rattle.nova_model.specs.Deeds.{address_space, deed, instruction}
 use Rattle.nova_model.specs.Delegations.{is_memory}
 use Rattle.nova_model.specs.Forest.{IsAligned}
-use Rattle.nova_model.specs.Guests.{input, input_by}
+use Rattle.nova_model.specs.Guests.{input, input_by, inputs}
 use Rattle.nova_model.specs.Inputs.{contents_of, foreign_at, foreign_by, frame_of_store, given_of, input_of, is_covered_for, only_if, others_input, own_input, reply_of, store_of}
 use Rattle.nova_model.specs.State.{KernelState, context, message, pd_of}
-use Rattle.nova_model.specs.Views.{is_memory_of}
+use Rattle.nova_model.specs.Runs.{after, run}
+use Rattle.nova_model.specs.Views.{is_memory_of, view}
 use Rattle.nova_model.specs.declared.context.Mark.TheVariants as mark
 use Rattle.nova_model.specs.declared.deed.Deed.{Deed}
 use Rattle.nova_model.specs.declared.deed.Deed.TheVariants.{Steps, Raises, Dies, Sends, Recalls, Gives, Removes, Finishes, Replies, Aborts}
@@ -27,7 +32,8 @@ use Rattle.std.proofs.lemmas.Bool.{and_parts}
 use Rattle.nova_isolation.specs.Sound.{AreRanges, AreWhole, IsRanged, IsSound}
 use Rattle.nova_isolation.proofs.Exchanges.{all_drop, all_take, length_concat}
 use Rattle.nova_isolation.proofs.Instructions.{IsGood, one_good}
-use Rattle.nova_isolation.proofs.Ranges.{child_ranged, map_ranged}
+use Rattle.nova_isolation.proofs.Ranges.{boot_ranges, child_ranged, map_ranged, turn_ranges, view_guest}
+use Rattle.nova_isolation.proofs.Runs.{boot_sound, reached_sound, turn_sound}
 
 only_admitted : (t : Bool) (i : Input) → IsInput i → IfSome (only_if t i) IsInput
 only_admitted true i is = is
@@ -129,3 +135,24 @@ input_admitted k cpu g sound ranges = by_choice (choice k cpu)
     by_choice : (c : Option Candidate) → IfSome (input_by k g c) IsInput
     by_choice None = tt
     by_choice (Some c) = deed_admitted k c.actor g (deed k c.actor) sound ranges (deed_allowed k c.actor)
+
+-- ALONG A RUN
+
+pub reached_ranges : (s : Scenario) (turns : List ℕ) → s.ram ≤ 14 → s.consoles ≤ 16 → AreRanges (run (boot s) turns)
+reached_ranges s turns frames consoles =
+    (run_keeps (λ (k : KernelState). IsSound k × AreRanges k) (λ k cpu h. (turn_sound k cpu h.0, turn_ranges k cpu h.0 h.1)) (boot s) turns (boot_sound s, boot_ranges s frames consoles)).1
+
+front_admitted : (o : Option Input) (is : List Input) → IfSome o IsInput → All IsInput is → All IsInput (in_front o is)
+front_admitted None is h rest = rest
+front_admitted (Some i) is h rest = All-cons IsInput i is h rest
+
+pub inputs_admitted : (k : KernelState) (turns : List ℕ) (g : ℕ) → IsSound k → AreRanges k → All IsInput (inputs k turns g)
+inputs_admitted k [] g sound ranges = All-nil IsInput
+inputs_admitted k (cpu ∷ turns) g sound ranges =
+    front_admitted (input k cpu g) (inputs (after k cpu) turns g) (input_admitted k cpu g sound ranges) (inputs_admitted (after k cpu) turns g (turn_sound k cpu sound) (turn_ranges k cpu sound ranges))
+
+pub reached_view : (s : Scenario) (turns : List ℕ) (g : ℕ) → s.ram ≤ 14 → s.consoles ≤ 16 → IsGuest (view (run (boot s) turns) g)
+reached_view s turns g frames consoles = view_guest (run (boot s) turns) g (reached_sound s turns) (reached_ranges s turns frames consoles)
+
+pub reached_inputs : (s : Scenario) (turns later : List ℕ) (g : ℕ) → s.ram ≤ 14 → s.consoles ≤ 16 → All IsInput (inputs (run (boot s) turns) later g)
+reached_inputs s turns later g frames consoles = inputs_admitted (run (boot s) turns) later g (reached_sound s turns) (reached_ranges s turns frames consoles)

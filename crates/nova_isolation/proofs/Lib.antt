@@ -1,21 +1,24 @@
-mod Premises
-mod KeyedLaws
-mod Spaces
-mod Seen
-mod Stores
-mod Outputs
-mod OwnTurns
-mod Replies
-mod Exchanges
-mod Removals
-mod OtherTurns
-mod Facts
-mod Turns
-mod Instructions
-mod Sizes
-mod Whole
-mod Runs
-mod Contents
-mod Showing
-mod Ranges
-mod Admitted
+pub mod Premises
+pub mod KeyedLaws
+pub mod Spaces
+pub mod Seen
+pub mod Stores
+pub mod Outputs
+pub mod OwnTurns
+pub mod Replies
+pub mod Exchanges
+pub mod Removals
+pub mod OtherTurns
+pub mod Facts
+pub mod Turns
+pub mod Instructions
+pub mod Sizes
+pub mod Whole
+pub mod Runs
+pub mod Contents
+pub mod Showing
+pub mod Ranges
+pub mod Admitted
+pub mod Admits
+pub mod Masked
+pub mod Shows

@@ -86,7 +86,7 @@ alone_foreign : (v : Guest) (frame offset width value : ℕ) →
 unfolding applied
 alone_foreign v frame offset width value = refl
 
-view_cells : (k : KernelState) (g : ℕ) → (view k g).cells ≡ cells_of (maps_at k g) k.memory.ram
+pub view_cells : (k : KernelState) (g : ℕ) → (view k g).cells ≡ cells_of (maps_at k g) k.memory.ram
 view_cells k g = ap (λ (v : Guest). v.cells) (view_is k g)
 
 -- to a RAM frame
@@ -214,7 +214,7 @@ alone_gives : (v : Guest) (k : KernelState) (d : Derivation) → list_any (overl
 unfolding applied
 alone_gives v k d free = rw free refl
 
-fits_apart : (pd : ℕ) (d : Derivation) (list : List Derivation) → is_memory_of pd d ≡ true →
+pub fits_apart : (pd : ℕ) (d : Derivation) (list : List Derivation) → is_memory_of pd d ≡ true →
     AllByRecursion (λ a. a.pd ≡ d.pd → a.kind ≡ d.kind → AreApart a d) list → AllByRecursion (IsApartFrom pd d) list
 fits_apart pd d list is all =
     all_weaker (λ a. a.pd ≡ d.pd → a.kind ≡ d.kind → AreApart a d) (IsApartFrom pd d) list

@@ -139,7 +139,7 @@ steps k g regs store sound is h alone =
     ∙ (ap (λ (a : AddressSpace). told (guest_of y (maps_at k g) (memory_after a store k.memory).ram) (store_output a k.memory store)) (own_space k g is)
     ∙ (store_self k g y store sound ∙ (sym alone ∙ sym (ap (λ (v : Guest). answered v (Some Own)) (view_is k g))))))
 
-not_thread : (b t : Bool) → t ≡ false → (b && t) ≡ false
+pub not_thread : (b t : Bool) → t ≡ false → (b && t) ≡ false
 not_thread b t h = grind (arith)
 
 once_law : (k : KernelState) (g : ℕ) → HasPremises k → IsGuest k g → (context k g).state ≡ Ready → (context k g).recall ≡ false → (o : Once) →
@@ -307,7 +307,7 @@ pub own_deed : (k : KernelState) (g : ℕ) → IsGuest k g → IsOwn (deed k g)
 unfolding deed
 own_deed k g is = own_in k g is (context k g).state is.runs
 
-own_is : (k : KernelState) (g : ℕ) (d : Deed) → input_of k g g d ≡ own_input d
+pub own_is : (k : KernelState) (g : ℕ) (d : Deed) → input_of k g g d ≡ own_input d
 unfolding input_of
 own_is k g d = rw (eq-eqb g g refl) refl
 

@@ -25,10 +25,10 @@ word_at each n (m ∷ ms) (suc i) d h = word_at each (n + 1) ms i d (omega (arit
 message_part : (m : List ℕ) → length m ≡ 128 → length (take 33 (drop 7 m)) ≡ 33
 message_part m h = length-take-le 33 (drop 7 m) (let e = length-drop 7 m in omega arith)
 
-reply_size : (m : List ℕ) → length m ≡ 128 → length (reply_words m) ≡ 33
+pub reply_size : (m : List ℕ) → length m ≡ 128 → length (reply_words m) ≡ 33
 reply_size m h = length_words (reply_word m) 7 (take 33 (drop 7 m)) ∙ message_part m h
 
-reply_at : (m : List ℕ) (i d : ℕ) → length m ≡ 128 → i < 33 → get_or (reply_words m) i d ≡ reply_word m (7 + i)
+pub reply_at : (m : List ℕ) (i d : ℕ) → length m ≡ 128 → i < 33 → get_or (reply_words m) i d ≡ reply_word m (7 + i)
 reply_at m i d h within = word_at (reply_word m) 7 (take 33 (drop 7 m)) i d (let e = message_part m h in omega arith)
 
 -- registers with a group written
@@ -157,7 +157,7 @@ pc_is m true r is size =
     first_word (reply_word m) 7 (take 33 (drop 7 m)) (omega (arith, message_part m size)) ∙ (rw is refl)
 
 -- a group is named in the reply where it is in the message
-group_kept : (m : List ℕ) (bits : ℕ) → bit_and 14 bits ≡ bits → (bit_and (bit_and (word m 4) 14) bits == bits) ≡ (bit_and (word m 4) bits == bits)
+pub group_kept : (m : List ℕ) (bits : ℕ) → bit_and 14 bits ≡ bits → (bit_and (bit_and (word m 4) 14) bits == bits) ≡ (bit_and (word m 4) bits == bits)
 group_kept m bits h = ap (λ (n : ℕ). n == bits) (and_assoc bits (word m 4) 14 ∙ ap (bit_and (word m 4)) h)
 
 abbrev pc_of : List ℕ → Registers → Registers

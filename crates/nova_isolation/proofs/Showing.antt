@@ -33,7 +33,7 @@ outputs_front v None is = refl
 outputs_front v (Some i) is = refl
 
 -- what a run puts out, after its first turn
-outputs_next : (k : KernelState) (cpu : ℕ) (turns : List ℕ) (g : ℕ) → IsSound k → IsVirtual k g →
+pub outputs_next : (k : KernelState) (cpu : ℕ) (turns : List ℕ) (g : ℕ) → IsSound k → IsVirtual k g →
     outputs (view k g) (inputs k (cpu ∷ turns) g) ≡ out_before (answered (view k g) (input k cpu g)).out (outputs (view (after k cpu) g) (inputs (after k cpu) turns g))
 outputs_next k cpu turns g sound is =
     outputs_front (view k g) (input k cpu g) (inputs (after k cpu) turns g)
@@ -54,7 +54,7 @@ raises_front g (Some e) events = by_raise (raise_of g e) refl
     by_raise None is = rw is refl
     by_raise (Some r) is = rw is refl
 
-exit_shown : (k new : KernelState) (g : ℕ) (s : Option Step) (o : Option Out) → PutsOutIn k new g s o → exit_in o ≡ option_and_then (raise_of g) (option_map (λ t. t.event) s)
+pub exit_shown : (k new : KernelState) (g : ℕ) (s : Option Step) (o : Option Out) → PutsOutIn k new g s o → exit_in o ≡ option_and_then (raise_of g) (option_map (λ t. t.event) s)
 exit_shown k new g None o puts = ap exit_in puts
 exit_shown k new g (Some s) o puts = by_actor (s.event.ec == g) puts
   where
@@ -102,7 +102,7 @@ logged_front : (frames : ℕ) (o : Option Out) (outs : List Out) → logged_in f
 logged_front frames None outs = refl
 logged_front frames (Some o) outs = refl
 
-bytes_shown : (k new : KernelState) (g : ℕ) (s : Option Step) (o : Option Out) → PutsOutIn k new g s o →
+pub bytes_shown : (k new : KernelState) (g : ℕ) (s : Option Step) (o : Option Out) → PutsOutIn k new g s o →
     bytes_in (length k.memory.ram) o ≡ (if acts_in s g then drop (length k.memory.log) new.memory.log else [])
 bytes_shown k new g None o puts = ap (bytes_in (length k.memory.ram)) puts
 bytes_shown k new g (Some s) o puts = by_actor (s.event.ec == g) puts

@@ -84,7 +84,7 @@ quiet k ec g v (Gives child cursor) = quiet_if v (is_memory_of (pd_of k g) child
 quiet k ec g v (Removes leaf) = quiet_if v (is_memory_of (pd_of k g) leaf) (input.Taken leaf.base leaf.order) (quiet_taken v leaf.base leaf.order)
 quiet k ec g v other = refl
 
-other_is : (k : KernelState) (ec g : ℕ) (d : Deed) → ec ≢ g → input_of k ec g d ≡ others_input k ec g d
+pub other_is : (k : KernelState) (ec g : ℕ) (d : Deed) → ec ≢ g → input_of k ec g d ≡ others_input k ec g d
 unfolding input_of
 other_is k ec g d ne = rw (ne_eqb ec g ne) refl
 

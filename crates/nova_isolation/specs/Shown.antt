@@ -1,10 +1,14 @@
 -- What turns show of a virtual CPU: its exits in the trace, and its bytes in the log of the consoles.
-use Rattle.std.specs.Prelude.{ℕ, ◌==◌, Bool, false, List, [], ◌∷◌, ◌++◌, length, drop, Option, Some, None, if◌then◌else◌}
+use Rattle.std.specs.Prelude.{ℕ, ◌+◌, ◌==◌, Bool, true, false, List, [], ◌∷◌, ◌++◌, length, drop, map, Option, Some, None, option_map, option_and_then, if◌then◌else◌}
 use Rattle.std.specs.List.{filter_map}
+use Rattle.nova_guest.specs.declared.guest.GuestState.{GuestState}
+use Rattle.nova_guest.specs.declared.guest.GuestState.TheVariants.{Exit}
 use Rattle.nova_guest.specs.declared.input.Out.{Out}
+use Rattle.nova_guest.specs.declared.input.Out.TheVariants as out
 use Rattle.nova_model.specs.Runs.{after}
 use Rattle.nova_model.specs.State.{KernelState}
 use Rattle.nova_model.specs.Turn.{Step, turn}
+use Rattle.nova_model.specs.Views.{view}
 use Rattle.nova_model.specs.declared.event.Event.{Event}
 use Rattle.nova_model.specs.declared.log.LogByte.{LogByte}
 use Rattle.nova_isolation.specs.Law.{bytes_in, exit_in, raised_by}
@@ -34,3 +38,45 @@ gained_in k cpu g = if acts_in (turn k cpu) g then drop (length k.memory.log) (a
 abbrev pub gained : KernelState → List ℕ → ℕ → List LogByte
 gained k [] g = []
 gained k (cpu ∷ cpus) g = gained_in k cpu g ++ gained (after k cpu) cpus g
+
+-- WITH BOTH QUALIFICATIONS, AND FRAMES
+
+-- the exit that a virtual CPU raises in a turn: reason and first qualification are those of the turn's event, the second is that of its state right after
+abbrev pub second_of : GuestState → ℕ
+second_of (Exit reason q0 q1) = q1
+second_of other = 0
+
+abbrev pub exit_with : ℕ → Option (ℕ × ℕ) → List Out
+exit_with q1 None = []
+exit_with q1 (Some (reason, q0)) = out.Exit reason q0 q1 ∷ []
+
+abbrev pub exit_by : KernelState → ℕ → ℕ → List Out
+exit_by k cpu g = exit_with (second_of (view (after k cpu) g).state) (option_and_then (raise_of g) (option_map (λ s. s.event) (turn k cpu)))
+
+-- the bytes that it stores in a turn: a console's frame is the number of RAM frames, and the console's
+abbrev pub byte_of : ℕ → LogByte → Out
+byte_of frames b = out.Byte (frames + b.console) b.value
+
+abbrev pub bytes_of : ℕ → List LogByte → List Out
+bytes_of frames log = map (byte_of frames) log
+
+-- turns one after another: its exits, and all that it shows
+abbrev pub exits : KernelState → List ℕ → ℕ → List Out
+exits k [] g = []
+exits k (cpu ∷ cpus) g = exit_by k cpu g ++ exits (after k cpu) cpus g
+
+abbrev pub bytes : KernelState → List ℕ → ℕ → List Out
+bytes k turns g = bytes_of (length k.memory.ram) (gained k turns g)
+
+abbrev pub shown : KernelState → List ℕ → ℕ → List Out
+shown k [] g = []
+shown k (cpu ∷ cpus) g = (exit_by k cpu g ++ bytes_of (length k.memory.ram) (gained_in k cpu g)) ++ shown (after k cpu) cpus g
+
+-- outputs of either kind
+abbrev pub is_exit : Out → Bool
+is_exit (out.Exit reason q0 q1) = true
+is_exit (out.Byte frame value) = false
+
+abbrev pub is_byte : Out → Bool
+is_byte (out.Exit reason q0 q1) = false
+is_byte (out.Byte frame value) = true

@@ -2,8 +2,9 @@
 //! functions do nothing: their contracts are the laws.
 #![tactic(auto)]
 
-ghost use Rattle.std.specs.Prelude.{◌≡◌, ◌≢◌, ◌≤◌, ℕ, List, length, IfSome};
+ghost use Rattle.std.specs.Prelude.{◌≡◌, ◌≢◌, ◌≤◌, ℕ, List, length, true, IfSome};
 ghost use Rattle.rv_model.specs.Registers.{Registers};
+ghost use Rattle.nova_guest.specs.Admitted.{admits};
 ghost use Rattle.nova_guest.specs.Alone.{alone, guest_space, outputs, written_back as alone_written_back};
 ghost use Rattle.nova_guest.specs.Conditions.{IsGuest, IsInput};
 ghost use Rattle.nova_utcb.specs.Messages.{written_back};
@@ -16,7 +17,10 @@ ghost use Rattle.nova_model.specs.Runs.{after, run, trace};
 ghost use Rattle.nova_model.specs.State.{KernelState};
 ghost use Rattle.nova_model.specs.Views.{view};
 ghost use Rattle.nova_isolation.specs.Law.{IsGivenAsSeen, IsOneInput, IsOneTurn, IsTakenAsSeen};
-ghost use Rattle.nova_isolation.specs.Shown.{exits_in, gained, logged_in, raises_in};
+ghost use Rattle.std.specs.List.{All, filter};
+ghost use Rattle.nova_isolation.specs.Masked.{IsMasked, IsMaskedIn};
+ghost use Rattle.nova_isolation.specs.Shown.{bytes, exits, exits_in, gained, is_byte, is_exit, logged_in, raises_in, shown};
+ghost use Rattle.nova_isolation.specs.Stretches.{BeginEqual, EndEqual, Stretch};
 ghost use Rattle.nova_isolation.specs.Sound.{AreRanges, IsSound, IsVirtual};
 
 /// What the addresses of a virtual CPU lead to is what its view's maps and cells hold.
@@ -79,6 +83,17 @@ pub fn views_and_inputs_are_admitted()
     ensures inputs { (k : KernelState) (cpu g : ℕ) → IsSound k → AreRanges k → IfSome (input k cpu g) IsInput }
 {}
 
+/// So it is along every list of turns from every boot state of at most 2^14 RAM frames and 16 consoles:
+/// each view is one that the guest alone takes, and each input of a list of turns from there is one that it
+/// takes too, so that a caller may chain them.
+pub fn views_and_inputs_of_runs_are_admitted()
+    ensures ranges { (scenario : Scenario) (turns : List ℕ) → scenario.ram ≤ 14 → scenario.consoles ≤ 16 → AreRanges (run (boot scenario) turns) }
+    ensures views { (scenario : Scenario) (turns : List ℕ) (g : ℕ) → scenario.ram ≤ 14 → scenario.consoles ≤ 16
+        → IsGuest (view (run (boot scenario) turns) g) }
+    ensures inputs { (scenario : Scenario) (turns later : List ℕ) (g : ℕ) → scenario.ram ≤ 14 → scenario.consoles ≤ 16
+        → All IsInput (inputs (run (boot scenario) turns) later g) }
+{}
+
 /// What these laws ask of a state always holds: a kernel begins so, each turn keeps it, so that it holds of
 /// whatever a kernel comes to, and a virtual CPU stays one. Delegations are a sound forest; tables, edges,
 /// callers and virtual CPUs are as turns keep them; and frames have 4,096 bytes, messages 128 words, and
@@ -113,4 +128,41 @@ pub fn equal_inputs_end_equal()
         → view k g ≡ view l h → inputs k turns g ≡ inputs l others h → view (run k turns) g ≡ view (run l others) h }
     ensures exits { (k l : KernelState) (turns others : List ℕ) (g h : ℕ) → IsSound k → IsSound l → IsVirtual k g → IsVirtual l h
         → view k g ≡ view l h → inputs k turns g ≡ inputs l others h → raises_in g (trace k turns) ≡ raises_in h (trace l others) }
+{}
+
+/// What a turn is for a virtual CPU is an input that its state admits, so that an input says no more than
+/// the guest sees. It acts where it is fresh or ready; its exit is sent where it has one, and ends it where
+/// it has one or waits; a reply comes where it waits; a store of another goes to one of its cells; a map that
+/// comes overlaps none that it has; and one that goes is there.
+pub fn an_input_is_one_that_the_guest_admits()
+    ensures { (k : KernelState) (cpu g : ℕ) → IsSound k → IsVirtual k g → IfSome (input k cpu g) (λ i. admits (view k g) i ≡ true) }
+{}
+
+/// A reply tells a guest the groups that it names and nothing else. No group but pc, x1 to x15 and x16 to
+/// x31 is named; there are 33 words, pc, one that is 0, and x1 to x31; and those of a group that isn't named
+/// are 0.
+pub fn a_reply_tells_the_groups_that_it_names_alone()
+    ensures words { (m : List ℕ) → length m ≡ 128 → IsMasked (reply_groups m) (reply_words m) }
+    ensures inputs { (k : KernelState) (cpu g : ℕ) → IsSound k → IfSome (input k cpu g) IsMaskedIn }
+{}
+
+/// What the guest alone puts out over its inputs is, in order, what the turns show of the virtual CPU. Its
+/// exits are those that it raises: reason and first qualification are those of its raise events in the
+/// trace, and the second is that of its state right after that turn. Its bytes are those that its turns
+/// append to the log; the frame of each is the number of RAM frames and the console's number.
+pub fn outputs_are_what_trace_states_and_log_show()
+    ensures all { (k : KernelState) (turns : List ℕ) (g : ℕ) → IsSound k → IsVirtual k g
+        → outputs (view k g) (inputs k turns g) ≡ shown k turns g }
+    ensures raised { (k : KernelState) (turns : List ℕ) (g : ℕ) → IsSound k → IsVirtual k g
+        → filter is_exit (outputs (view k g) (inputs k turns g)) ≡ exits k turns g }
+    ensures stored { (k : KernelState) (turns : List ℕ) (g : ℕ) → IsSound k → IsVirtual k g
+        → filter is_byte (outputs (view k g) (inputs k turns g)) ≡ bytes k turns g }
+{}
+
+/// Take any two boot states, any two lists of turns, a place in each, and a virtual CPU in each, with
+/// equal views at these places and equal inputs from there. Then their views at the ends are equal, and so
+/// is what they put out, with both qualifications and every byte, and what trace, states and log show of
+/// them. Other domains may revoke, delegate, help and store in any way between.
+pub fn two_runs_with_equal_inputs_are_alike()
+    ensures { (a b : Stretch) → BeginEqual a b → EndEqual a b }
 {}

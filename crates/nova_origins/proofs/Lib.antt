@@ -1,0 +1,11 @@
+mod Coming
+mod Reasons
+mod Warrants
+mod Bases
+mod Lists
+mod Actors
+mod Origins
+mod Rights
+mod Births
+mod Lives
+mod Once

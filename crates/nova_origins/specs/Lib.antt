@@ -1,0 +1,5 @@
+pub mod Events
+pub mod Sending
+pub mod Giving
+pub mod Whose
+pub mod Lives
