@@ -1,0 +1,5 @@
+pub mod Renamings
+pub mod Twins
+pub mod Forced
+pub mod Verdicts
+pub mod Walks
