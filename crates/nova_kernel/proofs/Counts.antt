@@ -93,7 +93,7 @@ index-set turns (x ∷ xs) zero (suc n) v new old = omega arith
 index-set turns (x ∷ xs) (suc i) zero v new old = omega arith
 index-set turns (x ∷ xs) (suc i) (suc n) v new old = index-set turns xs i n v new old
 
-IsCharged-paid : (k : KernelState) (cpu sc quantum : ℕ) (o : Option Budget) → budget_at k sc ≡ o → k.turns < 2 ^ 31 → IsToBeCharged k →
+pub IsCharged-paid : (k : KernelState) (cpu sc quantum : ℕ) (o : Option Budget) → budget_at k sc ≡ o → k.turns < 2 ^ 31 → IsToBeCharged k →
     IsCharged (counted (paid_by k sc quantum o) cpu)
 IsCharged-paid k cpu sc quantum None at few c = record {
   turns = omega arith;

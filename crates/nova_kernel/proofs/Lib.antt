@@ -29,3 +29,4 @@ pub mod Ongoing
 pub mod Granted
 pub mod Told
 pub mod Views
+pub mod Bursts

@@ -21,3 +21,4 @@ pub mod Reach
 pub mod Stirs
 pub mod GuestTables
 pub mod Revoking
+pub mod Bursts

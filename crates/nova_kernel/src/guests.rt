@@ -1,7 +1,7 @@
 ghost use Rattle.std.specs.Prelude.{◌≡◌, ◌-◌, ◌+◌, ◌<◌, ◌^◌, [], ◌∷◌, ◌++◌, length, max, slice_get, IfOk, OnOk, OnErr};
 ghost use Rattle.nova_model.specs.State.{entry};
 ghost use Rattle.nova_kernel.specs.Stirs.{count_in};
-ghost use Rattle.nova_kernel.specs.GuestTables.{numbers_from, risen_at};
+ghost use Rattle.nova_kernel.specs.GuestTables.{numbers_from, raised_at, risen_at};
 
 use std::alloc::{AllocError, Global};
 use std::marker::Model;
@@ -111,5 +111,14 @@ impl Guests {
     {
         let Some(count) = self.get(ec) else { return };
         self.counts[ec as usize] = Some(count + 1);
+    }
+
+    /// The count of a virtual CPU rises by so many; nothing changes where none has the number.
+    pub fn raise(&mut self, ec: u32, n: u64)
+        requires { count_in (entry (slice_get self.old.counts ec)) + n < 2 ^ 64 }
+        ensures { self.new ≡ record self.old { counts = raised_at ec n self.old.counts } }
+    {
+        let Some(count) = self.get(ec) else { return };
+        self.counts[ec as usize] = Some(count + n);
     }
 }

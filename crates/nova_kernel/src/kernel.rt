@@ -1,7 +1,8 @@
-ghost use Rattle.std.specs.Prelude.{◌≡◌, ◌+◌, ◌*◌, ◌^◌, ◌<◌, ◌≤◌, ◌-◌, length, slice_get, IfSome, IfOk, OnOk, OnErr, option_map};
+ghost use Rattle.std.specs.Prelude.{◌≡◌, ◌+◌, ◌*◌, ◌^◌, ◌<◌, ◌≤◌, ◌-◌, length, slice_get, Some, IfSome, IfOk, OnOk, OnErr, option_map};
 ghost use Rattle.std.specs.Option.{option_copied};
 ghost use Rattle.nova_model.specs.State.{context_at};
-ghost use Rattle.nova_model.specs.Choice.{choose, is_quiet};
+ghost use Rattle.nova_model.specs.Choice.{choice, choose, is_quiet};
+ghost use Rattle.nova_model.specs.Delegations.{reach};
 ghost use Rattle.nova_model.specs.Turn.{turn, state_after, answer_of};
 ghost use Rattle.nova_model.specs.Boot.{bare, laid};
 ghost use Rattle.nova_model.specs.Forest.{IsForest};
@@ -111,6 +112,32 @@ impl Kernel {
         ensures { result ≡ choose self.now.state cpu }
     {
         self.parts.choose(cpu)
+    }
+
+    /// The execution context that acts in the processor's next turn; none where it is idle.
+    pub fn actor(&self, cpu: u32) -> Option<u32>
+        ensures { result ≡ option_map (λ c. c.actor) (choice self.now.state cpu) }
+    {
+        Some(self.parts.choice(cpu)?.actor)
+    }
+
+    /// The frame that a page of a protection domain leads to, with what is allowed there; none where it
+    /// leads nowhere. The state stays as it was.
+    pub fn reach(&mut self, pd: u32, page: u32) -> Option<(u32, Rights)>
+        ensures page { result ≡ option_map (λ p. (p.frame, p.rights)) (reach self.old.state.delegations.list pd page) }
+        ensures kept { self.new ≡ self.old }
+    {
+        let page = self.parts.reach.page_of(pd, page)?;
+        Some((page.frame, page.rights))
+    }
+
+    /// The 4,096 bytes of a RAM frame.
+    pub fn frame(&self, frame: u32) -> &[u8]
+        requires { frame < length self.now.state.memory.ram }
+        ensures bytes { slice_get self.now.state.memory.ram frame ≡ Some result.now }
+        ensures size { length result.now ≡ 4096 }
+    {
+        self.parts.reach.frames.frame(frame)
     }
 
     /// Whether every processor is idle.

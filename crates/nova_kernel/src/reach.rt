@@ -303,6 +303,15 @@ impl Reach {
         Some(page_in(&derivation, page))
     }
 
+    /// What a page of a protection domain leads to, or nothing.
+    pub fn page_of(&mut self, pd: u32, page: u32) -> Option<Page>
+        ensures page { result ≡ reach self.old.nodes.delegations.list pd page }
+        ensures kept { self.new ≡ record self.old { ec = 0; pd = pd; is_thread = false; written = None } }
+    {
+        self.enter(0, pd, false);
+        self.page_at(page)
+    }
+
     /// The frame that an address leads to, where the right is there.
     fn frame_for(&mut self, right: Rights, address: u32) -> Option<u32>
         ensures frame { result ≡ frame_for (reached self.old) right.0 address }

@@ -168,7 +168,7 @@ adds_holds P lasts k s ec (AddsNone objects budgets next) h = rw (objects, budge
 adds_holds P lasts k s ec (AddsOne made bound objects budgets next) h =
     rw (objects, budgets, next) (lasts.more k.objects k.budgets k.next_stamp made (bound_new k (pd_of k ec) made bound) h)
 
-after_holds : (P : List Object → List (Option Budget) → ℕ → Type 0) → Lasts P → (k : KernelState) (cpu : ℕ) → Holds P k → Holds P (after k cpu)
+pub after_holds : (P : List Object → List (Option Budget) → ℕ → Type 0) → Lasts P → (k : KernelState) (cpu : ℕ) → Holds P k → Holds P (after k cpu)
 after_holds P lasts k cpu h = by_turn (after k cpu) (comes k cpu)
   where
     by_turn : (s : KernelState) → Comes k s cpu → Holds P s

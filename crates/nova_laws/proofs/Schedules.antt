@@ -95,7 +95,7 @@ more_alone os bs next made fresh h = record { one = one; schedulable = schedulab
     schedulable : (ec n : ℕ) → IsOf (os ++ object_of made ∷ []) (schedules ec) n → IsOf (os ++ object_of made ∷ []) is_schedulable ec
     schedulable ec n is = still_of os (object_of made) is_schedulable ec (may ec n (was_of os (object_of made) (schedules ec) n is))
 
-alone_lasts : Lasts AreAlone
+pub alone_lasts : Lasts AreAlone
 alone_lasts = record {
   more = λ os bs next made fresh h. more_alone os bs next made fresh h;
   pays = λ os bs next sc ec cpu priority quantum b object there h. record { one = h.one; schedulable = h.schedulable };
@@ -107,7 +107,7 @@ root_alone s ec (suc zero) is = absurd (cc)
 root_alone s ec (suc (suc zero)) is = let same : (1 == ec) ≡ true = cc in (refl, sym (eqb-true 1 ec same))
 root_alone s ec (suc (suc (suc n))) is = absurd (cc)
 
-run_alone : (s : Scenario) (turns : List ℕ) → AreAlone (run (boot s) turns).objects (run (boot s) turns).budgets (run (boot s) turns).next_stamp
+pub run_alone : (s : Scenario) (turns : List ℕ) → AreAlone (run (boot s) turns).objects (run (boot s) turns).budgets (run (boot s) turns).next_stamp
 run_alone s turns = boot_run_holds AreAlone alone_lasts s turns (record {
   one = λ ec m n first second. (root_alone s ec m first).0 ∙ sym (root_alone s ec n second).0;
   schedulable = λ ec n is. subst (IsOf (bare s.cpus s.ram s.consoles s.root).objects is_schedulable) (sym (root_alone s ec n is).1) refl;

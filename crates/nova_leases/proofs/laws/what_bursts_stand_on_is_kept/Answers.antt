@@ -1,0 +1,8 @@
+use Rattle.nova_leases.proofs.Committed.{boot_reached, turn_reached}
+use Rattle.nova_leases.proofs.laws.what_bursts_stand_on_is_kept.Goals as goal
+
+pub returns-clause-begins : goal.returns-clause-begins
+returns-clause-begins c = boot_reached
+
+pub returns-clause-turns : goal.returns-clause-turns
+returns-clause-turns c = turn_reached

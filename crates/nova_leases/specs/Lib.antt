@@ -1,0 +1,7 @@
+pub mod Advances
+pub mod Leases
+pub mod Counts
+pub mod Paging
+pub mod Aims
+pub mod Commits
+pub mod Stops
