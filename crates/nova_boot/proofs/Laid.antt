@@ -64,6 +64,15 @@ unfolding put
 byte-put_other leaves m a b other whole below ne =
     leaves m (a / 4096) (a % 4096) 1 b (other / 4096) (other % 4096) 1 whole (omega arith) (omega arith) (apart a other ne)
 
+-- laying keeps the frames whole, and their number
+pub laid_whole : (m : Memory) (address : ℕ) (bytes : List ℕ) → AreWhole m.ram → address + length bytes ≤ 4096 * length m.ram → (AreWhole (laid m address bytes).ram) × (length (laid m address bytes).ram ≡ length m.ram)
+unfolding put
+laid_whole m address [] whole fits = (whole, refl)
+laid_whole m address (b ∷ bs) whole fits =
+    let one = ram-put m address b whole (omega arith) in
+    let rest = laid_whole (put m address b) (address + 1) bs one.0 (let same = one.1 in omega arith) in
+    (rest.0, rest.1 ∙ one.1)
+
 -- one after another
 
 pub laid_there : GivesStored → LeavesOthers → (m : Memory) (address : ℕ) (bytes : List ℕ) → AreWhole m.ram → address + length bytes ≤ 4096 * length m.ram → IsLaid m address bytes (laid m address bytes)

@@ -3,7 +3,10 @@ pub mod Cuts
 pub mod Faults
 pub mod HexLemmas
 pub mod AsmLemmas
+pub mod ElfLemmas
 pub mod LineNumbers
 pub mod BlockLemmas
+pub mod SoundSettings
 pub mod SoundLemmas
+pub mod LaidLemmas
 pub mod MemoryApart

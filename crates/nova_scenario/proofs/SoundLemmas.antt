@@ -1,132 +1,47 @@
 -- Every scenario is sound: each definition keeps it.
-use Rattle.std.proofs.Common.{◌≡◌, ℕ, ◌^◌, ◌%◌, ◌<◌, ◌≤◌, ◌==◌, Bool, true, false, not, ◌&&◌, ◌||◌, List, [], ◌∷◌, ◌++◌, Option, Some, None, Result, Ok, Err, refl, ap, subst, arith}
-use Rattle.std.specs.Prelude.{nat_le, nat_lt, IfSome, option_map}
+use Rattle.std.proofs.Common.{◌≡◌, ℕ, ◌+◌, ◌-◌, ◌≤◌, Bool, true, false, not, ◌||◌, List, [], ◌∷◌, ◌++◌, Option, Some, None, Result, Ok, Err, map, length, drop, replicate, slice_range, refl, sym, subst, arith}
+use Rattle.std.specs.Prelude.{codes, nat_lt, IfSome, option_map, if◌then◌else◌}
+use Rattle.std.specs.Str.{bytes_eq}
+use Rattle.std.proofs.lemmas.List.{length-append, length-take, length-replicate}
 use Rattle.std.specs.List.{AllByRecursion, list_any}
 use Rattle.std.specs.Option.{option_and_then}
 use Rattle.std.proofs.lemmas.Bool.Decides.{nat_tests}
 use Rattle.nova_text.specs.Bytes.{has_forbidden}
 use Rattle.nova_text.specs.Line.{Row, lines}
-use Rattle.nova_text.specs.Number.{number, u32_of}
+use Rattle.nova_text.specs.Number.{number}
 use Rattle.nova_text.specs.Piece.{Piece}
 use Rattle.nova_text.specs.Token.{tokens}
-use Rattle.nova_scenario.specs.Fault.{At, and_then, on_line}
-use Rattle.nova_scenario.specs.Images.{Draft, empty, end_of, shares, is_word_address, address_in, begun, with_image}
+use Rattle.nova_scenario.specs.Fault.{and_then, on_line}
+use Rattle.nova_scenario.specs.Images.{Draft, empty, end_of, shares, begun, with_apart, with_image}
 use Rattle.nova_scenario.specs.Items.{Block, Item, FaultyLine, SettingLine, ImageBlock, is_end, item_before, items}
-use Rattle.nova_scenario.specs.Scenario.{ended, with_block, with_settings, with_item, whole, finished, or_missing, read_items, scenario}
-use Rattle.nova_scenario.specs.Settings.{within, aligned, root_of, set_once, put, with_setting, is_whole, frames_size, ram_size}
+use Rattle.nova_scenario.specs.Scenario.{block_bytes, with_bytes, ended, with_block, with_item, with_pc, whole, finished, or_missing, read_items, scenario}
+use Rattle.nova_scenario.specs.Segments.{with_images, with_segments, with_settings, with_program, executable, with_executable, segment_image, reaches_past}
+use Rattle.nova_scenario.specs.Settings.{within, entered, with_setting, frames_size, ram_size}
 use Rattle.nova_scenario.specs.Sound.{IsIn, ShareNone, AreApart, IsSound}
-use Rattle.nova_scenario.specs.Statement.{kept, number_of, one_number, root_of as root_line, four_numbers, address_and_form, keyword_named, statement_of, said_by, said_in, said}
-use Rattle.nova_scenario.specs.Words.{block_words, in_bytes}
+use Rattle.nova_scenario.specs.Statement.{number_of, one_number, root_of as root_line, start_of, start_and_numbers, address_and_form, keyword_named, statement_of, said_by, said_in, said}
+use Rattle.nova_elf.specs.Executable.{program}
+use Rattle.nova_elf.specs.Fits.{Fits}
+use Rattle.nova_elf.specs.declared.fault.ElfFault.{ElfFault}
+use Rattle.nova_elf.specs.declared.program.Program.{Program}
+use Rattle.nova_elf.specs.declared.program.Segment.{Segment}
+use Rattle.nova_elf.proofs.ReadLemmas.{program_fits}
 use Rattle.nova_scenario.specs.declared.fault.Why.{Why}
-use Rattle.nova_scenario.specs.declared.fault.Why.TheVariants.{Missing, Range, Overlap}
+use Rattle.nova_scenario.specs.declared.fault.Why.TheVariants.{Range, Overlap}
 use Rattle.nova_scenario.specs.declared.image.Image.{Image}
 use Rattle.nova_scenario.specs.declared.scenario.Scenario.{Scenario}
 use Rattle.nova_scenario.specs.declared.settings.Root.{Root}
 use Rattle.nova_scenario.specs.declared.settings.Settings.{Settings}
+use Rattle.nova_scenario.specs.declared.statement.Form.{Form}
+use Rattle.nova_scenario.specs.declared.statement.Form.TheVariants as form
 use Rattle.nova_scenario.specs.declared.statement.Head.{Head}
 use Rattle.nova_scenario.specs.declared.statement.Keyword.{Keyword}
 use Rattle.nova_scenario.specs.declared.statement.Keyword.TheVariants as keyword
-use Rattle.nova_scenario.specs.declared.statement.Setting.{Setting}
-use Rattle.nova_scenario.specs.declared.statement.Setting.TheVariants.{Cpus, Ram, Consoles, Root as RootLine}
+use Rattle.nova_scenario.specs.declared.statement.Setting.TheVariants.{Cpus, Ram, Consoles}
+use Rattle.nova_scenario.specs.declared.statement.Start.{Start}
+use Rattle.nova_scenario.specs.declared.statement.Start.TheVariants.{Address, Entry}
 use Rattle.nova_scenario.specs.declared.statement.Statement.{Statement}
 use Rattle.nova_scenario.specs.declared.statement.Statement.TheVariants.{Sets, Begins}
-
--- the numbers of a line are below 2 ^ 32
-abbrev IsWord : ℕ → Type 0
-IsWord n = n < 2 ^ 32
-
-abbrev HasWords : Setting → Type 0
-HasWords (Cpus n) = Unit {0}
-HasWords (Ram m) = Unit {0}
-HasWords (Consoles c) = Unit {0}
-HasWords (RootLine pc sp priority quantum) = IfSome pc IsWord × IfSome sp IsWord
-
-word_kept : (o : Option ℕ) → IfSome (kept (u32_of o)) (λ n. IfSome n IsWord)
-word_kept None = tt
-word_kept (Some n) = go (nat_lt n (2 ^ 32)) refl where
-  go : (b : Bool) → nat_lt n (2 ^ 32) ≡ b → IfSome (kept (u32_of (Some n))) (λ n. IfSome n IsWord)
-  go true is = rw is (grind (arith, nat_tests))
-  go false is = rw is tt
-
--- what is set is in its range
-record IsSoundRoot (root : Root) : Type 0 where
-  pc_aligned : root.pc % 4 ≡ 0
-  pc : root.pc < 2 ^ 32
-  sp : root.sp < 2 ^ 32
-  priority : root.priority < 256
-  some_turn : 1 ≤ root.quantum
-  quantum : root.quantum < 2 ^ 24
-
-record AreSound (s : Settings) : Type 0 where
-  cpus : IfSome s.cpus (λ n. (1 ≤ n) × (n ≤ 8))
-  ram : IfSome s.ram (λ m. m ≤ 14)
-  consoles : IfSome s.consoles (λ c. c ≤ 16)
-  root : IfSome s.root IsSoundRoot
-
-within-range : (low high : ℕ) (o : Option ℕ) → IfSome (within low high o) (λ n. (low ≤ n) × (n ≤ high))
-within-range low high None = tt
-within-range low high (Some n) = go (nat_le low n && nat_le n high) refl where
-  go : (b : Bool) → (nat_le low n && nat_le n high) ≡ b → IfSome (within low high (Some n)) (λ n. (low ≤ n) × (n ≤ high))
-  go true is = rw is (grind (arith, nat_tests), grind (arith, nat_tests))
-  go false is = rw is tt
-
-aligned-range : (o : Option ℕ) → IfSome o IsWord → IfSome (aligned o) (λ n. (n % 4 ≡ 0) × IsWord n)
-aligned-range None word = tt
-aligned-range (Some n) word = go (n % 4 == 0) refl where
-  go : (b : Bool) → (n % 4 == 0) ≡ b → IfSome (aligned (Some n)) (λ n. (n % 4 ≡ 0) × IsWord n)
-  go true is = rw is (grind (arith, nat_tests), word)
-  go false is = rw is tt
-
-root-sound : (pc sp priority quantum : Option ℕ) → IfSome pc (λ n. (n % 4 ≡ 0) × IsWord n) → IfSome sp IsWord → IfSome priority (λ n. (0 ≤ n) × (n ≤ 255)) → IfSome quantum (λ n. (1 ≤ n) × (n ≤ 16777215)) → IfSome (root_of pc sp priority quantum) IsSoundRoot
-root-sound (Some pc) (Some sp) (Some priority) (Some quantum) p s r q = record {
-  pc_aligned = p.0;
-  pc = p.1;
-  sp = s;
-  priority = omega arith;
-  some_turn = q.0;
-  quantum = omega arith;
-}
-root-sound None _ _ _ p s r q = tt
-root-sound (Some pc) None _ _ p s r q = tt
-root-sound (Some pc) (Some sp) None _ p s r q = tt
-root-sound (Some pc) (Some sp) (Some priority) None p s r q = tt
-
--- a setting keeps what is set sound, and RAM no smaller
-record Keeps (s t : Settings) : Type 0 where
-  sound : AreSound t
-  more : ram_size s ≤ ram_size t
-
-once-new : {A : Type 0} (old new : Option A) (x : A) → set_once old new ≡ Ok x → (old ≡ None) × (new ≡ Some x)
-once-new (Some old) new x is = cc
-once-new None None x is = cc
-once-new None (Some new) x is = (refl, cc)
-
-put-new : {A : Type 0} (with_new : A → Settings) (r : Result A Why) (t : Settings) → put with_new r ≡ Ok t → (x : A) × (r ≡ Ok x) × (t ≡ with_new x)
-put-new with_new (Ok x) t is = (x, refl, cc)
-put-new with_new (Err why) t is = cc
-
-setting_kept : (s t : Settings) (setting : Setting) → AreSound s → HasWords setting → with_setting s setting ≡ Ok t → Keeps s t
-setting_kept s t (Cpus n) sound words is =
-    let p = put-new _ _ t is in
-    let q = once-new s.cpus (within 1 8 n) p.0 p.1 in
-    let range = subst (λ o. IfSome o (λ n. (1 ≤ n) × (n ≤ 8))) q.1 (within-range 1 8 n) in
-    rw p.2 (record { sound = record { cpus = range; ram = sound.ram; consoles = sound.consoles; root = sound.root }; more = omega arith })
-setting_kept s t (Ram m) sound words is =
-    let p = put-new _ _ t is in
-    let q = once-new s.ram (within 0 14 m) p.0 p.1 in
-    let range = subst (λ o. IfSome o (λ n. (0 ≤ n) × (n ≤ 14))) q.1 (within-range 0 14 m) in
-    let none : ram_size s ≡ 0 = ap frames_size q.0 in
-    rw p.2 (record { sound = record { cpus = sound.cpus; ram = range.1; consoles = sound.consoles; root = sound.root }; more = omega arith })
-setting_kept s t (Consoles c) sound words is =
-    let p = put-new _ _ t is in
-    let q = once-new s.consoles (within 0 16 c) p.0 p.1 in
-    let range = subst (λ o. IfSome o (λ n. (0 ≤ n) × (n ≤ 16))) q.1 (within-range 0 16 c) in
-    rw p.2 (record { sound = record { cpus = sound.cpus; ram = sound.ram; consoles = range.1; root = sound.root }; more = omega arith })
-setting_kept s t (RootLine pc sp priority quantum) sound words is =
-    let p = put-new _ _ t is in
-    let q = once-new s.root (root_of (aligned pc) sp (within 0 255 priority) (within 1 16777215 quantum)) p.0 p.1 in
-    let range = subst (λ o. IfSome o IsSoundRoot) q.1 (root-sound (aligned pc) sp (within 0 255 priority) (within 1 16777215 quantum) (aligned-range pc words.0) words.1 (within-range 0 255 priority) (within-range 1 16777215 quantum)) in
-    rw p.2 (record { sound = record { cpus = sound.cpus; ram = sound.ram; consoles = sound.consoles; root = range }; more = omega arith })
+use Rattle.nova_scenario.proofs.SoundSettings.{IsWord, StartIsWord, HasWords, word_kept, IsPc, IsSoundRoot, AreSound, setting_kept, entered_kept}
 
 -- the images lie in RAM and apart from each other
 record IsSoundDraft (d : Draft) : Type 0 where
@@ -137,7 +52,7 @@ record IsSoundDraft (d : Draft) : Type 0 where
 lie_in_more : (ram more : ℕ) (images : List Image) → ram ≤ more → AllByRecursion (IsIn ram) images → AllByRecursion (IsIn more) images
 lie_in_more ram more [] le all = tt
 lie_in_more ram more (image ∷ images) le all =
-    (record { aligned = all.0.aligned; within = let w = all.0.within in omega arith }, lie_in_more ram more images le all.1)
+    (record { within = let w = all.0.within in omega arith }, lie_in_more ram more images le all.1)
 
 -- no shared byte
 share_none : (a b : Image) → shares b a ≡ false → ShareNone a b
@@ -157,63 +72,109 @@ apart_push (first ∷ images) image apart none =
     let both = or_false (shares image first) (list_any (shares image) images) none in
     (all_push (ShareNone first) images image apart.0 (share_none first image both.0), apart_push images image apart.1 both.1)
 
-image_kept : (d e : Draft) (image : Image) → IsSoundDraft d → image.address % 4 ≡ 0 → with_image d image ≡ Ok e → IsSoundDraft e
-image_kept d e image sound aligned is = go (nat_lt (ram_size d.settings) (end_of image)) (list_any (shares image) d.images) refl refl where
-  go : (past meets : Bool) → nat_lt (ram_size d.settings) (end_of image) ≡ past → list_any (shares image) d.images ≡ meets → IsSoundDraft e
-  go true meets p m = let same : Err Range ≡ Ok e = rw p at is in cc
-  go false true p m = let same : Err Overlap ≡ Ok e = rw (p, m) at is in cc
-  go false false p m =
-      let same : Ok (record d { images = d.images ++ image ∷ [] }) ≡ Ok e = rw (p, m) at is in
-      let e_is : e ≡ record d { images = d.images ++ image ∷ [] } = cc in
-      let within : end_of image ≤ ram_size d.settings = grind (arith, nat_tests) in
-      let added : IsSoundDraft (record d { images = d.images ++ image ∷ [] }) = record {
-        settings = sound.settings;
-        images = all_push (IsIn (ram_size d.settings)) d.images image sound.images (record { aligned = aligned; within = within });
-        apart = apart_push d.images image sound.apart m;
-      } in
-      rw e_is added
-
 -- what came of steps that all succeeded
-and_then-ok : {A B : Type 0} (r : Result A At) (next : A → Result B At) (y : B) → and_then r next ≡ Ok y → (x : A) × (r ≡ Ok x) × (next x ≡ Ok y)
+pub and_then-ok : {A B E : Type 0} (r : Result A E) (next : A → Result B E) (y : B) → and_then r next ≡ Ok y → (x : A) × (r ≡ Ok x) × (next x ≡ Ok y)
 and_then-ok (Ok x) next y is = (x, refl, is)
 and_then-ok (Err fault) next y is = cc
 
-on_line-ok : {A : Type 0} (line : ℕ) (r : Result A Why) (x : A) → on_line line r ≡ Ok x → r ≡ Ok x
+pub on_line-ok : {A : Type 0} (line : ℕ) (r : Result A Why) (x : A) → on_line line r ≡ Ok x → r ≡ Ok x
 on_line-ok line (Ok y) x is = cc
 on_line-ok line (Err why) x is = cc
 
-address-aligned : (ram : ℕ) (o : Option ℕ) (address : ℕ) → address_in ram o ≡ Ok address → address % 4 ≡ 0
-address-aligned ram None address is = cc
-address-aligned ram (Some n) address is = go (is_word_address ram n) refl where
-  go : (b : Bool) → is_word_address ram n ≡ b → address % 4 ≡ 0
-  go true t = let same : Ok n ≡ Ok address = rw t at is in let n_is : n ≡ address = cc in grind (arith, nat_tests)
-  go false t = let same : Err Range ≡ Ok address = rw t at is in cc
+pub settings-ok : (d e : Draft) (r : Result Settings Why) → with_settings d r ≡ Ok e → (t : Settings) × (r ≡ Ok t) × (e ≡ record d { settings = t })
+settings-ok d e (Ok t) is = (t, refl, cc)
+settings-ok d e (Err why) is = cc
 
-begun-aligned : (s : Settings) (o : Option ℕ) (address : ℕ) → begun s o ≡ Ok address → address % 4 ≡ 0
-begun-aligned s o address is = go (is_whole s) refl where
-  go : (b : Bool) → is_whole s ≡ b → address % 4 ≡ 0
-  go true t = address-aligned (ram_size s) o address (rw t at is)
-  go false t = let same : Err Missing ≡ Ok address = rw t at is in cc
+-- a further image keeps the draft sound, and what is set
+apart_kept : (d e : Draft) (image : Image) → IsSoundDraft d → end_of image ≤ ram_size d.settings → with_apart d image ≡ Ok e → IsSoundDraft e × (e.settings ≡ d.settings)
+apart_kept d e image sound within is = go (list_any (shares image) d.images) refl where
+  go : (meets : Bool) → list_any (shares image) d.images ≡ meets → IsSoundDraft e × (e.settings ≡ d.settings)
+  go true m = let same : Err Overlap ≡ Ok e = rw m at is in cc
+  go false m =
+      let same : Ok (record d { images = d.images ++ image ∷ [] }) ≡ Ok e = rw m at is in
+      let e_is : e ≡ record d { images = d.images ++ image ∷ [] } = cc in
+      let added : IsSoundDraft (record d { images = d.images ++ image ∷ [] }) = record {
+        settings = sound.settings;
+        images = all_push (IsIn (ram_size d.settings)) d.images image sound.images (record { within = within });
+        apart = apart_push d.images image sound.apart m;
+      } in
+      rw e_is (added, refl)
 
-ended-ok : (bytes : List ℕ) (d e : Draft) (end : Option Row) (image : Image) → ended bytes d end image ≡ Ok e → with_image d image ≡ Ok e
-ended-ok bytes d e None image is = cc
-ended-ok bytes d e (Some row) image is = on_line-ok row.number _ e is
+image_kept : (d e : Draft) (image : Image) → IsSoundDraft d → with_image d image ≡ Ok e → IsSoundDraft e
+image_kept d e image sound is = go (nat_lt (ram_size d.settings) (end_of image)) refl where
+  go : (past : Bool) → nat_lt (ram_size d.settings) (end_of image) ≡ past → IsSoundDraft e
+  go true p = let same : Err Range ≡ Ok e = rw p at is in cc
+  go false p =
+      let within : end_of image ≤ ram_size d.settings = grind (arith, nat_tests) in
+      let added : with_apart d image ≡ Ok e = rw p at is in
+      (apart_kept d e image sound within added).0
+
+-- so do images that each end in RAM
+images_kept : (d e : Draft) (images : List Image) → IsSoundDraft d → AllByRecursion (λ image. end_of image ≤ ram_size d.settings) images → with_images d images ≡ Ok e → IsSoundDraft e
+images_kept d e [] sound all is = let e_is : e ≡ d = cc in rw e_is sound
+images_kept d e (image ∷ images) sound all is =
+    let a = and_then-ok (with_apart d image) (λ next. with_images next images) e is in
+    let k = apart_kept d a.0 image sound all.0 a.1 in
+    images_kept a.0 e images k.0 (subst (λ s. AllByRecursion (λ i. end_of i ≤ ram_size s) images) (sym k.1) all.1) a.2
+
+-- the segments of an executable end in RAM
+segment_size : (file : List ℕ) (address : ℕ) (s : Segment) → Fits (length file) s → length (segment_image address file s).bytes ≤ s.memory
+segment_size file address s fits =
+    let room = fits.room in
+    let laid : List ℕ = slice_range file s.offset (s.offset + s.file) in
+    let none : ℕ = 0 in
+    let zeros : List ℕ = replicate (s.memory - s.file) none in
+    let count : (s.offset + s.file) - s.offset ≡ s.file = omega arith in
+    omega (arith, length-append laid zeros, length-take ((s.offset + s.file) - s.offset) (drop s.offset file), length-replicate (s.memory - s.file) none)
+
+segments_within : (ram address : ℕ) (file : List ℕ) (segments : List Segment) → AllByRecursion (Fits (length file)) segments → list_any (reaches_past ram address) segments ≡ false → AllByRecursion (λ image. end_of image ≤ ram) (map (segment_image address file) segments)
+segments_within ram address file [] fit none = tt
+segments_within ram address file (s ∷ segments) fit none =
+    let both = or_false (reaches_past ram address s) (list_any (reaches_past ram address) segments) none in
+    let size = segment_size file address s fit.0 in
+    let ends : address + s.address + s.memory ≤ ram = let h = both.0 in grind (arith, nat_tests) in
+    (omega arith, segments_within ram address file segments fit.1 both.1)
+
+segments_kept : (d e : Draft) (address : ℕ) (file : List ℕ) (segments : List Segment) → IsSoundDraft d → AllByRecursion (Fits (length file)) segments → with_segments address file segments d ≡ Ok e → IsSoundDraft e
+segments_kept d e address file segments sound fit is = go (list_any (reaches_past (ram_size d.settings) address) segments) refl where
+  go : (past : Bool) → list_any (reaches_past (ram_size d.settings) address) segments ≡ past → IsSoundDraft e
+  go true p = let same : Err Range ≡ Ok e = rw p at is in cc
+  go false p = images_kept d e (map (segment_image address file) segments) sound (segments_within (ram_size d.settings) address file segments fit p) (rw p at is)
+
+pub executable-ok : (r : Result Program ElfFault) (p : Program) → executable r ≡ Ok p → r ≡ Ok p
+executable-ok (Ok q) p is = cc
+executable-ok (Err fault) p is = cc
+
+executable_kept : (d e : Draft) (address : ℕ) (file : List ℕ) → IsSoundDraft d → with_executable d address file ≡ Ok e → IsSoundDraft e
+executable_kept d e address file sound is =
+    let a = and_then-ok (executable (program file)) (λ p. with_program d address file p) e is in
+    let fit = program_fits file a.0 (executable-ok (program file) a.0 a.1) in
+    let b = and_then-ok (with_settings d (entered d.settings d.settings.root (address + a.0.entry))) (with_segments address file a.0.segments) e a.2 in
+    let s = settings-ok d b.0 (entered d.settings d.settings.root (address + a.0.entry)) b.1 in
+    let k = entered_kept d.settings s.0 d.settings.root (address + a.0.entry) refl sound.settings s.1 in
+    let new : IsSoundDraft (record d { settings = s.0 }) = record { settings = k.0; images = rw k.1 sound.images; apart = sound.apart } in
+    segments_kept b.0 e address file a.0.segments (rw s.2 new) fit b.2
+
+bytes_kept : (d e : Draft) (f : Form) (address : ℕ) (bytes : List ℕ) → IsSoundDraft d → with_bytes f d address bytes ≡ Ok e → IsSoundDraft e
+bytes_kept d e form.Hex address bytes sound is = image_kept d e _ sound is
+bytes_kept d e form.Asm address bytes sound is = image_kept d e _ sound is
+bytes_kept d e form.Elf address bytes sound is = executable_kept d e address bytes sound is
+
+pub ended-ok : (bytes : List ℕ) (e : Draft) (end : Option Row) (laid : Result Draft Why) → ended bytes end laid ≡ Ok e → laid ≡ Ok e
+ended-ok bytes e None laid is = cc
+ended-ok bytes e (Some row) laid is = on_line-ok row.number laid e is
 
 block_kept : (bytes : List ℕ) (d e : Draft) (head : Head) (block : Block) → IsSoundDraft d → with_block bytes d head block ≡ Ok e → IsSoundDraft e
 block_kept bytes d e head block sound is =
-    let a = and_then-ok _ _ e is in
-    let b = and_then-ok (in_bytes (block_words bytes block head.form)) (λ image_bytes. ended bytes d block.end (record { address = a.0; bytes = image_bytes })) e a.2 in
-    image_kept d e (record { address = a.0; bytes = b.0 }) sound (begun-aligned d.settings head.address a.0 (on_line-ok block.first.number _ a.0 a.1)) (ended-ok bytes d e block.end _ b.2)
+    let a = and_then-ok (on_line block.first.number (begun d.settings head.address)) (λ address. and_then {B = Draft} (block_bytes bytes block head.form) (λ image_bytes. ended bytes block.end (with_bytes head.form d address image_bytes))) e is in
+    let b = and_then-ok (block_bytes bytes block head.form) (λ image_bytes. ended bytes block.end (with_bytes head.form d a.0 image_bytes)) e a.2 in
+    bytes_kept d e head.form a.0 b.0 sound (ended-ok bytes e block.end _ b.2)
 
 -- the numbers of each item are those of a line
 abbrev ItemHasWords : Item → Type 0
 ItemHasWords (FaultyLine line why) = Unit {0}
 ItemHasWords (SettingLine line setting) = HasWords setting
 ItemHasWords (ImageBlock head block) = Unit {0}
-
-settings-ok : (d e : Draft) (r : Result Settings Why) → with_settings d r ≡ Ok e → (t : Settings) × (r ≡ Ok t) × (e ≡ record d { settings = t })
-settings-ok d e (Ok t) is = (t, refl, cc)
-settings-ok d e (Err why) is = cc
 
 item_kept : (bytes : List ℕ) (d e : Draft) (item : Item) → IsSoundDraft d → ItemHasWords item → with_item bytes d item ≡ Ok e → IsSoundDraft e
 item_kept bytes d e (FaultyLine line why) sound words is = cc
@@ -225,15 +186,16 @@ item_kept bytes d e (SettingLine line setting) sound words is =
 item_kept bytes d e (ImageBlock head block) sound words is = block_kept bytes d e head block sound is
 
 -- a scenario is what a sound draft comes to
-whole-sound : (cpus ram consoles : Option ℕ) (root : Option Root) (images : List Image) → IfSome cpus (λ n. (1 ≤ n) × (n ≤ 8)) → IfSome ram (λ m. m ≤ 14) → IfSome consoles (λ c. c ≤ 16) → IfSome root IsSoundRoot
-    → AllByRecursion (IsIn (frames_size ram)) images → AreApart images → IfSome (whole cpus ram consoles root images) IsSound
-whole-sound (Some cpus) (Some ram) (Some consoles) (Some root) images p m c r lie apart = record {
+pc-known : (cpus ram consoles : ℕ) (root : Root) (pc : Option ℕ) (images : List Image) → root.pc ≡ pc → (1 ≤ cpus) × (cpus ≤ 8) → ram ≤ 14 → consoles ≤ 16 → IsSoundRoot root
+    → AllByRecursion (IsIn (frames_size (Some ram))) images → AreApart images → IfSome (with_pc cpus ram consoles root pc images) IsSound
+pc-known cpus ram consoles root None images at p m c r lie apart = tt
+pc-known cpus ram consoles root (Some pc) images at p m c r lie apart = let here = subst (λ o. IfSome o IsPc) at r.pc in record {
   some_cpu = p.0;
   cpus = p.1;
   ram = m;
   consoles = c;
-  pc_aligned = r.pc_aligned;
-  pc = r.pc;
+  pc_aligned = here.0;
+  pc = here.1;
   sp = r.sp;
   priority = r.priority;
   some_turn = r.some_turn;
@@ -241,12 +203,16 @@ whole-sound (Some cpus) (Some ram) (Some consoles) (Some root) images p m c r li
   images = lie;
   apart = apart;
 }
+
+whole-sound : (cpus ram consoles : Option ℕ) (root : Option Root) (images : List Image) → IfSome cpus (λ n. (1 ≤ n) × (n ≤ 8)) → IfSome ram (λ m. m ≤ 14) → IfSome consoles (λ c. c ≤ 16) → IfSome root IsSoundRoot
+    → AllByRecursion (IsIn (frames_size ram)) images → AreApart images → IfSome (whole cpus ram consoles root images) IsSound
+whole-sound (Some cpus) (Some ram) (Some consoles) (Some root) images p m c r lie apart = pc-known cpus ram consoles root root.pc images refl p m c r lie apart
 whole-sound None _ _ _ images p m c r lie apart = tt
 whole-sound (Some cpus) None _ _ images p m c r lie apart = tt
 whole-sound (Some cpus) (Some ram) None _ images p m c r lie apart = tt
 whole-sound (Some cpus) (Some ram) (Some consoles) None images p m c r lie apart = tt
 
-or_missing-ok : (bytes : List ℕ) (o : Option Scenario) (s : Scenario) → or_missing bytes o ≡ Ok s → o ≡ Some s
+pub or_missing-ok : (bytes : List ℕ) (o : Option Scenario) (s : Scenario) → or_missing bytes o ≡ Ok s → o ≡ Some s
 or_missing-ok bytes None s is = cc
 or_missing-ok bytes (Some t) s is = cc
 
@@ -264,24 +230,30 @@ abbrev StatementHasWords : Statement → Type 0
 StatementHasWords (Sets setting) = HasWords setting
 StatementHasWords (Begins head) = Unit {0}
 
-root_words : (pc sp priority quantum : Option (Option ℕ)) → IfSome pc (λ n. IfSome n IsWord) → IfSome sp (λ n. IfSome n IsWord) → IfSome (root_line pc sp priority quantum) HasWords
+mapped : {A B : Type 0} (P : A → Type 0) (Q : B → Type 0) (f : A → B) (o : Option A) → ((x : A) → P x → Q (f x)) → IfSome o P → IfSome (option_map f o) Q
+mapped P Q f None h p = tt
+mapped P Q f (Some x) h p = h x p
+
+start_word : (text : List ℕ) → IfSome (start_of text) StartIsWord
+start_word text = go (bytes_eq text (codes "entry")) where
+  go : (b : Bool) → IfSome (if b then Some Entry else option_map Address (number_of text)) StartIsWord
+  go true = tt
+  go false = mapped (λ n. IfSome n IsWord) StartIsWord Address (number_of text) (λ n word. word) (word_kept (number text))
+
+root_words : (start : Option Start) (sp priority quantum : Option (Option ℕ)) → IfSome start StartIsWord → IfSome sp (λ n. IfSome n IsWord) → IfSome (root_line start sp priority quantum) HasWords
 root_words (Some pc) (Some sp) (Some priority) (Some quantum) p s = (p, s)
 root_words None _ _ _ p s = tt
 root_words (Some pc) None _ _ p s = tt
 root_words (Some pc) (Some sp) None _ p s = tt
 root_words (Some pc) (Some sp) (Some priority) None p s = tt
 
-four_words : (pieces : List Piece) → IfSome (four_numbers pieces) HasWords
+four_words : (pieces : List Piece) → IfSome (start_and_numbers pieces) HasWords
 four_words [] = tt
 four_words (a ∷ []) = tt
 four_words (a ∷ b ∷ []) = tt
 four_words (a ∷ b ∷ c ∷ []) = tt
-four_words (a ∷ b ∷ c ∷ d ∷ []) = root_words (number_of a.text) (number_of b.text) (number_of c.text) (number_of d.text) (word_kept (number a.text)) (word_kept (number b.text))
+four_words (a ∷ b ∷ c ∷ d ∷ []) = root_words (start_of a.text) (number_of b.text) (number_of c.text) (number_of d.text) (start_word a.text) (word_kept (number b.text))
 four_words (a ∷ b ∷ c ∷ d ∷ e ∷ pieces) = tt
-
-mapped : {A B : Type 0} (P : A → Type 0) (Q : B → Type 0) (f : A → B) (o : Option A) → ((x : A) → P x → Q (f x)) → IfSome o P → IfSome (option_map f o) Q
-mapped P Q f None h p = tt
-mapped P Q f (Some x) h p = h x p
 
 any_some : {A : Type 0} (o : Option A) → IfSome o (λ x. Unit {0})
 any_some None = tt
@@ -291,7 +263,7 @@ statement_words : (pieces : List Piece) (k : Keyword) → IfSome (statement_of p
 statement_words pieces keyword.Cpus = mapped (λ n. Unit {0}) StatementHasWords (λ n. Sets (Cpus n)) (one_number pieces) (λ n p. tt) (any_some (one_number pieces))
 statement_words pieces keyword.Ram = mapped (λ n. Unit {0}) StatementHasWords (λ n. Sets (Ram n)) (one_number pieces) (λ n p. tt) (any_some (one_number pieces))
 statement_words pieces keyword.Consoles = mapped (λ n. Unit {0}) StatementHasWords (λ n. Sets (Consoles n)) (one_number pieces) (λ n p. tt) (any_some (one_number pieces))
-statement_words pieces keyword.Root = mapped HasWords StatementHasWords Sets (four_numbers pieces) (λ setting p. p) (four_words pieces)
+statement_words pieces keyword.Root = mapped HasWords StatementHasWords Sets (start_and_numbers pieces) (λ setting p. p) (four_words pieces)
 statement_words pieces keyword.Image = mapped (λ head. Unit {0}) StatementHasWords Begins (address_and_form pieces) (λ head p. tt) (any_some (address_and_form pieces))
 
 abbrev SaidHasWords : Result (Option Statement) Why → Type 0

@@ -2,6 +2,7 @@
 use Rattle.std.specs.Prelude.{◌≡◌, ℕ, ◌++◌, List, Option, Some, None, option_map, Result, Ok, Err, if◌then◌else◌}
 use Rattle.std.specs.Str.Parse.{digits_value}
 use Rattle.nova_text.specs.Line.{Row}
+use Rattle.nova_scenario.specs.Digits.{token_bytes, has_bytes, line_bytes}
 use Rattle.nova_scenario.specs.Fault.{At, at}
 use Rattle.nova_scenario.specs.Read.{IsFault}
 use Rattle.rv_asm.specs.Assembled.{OrMemory}
@@ -18,6 +19,17 @@ word_of token = if is_word token then Some (digits_value 16 token) else None
 -- bytes with those of the words of a further line
 abbrev pub with_line : List ℕ → Row → Result (List ℕ) At
 with_line bytes row = if has_words row then Ok (bytes ++ bytes_of (line_words row)) else at row.number Syntax
+
+-- the bytes of a token of a line, and bytes with those of a further line of an executable
+abbrev pub or_syntax : ℕ → Option (List ℕ) → Result (List ℕ) At
+or_syntax line None = at line Syntax
+or_syntax line (Some bytes) = Ok bytes
+
+abbrev pub token_at : ℕ → List ℕ → Result (List ℕ) At
+token_at line token = or_syntax line (token_bytes token)
+
+abbrev pub with_digits : List ℕ → Row → Result (List ℕ) At
+with_digits bytes row = if has_bytes row then Ok (bytes ++ line_bytes row) else at row.number Syntax
 
 -- a block has the bytes that are wanted and ends at the number of a line, or is not closed; a fault is the one that is wanted
 abbrev pub GivesBlock : Result (List ℕ) At → Option Row → Result Block ScenarioFault → Type 0

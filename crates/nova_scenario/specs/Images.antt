@@ -35,9 +35,10 @@ address_in ram (Some address) = if is_word_address ram address then Ok address e
 abbrev pub begun : Settings → Option ℕ → Result ℕ Why
 begun s address = if is_whole s then address_in (ram_size s) address else Err Missing
 
--- the images with one more that ends: Range where it reaches past RAM, Overlap where it shares a byte with an earlier one
+-- the images with one more: Overlap where it shares a byte with an earlier one
+abbrev pub with_apart : Draft → Image → Result Draft Why
+with_apart d image = if list_any (shares image) d.images then Err Overlap else Ok (record d { images = d.images ++ image ∷ [] })
+
+-- the images with one of words that ends: Range where it reaches past RAM, and then Overlap
 abbrev pub with_image : Draft → Image → Result Draft Why
-with_image d image =
-    if nat_lt (ram_size d.settings) (end_of image) then Err Range
-    else (if list_any (shares image) d.images then Err Overlap
-    else Ok (record d { images = d.images ++ image ∷ [] }))
+with_image d image = if nat_lt (ram_size d.settings) (end_of image) then Err Range else with_apart d image

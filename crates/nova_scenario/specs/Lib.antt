@@ -3,10 +3,13 @@ pub mod Statement
 pub mod Settings
 pub mod Items
 pub mod Words
+pub mod Digits
 pub mod Images
+pub mod Segments
 pub mod Occupied
 pub mod Kept
 pub mod Scenario
 pub mod Read
 pub mod Blocks
 pub mod Sound
+pub mod Executables

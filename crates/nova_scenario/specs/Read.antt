@@ -8,7 +8,8 @@ use Rattle.nova_scenario.specs.Scenario.{begins_image, read_items}
 use Rattle.nova_scenario.specs.declared.fault.ScenarioFault.{ScenarioFault}
 use Rattle.nova_scenario.specs.declared.fault.ScenarioFault.TheVariants.{At as AtLine, Memory}
 use Rattle.nova_scenario.specs.declared.fault.Why.{Why}
-use Rattle.nova_scenario.specs.declared.fault.Why.TheVariants.{Asm}
+use Rattle.nova_scenario.specs.declared.fault.Why.TheVariants.{Asm, Elf}
+use Rattle.nova_elf.specs.declared.fault.ElfFault.TheVariants.{Memory as ElfMemory}
 use Rattle.rv_asm.specs.declared.fault.AsmFault.TheVariants.{Memory as AsmMemory}
 use Rattle.nova_scenario.specs.declared.scenario.Scenario.{Scenario}
 
@@ -35,7 +36,7 @@ BecomesAt wanted new result = Gives (λ done. new) wanted result
 
 -- the Memory of a part never stands in a fault of a line
 abbrev pub KeepsMemoryApart : ScenarioFault → Type 0
-KeepsMemoryApart (AtLine line why) = why ≢ Asm AsmMemory
+KeepsMemoryApart (AtLine line why) = (why ≢ Asm AsmMemory) × (why ≢ Elf ElfMemory)
 KeepsMemoryApart Memory = Unit {0}
 
 -- Memory comes only where memory is taken

@@ -2,37 +2,48 @@
 use Rattle.std.specs.Prelude.{ℕ, ◌+◌, Bool, false, is_ok, List, [], ◌∷◌, length, Option, Some, None, Result, Ok, Err}
 use Rattle.nova_text.specs.Line.{Row, lines}
 use Rattle.nova_scenario.specs.Fault.{At, at, and_then, on_line}
+use Rattle.nova_scenario.specs.Digits.{elf_bytes}
 use Rattle.nova_scenario.specs.Images.{Draft, empty, begun, with_image}
 use Rattle.nova_scenario.specs.Items.{Block, Item, FaultyLine, SettingLine, ImageBlock, items}
+use Rattle.nova_scenario.specs.Segments.{with_executable, with_settings}
 use Rattle.nova_scenario.specs.Settings.{with_setting}
-use Rattle.nova_scenario.specs.Words.{block_words, in_bytes}
+use Rattle.nova_scenario.specs.Words.{hex_words, asm_words, in_bytes}
 use Rattle.nova_scenario.specs.declared.fault.Why.{Why}
 use Rattle.nova_scenario.specs.declared.fault.Why.TheVariants.{Missing}
 use Rattle.nova_scenario.specs.declared.image.Image.{Image}
 use Rattle.nova_scenario.specs.declared.scenario.Scenario.{Scenario}
 use Rattle.nova_scenario.specs.declared.settings.Root.{Root}
-use Rattle.nova_scenario.specs.declared.settings.Settings.{Settings}
+use Rattle.nova_scenario.specs.declared.statement.Form.{Form}
+use Rattle.nova_scenario.specs.declared.statement.Form.TheVariants as form
 use Rattle.nova_scenario.specs.declared.statement.Head.{Head}
 
 -- what is missing at the end of a text is missing on the line after its last
 abbrev pub missing : {A : Type 0} → List ℕ → Result A At
 missing bytes = at (length (lines bytes) + 1) Missing
 
--- an image at the line that ends it
-abbrev pub ended : List ℕ → Draft → Option Row → Image → Result Draft At
-ended bytes draft None image = missing bytes
-ended bytes draft (Some row) image = on_line row.number (with_image draft image)
+-- the bytes of a block: those of its words, or those of an executable
+abbrev pub block_bytes : List ℕ → Block → Form → Result (List ℕ) At
+block_bytes bytes block form.Hex = in_bytes (hex_words block.lines)
+block_bytes bytes block form.Asm = in_bytes (asm_words bytes block)
+block_bytes bytes block form.Elf = elf_bytes block.lines
 
--- the image of a block: its first line, its words, and its end
+-- what a block of a form lays from an address on: its bytes, or the segments of the executable that they are
+abbrev pub with_bytes : Form → Draft → ℕ → List ℕ → Result Draft Why
+with_bytes form.Hex draft address bytes = with_image draft (record { address = address; bytes = bytes })
+with_bytes form.Asm draft address bytes = with_image draft (record { address = address; bytes = bytes })
+with_bytes form.Elf draft address bytes = with_executable draft address bytes
+
+-- at the line that ends a block
+abbrev pub ended : List ℕ → Option Row → Result Draft Why → Result Draft At
+ended bytes None laid = missing bytes
+ended bytes (Some row) laid = on_line row.number laid
+
+-- the image of a block: its first line, its bytes, and its end
 abbrev pub with_block : List ℕ → Draft → Head → Block → Result Draft At
 with_block bytes draft head block =
     and_then (on_line block.first.number (begun draft.settings head.address)) (λ address.
-    and_then (in_bytes (block_words bytes block head.form)) (λ image_bytes.
-    ended bytes draft block.end (record { address = address; bytes = image_bytes })))
-
-abbrev pub with_settings : Draft → Result Settings Why → Result Draft Why
-with_settings draft (Ok settings) = Ok (record draft { settings = settings })
-with_settings draft (Err why) = Err why
+    and_then (block_bytes bytes block head.form) (λ image_bytes.
+    ended bytes block.end (with_bytes head.form draft address image_bytes)))
 
 -- what was read so far with one more item
 abbrev pub with_item : List ℕ → Draft → Item → Result Draft At
@@ -40,18 +51,22 @@ with_item bytes draft (FaultyLine line why) = at line why
 with_item bytes draft (SettingLine line setting) = on_line line (with_settings draft (with_setting draft.settings setting))
 with_item bytes draft (ImageBlock head block) = with_block bytes draft head block
 
--- what was read, where all settings stand
-abbrev pub whole : Option ℕ → Option ℕ → Option ℕ → Option Root → List Image → Option Scenario
-whole (Some cpus) (Some ram) (Some consoles) (Some root) images = Some (record {
+-- what was read, where all settings stand, and where the first thread starts is known
+abbrev pub with_pc : ℕ → ℕ → ℕ → Root → Option ℕ → List Image → Option Scenario
+with_pc cpus ram consoles root None images = None
+with_pc cpus ram consoles root (Some pc) images = Some (record {
   cpus = cpus;
   ram = ram;
   consoles = consoles;
-  pc = root.pc;
+  pc = pc;
   sp = root.sp;
   priority = root.priority;
   quantum = root.quantum;
   images = images;
 })
+
+abbrev pub whole : Option ℕ → Option ℕ → Option ℕ → Option Root → List Image → Option Scenario
+whole (Some cpus) (Some ram) (Some consoles) (Some root) images = with_pc cpus ram consoles root root.pc images
 whole _ _ _ _ images = None
 
 abbrev pub finished : Draft → Option Scenario

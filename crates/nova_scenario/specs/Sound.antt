@@ -5,9 +5,8 @@ use Rattle.nova_scenario.specs.Images.{end_of}
 use Rattle.nova_scenario.specs.declared.image.Image.{Image}
 use Rattle.nova_scenario.specs.declared.scenario.Scenario.{Scenario}
 
--- an image lies in RAM, at words
+-- an image lies in RAM
 pub record IsIn (ram : ℕ) (image : Image) : Type 0 where
-  pub aligned : image.address % 4 ≡ 0
   pub within : end_of image ≤ ram
 
 -- a byte of an image lies at an address

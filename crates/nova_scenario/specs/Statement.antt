@@ -15,9 +15,11 @@ use Rattle.nova_scenario.specs.declared.fault.Why.TheVariants.{Syntax}
 use Rattle.nova_scenario.specs.declared.statement.Keyword.{Keyword}
 use Rattle.nova_scenario.specs.declared.statement.Keyword.TheVariants as keyword
 use Rattle.nova_scenario.specs.declared.statement.Form.{Form}
-use Rattle.nova_scenario.specs.declared.statement.Form.TheVariants.{Hex, Asm}
+use Rattle.nova_scenario.specs.declared.statement.Form.TheVariants.{Hex, Asm, Elf}
 use Rattle.nova_scenario.specs.declared.statement.Head.{Head}
 use Rattle.nova_scenario.specs.declared.statement.Setting.{Setting}
+use Rattle.nova_scenario.specs.declared.statement.Start.{Start}
+use Rattle.nova_scenario.specs.declared.statement.Start.TheVariants.{Address, Entry}
 use Rattle.nova_scenario.specs.declared.statement.Setting.TheVariants.{Cpus, Ram, Consoles, Root}
 use Rattle.nova_scenario.specs.declared.statement.Statement.{Statement}
 use Rattle.nova_scenario.specs.declared.statement.Statement.TheVariants.{Sets, Begins}
@@ -45,25 +47,33 @@ kept (Err Malformed) = None
 abbrev pub number_of : List ℕ → Option (Option ℕ)
 number_of text = kept (u32_of (number text))
 
--- the form of an image's words
+-- the form of an image's block
 abbrev pub form_of : List ℕ → Option Form
-form_of text = if bytes_eq text (codes "hex") then Some Hex else (if bytes_eq text (codes "asm") then Some Asm else None)
+form_of text =
+    if bytes_eq text (codes "hex") then Some Hex
+    else (if bytes_eq text (codes "asm") then Some Asm
+    else (if bytes_eq text (codes "elf") then Some Elf
+    else None))
 
 -- the operands of a line: a number
 abbrev pub one_number : List Piece → Option (Option ℕ)
 one_number (n ∷ []) = number_of n.text
 one_number _ = None
 
--- PC SP PRIORITY QUANTUM
-abbrev pub root_of : Option (Option ℕ) → Option (Option ℕ) → Option (Option ℕ) → Option (Option ℕ) → Option Setting
-root_of (Some pc) (Some sp) (Some priority) (Some quantum) = Some (Root pc sp priority quantum)
+-- where the first thread starts: PC, or `entry`
+abbrev pub start_of : List ℕ → Option Start
+start_of text = if bytes_eq text (codes "entry") then Some Entry else option_map Address (number_of text)
+
+-- PC SP PRIORITY QUANTUM, or entry SP PRIORITY QUANTUM
+abbrev pub root_of : Option Start → Option (Option ℕ) → Option (Option ℕ) → Option (Option ℕ) → Option Setting
+root_of (Some start) (Some sp) (Some priority) (Some quantum) = Some (Root start sp priority quantum)
 root_of _ _ _ _ = None
 
-abbrev pub four_numbers : List Piece → Option Setting
-four_numbers (pc ∷ sp ∷ priority ∷ quantum ∷ []) = root_of (number_of pc.text) (number_of sp.text) (number_of priority.text) (number_of quantum.text)
-four_numbers _ = None
+abbrev pub start_and_numbers : List Piece → Option Setting
+start_and_numbers (start ∷ sp ∷ priority ∷ quantum ∷ []) = root_of (start_of start.text) (number_of sp.text) (number_of priority.text) (number_of quantum.text)
+start_and_numbers _ = None
 
--- ADDRESS hex, or ADDRESS asm
+-- ADDRESS hex, ADDRESS asm, or ADDRESS elf
 abbrev pub head_of : Option (Option ℕ) → Option Form → Option Head
 head_of (Some address) (Some form) = Some (record { address = address; form = form })
 head_of _ _ = None
@@ -77,7 +87,7 @@ abbrev pub statement_of : List Piece → Keyword → Option Statement
 statement_of operands keyword.Cpus = option_map (λ n. Sets (Cpus n)) (one_number operands)
 statement_of operands keyword.Ram = option_map (λ n. Sets (Ram n)) (one_number operands)
 statement_of operands keyword.Consoles = option_map (λ n. Sets (Consoles n)) (one_number operands)
-statement_of operands keyword.Root = option_map Sets (four_numbers operands)
+statement_of operands keyword.Root = option_map Sets (start_and_numbers operands)
 statement_of operands keyword.Image = option_map Begins (address_and_form operands)
 
 -- what a line says, or nothing where it is blank; Syntax where it is not of the form

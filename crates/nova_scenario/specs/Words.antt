@@ -13,8 +13,6 @@ use Rattle.rv_asm.specs.declared.fault.AsmFault.TheVariants.{UnknownName, BadOpe
 use Rattle.nova_scenario.specs.Fault.{At, at}
 use Rattle.nova_scenario.specs.Items.{Block}
 use Rattle.nova_scenario.specs.declared.fault.Why.TheVariants.{Syntax, Asm}
-use Rattle.nova_scenario.specs.declared.statement.Form.{Form}
-use Rattle.nova_scenario.specs.declared.statement.Form.TheVariants as form
 
 -- a word is exactly eight hexadecimal digits
 abbrev pub is_word : List ℕ → Bool
@@ -79,11 +77,6 @@ asm_by first text forbidden (Err fault) = lesser forbidden (line_of first text (
 -- the words of an asm block, or its first line at fault
 abbrev pub asm_words : List ℕ → Block → Result (List ℕ) At
 asm_words bytes block = let text = text_of bytes block in asm_by block.first.number text (forbidden_in block.lines) (assembled text)
-
--- the words of a block
-abbrev pub block_words : List ℕ → Block → Form → Result (List ℕ) At
-block_words bytes block form.Hex = hex_words block.lines
-block_words bytes block form.Asm = asm_words bytes block
 
 -- words as bytes, of each the lowest first
 abbrev pub bytes_of : List ℕ → List ℕ

@@ -1,5 +1,5 @@
 ghost use Rattle.std.specs.Prelude.{◌≡◌, [], ◌∷◌, ◌+◌, ◌<◌, ◌^◌, length, option_map, IfOk, OnOk};
-ghost use Rattle.std.specs.List.{before_first, after_first, find, slice_range};
+ghost use Rattle.std.specs.List.{before_first, after_first, find};
 ghost use Rattle.nova_text.specs.Line.{row_of};
 ghost use Rattle.rv_asm.specs.Assembled.{OrMemory};
 ghost use Rattle.rv_asm.specs.Program.{assembled};
@@ -10,6 +10,7 @@ ghost use Rattle.nova_scenario.specs.Words.{place_of_end, forbidden_in, line_of,
 
 use crate::block::Block;
 use crate::fault::{ScenarioFault, Why};
+use crate::slices::between;
 use crate::statement::is_end;
 use nova_text::{Line, Lines, has_forbidden};
 use rv_asm::{AsmFault, assemble};
@@ -62,16 +63,6 @@ fn extent_of(lines: &mut Lines, len: u64) -> Extent
         end: None,
         stop: len,
     }
-}
-
-/// The bytes from one place up to another, as far as they are there.
-fn between(bytes: &[u8], start: u64, stop: u64) -> &[u8]
-    ensures { result.now ≡ slice_range bytes.now start stop }
-{
-    let (_, after) = bytes.split_at(bytes.len().min(start as usize));
-    let len = stop.saturating_sub(start);
-    let (text, _) = after.split_at(after.len().min(len as usize));
-    text
 }
 
 /// The number of the line with a place of a block's text, where the block's first line has the number `first`.

@@ -1,10 +1,11 @@
-ghost use Rattle.std.specs.Prelude.{◌≡◌, [], ◌∷◌, ◌++◌, false, OnOk, OnErr};
+ghost use Rattle.std.specs.Prelude.{◌≡◌, ◌≤◌, ◌^◌, [], ◌∷◌, ◌++◌, false, OnOk, OnErr};
 ghost use Rattle.std.specs.List.{list_any};
-ghost use Rattle.nova_scenario.specs.Images.{empty, begun, end_of, shares, with_image, is_word_address};
+ghost use Rattle.nova_scenario.specs.Images.{empty, begun, end_of, shares, with_apart, with_image, is_word_address};
 ghost use Rattle.nova_scenario.specs.Read.{Becomes, BecomesAt};
 ghost use Rattle.nova_scenario.specs.Fault.{on_line};
-ghost use Rattle.nova_scenario.specs.Scenario.{finished, with_settings};
-ghost use Rattle.nova_scenario.specs.Settings.{with_setting};
+ghost use Rattle.nova_scenario.specs.Scenario.{finished};
+ghost use Rattle.nova_scenario.specs.Segments.{with_settings};
+ghost use Rattle.nova_scenario.specs.Settings.{entered, ram_size, with_setting};
 
 use crate::fault::{ScenarioFault, Why};
 use crate::image::{Image, Images};
@@ -68,15 +69,39 @@ impl Draft {
         }
     }
 
-    /// Adds an image that ends at a line.
+    /// Adds the entry of an executable.
+    pub fn enter(&mut self, entry: u64) -> Result<(), Why>
+        ensures { Becomes (with_settings self.old (entered self.old.settings self.old.settings.root entry)) self.new result }
+    {
+        self.settings = self.settings.entered(entry)?;
+        Ok(())
+    }
+
+    /// How many bytes RAM has.
+    pub fn ram_size(&self) -> u64
+        ensures size { result ≡ ram_size self.now.settings }
+        ensures small { result ≤ 2 ^ 26 }
+    {
+        self.settings.ram_size()
+    }
+
+    /// Adds an image of words that ends at a line.
     pub fn add(&mut self, image: Image, line: u64) -> Result<(), ScenarioFault>
         ensures { BecomesAt (on_line line (with_image self.old image)) self.new result }
     {
-        let start = u64::from(image.address);
-        let end = start + image.bytes.as_slice().len() as u64;
-        if self.settings.ram_size() < end {
+        if self.settings.ram_size() < end_of(&image) {
             return Err(Why::Range.at(line));
         }
+        self.add_apart(image, line)
+    }
+
+    /// Adds an image of a block that ends at a line.
+    pub fn add_apart(&mut self, image: Image, line: u64) -> Result<(), ScenarioFault>
+        ensures image { BecomesAt (on_line line (with_apart self.old image)) self.new result }
+        ensures settings { OnOk result (self.new.settings ≡ self.old.settings) }
+    {
+        let start = u64::from(image.address);
+        let end = end_of(&image);
         if self.occupied.meets(start, end) {
             return Err(Why::Overlap.at(line));
         }
@@ -107,13 +132,20 @@ impl Draft {
             cpus: self.settings.cpus?,
             ram: self.settings.ram?,
             consoles: self.settings.consoles?,
-            pc: root.pc,
+            pc: root.pc?,
             sp: root.sp,
             priority: root.priority,
             quantum: root.quantum,
             images: self.images.into(),
         })
     }
+}
+
+/// The address after an image.
+fn end_of(image: &Image) -> u64
+    ensures { result ≡ end_of image.now }
+{
+    u64::from(image.address) + image.bytes.as_slice().len() as u64
 }
 
 /// Whether an address is a multiple of 4 in RAM of so many bytes.

@@ -1,7 +1,8 @@
 ghost use Rattle.std.specs.Prelude.{◌≡◌, Some};
 ghost use Rattle.nova_scenario.specs.declared.fault.ScenarioFault.TheVariants.{At, Memory};
-ghost use Rattle.nova_scenario.specs.Fault.{name_of, message_of};
+ghost use Rattle.nova_scenario.specs.Fault.{elf_name, name_of, message_of};
 
+use nova_elf::ElfFault;
 use rv_asm::AsmFault;
 use std::alloc::AllocError;
 use std::error::Error;
@@ -16,17 +17,22 @@ pub enum Why {
     /// An earlier line sets the same.
     Repeated,
 
-    /// Not all settings stand before an image; or, on the line after the last, a setting or a line `end` is not there.
+    /// Not all settings stand before an image; or, on the line after the last, a setting, a line `end` or the executable whose entry is
+    /// the first thread's is not there.
     Missing,
 
-    /// A number is outside its range or is 2^32 or more, or an image reaches past RAM.
+    /// A number is outside its range or is 2^32 or more, an image reaches past RAM, or the first executable's entry is no place of an
+    /// instruction.
     Range,
 
-    /// The image that ends here shares a byte with an earlier one.
+    /// The image that ends here shares a byte with an earlier one, or two segments of the executable that ends here do.
     Overlap,
 
     /// The assembler's fault. Its span counts bytes from the start of the line after the image's first.
     Asm(AsmFault),
+
+    /// The bytes of the block that ends here are no executable.
+    Elf(ElfFault),
 }
 
 impl Why {
@@ -35,6 +41,24 @@ impl Why {
         ensures { result ≡ At line self }
     {
         ScenarioFault::At { line, why: self }
+    }
+}
+
+/// The name of an executable's fault, without what it carries.
+fn elf_name(fault: ElfFault) -> &'static str
+    ensures { result.now ≡ elf_name fault }
+{
+    match fault {
+        ElfFault::NotElf => "NotElf",
+        ElfFault::Class => "Class",
+        ElfFault::ByteOrder => "ByteOrder",
+        ElfFault::Version => "Version",
+        ElfFault::NotExec => "NotExec",
+        ElfFault::Machine => "Machine",
+        ElfFault::Table => "Table",
+        ElfFault::Dynamic(_) => "Dynamic",
+        ElfFault::Segment(_) => "Segment",
+        ElfFault::Memory => "Memory",
     }
 }
 
@@ -54,6 +78,7 @@ impl fmt::Display for Why {
             Why::Asm(AsmFault::TwiceLabel(_)) => "TwiceLabel",
             Why::Asm(AsmFault::NoLabel(_)) => "NoLabel",
             Why::Asm(AsmFault::Memory) => "Memory",
+            Why::Elf(fault) => elf_name(*fault),
         })
     }
 }

@@ -6,10 +6,10 @@ use std::marker::Model;
 /// Bytes that lie in memory.
 #[derive(Debug, Drop)]
 pub struct Image {
-    /// The address of the first of them, a multiple of 4.
+    /// The address of the first of them. Where they are words it is a multiple of 4.
     pub address: u32,
 
-    /// The bytes of the image's words, of each word the lowest first.
+    /// The bytes of its words, of each word the lowest first; or of a segment of an executable, with the zeros after them.
     pub bytes: Bytes,
 }
 

@@ -1,20 +1,24 @@
-ghost use Rattle.std.specs.Prelude.{◌≡◌, ◌∷◌, ◌+◌, ◌≤◌, length, is_ok, IfOk, IfErr, OnOk};
-ghost use Rattle.std.specs.List.{after_first};
+ghost use Rattle.std.specs.Prelude.{◌≡◌, ◌∷◌, ◌+◌, ◌≤◌, false, length, is_ok, IfOk, IfErr, OnOk};
+ghost use Rattle.std.specs.List.{AllByRecursion, after_first};
 ghost use Rattle.nova_text.specs.Line.{row_of, lines};
+ghost use Rattle.nova_scenario.specs.Fault.{on_line};
 ghost use Rattle.nova_scenario.specs.Images.{begun};
-ghost use Rattle.nova_scenario.specs.Items.{is_end, block};
+ghost use Rattle.nova_scenario.specs.Executables.{IsLaidItem};
+ghost use Rattle.nova_scenario.specs.Items.{is_end, block, items};
 ghost use Rattle.nova_scenario.specs.Read.{IsRead, BecomesAt, IsReadOn, KeepsMemoryApart, IsMemoryOnlyIf, TakesIf, TakesOn};
-ghost use Rattle.nova_scenario.specs.Scenario.{with_block, scenario, takes_memory};
+ghost use Rattle.nova_scenario.specs.Scenario.{with_bytes, with_block, scenario, takes_memory};
 ghost use Rattle.nova_scenario.specs.Sound.{IsSound};
 ghost use Rattle.nova_scenario.specs.declared.fault.Why.TheVariants.{Missing};
 
 use crate::asm::asm_block;
 use crate::draft::Draft;
+use crate::elf::elf_block;
+use crate::executable::add_executable;
 use crate::fault::{ScenarioFault, Why};
-use crate::hex::hex_block;
 use crate::image::Image;
 use crate::scenario::Scenario;
 use crate::statement::{Form, Head, Statement, said};
+use crate::words::hex_block;
 use nova_text::{Line, Lines};
 use std::alloc::Global;
 
@@ -27,6 +31,26 @@ fn missing(bytes: &[u8]) -> ScenarioFault
         next = line.number + 1;
     }
     Why::Missing.at(next)
+}
+
+/// Adds what a block of a form lays from an address on, where it ends at a line.
+fn add_bytes(
+    alloc: Global,
+    draft: &mut Draft,
+    form: Form,
+    address: u32,
+    bytes: Vec<u8>,
+    line: u64,
+) -> Result<(), ScenarioFault>
+    ensures { BecomesAt (on_line line (with_bytes form draft.old address bytes.items)) draft.new result }
+{
+    match form {
+        Form::Elf => add_executable(alloc, draft, address, &bytes, line),
+        Form::Hex | Form::Asm => {
+            let bytes = bytes.into();
+            draft.add(Image { address, bytes }, line)
+        }
+    }
 }
 
 /// Adds the image that a line begins, with the lines of its block.
@@ -48,13 +72,10 @@ fn read_image(
     let block = match head.form {
         Form::Hex => hex_block(alloc, lines)?,
         Form::Asm => asm_block(alloc, bytes, first, lines)?,
-    };
-    let image = Image {
-        address,
-        bytes: block.bytes.into(),
+        Form::Elf => elf_block(alloc, lines)?,
     };
     match block.end {
-        Some(end) => draft.add(image, end),
+        Some(end) => add_bytes(alloc, draft, head.form, address, block.bytes, end),
         None => Err(missing(bytes)),
     }
 }
@@ -88,6 +109,7 @@ fn read_item(
 pub fn read(alloc: Global, bytes: &[u8]) -> Result<Scenario, ScenarioFault>
     ensures exact { IsRead (scenario bytes.now) result }
     ensures sound { IfOk result IsSound }
+    ensures executables { IfOk result (λ s. AllByRecursion (IsLaidItem s.images) (items false (lines bytes.now))) }
     ensures apart { IfErr result KeepsMemoryApart }
     ensures memory { IfErr result (IsMemoryOnlyIf (takes_memory bytes.now)) }
 {

@@ -1,13 +1,14 @@
-ghost use Rattle.std.specs.Prelude.{◌≡◌, ◌≤◌, IfSome, IfOk};
-ghost use Rattle.nova_scenario.specs.Settings.{within, aligned, root_of, set_once, with_setting, is_whole, ram_size, unset, HasSmallRam};
+ghost use Rattle.std.specs.Prelude.{◌≡◌, ◌≤◌, ◌^◌, IfSome, IfOk};
+ghost use Rattle.nova_scenario.specs.Settings.{within, aligned, pc_of, root_of, entered_at, entered, set_once, with_setting, is_whole, ram_size, unset, HasSmallRam};
 
 use crate::fault::Why;
-use crate::statement::Setting;
+use crate::statement::{Setting, Start};
 
 /// How the first thread starts, and its scheduling context.
 #[derive(Clone, Copy)]
 pub struct Root {
-    pub pc: u32,
+    /// Nothing, where the first executable is to say it and is not there yet.
+    pub pc: Option<u32>,
     pub sp: u32,
     pub priority: u8,
     pub quantum: u32,
@@ -48,6 +49,16 @@ fn aligned(number: Option<u32>) -> Option<u32>
     number.filter(|n| *n % 4 == 0)
 }
 
+/// Where the first thread starts; nothing yet, where the first executable is to say it.
+fn pc_of(start: Start) -> Option<Option<u32>>
+    ensures { result ≡ pc_of start }
+{
+    match start {
+        Start::Address(number) => Some(Some(aligned(number)?)),
+        Start::Entry => Some(None),
+    }
+}
+
 /// What is set where it was `old`.
 fn set_once<T: Copy>(old: Option<T>, new: Option<T>) -> Result<T, Why>
     ensures { result ≡ set_once old new }
@@ -62,19 +73,38 @@ fn set_once<T: Copy>(old: Option<T>, new: Option<T>) -> Result<T, Why>
 impl Root {
     /// The first thread of these numbers, where each is in its range.
     fn of(
-        pc: Option<u32>,
+        start: Start,
         sp: Option<u32>,
         priority: Option<u32>,
         quantum: Option<u32>,
     ) -> Option<Root>
-        ensures { result ≡ root_of (aligned pc) sp (within 0 255 priority) (within 1 16777215 quantum) }
+        ensures { result ≡ root_of (pc_of start) sp (within 0 255 priority) (within 1 16777215 quantum) }
     {
         Some(Root {
-            pc: aligned(pc)?,
+            pc: pc_of(start)?,
             sp: sp?,
             priority: byte_within(255, priority)?,
             quantum: within(1, 16_777_215, quantum)?,
         })
+    }
+}
+
+impl Root {
+    /// The first thread with the entry of an executable, which is its start where none is known so far.
+    fn entered(self, entry: u64) -> Result<Root, Why>
+        ensures { result ≡ entered_at self self.pc entry }
+    {
+        if self.pc.is_some() {
+            return Ok(self);
+        }
+        match u32::try_from(entry) {
+            Ok(pc) if pc % 4 == 0 => {
+                let mut root = self;
+                root.pc = Some(pc);
+                Ok(root)
+            }
+            _ => Err(Why::Range),
+        }
     }
 }
 
@@ -104,14 +134,26 @@ impl Settings {
                 settings.consoles = Some(set_once(self.consoles, within(0, 16, c))?);
             }
             Setting::Root {
-                pc,
+                start,
                 sp,
                 priority,
                 quantum,
             } => {
-                let root = Root::of(pc, sp, priority, quantum);
+                let root = Root::of(start, sp, priority, quantum);
                 settings.root = Some(set_once(self.root, root)?);
             }
+        }
+        Ok(settings)
+    }
+
+    /// The settings with the entry of an executable.
+    pub fn entered(self, entry: u64) -> Result<Settings, Why>
+        ensures entry { result ≡ entered self self.root entry }
+        ensures ram { HasSmallRam self → IfOk result HasSmallRam }
+    {
+        let mut settings = self;
+        if let Some(root) = self.root {
+            settings.root = Some(root.entered(entry)?);
         }
         Ok(settings)
     }
@@ -126,7 +168,8 @@ impl Settings {
     /// How many bytes RAM has. Where it is not set it has none.
     pub fn ram_size(self) -> u64
         requires { HasSmallRam self }
-        ensures { result ≡ ram_size self }
+        ensures size { result ≡ ram_size self }
+        ensures small { result ≤ 2 ^ 26 }
     {
         match self.ram {
             Some(m) => 4096 << m,

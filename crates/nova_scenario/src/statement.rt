@@ -2,7 +2,7 @@ ghost use Rattle.std.specs.Prelude.{◌≡◌};
 ghost use Rattle.nova_text.specs.Line.{row_of};
 ghost use Rattle.nova_text.specs.Token.{tokens_left};
 ghost use Rattle.nova_scenario.specs.Items.{is_end, is_end_in};
-ghost use Rattle.nova_scenario.specs.Statement.{keyword_text, keyword_named, number_of, form_of, one_number, four_numbers, address_and_form, statement_of, said_in, said};
+ghost use Rattle.nova_scenario.specs.Statement.{keyword_text, keyword_named, number_of, form_of, one_number, start_of, start_and_numbers, address_and_form, statement_of, said_in, said};
 
 use crate::fault::Why;
 use nova_text::{Line, NumberError, has_forbidden, parse_number};
@@ -17,14 +17,27 @@ pub enum Keyword {
     Image,
 }
 
-/// How the words of an image are written.
+/// What the block of an image holds.
 #[derive(Clone, Copy)]
 pub enum Form {
-    /// As hexadecimal digits.
+    /// Words as hexadecimal digits.
     Hex,
 
-    /// In the assembler's language.
+    /// Words in the assembler's language.
     Asm,
+
+    /// The bytes of an executable as hexadecimal digits.
+    Elf,
+}
+
+/// Where the first thread starts.
+#[derive(Clone, Copy)]
+pub enum Start {
+    /// At an address. One of 2^32 or more is `None`.
+    Address(Option<u32>),
+
+    /// At the entry of the first executable.
+    Entry,
 }
 
 /// A line that sets something. A number of 2^32 or more is `None`.
@@ -34,7 +47,7 @@ pub enum Setting {
     Ram(Option<u32>),
     Consoles(Option<u32>),
     Root {
-        pc: Option<u32>,
+        start: Start,
         sp: Option<u32>,
         priority: Option<u32>,
         quantum: Option<u32>,
@@ -106,6 +119,8 @@ fn form_of(text: &[u8]) -> Option<Form>
         Some(Form::Hex)
     } else if text == b"asm".as_slice() {
         Some(Form::Asm)
+    } else if text == b"elf".as_slice() {
+        Some(Form::Elf)
     } else {
         None
     }
@@ -122,18 +137,28 @@ fn one_number(mut line: Line) -> Option<Option<u32>>
     }
 }
 
-/// The four numbers that are all that is left of a line, as those of the first thread.
-fn four_numbers(mut line: Line) -> Option<Setting>
-    ensures { result ≡ four_numbers (tokens_left line.entry) }
+/// The start that a token says, where it says one.
+fn start_of(text: &[u8]) -> Option<Start>
+    ensures { result ≡ start_of text.now }
 {
-    let pc = line.next_token()?;
+    if text == b"entry".as_slice() {
+        return Some(Start::Entry);
+    }
+    Some(Start::Address(number_of(text)?))
+}
+
+/// The start and the three numbers that are all that is left of a line, as those of the first thread.
+fn start_and_numbers(mut line: Line) -> Option<Setting>
+    ensures { result ≡ start_and_numbers (tokens_left line.entry) }
+{
+    let start = line.next_token()?;
     let sp = line.next_token()?;
     let priority = line.next_token()?;
     let quantum = line.next_token()?;
     match line.next_token() {
         Some(_) => None,
         None => Some(Setting::Root {
-            pc: number_of(pc.text)?,
+            start: start_of(start.text)?,
             sp: number_of(sp.text)?,
             priority: number_of(priority.text)?,
             quantum: number_of(quantum.text)?,
@@ -164,7 +189,7 @@ fn statement_of(keyword: Keyword, line: Line) -> Option<Statement>
         Keyword::Cpus => Some(Statement::Sets(Setting::Cpus(one_number(line)?))),
         Keyword::Ram => Some(Statement::Sets(Setting::Ram(one_number(line)?))),
         Keyword::Consoles => Some(Statement::Sets(Setting::Consoles(one_number(line)?))),
-        Keyword::Root => Some(Statement::Sets(four_numbers(line)?)),
+        Keyword::Root => Some(Statement::Sets(start_and_numbers(line)?)),
         Keyword::Image => Some(Statement::Begins(address_and_form(line)?)),
     }
 }

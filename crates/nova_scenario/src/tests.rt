@@ -1,3 +1,4 @@
+mod executables;
 mod lines;
 
 use crate::Why::{Asm, Missing, Overlap, Range, Repeated, Syntax};

@@ -2,6 +2,7 @@ use Rattle.std.proofs.Common.{rules}
 use Rattle.std.proofs.lemmas.Result.{err_from_is_err_and}
 use Rattle.nova_scenario.specs.Read.{IsFault}
 use Rattle.nova_scenario.specs.Scenario.{scenario}
+use Rattle.nova_scenario.proofs.LaidLemmas.{executables_laid}
 use Rattle.nova_scenario.proofs.MemoryApart.{memory_apart}
 use Rattle.nova_scenario.proofs.SoundLemmas.{scenario_sound}
 use Rattle.nova_scenario.proofs.reader.read.Goals as goal
@@ -15,3 +16,6 @@ returns-in_err-read_item-clause-apart c =
 
 pub returns-in-Some-finish-clause-sound : goal.returns-in-Some-finish-clause-sound
 returns-in-Some-finish-clause-sound c = scenario_sound c.args.bytes.now c.in-Some-finish.scenario (search rules)
+
+pub returns-in-Some-finish-clause-executables : goal.returns-in-Some-finish-clause-executables
+returns-in-Some-finish-clause-executables c = executables_laid c.args.bytes.now c.in-Some-finish.scenario (search rules)

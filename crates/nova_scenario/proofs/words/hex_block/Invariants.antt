@@ -2,7 +2,7 @@ use Rattle.std.proofs.Common.{◌≡◌, [], length}
 use Rattle.std.specs.List.{after_first, find}
 use Rattle.nova_scenario.specs.Items.{is_end}
 use Rattle.nova_scenario.proofs.HexLemmas.{hex_left}
-use Rattle.nova_scenario.proofs.hex.hex_block.Given as goal
+use Rattle.nova_scenario.proofs.words.hex_block.Given as goal
 
 abbrev pub invariant-loop-line : goal.invariant-loop-line
 invariant-loop-line l = record {

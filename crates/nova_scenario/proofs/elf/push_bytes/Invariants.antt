@@ -1,7 +1,7 @@
 use Rattle.std.proofs.Common.{◌≡◌, length}
 use Rattle.nova_text.specs.Token.{tokens_left}
-use Rattle.nova_scenario.proofs.HexLemmas.{with_tokens}
-use Rattle.nova_scenario.proofs.hex.push_words.Given as goal
+use Rattle.nova_scenario.proofs.ElfLemmas.{with_tokens}
+use Rattle.nova_scenario.proofs.elf.push_bytes.Given as goal
 
 abbrev pub invariant-loop-token : goal.invariant-loop-token
 invariant-loop-token l = with_tokens l.number l.bytes.items (tokens_left l.line) ≡ with_tokens l.number l.fn.bytes.items (tokens_left l.initial.line)

@@ -1,0 +1,5 @@
+pub mod Fault
+pub mod Fields
+pub mod Headers
+pub mod Executable
+pub mod Fits
