@@ -2,7 +2,7 @@
 #![tactic(auto)]
 
 use nova_io::{FileDepot, StdSink};
-use nova_top::{Exit, nova_main};
+use nova_top::{Exit, Open, nova_main};
 use std::env;
 use std::process::ExitCode;
 
@@ -17,7 +17,7 @@ fn main(rt: HostRuntime) -> ExitCode {
         Ok(words) => {
             let mut depot = FileDepot::new(rt);
             let mut out = StdSink::new(rt);
-            nova_main(rt.alloc(), &words, &mut depot, &mut out)
+            nova_main(&rt, rt.alloc(), &words, &mut depot, &mut out, &Open)
         }
         Err(exit) => exit,
     };

@@ -1,17 +1,24 @@
 -- The commands.
 use Rattle.std.specs.Prelude.{ℕ, List, ◌∷◌, codes, Option, Some, None, option_and_then}
 use Rattle.nova_command.specs.Form.{Text, Given, given}
-use Rattle.nova_command.specs.Limit.{limit_of, IsLimit}
+use Rattle.nova_command.specs.Limit.{limit_of, size_of, IsLimit, IsSize}
 use Rattle.nova_command.specs.Verb.{verb_of}
 use Rattle.nova_command.specs.declared.verb.Verb.{Verb}
 use Rattle.nova_command.specs.declared.verb.Verb.TheVariants as verb
 use Rattle.nova_command.specs.declared.command.Command.{Command}
-use Rattle.nova_command.specs.declared.command.Command.TheVariants.{Solo, Check}
+use Rattle.nova_command.specs.declared.command.Command.TheVariants.{Run, Solo, Check, Bench}
+
+-- a bench of a number of domains
+abbrev pub benched : Option ℕ → ℕ → Option Command
+benched (Some number) limit = Some (Bench number limit)
+benched None limit = None
 
 -- the commands, each by its verb, its names and the limit
 abbrev pub asked : Option Verb → Option Text → Option Text → Option ℕ → Option Command
+asked (Some verb.Run) (Some scenario) (Some order) (Some limit) = Some (Run scenario order limit)
 asked (Some verb.Solo) (Some scenario) order (Some limit) = Some (Solo scenario order limit)
 asked (Some verb.Check) (Some scenario) None (Some limit) = Some (Check scenario)
+asked (Some verb.Bench) (Some number) None (Some limit) = benched (size_of number) limit
 asked _ _ _ _ = None
 
 -- the command that was given
@@ -23,7 +30,9 @@ command_of g =
 unfoldable pub command : List Text → Option Command
 command words = option_and_then command_of (given (codes "nova" ∷ words))
 
--- where a command has a limit, it is one
-abbrev pub HasLimit : Command → Type 0
-HasLimit (Solo scenario order limit) = IsLimit limit
-HasLimit (Check scenario) = Unit {0}
+-- the numbers of a command are within their bounds
+abbrev pub HasBounds : Command → Type 0
+HasBounds (Run scenario order limit) = IsLimit limit
+HasBounds (Solo scenario order limit) = IsLimit limit
+HasBounds (Check scenario) = Unit {0}
+HasBounds (Bench number limit) = IsSize number × IsLimit limit

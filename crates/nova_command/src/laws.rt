@@ -21,6 +21,11 @@ pub fn plain_words()
 
 /// Commands, where the limit may be given anywhere and in hexadecimal, and the name of a file may begin with a dash.
 pub fn commands()
+    ensures run { command (typed "run a b") ≡ Some (Command.Run (codes "a") (codes "b") 1000000) }
+    ensures run_limit { command (typed "run --limit 5 a b") ≡ Some (Command.Run (codes "a") (codes "b") 5) }
+    ensures bench { command (typed "bench 7") ≡ Some (Command.Bench 7 1000000) }
+    ensures bench_limit { command (typed "bench 0x10 --limit 9") ≡ Some (Command.Bench 16 9) }
+    ensures bench_most { command (typed "bench 90000") ≡ Some (Command.Bench 90000 1000000) }
     ensures solo { command (typed "solo a") ≡ Some (Command.Solo (codes "a") None 1000000) }
     ensures order { command (typed "solo a b") ≡ Some (Command.Solo (codes "a") (Some (codes "b")) 1000000) }
     ensures check { command (typed "check a") ≡ Some (Command.Check (codes "a")) }
@@ -41,7 +46,12 @@ pub fn no_commands()
     ensures no_name { command (typed "solo") ≡ None }
     ensures three_names { command (typed "solo a b c") ≡ None }
     ensures check_two_names { command (typed "check a b") ≡ None }
-    ensures run { command (typed "run a b") ≡ None }
+    ensures run_one_name { command (typed "run a") ≡ None }
+    ensures run_three_names { command (typed "run a b c") ≡ None }
+    ensures bench_two_names { command (typed "bench 7 a") ≡ None }
+    ensures bench_zero { command (typed "bench 0") ≡ None }
+    ensures bench_too_large { command (typed "bench 90001") ≡ None }
+    ensures bench_name { command (typed "bench a") ≡ None }
     ensures unknown { command (typed "walk a") ≡ None }
     ensures zero { command (typed "check a --limit 0") ≡ None }
     ensures too_large { command (typed "solo a --limit 10000001") ≡ None }

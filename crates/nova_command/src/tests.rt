@@ -25,6 +25,18 @@ fn asked(alloc: Global, line: &str) -> Result<String, AllocError> {
                 }
             }
         }
+        Ok(
+            Command::Run {
+                scenario,
+                order,
+                limit,
+            },
+        ) => {
+            let name = scenario.as_str();
+            let order = order.as_str();
+            format!(in alloc; "run {name} together for {limit} into {order}")
+        }
+        Ok(Command::Bench { number, limit }) => format!(in alloc; "bench {number} for {limit}"),
         Ok(Command::Check { scenario }) => {
             let name = scenario.into_string();
             format!(in alloc; "check {name}")
@@ -42,6 +54,10 @@ fn reads_commands(rt: HostRuntime) -> Result<(), Fail> {
         ("solo a a", "run a by a for 1000000"),
         ("solo -- a --limit", "run a by --limit for 1000000"),
         ("check a", "check a"),
+        ("run a b", "run a together for 1000000 into b"),
+        ("run --limit 3 b a", "run b together for 3 into a"),
+        ("bench 7", "bench 7 for 1000000"),
+        ("bench 0x15F90 --limit 7", "bench 90000 for 7"),
         ("solo a --limit 7", "run a for 7"),
         ("solo a b --limit 7", "run a by b for 7"),
         ("solo a --limit 007", "run a for 7"),
@@ -71,8 +87,13 @@ fn refuses_other_words(rt: HostRuntime) -> Result<(), Fail> {
         "check",
         "solo a b c",
         "check a b",
-        "run a b",
-        "bench 7",
+        "run a",
+        "run a b c",
+        "bench",
+        "bench a",
+        "bench 0",
+        "bench 90001",
+        "bench 7 a",
         "Solo a",
         "a solo",
         "check a --limit 0",

@@ -3,8 +3,10 @@ ghost use Rattle.std.specs.Prelude.{◌≡◌};
 /// What a command's first word tells the program to do.
 #[derive(Clone, Copy)]
 pub(crate) enum Verb {
+    Run,
     Solo,
     Check,
+    Bench,
 }
 
 impl Verb {
@@ -15,8 +17,10 @@ impl Verb {
         ensures { result ≡ verb_of word.now }
     {
         match word {
+            "run" => Some(Verb::Run),
             "solo" => Some(Verb::Solo),
             "check" => Some(Verb::Check),
+            "bench" => Some(Verb::Bench),
             _ => None,
         }
     }

@@ -7,7 +7,7 @@ use Rattle.nova_model.specs.Boot.{boot}
 use Rattle.nova_model.specs.Runs.{IsFreeOfIdle}
 use Rattle.nova_boot.specs.Boot.{scenario_of}
 use Rattle.nova_command.specs.declared.command.Command.{Command}
-use Rattle.nova_command.specs.declared.command.Command.TheVariants.{Solo, Check}
+use Rattle.nova_command.specs.declared.command.Command.TheVariants.{Run, Solo, Check, Bench}
 use Rattle.nova_io.specs.Files.{Files, bytes_of}
 use Rattle.nova_order.specs.Blocks.{turns}
 use Rattle.nova_order.specs.Read.{order_of}
@@ -101,17 +101,23 @@ module _ {D : Type 0} (d : Depots D) (held : Files) where
 
 module _ {D O : Type 0} (d : Depots D) (o : Sinks O) (old new : D) (before after : O) where
   no_read_fault : (command : Command) → IsServable d o command old new before after → IsReadFault d command old new → ⊥
+  no_read_fault (Run name order most) s failed = s.read.0 failed
+  no_read_fault (Bench number most) s failed = absurd failed
   no_read_fault (Solo name None most) s failed = s.read.0 failed
   no_read_fault (Check name) s failed = s.read.0 failed
   no_read_fault (Solo name (Some order) most) s (inl failed) = s.read.0 failed
   no_read_fault (Solo name (Some order) most) s (inr unread) = s.read.1.0 unread.in_all
 
   scenario_good : (command : Command) (line : ℕ) (w : ScenarioWhy) → IsServable d o command old new before after → IsScenarioFault d command line w old new → ⊥
+  scenario_good (Run name order most) line w s refused = no_scenario_fault d s.held name s.has.0 line w old new s.told s.has.1 refused
+  scenario_good (Bench number most) line w s refused = absurd refused
   scenario_good (Solo name None most) line w s refused = no_scenario_fault d s.held name s.has.0 line w old new s.told s.has.1 refused
   scenario_good (Check name) line w s refused = no_scenario_fault d s.held name s.has.0 line w old new s.told s.has.1 refused
   scenario_good (Solo name (Some order) most) line w s refused = no_scenario_fault d s.held name s.has.0 line w old new s.told s.has.1 refused
 
   order_good : (command : Command) (line : ℕ) (w : OrderWhy) → IsServable d o command old new before after → IsOrderFault d command line w old new → ⊥
+  order_good (Run name order most) line w s refused = refused
+  order_good (Bench number most) line w s refused = refused
   order_good (Solo name None most) line w s refused = refused
   order_good (Check name) line w s refused = refused
   order_good (Solo name (Some order) most) line w s refused =

@@ -4,3 +4,6 @@ pub mod Counts
 pub mod Made
 pub mod Complete
 pub mod Unread
+pub mod Answered
+pub mod Single
+pub mod Replays

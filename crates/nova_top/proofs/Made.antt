@@ -1,14 +1,22 @@
 -- From what was read to what a command makes of it, or why it makes nothing.
-use Rattle.std.proofs.Common.{◌≡◌, ℕ, List, length, inr, refl, sym, subst}
+use Rattle.std.proofs.Common.{◌≡◌, ℕ, List, [], length, inr, refl, sym, subst}
 use Rattle.std.specs.Prelude.{false, Some, None, Result, Ok, Err, IfOk, IfErr}
 use Rattle.nova_model.specs.State.{KernelState}
 use Rattle.nova_model.specs.Boot.{Scenario, boot}
+use Rattle.nova_model.specs.Choice.{is_quiet}
+use Rattle.nova_laws.specs.Orders.{IsRunOut}
+use Rattle.nova_run.specs.Finished.{IsFinished}
+use Rattle.nova_shared.specs.declared.finished.Finished.{Finished}
 use Rattle.nova_model.specs.Forest.{IsForest}
 use Rattle.nova_model.specs.Runs.{run, rounds}
 use Rattle.nova_boot.specs.Boot.{scenario_of}
-use Rattle.nova_command.specs.declared.command.Command.TheVariants.{Solo}
+use Rattle.nova_command.specs.declared.command.Command.TheVariants.{Run, Solo, Bench}
 use Rattle.nova_io.specs.Faults.{NeverFalls}
 use Rattle.nova_order.specs.Blocks.{turns, BlockList}
+use Rattle.nova_gen.specs.Generated.{generated}
+use Rattle.nova_report.specs.Report.{report}
+use Rattle.nova_report.specs.Summary.{summary}
+use Rattle.nova_scenario.specs.Scenario.{scenario}
 use Rattle.nova_scenario.specs.declared.scenario.Scenario.{Scenario as ScenarioText}
 use Rattle.nova_top.specs.Causes.{OrderRefused, TextRefused}
 use Rattle.nova_top.specs.Made.{ScenarioCame}
@@ -16,14 +24,14 @@ use Rattle.nova_top.specs.Orders.{OrderCame}
 use Rattle.nova_top.specs.Outside.{Depots}
 use Rattle.nova_revocation.specs.Whole.{HasEnded}
 use Rattle.nova_top.specs.Runs.{IsReturned}
-use Rattle.nova_top.specs.Prepared.{IsOrderReadBy, IsReportOf, IsIdleFault, IsPrepared}
+use Rattle.nova_top.specs.Prepared.{IsOrderReadBy, IsReportOf, IsTogether, IsIdleFault, IsPrepared}
 use Rattle.nova_top.specs.declared.exit.Exit.{Exit}
 use Rattle.nova_top.specs.declared.exit.Exit.TheVariants as exit
 use Rattle.nova_top.specs.declared.exit.OrderWhy.{OrderWhy}
 use Rattle.nova_top.specs.declared.exit.OrderWhy.TheVariants as cause
 use Rattle.nova_top.specs.declared.outcome.Outcome.{Outcome}
 use Rattle.nova_top.proofs.Counts.{rose_in_all}
-use Rattle.nova_top.proofs.Reports.{boot_cpus}
+use Rattle.nova_top.proofs.Reports.{boot_cpus, out_reported, spent_of}
 
 -- the laws that a run is told by
 pub record HasLaws : Type 0 where
@@ -96,16 +104,16 @@ module _ {D : Type 0} (d : Depots D) where
   -- WHAT IS MADE
 
   made_rounds : (name : List ℕ) (most : ℕ) (old new : D) (from : ScenarioText) (made : Outcome) → ScenarioCame d name old from new →
-      IsReportOf (boot (scenario_of from)) (rounds (boot (scenario_of from)) most) most made →
-      (made.is_complete ≡ false → length (rounds (boot (scenario_of from)) most) ≡ most) →
+      IsReportOf report (boot (scenario_of from)) (rounds (boot (scenario_of from)) most) most made →
+      (made.is_complete ≡ false → length (rounds (boot (scenario_of from)) most) ≡ most) → made.order.items ≡ [] →
       HasLaws → IsPrepared d (Solo name None most) old new (Ok made)
-  made_rounds name most old new from made came reported spent laws = record {
+  made_rounds name most old new from made came reported spent none laws = record {
     from = from;
     between = new;
     came = came;
     done = record {
       order = rounds (boot (scenario_of from)) most;
-      of_command = (refl, refl);
+      of_command = (refl, refl, none);
       no_idle = reported.no_idle;
       reported = reported.text;
       quiet = reported.quiet;
@@ -118,19 +126,22 @@ module _ {D : Type 0} (d : Depots D) where
   }
 
   made_by_order : (name order : List ℕ) (most : ℕ) (old between new : D) (from : ScenarioText) (list : BlockList) (made : Outcome) → ScenarioCame d name old from between →
-      OrderCame d order from.cpus most between list.blocks new → IsReportOf (boot (scenario_of from)) (turns list.blocks) most made →
-      HasLaws → IsPrepared d (Solo name (Some order) most) old new (Ok made)
-  made_by_order name order most old between new from list made came came_too reported laws = record {
+      OrderCame d order from.cpus most between list.blocks new → IsReportOf report (boot (scenario_of from)) (turns list.blocks) most made →
+      made.order.items ≡ [] → HasLaws → IsPrepared d (Solo name (Some order) most) old new (Ok made)
+  made_by_order name order most old between new from list made came came_too reported none laws = record {
     from = from;
     between = between;
     came = came;
     done = record {
       order = turns list.blocks;
-      of_command = record {
-        blocks = list.blocks;
-        came = came_at order from.cpus most (boot (scenario_of from)) between new list (boot_cpus (scenario_of from)) came_too;
-        all = refl;
-      };
+      of_command = (
+        record {
+          blocks = list.blocks;
+          came = came_at order from.cpus most (boot (scenario_of from)) between new list (boot_cpus (scenario_of from)) came_too;
+          all = refl;
+        },
+        none,
+      );
       no_idle = reported.no_idle;
       reported = reported.text;
       quiet = reported.quiet;
@@ -141,6 +152,51 @@ module _ {D : Type 0} (d : Depots D) where
       revokes = λ before after cpu ec whole. laws.revokes (scenario_of from) before cpu ec;
     };
   }
+
+  made_together : (name order : List ℕ) (most : ℕ) (old new : D) (from : ScenarioText) (made : Outcome) → ScenarioCame d name old from new →
+      IsTogether (boot (scenario_of from)) most made → HasLaws → IsPrepared d (Run name order most) old new (Ok made)
+  made_together name order most old new from made came together laws = record {
+    from = from;
+    between = new;
+    came = came;
+    done = record {
+      order = turns together.blocks;
+      of_command = (record { blocks = together.blocks; sound = together.order; text = together.appended; all = refl }, refl);
+      no_idle = together.reported.no_idle;
+      reported = together.reported.text;
+      quiet = together.reported.quiet;
+      spent = together.spent;
+      within = together.reported.within;
+      processors = together.reported.processors;
+      forests = λ before after whole. laws.forests (scenario_of from) before;
+      revokes = λ before after cpu ec whole. laws.revokes (scenario_of from) before cpu ec;
+    };
+  }
+
+  pub made_bench : (number most : ℕ) (depot : D) (from : ScenarioText) (f : Finished) (made : Outcome) → scenario (generated number) ≡ Ok from →
+      IsFinished (boot (scenario_of from)) (rounds (boot (scenario_of from)) most) most f →
+      IsRunOut (boot (scenario_of from)) most (rounds (boot (scenario_of from)) most) →
+      made.text.items ≡ summary number f.kernel.state f.trace.items → made.is_complete ≡ is_quiet f.kernel.state → made.order.items ≡ [] → HasLaws →
+      IsPrepared d (Bench number most) depot depot (Ok made)
+  made_bench number most depot from f made valid finished out text quiet none laws =
+      let k : KernelState = boot (scenario_of from) in
+      let reported = out_reported (summary number) k (rounds k most) most f made finished out text quiet in record {
+        from = from;
+        between = depot;
+        came = (valid, refl);
+        done = record {
+          order = rounds k most;
+          of_command = (refl, refl, none);
+          no_idle = reported.no_idle;
+          reported = reported.text;
+          quiet = reported.quiet;
+          spent = spent_of k (rounds k most) most made reported.quiet out;
+          within = reported.within;
+          processors = reported.processors;
+          forests = λ before after whole. laws.forests (scenario_of from) before;
+          revokes = λ before after cpu ec whole. laws.revokes (scenario_of from) before cpu ec;
+        };
+      }
 
   -- ANY ANSWER
 
@@ -153,19 +209,25 @@ module _ {D : Type 0} (d : Depots D) where
       (unread_order name order from most old between new e came kept kept_too h)
 
   pub rounds_by : (name : List ℕ) (most : ℕ) (old new : D) (from : ScenarioText) (r : Result Outcome Exit) → ScenarioCame d name old from new →
-      IfOk r (λ made. IsReportOf (boot (scenario_of from)) (rounds (boot (scenario_of from)) most) most made) →
+      IfOk r (λ made. IsReportOf report (boot (scenario_of from)) (rounds (boot (scenario_of from)) most) most made) →
       IfOk r (λ made. made.is_complete ≡ false → length (rounds (boot (scenario_of from)) most) ≡ most) →
-      IfErr r (λ e. e ≡ exit.Memory) → HasLaws →
+      IfOk r (λ made. made.order.items ≡ []) → IfErr r (λ e. e ≡ exit.Memory) → HasLaws →
       IsPrepared d (Solo name None most) old new r
-  rounds_by name most old new from (Ok made) came reported spent memory laws = made_rounds name most old new from made came reported spent laws
-  rounds_by name most old new from (Err e) came reported spent memory laws =
+  rounds_by name most old new from (Ok made) came reported spent none memory laws = made_rounds name most old new from made came reported spent none laws
+  rounds_by name most old new from (Err e) came reported spent none memory laws =
       subst (λ (x : Exit). IsPrepared d (Solo name None most) old new (Err x)) (sym memory) tt
 
   pub order_by : (name order : List ℕ) (most : ℕ) (old between new : D) (from : ScenarioText) (list : BlockList) (r : Result Outcome Exit) →
       ScenarioCame d name old from between → OrderCame d order from.cpus most between list.blocks new →
-      IfOk r (λ made. IsReportOf (boot (scenario_of from)) (turns list.blocks) most made) → IfErr r (IsIdleFault (boot (scenario_of from)) list) →
-      HasLaws → IsPrepared d (Solo name (Some order) most) old new r
-  order_by name order most old between new from list (Ok made) came came_too reported idle laws =
-      made_by_order name order most old between new from list made came came_too reported laws
-  order_by name order most old between new from list (Err e) came came_too reported idle laws =
+      IfOk r (λ made. IsReportOf report (boot (scenario_of from)) (turns list.blocks) most made) → IfErr r (IsIdleFault (boot (scenario_of from)) list) →
+      IfOk r (λ made. made.order.items ≡ []) → HasLaws → IsPrepared d (Solo name (Some order) most) old new r
+  order_by name order most old between new from list (Ok made) came came_too reported idle none laws =
+      made_by_order name order most old between new from list made came came_too reported none laws
+  order_by name order most old between new from list (Err e) came came_too reported idle none laws =
       idle_order name order from most old between new list e came came_too idle
+
+  pub together_by : (name order : List ℕ) (most : ℕ) (old new : D) (from : ScenarioText) (r : Result Outcome Exit) → ScenarioCame d name old from new →
+      IfOk r (IsTogether (boot (scenario_of from)) most) → IfErr r (λ e. e ≡ exit.Memory) → HasLaws → IsPrepared d (Run name order most) old new r
+  together_by name order most old new from (Ok made) came together memory laws = made_together name order most old new from made came together laws
+  together_by name order most old new from (Err e) came together memory laws =
+      subst (λ (x : Exit). IsPrepared d (Run name order most) old new (Err x)) (sym memory) tt

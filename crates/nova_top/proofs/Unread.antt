@@ -1,32 +1,62 @@
--- Where a command could not be read for want of memory, nothing was fetched.
-use Rattle.std.proofs.Common.{◌≡◌, ℕ, List, [], inl, inr, refl, sym, subst, arith}
+-- Where a command could not be read for want of memory, nothing was done to the depot.
+use Rattle.std.proofs.Common.{◌≡◌, ℕ, List, [], inl, inr, refl, sym, ◌∙◌, subst, arith}
 use Rattle.std.specs.Prelude.{Option, Some, None, Err, IfSome}
 use Rattle.nova_command.specs.CommandFault.{Answers}
 use Rattle.nova_command.specs.declared.command.Command.{Command}
-use Rattle.nova_command.specs.declared.command.Command.TheVariants.{Solo, Check}
+use Rattle.nova_command.specs.declared.command.Command.TheVariants.{Run, Solo, Check, Bench}
 use Rattle.nova_command.specs.declared.fault.CommandFault.{CommandFault}
 use Rattle.nova_command.specs.declared.fault.CommandFault.TheVariants as command
 use Rattle.nova_io.specs.Fetched.{Nothing}
+use Rattle.nova_io.specs.Files.{Files, with_appended}
+use Rattle.nova_io.specs.Taken.{Nothing as Nothing_taken}
 use Rattle.nova_top.specs.Exit.{of_command}
-use Rattle.nova_top.specs.Fetches.{Fetches, FetchesOf, CameBefore}
+use Rattle.nova_top.specs.Fetches.{Appends, Calls, HasFiles, AllOthersStay, Fetches, FetchesOf, CameBefore, appended_before}
 use Rattle.nova_top.specs.Names.{most_of_order, most_of_scenario}
 use Rattle.nova_top.specs.Outside.{Depots}
 use Rattle.nova_top.specs.declared.exit.Exit.{Exit}
 use Rattle.nova_top.specs.declared.exit.Exit.TheVariants.{Done, Memory}
 
+-- no bytes change no files
+pub nothing_more : (files : Option Files) (name : List ℕ) → files ≡ with_appended files name []
+nothing_more (Some files) name = refl
+nothing_more None name = refl
+
 none_of : {D : Type 0} (d : Depots D) (name : List ℕ) (depot : D) → FetchesOf d most_of_scenario name Memory depot depot
 none_of d name depot = record { bytes = []; few = omega arith; came = inl Nothing; others = λ other. inr refl }
 
 none_for : {D : Type 0} (d : Depots D) (read : Command) (depot : D) → Fetches d read Memory depot depot
+none_for d (Run name order most) depot = none_of d name depot
+none_for d (Bench number most) depot = refl
 none_for d (Solo name None most) depot = none_of d name depot
 none_for d (Solo name (Some order) most) depot = inl (none_of d name depot)
 none_for d (Check name) depot = none_of d name depot
 
+-- nothing is appended
+pub none_appended : {D : Type 0} (d : Depots D) (command : Command) (depot : D) → Appends d command depot depot
+none_appended d (Run name order most) depot = ([], inl Nothing_taken)
+none_appended d (Solo name order most) depot = refl
+none_appended d (Check name) depot = refl
+none_appended d (Bench number most) depot = refl
+
+pub files_stay : {D : Type 0} (d : Depots D) (command : Command) (exit : Exit) (old new : D) → d.files new ≡ d.files old → HasFiles d command exit old new
+files_stay d (Run name order most) exit old new same = ([], same ∙ nothing_more (d.files old) order, λ unwritten. refl)
+files_stay d (Solo name order most) exit old new same = same
+files_stay d (Check name) exit old new same = same
+files_stay d (Bench number most) exit old new same = same
+
+-- a call that was not read, or that made nothing: it has no appends
+pub without_appends : {D : Type 0} (d : Depots D) (command : Command) (exit : Exit) (old new : D) → Fetches d command exit old new → Calls d command exit old new
+without_appends d command exit old new fetches = record { between = new; fetches = fetches; appends = none_appended d command new; none = λ unwritten. refl }
+
 pub unread : {D : Type 0} (d : Depots D) (read : Option Command) (depot : D) (fault : CommandFault) (exit : Exit) →
-    exit ≡ of_command fault → Answers read (Err fault) → IfSome read (λ command. Fetches d command exit depot depot)
+    exit ≡ of_command fault → Answers read (Err fault) → IfSome read (λ command. Calls d command exit depot depot)
 unread d None depot fault exit is h = tt
 unread d (Some read) depot command.Usage exit is h = absurd (cc)
-unread d (Some read) depot command.Memory exit is h = subst (λ (e : Exit). Fetches d read e depot depot) (sym is) (none_for d read depot)
+unread d (Some read) depot command.Memory exit is h = subst (λ (e : Exit). Calls d read e depot depot) (sym is) (without_appends d read Memory depot depot (none_for d read depot))
+
+pub unread_files : {D : Type 0} (d : Depots D) (read : Option Command) (depot : D) (exit : Exit) → IfSome read (λ command. HasFiles d command exit depot depot)
+unread_files d None depot exit = tt
+unread_files d (Some read) depot exit = files_stay d read exit depot depot refl
 
 -- the fetches before an answer that is not ReadFault are as good before another
 moved : {D : Type 0} (d : Depots D) (most : ℕ) (name : List ℕ) (exit : Exit) (old new : D) →
@@ -35,6 +65,8 @@ moved d most name exit old new as_well f = record { bytes = f.bytes; few = f.few
 
 pub as_well : {D : Type 0} (d : Depots D) (command : Command) (exit : Exit) (old new : D) →
     ((name bytes : List ℕ) (a b : D) → CameBefore Done d name a bytes b → CameBefore exit d name a bytes b) → Fetches d command Done old new → Fetches d command exit old new
+as_well d (Run name order most) exit old new same f = moved d most_of_scenario name exit old new (λ bytes. same name bytes old new) f
+as_well d (Bench number most) exit old new same f = f
 as_well d (Solo name None most) exit old new same f = moved d most_of_scenario name exit old new (λ bytes. same name bytes old new) f
 as_well d (Check name) exit old new same f = moved d most_of_scenario name exit old new (λ bytes. same name bytes old new) f
 as_well d (Solo name (Some order) most) exit old new same (inl f) = inl (moved d most_of_scenario name exit old new (λ bytes. same name bytes old new) f)

@@ -4,7 +4,7 @@ use Rattle.nova_model.specs.State.{KernelState}
 use Rattle.nova_model.specs.Boot.{boot}
 use Rattle.nova_boot.specs.Boot.{scenario_of}
 use Rattle.nova_command.specs.declared.command.Command.{Command}
-use Rattle.nova_command.specs.declared.command.Command.TheVariants.{Solo, Check}
+use Rattle.nova_command.specs.declared.command.Command.TheVariants.{Run, Solo, Check, Bench}
 use Rattle.nova_order.specs.Read.{order_of}
 use Rattle.nova_order.specs.declared.block.Block.{Block}
 use Rattle.nova_order.specs.declared.fault.OrderFault.{OrderFault}
@@ -31,9 +31,11 @@ pub record OrderUnread {D : Type 0} (d : Depots D) (scenario_name order_name : L
 
 -- fetches of the scenario failed, or those of the order that the command names
 abbrev pub IsReadFault : {D : Type 0} → Depots D → Command → D → D → Type 0
+IsReadFault d (Run name order most) old new = HasFailed d name old new
 IsReadFault d (Solo name None most) old new = HasFailed d name old new
 IsReadFault d (Solo name (Some order) most) old new = HasFailed d name old new ⊎ OrderUnread d name order old new
 IsReadFault d (Check name) old new = HasFailed d name old new
+IsReadFault d (Bench number most) old new = ⊥
 
 -- a file came whose bytes are no scenario, with the line and the cause that the grammar gives; or too many came, and then the line is 0
 abbrev pub ScenarioRefused : {D : Type 0} → Depots D → List ℕ → ℕ → ScenarioWhy → D → D → Type 0
@@ -42,8 +44,10 @@ ScenarioRefused d name line (Text why) old new =
     (bytes : List ℕ) × FileCame d most_of_scenario name old bytes new × (scenario bytes ≡ Err (record { line = line; why = why }))
 
 abbrev pub IsScenarioFault : {D : Type 0} → Depots D → Command → ℕ → ScenarioWhy → D → D → Type 0
+IsScenarioFault d (Run name order most) line why old new = ScenarioRefused d name line why old new
 IsScenarioFault d (Solo name order most) line why old new = ScenarioRefused d name line why old new
 IsScenarioFault d (Check name) line why old new = ScenarioRefused d name line why old new
+IsScenarioFault d (Bench number most) line why old new = ⊥
 
 -- a file came whose bytes are no order of these processors and of at most so many turns, with this fault
 abbrev pub NoOrderCame : {D : Type 0} → Depots D → List ℕ → ℕ → ℕ → OrderFault → D → D → Type 0
@@ -73,6 +77,8 @@ pub record IsRefusedAfter {D : Type 0} (d : Depots D) (scenario_name order_name 
 
 -- the order that the command names is refused; where it names none, it never is
 abbrev pub IsOrderFault : {D : Type 0} → Depots D → Command → ℕ → OrderWhy → D → D → Type 0
+IsOrderFault d (Run name order most) line why old new = ⊥
 IsOrderFault d (Solo name None most) line why old new = ⊥
 IsOrderFault d (Solo name (Some order) most) line why old new = IsRefusedAfter d name order most line why old new
 IsOrderFault d (Check name) line why old new = ⊥
+IsOrderFault d (Bench number most) line why old new = ⊥

@@ -63,3 +63,14 @@ of_order order.Memory = Memory
 abbrev pub of_run : RunFault → Exit
 of_run (turn.OrderIdle line) = OrderFault line Idle
 of_run turn.Memory = Memory
+
+-- nothing is appended and nothing is written
+abbrev pub IsUnwritten : Exit → Type 0
+IsUnwritten Usage = Unit {0}
+IsUnwritten ReadFault = Unit {0}
+IsUnwritten (Scenario line why) = Unit {0}
+IsUnwritten (OrderFault line why) = Unit {0}
+IsUnwritten Memory = Unit {0}
+IsUnwritten Done = ⊥
+IsUnwritten WriteFault = ⊥
+IsUnwritten Limit = ⊥

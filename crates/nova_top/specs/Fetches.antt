@@ -1,15 +1,18 @@
--- The fetches of a call: of which names, and which counts of failed fetches may change.
+-- What a call does to the depot: the fetches of which names, the appends to which one, and which counts may change.
 use Rattle.std.specs.Prelude.{◌≡◌, ◌⊎◌, ℕ, ◌+◌, ◌≤◌, List, [], ◌∷◌, length, Some, None}
 use Rattle.nova_command.specs.declared.command.Command.{Command}
-use Rattle.nova_command.specs.declared.command.Command.TheVariants.{Solo, Check}
+use Rattle.nova_command.specs.declared.command.Command.TheVariants.{Run, Solo, Check, Bench}
 use Rattle.nova_io.specs.Faults.{IsShared, OthersStay}
 use Rattle.nova_io.specs.Fetched.{Came, CameWhole, CameInPart}
-use Rattle.nova_scenario.specs.declared.scenario.Scenario.{Scenario}
+use Rattle.nova_io.specs.Files.{with_appended}
+use Rattle.nova_io.specs.Taken.{WentWhole, WentInPart}
+use Rattle.nova_scenario.specs.declared.scenario.Scenario.{Scenario as ScenarioText}
 use Rattle.nova_top.specs.Made.{ScenarioCame}
-use Rattle.nova_top.specs.Names.{most_of_order, most_of_scenario}
+use Rattle.nova_top.specs.Names.{most_of_order, most_of_scenario, appended_names}
 use Rattle.nova_top.specs.Outside.{Depots}
+use Rattle.nova_top.specs.Exit.{IsUnwritten}
 use Rattle.nova_top.specs.declared.exit.Exit.{Exit}
-use Rattle.nova_top.specs.declared.exit.Exit.TheVariants.{ReadFault}
+use Rattle.nova_top.specs.declared.exit.Exit.TheVariants.{Done, Usage, ReadFault, Scenario, OrderFault, WriteFault, Limit, Memory}
 
 -- bytes that came by fetches of a name, each from the place after the bytes before it. Before ReadFault the last of them failed.
 abbrev pub CameBefore : {D : Type 0} → Exit → Depots D → List ℕ → D → List ℕ → D → Type 0
@@ -25,7 +28,7 @@ pub record FetchesOf {D : Type 0} (d : Depots D) (most : ℕ) (name : List ℕ) 
 
 -- the scenario came, and after it the order was fetched
 pub record FetchesBoth {D : Type 0} (d : Depots D) (scenario_name order_name : List ℕ) (exit : Exit) (old new : D) : Type 0 where
-  pub from : Scenario
+  pub from : ScenarioText
   pub between : D
   pub came : ScenarioCame d scenario_name old from between
   pub others : OthersStay d.fetch_faults scenario_name old between
@@ -33,9 +36,44 @@ pub record FetchesBoth {D : Type 0} (d : Depots D) (scenario_name order_name : L
 
 -- the fetches of a command: of its scenario, and after a valid one of the order that it names
 abbrev pub Fetches : {D : Type 0} → Depots D → Command → Exit → D → D → Type 0
+Fetches d (Run name order most) exit old new = FetchesOf d most_of_scenario name exit old new
 Fetches d (Solo name None most) exit old new = FetchesOf d most_of_scenario name exit old new
 Fetches d (Solo name (Some order) most) exit old new = FetchesOf d most_of_scenario name exit old new ⊎ FetchesBoth d name order exit old new
 Fetches d (Check name) exit old new = FetchesOf d most_of_scenario name exit old new
+Fetches d (Bench number most) exit old new = new ≡ old
+
+-- the appends of a command: of some bytes to the file of its order, up to one that failed where they did not go whole
+abbrev pub Appends : {D : Type 0} → Depots D → Command → D → D → Type 0
+Appends d (Run scenario name most) old new =
+    (bytes : List ℕ) × (WentWhole (λ depot. d.took depot name) bytes old new ⊎ WentInPart (λ depot. d.took depot name) (λ depot. d.append_failed depot name) bytes old new)
+Appends d (Solo scenario order most) old new = new ≡ old
+Appends d (Check scenario) old new = new ≡ old
+Appends d (Bench number most) old new = new ≡ old
+
+-- all that is done to the depot: first the fetches, and then the appends; there are none where nothing is written
+pub record Calls {D : Type 0} (d : Depots D) (command : Command) (exit : Exit) (old new : D) : Type 0 where
+  pub between : D
+  pub fetches : Fetches d command exit old between
+  pub appends : Appends d command between new
+  pub none : IsUnwritten exit → new ≡ between
+
+-- the files are as before, but for bytes that a run appends to the file of its order; there are none where nothing is written
+abbrev pub HasFiles : {D : Type 0} → Depots D → Command → Exit → D → D → Type 0
+HasFiles d (Run scenario name most) exit old new = (bytes : List ℕ) × (d.files new ≡ with_appended (d.files old) name bytes) × (IsUnwritten exit → bytes ≡ [])
+HasFiles d (Solo scenario order most) exit old new = d.files new ≡ d.files old
+HasFiles d (Check scenario) exit old new = d.files new ≡ d.files old
+HasFiles d (Bench number most) exit old new = d.files new ≡ d.files old
+
+-- the names that a call appends to: none where nothing is written
+abbrev pub appended_before : Exit → Command → List (List ℕ)
+appended_before Done command = appended_names command
+appended_before Limit command = appended_names command
+appended_before WriteFault command = appended_names command
+appended_before Usage command = []
+appended_before ReadFault command = []
+appended_before (Scenario line why) command = []
+appended_before (OrderFault line why) command = []
+appended_before Memory command = []
 
 -- one number is always told for a name and for one of these
 abbrev pub IsSharedByAny : {D : Type 0} → (D → List ℕ → ℕ) → List (List ℕ) → List ℕ → Type 0

@@ -9,3 +9,5 @@ pub mod Fetches
 pub mod Servable
 pub mod Main
 pub mod Prepared
+pub mod Sent
+pub mod Replayed

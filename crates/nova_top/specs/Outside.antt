@@ -1,19 +1,31 @@
--- What is told of the depot and of the sink that a call is handed, and how a file comes.
-use Rattle.std.specs.Prelude.{◌≡◌, ℕ, ◌+◌, ◌<◌, ◌≤◌, List, length, Option, Some, IfSome}
+-- What is told of the depot and of the sink that a call is handed, how a file comes, and how bytes go to one.
+use Rattle.std.specs.Prelude.{◌≡◌, ℕ, ◌+◌, ◌<◌, ◌≤◌, List, length, take, Option, Some, IfSome}
 use Rattle.std.specs.FinMap.{get}
 use Rattle.nova_io.specs.Faults.{Rose}
 use Rattle.nova_io.specs.Fetched.{Gave, FetchFailed, Came, CameWhole}
-use Rattle.nova_io.specs.Files.{Files, bytes_of}
+use Rattle.nova_io.specs.Files.{Files, bytes_of, with_appended}
+use Rattle.nova_io.specs.Taken.{TookFor, TakeFailedFor, WentWhole, WentInPart}
 
--- of a depot: its files, what a fetch gave, that one failed, and how many fetches of each name failed
+-- of a depot: its files; what a fetch gave, that one failed, and how many fetches of each name failed; and the same of appends
 pub record Depots (D : Type 0) : Type 1 where
   pub files : D → Option Files
   pub gave : Gave D
   pub fetch_failed : FetchFailed D
   pub fetch_faults : D → List ℕ → ℕ
+  pub took : TookFor D
+  pub append_failed : TakeFailedFor D
+  pub append_faults : D → List ℕ → ℕ
 
-abbrev pub depots : {D : Type 0} → (D → Option Files) → Gave D → FetchFailed D → (D → List ℕ → ℕ) → Depots D
-depots files gave fetch_failed fetch_faults = record { files = files; gave = gave; fetch_failed = fetch_failed; fetch_faults = fetch_faults }
+abbrev pub depots : {D : Type 0} → (D → Option Files) → Gave D → FetchFailed D → (D → List ℕ → ℕ) → TookFor D → TakeFailedFor D → (D → List ℕ → ℕ) → Depots D
+depots files gave fetch_failed fetch_faults took append_failed append_faults = record {
+  files = files;
+  gave = gave;
+  fetch_failed = fetch_failed;
+  fetch_faults = fetch_faults;
+  took = took;
+  append_failed = append_failed;
+  append_faults = append_faults;
+}
 
 -- of a sink: the bytes that it took, and how many writes failed
 pub record Sinks (O : Type 0) : Type 0 where
@@ -26,6 +38,10 @@ sinks written faults = record { written = written; faults = faults }
 -- fetches of a name failed: their count rose
 abbrev pub HasFailed : {D : Type 0} → Depots D → List ℕ → D → D → Type 0
 HasFailed d name old new = Rose (d.fetch_faults old name) (d.fetch_faults new name)
+
+-- appends to a name failed: their count rose
+abbrev pub HasFailedToAppend : {D : Type 0} → Depots D → List ℕ → D → D → Type 0
+HasFailedToAppend d name old new = Rose (d.append_faults old name) (d.append_faults new name)
 
 -- a file came: these bytes, no more than so many, came whole by the fetches of its name, and where the depot tells its files they are
 -- those of the name
@@ -41,3 +57,15 @@ pub record TooManyCame {D : Type 0} (d : Depots D) (most : ℕ) (name : List ℕ
   pub came : Came d.gave name old bytes new
   pub number : length bytes ≡ most + 1
   pub held : IfSome (d.files old) (λ files. most < length (bytes_of files name))
+
+-- bytes went whole to a name by the appends to it, and where the depot tells its files they stand there after those that it had
+pub record WereAppended {D : Type 0} (d : Depots D) (name bytes : List ℕ) (old new : D) : Type 0 where
+  pub whole : WentWhole (λ depot. d.took depot name) bytes old new
+  pub held : d.files new ≡ with_appended (d.files old) name bytes
+
+-- an append of bytes failed before they had gone whole: a part of them went, from the first on
+pub record WereCut {D : Type 0} (d : Depots D) (name bytes : List ℕ) (old new : D) : Type 0 where
+  pub part : WentInPart (λ depot. d.took depot name) (λ depot. d.append_failed depot name) bytes old new
+  pub count : ℕ
+  pub within : count < length bytes
+  pub held : d.files new ≡ with_appended (d.files old) name (take count bytes)

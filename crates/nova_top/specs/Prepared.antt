@@ -9,6 +9,7 @@ use Rattle.nova_model.specs.Runs.{IsFreeOfIdle}
 use Rattle.nova_order.specs.Blocks.{BlockList, IsOrder, turns}
 use Rattle.nova_order.specs.Text.{text_of}
 use Rattle.nova_order.specs.declared.block.Block.{Block}
+use Rattle.nova_model.specs.declared.event.Event.{Event}
 use Rattle.nova_report.specs.Report.{report}
 use Rattle.nova_scenario.specs.declared.scenario.Scenario.{Scenario as ScenarioText}
 use Rattle.nova_top.specs.Causes.{IsReadFault, IsScenarioFault, IsOrderFault, ScenarioRefused, TextRefused}
@@ -25,6 +26,10 @@ use Rattle.nova_top.specs.declared.outcome.Outcome.{Outcome}
 abbrev pub exit_of : {T : Type 0} → Result T Exit → Exit
 exit_of (Ok made) = Done
 exit_of (Err exit) = exit
+
+-- a scenario of one processor
+unfoldable pub IsAlone : ScenarioText → Type 0
+IsAlone from = from.cpus ≡ 1
 
 -- a scenario that was read, or why it wasn't
 abbrev pub IsScenarioRead : {D : Type 0} → Depots D → List ℕ → D → D → Result ScenarioText Exit → Type 0
@@ -50,21 +55,21 @@ IsOrderReadBy d name cpus most old new (Err (Scenario line why)) = ⊥
 IsOrderReadBy d name cpus most old new (Err WriteFault) = ⊥
 IsOrderReadBy d name cpus most old new (Err Limit) = ⊥
 
--- the report of an order of turns from a state, and whether they end quiet
-pub record IsReportOf (k : KernelState) (order : List ℕ) (most : ℕ) (made : Outcome) : Type 0 where
+-- what is said of the run over an order of turns from a state, and whether it ends quiet
+pub record IsReportOf (said : KernelState → List Event → List ℕ) (k : KernelState) (order : List ℕ) (most : ℕ) (made : Outcome) : Type 0 where
   pub no_idle : IsFreeOfIdle k order
-  pub text : made.text.items ≡ report (run k order) (trace k order)
+  pub text : made.text.items ≡ said (run k order) (trace k order)
   pub quiet : made.is_complete ≡ is_quiet (run k order)
   pub within : length order ≤ most
   pub processors : AllByRecursion (λ cpu. cpu < k.cpus) order
 
--- the report of a run with a thread for each processor: of one order of turns, whose text these bytes are. Where it does not end quiet it has
--- as many turns as it may have
-pub record IsTogether (k : KernelState) (most : ℕ) (made : Outcome) (text : List ℕ) : Type 0 where
+-- the report of a run with a thread for each processor: of one order of turns, whose text is to be appended. Where it does not end quiet it
+-- has as many turns as it may have
+pub record IsTogether (k : KernelState) (most : ℕ) (made : Outcome) : Type 0 where
   pub blocks : List Block
   pub order : IsOrder blocks
-  pub written : text ≡ text_of blocks
-  pub reported : IsReportOf k (turns blocks) most made
+  pub appended : made.order.items ≡ text_of blocks
+  pub reported : IsReportOf report k (turns blocks) most made
   pub spent : made.is_complete ≡ false → length (turns blocks) ≡ most
 
 -- an order that was read is not run only for an idle turn, or for want of memory
@@ -75,7 +80,7 @@ IsIdleFault k order _ = ⊥
 
 -- what a command makes, or why it makes nothing
 abbrev pub IsPrepared : {D : Type 0} → Depots D → Command → D → D → Result Outcome Exit → Type 0
-IsPrepared d command old new (Ok made) = IsMade d command old new made.is_complete made.text.items
+IsPrepared d command old new (Ok made) = IsMade d command old new made.is_complete made.order.items made.text.items
 IsPrepared d command old new (Err ReadFault) = IsReadFault d command old new
 IsPrepared d command old new (Err (Scenario line why)) = IsScenarioFault d command line why old new
 IsPrepared d command old new (Err (OrderFault line why)) = IsOrderFault d command line why old new

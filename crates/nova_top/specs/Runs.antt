@@ -1,5 +1,5 @@
 -- What a command makes of a scenario: a text, and whether the command is complete.
-use Rattle.std.specs.Prelude.{◌≡◌, ℕ, ◌<◌, ◌≤◌, Bool, true, false, List, ◌∷◌, ◌++◌, length, codes}
+use Rattle.std.specs.Prelude.{◌≡◌, ℕ, ◌<◌, ◌≤◌, Bool, true, false, List, [], ◌∷◌, ◌++◌, length, codes}
 use Rattle.std.specs.List.{AllByRecursion}
 use Rattle.nova_model.specs.State.{KernelState}
 use Rattle.nova_model.specs.Choice.{is_quiet}
@@ -12,8 +12,10 @@ use Rattle.nova_range.specs.declared.status.Status.TheVariants.{Success}
 use Rattle.nova_revocation.specs.Along.{HasEvent}
 use Rattle.nova_revocation.specs.Whole.{HasEnded}
 use Rattle.nova_command.specs.declared.command.Command.{Command}
-use Rattle.nova_command.specs.declared.command.Command.TheVariants.{Solo, Check}
+use Rattle.nova_command.specs.declared.command.Command.TheVariants.{Run, Solo, Check, Bench}
+use Rattle.nova_model.specs.declared.event.Event.{Event}
 use Rattle.nova_report.specs.Report.{report}
+use Rattle.nova_report.specs.Summary.{summary}
 use Rattle.nova_top.specs.Orders.{IsOrderOf, IsSpent, most_turns}
 use Rattle.nova_top.specs.Outside.{Depots}
 
@@ -21,15 +23,22 @@ use Rattle.nova_top.specs.Outside.{Depots}
 abbrev pub IsReturned : KernelState → ℕ → ℕ → Type 0
 IsReturned k cpu ec = HasEvent k cpu ec Answer REVOKE (status_code Success)
 
--- a run of a command from a state: there is an order of turns, which is the command's; none of its turns is idle; and the text is the
--- report of the run over it with its trace. The run is complete exactly where it ends quiet. The order has no more turns than the command
+-- what a command says of a kernel and of the events of its turns: the report, or a bench's summary
+abbrev pub said_by : Command → KernelState → List Event → List ℕ
+said_by (Run scenario order most) = report
+said_by (Solo scenario order most) = report
+said_by (Check scenario) = report
+said_by (Bench number most) = summary number
+
+-- a run of a command from a state: there is an order of turns, which is the command's; none of its turns is idle; and the text is what
+-- the command says of the run over it with its trace. The run is complete exactly where it ends quiet. The order has no more turns than the command
 -- allows, and each is of a processor that is there. After each part of it, from the first turn on, delegations are a sound forest. And each of its turns
 -- whose event answers SUCCESS to a revoke ends one that ran, with nothing left of its scope: no descendant of what was revoked.
-pub record IsRun {D : Type 0} (d : Depots D) (command : Command) (k : KernelState) (old new : D) (complete : Bool) (text : List ℕ) : Type 0 where
+pub record IsRun {D : Type 0} (d : Depots D) (command : Command) (k : KernelState) (old new : D) (complete : Bool) (bytes text : List ℕ) : Type 0 where
   pub order : List ℕ
-  pub of_command : IsOrderOf d command k old new order
+  pub of_command : IsOrderOf d command k old new order bytes
   pub no_idle : IsFreeOfIdle k order
-  pub reported : text ≡ report (run k order) (trace k order)
+  pub reported : text ≡ said_by command (run k order) (trace k order)
   pub quiet : complete ≡ is_quiet (run k order)
   pub spent : complete ≡ false → IsSpent command order
   pub within : length order ≤ most_turns command
@@ -38,6 +47,8 @@ pub record IsRun {D : Type 0} (d : Depots D) (command : Command) (k : KernelStat
   pub revokes : (before after : List ℕ) (cpu ec : ℕ) → before ++ cpu ∷ after ≡ order → IsReturned (run k before) cpu ec → HasEnded (run k before) cpu ec
 
 -- what a command makes of the boot state: check says that the scenario is valid, and any other command runs it
-abbrev pub IsDone : {D : Type 0} → Depots D → Command → KernelState → D → D → Bool → List ℕ → Type 0
-IsDone d (Solo scenario order most) k old new complete text = IsRun d (Solo scenario order most) k old new complete text
-IsDone d (Check scenario) k old new complete text = (complete ≡ true) × (text ≡ codes "ok\n") × (new ≡ old)
+abbrev pub IsDone : {D : Type 0} → Depots D → Command → KernelState → D → D → Bool → List ℕ → List ℕ → Type 0
+IsDone d (Run scenario order most) k old new complete bytes text = IsRun d (Run scenario order most) k old new complete bytes text
+IsDone d (Solo scenario order most) k old new complete bytes text = IsRun d (Solo scenario order most) k old new complete bytes text
+IsDone d (Check scenario) k old new complete bytes text = (complete ≡ true) × (text ≡ codes "ok\n") × (new ≡ old) × (bytes ≡ [])
+IsDone d (Bench number most) k old new complete bytes text = IsRun d (Bench number most) k old new complete bytes text

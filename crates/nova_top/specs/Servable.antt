@@ -7,7 +7,7 @@ use Rattle.nova_model.specs.Boot.{boot}
 use Rattle.nova_model.specs.Runs.{IsFreeOfIdle}
 use Rattle.nova_boot.specs.Boot.{scenario_of}
 use Rattle.nova_command.specs.declared.command.Command.{Command}
-use Rattle.nova_command.specs.declared.command.Command.TheVariants.{Solo, Check}
+use Rattle.nova_command.specs.declared.command.Command.TheVariants.{Run, Solo, Check, Bench}
 use Rattle.nova_io.specs.Faults.{Rose}
 use Rattle.nova_io.specs.Files.{Files}
 use Rattle.nova_order.specs.Blocks.{turns}
@@ -15,8 +15,8 @@ use Rattle.nova_order.specs.Read.{order_of}
 use Rattle.nova_order.specs.declared.block.Block.{Block}
 use Rattle.nova_scenario.specs.Scenario.{scenario}
 use Rattle.nova_scenario.specs.declared.scenario.Scenario.{Scenario}
-use Rattle.nova_top.specs.Names.{most_of_order, most_of_scenario, names_of}
-use Rattle.nova_top.specs.Outside.{Depots, Sinks, HasFailed}
+use Rattle.nova_top.specs.Names.{most_of_order, most_of_scenario, names_of, appended_names}
+use Rattle.nova_top.specs.Outside.{Depots, Sinks, HasFailed, HasFailedToAppend}
 use Rattle.nova_top.specs.declared.exit.Exit.{Exit}
 use Rattle.nova_top.specs.declared.exit.Exit.TheVariants.{Done, Limit, Memory}
 
@@ -38,17 +38,20 @@ pub record HasOrder (held : Files) (name : List ℕ) (k : KernelState) (most : �
 
 -- the files have what a command needs
 abbrev pub HasAll : Files → Command → Type 0
+HasAll held (Run name order most) = (from : Scenario) × HasScenario held name from
 HasAll held (Solo name None most) = (from : Scenario) × HasScenario held name from
 HasAll held (Solo name (Some order) most) = (from : Scenario) × HasScenario held name from × HasOrder held order (boot (scenario_of from)) most
 HasAll held (Check name) = (from : Scenario) × HasScenario held name from
+HasAll held (Bench number most) = Unit {0}
 
--- the depot tells its files, they have what the command needs, and nothing fails outside: neither a fetch of a name of the command nor a
--- write
+-- the depot tells its files, they have what the command needs, and nothing fails outside: neither a fetch of a name of the command
+-- nor an append nor a write
 pub record IsServable {D O : Type 0} (d : Depots D) (o : Sinks O) (command : Command) (old new : D) (before after : O) : Type 0 where
   pub held : Files
   pub told : d.files old ≡ Some held
   pub has : HasAll held command
   pub read : AllByRecursion (λ name. HasFailed d name old new → ⊥) (names_of command)
+  pub appended : AllByRecursion (λ name. HasFailedToAppend d name old new → ⊥) (appended_names command)
   pub written : Rose (o.faults before) (o.faults after) → ⊥
 
 -- the command is done, or was stopped by its limit or by want of memory

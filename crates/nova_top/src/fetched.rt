@@ -22,9 +22,9 @@ const MOST_OF_ORDER: u64 = 64 * 1024 * 1024;
 
 /// Fetches a scenario and reads it.
 pub fn fetch_scenario<D: Depot>(alloc: Global, depot: &mut D, name: &Name) -> Result<Scenario, Exit>
-    ensures read { IsScenarioRead (depots D.files D.gave D.fetch_failed D.fetch_faults) name.now depot.old depot.new result }
+    ensures read { IsScenarioRead (depots D.files D.gave D.fetch_failed D.fetch_faults D.took D.append_failed D.append_faults) name.now depot.old depot.new result }
     ensures sound { IfOk result IsSound }
-    ensures fetches { FetchesOf (depots D.files D.gave D.fetch_failed D.fetch_faults) most_of_scenario name.now (exit_of result) depot.old depot.new }
+    ensures fetches { FetchesOf (depots D.files D.gave D.fetch_failed D.fetch_faults D.took D.append_failed D.append_faults) most_of_scenario name.now (exit_of result) depot.old depot.new }
     ensures counts { NeverFalls (D.fetch_faults depot.old) (D.fetch_faults depot.new) }
     ensures appends { Stay (D.append_faults depot.old) (D.append_faults depot.new) }
     ensures files { D.files depot.new ≡ D.files depot.old }
@@ -44,9 +44,9 @@ pub fn fetch_order<D: Depot>(
     cpus: u32,
     most: u64,
 ) -> Result<Order, Exit>
-    ensures read { IsOrderReadBy (depots D.files D.gave D.fetch_failed D.fetch_faults) name.now cpus most depot.old depot.new result }
+    ensures read { IsOrderReadBy (depots D.files D.gave D.fetch_failed D.fetch_faults D.took D.append_failed D.append_faults) name.now cpus most depot.old depot.new result }
     ensures within { IfOk result (λ order. IsTrue (is_within cpus most order.blocks)) }
-    ensures fetches { FetchesOf (depots D.files D.gave D.fetch_failed D.fetch_faults) most_of_order name.now (exit_of result) depot.old depot.new }
+    ensures fetches { FetchesOf (depots D.files D.gave D.fetch_failed D.fetch_faults D.took D.append_failed D.append_faults) most_of_order name.now (exit_of result) depot.old depot.new }
     ensures counts { NeverFalls (D.fetch_faults depot.old) (D.fetch_faults depot.new) }
     ensures appends { Stay (D.append_faults depot.old) (D.append_faults depot.new) }
     ensures files { D.files depot.new ≡ D.files depot.old }

@@ -2,13 +2,18 @@
 //! report.
 #![tactic(auto)]
 
+mod bench;
 mod exit;
 mod fetched;
 mod main_call;
 mod outcome;
 mod prepared;
+mod replay;
+mod sending;
 #[cfg(test)]
 mod tests;
 
 pub use exit::{Exit, OrderWhy, ScenarioWhy};
 pub use main_call::nova_main;
+pub use nova_run::{Gate, Open};
+pub use replay::a_written_order_gives_the_same_report;

@@ -1,89 +1,104 @@
 ghost use Rattle.std.specs.Prelude.{◌≡◌, ◌⊎◌, map, string_bytes, None, IfSome};
-ghost use Rattle.nova_command.specs.Command.{command, HasLimit};
-ghost use Rattle.nova_io.specs.Faults.{Stay};
-ghost use Rattle.nova_top.specs.Fetches.{Fetches, AllOthersStay};
-ghost use Rattle.nova_top.specs.Main.{Answers, IsUnwritten};
+ghost use Rattle.nova_command.specs.Command.{command, HasBounds};
+ghost use Rattle.nova_top.specs.Exit.{IsUnwritten};
+ghost use Rattle.nova_top.specs.Fetches.{Calls, HasFiles, AllOthersStay, appended_before};
+ghost use Rattle.nova_top.specs.Main.{Answers};
 ghost use Rattle.nova_top.specs.Names.{names_of};
 ghost use Rattle.nova_top.specs.Outside.{depots, sinks};
 ghost use Rattle.nova_top.specs.Servable.{IsServable, IsDoneOrStopped};
 
 use crate::exit::Exit;
 use crate::prepared::prepare;
+use crate::sending::send;
 use nova_command::{Command, read_command};
-use nova_io::{Depot, Sink, write_all};
+use nova_io::{Depot, Sink};
+use nova_run::Gate;
 use std::alloc::Global;
+use std::sync::Wait;
+use std::thread::Threads;
 
-/// Makes what a command makes, and writes its text.
-fn serve<D: Depot, O: Sink>(alloc: Global, command: &Command, depot: &mut D, out: &mut O) -> Exit
-    requires { HasLimit command.now }
-    ensures answer { Answers (depots D.files D.gave D.fetch_failed D.fetch_faults) (sinks O.written O.faults) command.now result depot.old depot.new out.old out.new }
-    ensures complete { IsServable (depots D.files D.gave D.fetch_failed D.fetch_faults) (sinks O.written O.faults) command.now depot.old depot.new out.old out.new
+/// Makes what a command makes, and sends it out.
+fn serve<R: Threads + Wait + Sync, D: Depot, O: Sink, G: Gate + Sync>(
+    rt: &R,
+    alloc: Global,
+    command: &Command,
+    depot: &mut D,
+    out: &mut O,
+    gate: &G,
+) -> Exit
+    requires { HasBounds command.now }
+    ensures answer { Answers (depots D.files D.gave D.fetch_failed D.fetch_faults D.took D.append_failed D.append_faults) (sinks O.written O.faults) command.now result depot.old depot.new out.old out.new }
+    ensures complete { IsServable (depots D.files D.gave D.fetch_failed D.fetch_faults D.took D.append_failed D.append_faults) (sinks O.written O.faults) command.now depot.old depot.new out.old out.new
         → IsDoneOrStopped result }
     ensures unwritten { IsUnwritten result → out.new ≡ out.old }
-    ensures fetches { Fetches (depots D.files D.gave D.fetch_failed D.fetch_faults) command.now result depot.old depot.new }
+    ensures calls { Calls (depots D.files D.gave D.fetch_failed D.fetch_faults D.took D.append_failed D.append_faults) command.now result depot.old depot.new }
     ensures others { AllOthersStay D.fetch_faults (names_of command.now) depot.old depot.new }
-    ensures appends { Stay (D.append_faults depot.old) (D.append_faults depot.new) }
-    ensures files { D.files depot.new ≡ D.files depot.old }
+    ensures appends { AllOthersStay D.append_faults (appended_before result command.now) depot.old depot.new }
+    ensures files { HasFiles (depots D.files D.gave D.fetch_failed D.fetch_faults D.took D.append_failed D.append_faults) command.now result depot.old depot.new }
 {
-    let outcome = match prepare(alloc, command, depot) {
-        Ok(outcome) => outcome,
-        Err(exit) => return exit,
-    };
-    match write_all(out, &outcome.text) {
-        Ok(()) if outcome.is_complete => Exit::Done,
-        Ok(()) => Exit::Limit,
-        Err(_) => Exit::WriteFault,
+    match prepare(rt, alloc, command, depot, gate) {
+        Ok(outcome) => send(command, &outcome, depot, out),
+        Err(exit) => exit,
     }
 }
 
 /// The top call: does the command that the words ask for, over the depot's files, and writes its text
-/// to `out`. The words are those after the program's own name: `solo SCENARIO`, `solo SCENARIO ORDER`
-/// or `check SCENARIO`, with `--limit N` anywhere among them, from 1 to 10,000,000 turns, 1,000,000
-/// where it isn't given.
+/// to `out`. The words are those after the program's own name: `run SCENARIO ORDER`, `solo SCENARIO`, `solo SCENARIO ORDER`,
+/// `check SCENARIO` or `bench NUMBER`, with `--limit N` anywhere among them, from 1 to 10,000,000 turns, 1,000,000
+/// where it isn't given. NUMBER is from 1 to 90,000.
 ///
-/// `solo` runs the scenario from its boot state over an order of turns: round robin of at most N turns,
-/// or the order that was read from ORDER. None of its turns is idle, and the text is the report of the
-/// run over it with its trace. The order has at most N turns, and delegations are a sound forest after
+/// `run` runs the scenario from its boot state with a thread for each processor. Whatever the threads did, there is one order of turns:
+/// its text is appended to ORDER, and the text that is written is the report of the run over it with its trace. `solo` runs the
+/// scenario over round robin of at most N turns, or over the order that was read from ORDER, and appends nothing. `bench` runs the
+/// scenario that `generated` gives, which is valid and of one processor, so that its order is round robin; it writes a line that
+/// sums the run up, and does nothing to the depot. None of a run's turns is idle, and it has at most N turns. Delegations are a sound forest after
 /// each part of it. Where the event of a turn answers SUCCESS to a revoke, that revoke ran, and after the
 /// turn nothing is left of what it took away. The answer is Done exactly where the run ends quiet, and Limit exactly where it
-/// doesn't; round robin has then taken N turns. `check` writes `ok` and answers Done.
+/// doesn't; it has then taken N turns, unless the order was read. `check` writes `ok` and answers Done.
 ///
 /// Other answers, in this order: Usage exactly where the words are no command. ReadFault only where the
-/// count of failed fetches of SCENARIO rose in this call, or, after a valid scenario, that of ORDER.
+/// count of failed fetches of SCENARIO rose in this call, or, after a valid scenario, that of the ORDER of `solo`.
 /// Scenario exactly where the bytes that came are no scenario, with the first line at fault and why, or
 /// are more than 16 MiB, with line 0. OrderFault exactly where the order's bytes are no order of the
 /// scenario's processors and of at most N turns, with the first line at fault and why; or the first
 /// idle turn is one of that line; or they are more than 64 MiB, with line 0. WriteFault only where the
-/// sink's count of faults rose in this call. Memory may come in place of each.
+/// sink's count of faults rose in this call, or that of failed appends to the ORDER of `run`. Memory may come in place of each.
 ///
-/// With Done or Limit the text is written whole; with WriteFault a part of it from its first byte on;
-/// else the sink is as before. SCENARIO is fetched first, and ORDER only after a valid scenario, each
+/// With Done or Limit order and text are out whole. With WriteFault the order is, and a part of the text from its first byte on; or a part of the
+/// order is, from its first byte on, and the sink is as before; both are those of one run. Else nothing is appended, and the sink is as before.
+/// SCENARIO is fetched first, and the ORDER of `solo` only after a valid scenario, each
 /// up to the fetch that failed where the answer is ReadFault; nothing else is fetched. Where the words
-/// are no command, the depot is as before. Its files and the counts of other names always stay.
-pub fn nova_main<D: Depot, O: Sink>(
+/// are no command, the depot is as before. Its files stay but for what `run` appends to ORDER, and the counts of other names always stay.
+///
+/// `gate` is told of each step of the threads. With `run` and `bench` the call may wait; what it promises holds if it returns.
+pub fn nova_main<R: Threads + Wait + Sync, D: Depot, O: Sink, G: Gate + Sync>(
+    rt: &R,
     alloc: Global,
     words: &[String],
     depot: &mut D,
     out: &mut O,
+    gate: &G,
 ) -> Exit
     ensures usage { result ≡ Exit.Usage → command (map string_bytes words.now) ≡ None }
     ensures no_command { command (map string_bytes words.now) ≡ None → (result ≡ Exit.Usage) ⊎ (result ≡ Exit.Memory) }
     ensures untouched { command (map string_bytes words.now) ≡ None → (depot.new ≡ depot.old) × (out.new ≡ out.old) }
     ensures unwritten { IsUnwritten result → out.new ≡ out.old }
     ensures answer { IfSome (command (map string_bytes words.now)) (λ command.
-        Answers (depots D.files D.gave D.fetch_failed D.fetch_faults) (sinks O.written O.faults) command result depot.old depot.new out.old out.new) }
+        Answers (depots D.files D.gave D.fetch_failed D.fetch_faults D.took D.append_failed D.append_faults) (sinks O.written O.faults) command result depot.old depot.new out.old out.new) }
     ensures complete { IfSome (command (map string_bytes words.now)) (λ command.
-        IsServable (depots D.files D.gave D.fetch_failed D.fetch_faults) (sinks O.written O.faults) command depot.old depot.new out.old out.new
+        IsServable (depots D.files D.gave D.fetch_failed D.fetch_faults D.took D.append_failed D.append_faults) (sinks O.written O.faults) command depot.old depot.new out.old out.new
         → IsDoneOrStopped result) }
-    ensures fetches { IfSome (command (map string_bytes words.now)) (λ command.
-        Fetches (depots D.files D.gave D.fetch_failed D.fetch_faults) command result depot.old depot.new) }
+    ensures calls { IfSome (command (map string_bytes words.now)) (λ command.
+        Calls (depots D.files D.gave D.fetch_failed D.fetch_faults D.took D.append_failed D.append_faults) command result depot.old depot.new) }
     ensures others { IfSome (command (map string_bytes words.now)) (λ command.
         AllOthersStay D.fetch_faults (names_of command) depot.old depot.new) }
-    ensures appends { Stay (D.append_faults depot.old) (D.append_faults depot.new) }
-    ensures files { D.files depot.new ≡ D.files depot.old }
+    ensures appends { IfSome (command (map string_bytes words.now)) (λ command.
+        AllOthersStay D.append_faults (appended_before result command) depot.old depot.new) }
+    ensures files { IfSome (command (map string_bytes words.now)) (λ command.
+        HasFiles (depots D.files D.gave D.fetch_failed D.fetch_faults D.took D.append_failed D.append_faults) command result depot.old depot.new) }
 {
     match read_command(alloc, words) {
-        Ok(command) => serve(alloc, &command, depot, out),
+        Ok(command) => serve(rt, alloc, &command, depot, out, gate),
         Err(fault) => Exit::from(fault),
     }
 }

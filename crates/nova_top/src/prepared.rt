@@ -1,24 +1,30 @@
-ghost use Rattle.std.specs.Prelude.{◌≡◌, None, Some};
-ghost use Rattle.nova_command.specs.Command.{HasLimit};
-ghost use Rattle.nova_command.specs.Limit.{IsLimit};
+ghost use Rattle.std.specs.Prelude.{◌≡◌, ℕ, List, None, Some};
+ghost use Rattle.nova_command.specs.Command.{HasBounds};
+ghost use Rattle.nova_command.specs.Limit.{IsLimit, IsSize};
 ghost use Rattle.nova_io.specs.Faults.{Stay};
 ghost use Rattle.nova_top.specs.Fetches.{Fetches};
 ghost use Rattle.nova_top.specs.Outside.{depots};
 ghost use Rattle.nova_top.specs.Prepared.{IsPrepared, exit_of};
 
+use crate::bench::bench_scenario;
 use crate::exit::Exit;
 use crate::fetched::{fetch_order, fetch_scenario};
-use crate::outcome::{Outcome, run_in_order, run_rounds, valid};
+use crate::outcome::{
+    Outcome, run_alone, run_in_order, run_rounds, run_together, summed_up, valid,
+};
 use nova_command::{Command, Name};
 use nova_forest::delegations_stay_a_forest;
 use nova_io::Depot;
 use nova_revocation::a_returned_revoke_left_nothing;
+use nova_run::Gate;
 use std::alloc::Global;
+use std::sync::Wait;
+use std::thread::Threads;
 
 /// `check`: fetches a scenario, and says that it is valid.
 fn check<D: Depot>(alloc: Global, depot: &mut D, name: &Name) -> Result<Outcome, Exit>
-    ensures prepared { IsPrepared (depots D.files D.gave D.fetch_failed D.fetch_faults) (Command.Check name.now) depot.old depot.new result }
-    ensures fetches { Fetches (depots D.files D.gave D.fetch_failed D.fetch_faults) (Command.Check name.now) (exit_of result) depot.old depot.new }
+    ensures prepared { IsPrepared (depots D.files D.gave D.fetch_failed D.fetch_faults D.took D.append_failed D.append_faults) (Command.Check name.now) depot.old depot.new result }
+    ensures fetches { Fetches (depots D.files D.gave D.fetch_failed D.fetch_faults D.took D.append_failed D.append_faults) (Command.Check name.now) (exit_of result) depot.old depot.new }
     ensures appends { Stay (D.append_faults depot.old) (D.append_faults depot.new) }
     ensures files { D.files depot.new ≡ D.files depot.old }
 {
@@ -26,11 +32,32 @@ fn check<D: Depot>(alloc: Global, depot: &mut D, name: &Name) -> Result<Outcome,
     Ok(valid(alloc)?)
 }
 
+/// `run`: fetches a scenario, and runs it with a thread for each processor.
+fn run<R: Threads + Wait + Sync, D: Depot, G: Gate + Sync>(
+    rt: &R,
+    alloc: Global,
+    depot: &mut D,
+    name: &Name,
+    limit: u32,
+    gate: &G,
+) -> Result<Outcome, Exit>
+    requires limit { IsLimit limit }
+    ensures prepared { (order : List ℕ) → IsPrepared (depots D.files D.gave D.fetch_failed D.fetch_faults D.took D.append_failed D.append_faults) (Command.Run name.now order limit) depot.old depot.new result }
+    ensures fetches { (order : List ℕ) → Fetches (depots D.files D.gave D.fetch_failed D.fetch_faults D.took D.append_failed D.append_faults) (Command.Run name.now order limit) (exit_of result) depot.old depot.new }
+    ensures appends { Stay (D.append_faults depot.old) (D.append_faults depot.new) }
+    ensures files { D.files depot.new ≡ D.files depot.old }
+{
+    delegations_stay_a_forest();
+    a_returned_revoke_left_nothing();
+    let scenario = fetch_scenario(alloc, depot, name)?;
+    run_together(rt, alloc, &scenario, limit, gate)
+}
+
 /// `solo` without an order: fetches a scenario, and runs it by round robin.
 fn solo<D: Depot>(alloc: Global, depot: &mut D, name: &Name, limit: u32) -> Result<Outcome, Exit>
     requires limit { IsLimit limit }
-    ensures prepared { IsPrepared (depots D.files D.gave D.fetch_failed D.fetch_faults) (Command.Solo name.now None limit) depot.old depot.new result }
-    ensures fetches { Fetches (depots D.files D.gave D.fetch_failed D.fetch_faults) (Command.Solo name.now None limit) (exit_of result) depot.old depot.new }
+    ensures prepared { IsPrepared (depots D.files D.gave D.fetch_failed D.fetch_faults D.took D.append_failed D.append_faults) (Command.Solo name.now None limit) depot.old depot.new result }
+    ensures fetches { Fetches (depots D.files D.gave D.fetch_failed D.fetch_faults D.took D.append_failed D.append_faults) (Command.Solo name.now None limit) (exit_of result) depot.old depot.new }
     ensures appends { Stay (D.append_faults depot.old) (D.append_faults depot.new) }
     ensures files { D.files depot.new ≡ D.files depot.old }
 {
@@ -49,8 +76,8 @@ fn solo_in_order<D: Depot>(
     limit: u32,
 ) -> Result<Outcome, Exit>
     requires limit { IsLimit limit }
-    ensures prepared { IsPrepared (depots D.files D.gave D.fetch_failed D.fetch_faults) (Command.Solo scenario.now (Some order.now) limit) depot.old depot.new result }
-    ensures fetches { Fetches (depots D.files D.gave D.fetch_failed D.fetch_faults) (Command.Solo scenario.now (Some order.now) limit) (exit_of result) depot.old depot.new }
+    ensures prepared { IsPrepared (depots D.files D.gave D.fetch_failed D.fetch_faults D.took D.append_failed D.append_faults) (Command.Solo scenario.now (Some order.now) limit) depot.old depot.new result }
+    ensures fetches { Fetches (depots D.files D.gave D.fetch_failed D.fetch_faults D.took D.append_failed D.append_faults) (Command.Solo scenario.now (Some order.now) limit) (exit_of result) depot.old depot.new }
     ensures appends { Stay (D.append_faults depot.old) (D.append_faults depot.new) }
     ensures files { D.files depot.new ≡ D.files depot.old }
 {
@@ -61,23 +88,57 @@ fn solo_in_order<D: Depot>(
     run_in_order(alloc, &scenario, &order, limit)
 }
 
+/// `bench`: runs the scenario of a bench with a thread for its processor.
+fn bench<R: Threads + Wait + Sync, D: Depot, G: Gate + Sync>(
+    rt: &R,
+    alloc: Global,
+    depot: &D,
+    number: u32,
+    limit: u32,
+    gate: &G,
+) -> Result<Outcome, Exit>
+    requires size { IsSize number }
+    requires limit { IsLimit limit }
+    ensures { IsPrepared (depots D.files D.gave D.fetch_failed D.fetch_faults D.took D.append_failed D.append_faults) (Command.Bench number limit) depot.now depot.now result }
+{
+    delegations_stay_a_forest();
+    a_returned_revoke_left_nothing();
+    let scenario = bench_scenario(alloc, number)?;
+    let finished = run_alone(rt, alloc, &scenario, limit, gate)?;
+    Ok(summed_up(alloc, &finished, number)?)
+}
+
 /// What a command makes, before the first byte goes out.
-pub fn prepare<D: Depot>(alloc: Global, command: &Command, depot: &mut D) -> Result<Outcome, Exit>
-    requires limit { HasLimit command.now }
-    ensures prepared { IsPrepared (depots D.files D.gave D.fetch_failed D.fetch_faults) command.now depot.old depot.new result }
-    ensures fetches { Fetches (depots D.files D.gave D.fetch_failed D.fetch_faults) command.now (exit_of result) depot.old depot.new }
+pub fn prepare<R: Threads + Wait + Sync, D: Depot, G: Gate + Sync>(
+    rt: &R,
+    alloc: Global,
+    command: &Command,
+    depot: &mut D,
+    gate: &G,
+) -> Result<Outcome, Exit>
+    requires bounds { HasBounds command.now }
+    ensures prepared { IsPrepared (depots D.files D.gave D.fetch_failed D.fetch_faults D.took D.append_failed D.append_faults) command.now depot.old depot.new result }
+    ensures fetches { Fetches (depots D.files D.gave D.fetch_failed D.fetch_faults D.took D.append_failed D.append_faults) command.now (exit_of result) depot.old depot.new }
     ensures appends { Stay (D.append_faults depot.old) (D.append_faults depot.new) }
     ensures files { D.files depot.new ≡ D.files depot.old }
 {
     match command {
-        Command::Check { scenario } => check(alloc, depot, scenario),
+        Command::Run {
+            scenario,
+            order: _,
+            limit,
+        } => run(rt, alloc, depot, scenario, *limit, gate),
         Command::Solo {
             scenario,
-            order,
+            order: None,
             limit,
-        } => match order {
-            None => solo(alloc, depot, scenario, *limit),
-            Some(order) => solo_in_order(alloc, depot, scenario, order, *limit),
-        },
+        } => solo(alloc, depot, scenario, *limit),
+        Command::Solo {
+            scenario,
+            order: Some(order),
+            limit,
+        } => solo_in_order(alloc, depot, scenario, order, *limit),
+        Command::Check { scenario } => check(alloc, depot, scenario),
+        Command::Bench { number, limit } => bench(rt, alloc, depot, *number, *limit, gate),
     }
 }

@@ -5,15 +5,18 @@ mod exits;
 mod objects;
 mod orders;
 mod revokes;
+mod runs;
 mod scheduling;
 mod semaphores;
 mod virtual_cpus;
 
-use crate::{Exit, nova_main};
+use crate::{Exit, Open, nova_main};
 use nova_io::{MemDepot, MemFile, MemSink};
 use std::alloc::{AllocError, Global};
 use std::process::Abort;
+use std::sync::Wait;
 use std::test::Fail;
+use std::thread::Threads;
 
 /// A call with the file `scenario`, the file `order` where one is given, and a sink of so much room: what it shows, its end, and what
 /// it writes.
@@ -60,18 +63,22 @@ fn depot_of(alloc: Global, row: &Row) -> Result<MemDepot, AllocError> {
 }
 
 /// Makes the call of a row, and compares its end and its text with the row's.
-fn run_row(rt: &impl Abort, alloc: Global, row: &Row) -> Result<(), Fail> {
+fn run_row<R: Abort + Threads + Wait + Sync>(rt: &R, alloc: Global, row: &Row) -> Result<(), Fail> {
     let words = words_of(alloc, row.words)?;
     let mut depot = depot_of(alloc, row)?;
     let mut out = MemSink::new(alloc, row.room, Vec::new(alloc))?;
-    let exit = nova_main(alloc, &words, &mut depot, &mut out);
+    let exit = nova_main(rt, alloc, &words, &mut depot, &mut out, &Open);
     assert_eq!(rt; exit, row.exit, "{}", row.shows);
     assert_eq!(rt; out.bytes(), row.text.as_bytes(), "{}", row.shows);
     Ok(())
 }
 
 /// Makes the calls of all these rows.
-fn run_rows(rt: &impl Abort, alloc: Global, rows: &[Row]) -> Result<(), Fail> {
+fn run_rows<R: Abort + Threads + Wait + Sync>(
+    rt: &R,
+    alloc: Global,
+    rows: &[Row],
+) -> Result<(), Fail> {
     for row in rows {
         run_row(rt, alloc, row)?;
     }

@@ -1,6 +1,9 @@
 use Rattle.nova_top.specs.Outside.{depots}
-use Rattle.nova_top.proofs.Unread.{unread}
+use Rattle.nova_top.proofs.Unread.{unread, unread_files}
 use Rattle.nova_top.proofs.main_call.nova_main.Goals as goal
 
-pub returns-in-Err-clause-fetches : goal.returns-in-Err-clause-fetches
-returns-in-Err-clause-fetches g c = unread (depots g.D.Depot.files g.D.Depot.gave g.D.Depot.fetch_failed g.D.Depot.fetch_faults) _ c.args.depot.now c.in-Err.fault _ c.from.ensures c.in-Err.ensures.exact
+pub returns-in-Err-clause-calls : goal.returns-in-Err-clause-calls
+returns-in-Err-clause-calls g c = unread (depots g.D.Depot.files g.D.Depot.gave g.D.Depot.fetch_failed g.D.Depot.fetch_faults g.D.Depot.took g.D.Depot.append_failed g.D.Depot.append_faults) _ c.args.depot.now c.in-Err.fault _ c.from.ensures c.in-Err.ensures.exact
+
+pub returns-in-Err-clause-files : goal.returns-in-Err-clause-files
+returns-in-Err-clause-files g c = unread_files (depots g.D.Depot.files g.D.Depot.gave g.D.Depot.fetch_failed g.D.Depot.fetch_faults g.D.Depot.took g.D.Depot.append_failed g.D.Depot.append_faults) _ c.args.depot.now _

@@ -9,17 +9,17 @@ pub returns-in_err-order-clause-prepared : goal.returns-in_err-order-clause-prep
 returns-in_err-order-clause-prepared g c =
     let same : c.from.result ≡ c.args.limit = search rules in
     let is : c.from_residual-in_err-order.result ≡ Err c.in_err-order.field-0.0 = search rules in
-    unread_by (depots g.D.Depot.files g.D.Depot.gave g.D.Depot.fetch_failed g.D.Depot.fetch_faults) c.args.scenario.now c.args.order.now c.in_ok-scenario.scenario c.args.limit c.args.depot.now c.fetch_scenario.new.depot c.fetch_order.new.depot
+    unread_by (depots g.D.Depot.files g.D.Depot.gave g.D.Depot.fetch_failed g.D.Depot.fetch_faults g.D.Depot.took g.D.Depot.append_failed g.D.Depot.append_faults) c.args.scenario.now c.args.order.now c.in_ok-scenario.scenario c.args.limit c.args.depot.now c.fetch_scenario.new.depot c.fetch_order.new.depot
     c.in_err-order.field-0.0 c.from_residual-in_err-order.result is c.in_ok-scenario.ensures.read c.in_ok-scenario.ensures.counts c.in_err-order.ensures.counts
-    (subst (λ (n : ℕ). IsOrderReadBy (depots g.D.Depot.files g.D.Depot.gave g.D.Depot.fetch_failed g.D.Depot.fetch_faults) c.args.order.now c.in_ok-scenario.scenario.cpus n c.fetch_scenario.new.depot c.fetch_order.new.depot (Err c.in_err-order.field-0.0))
+    (subst (λ (n : ℕ). IsOrderReadBy (depots g.D.Depot.files g.D.Depot.gave g.D.Depot.fetch_failed g.D.Depot.fetch_faults g.D.Depot.took g.D.Depot.append_failed g.D.Depot.append_faults) c.args.order.now c.in_ok-scenario.scenario.cpus n c.fetch_scenario.new.depot c.fetch_order.new.depot (Err c.in_err-order.field-0.0))
     same c.in_err-order.ensures.read)
 
 pub returns-clause-prepared : goal.returns-clause-prepared
 returns-clause-prepared g c =
     let same : c.from.result ≡ c.args.limit = search rules in
-    order_by (depots g.D.Depot.files g.D.Depot.gave g.D.Depot.fetch_failed g.D.Depot.fetch_faults) c.args.scenario.now c.args.order.now c.args.limit c.args.depot.now c.fetch_scenario.new.depot c.fetch_order.new.depot c.in_ok-scenario.scenario c.in_ok-order.order
+    order_by (depots g.D.Depot.files g.D.Depot.gave g.D.Depot.fetch_failed g.D.Depot.fetch_faults g.D.Depot.took g.D.Depot.append_failed g.D.Depot.append_faults) c.args.scenario.now c.args.order.now c.args.limit c.args.depot.now c.fetch_scenario.new.depot c.fetch_order.new.depot c.in_ok-scenario.scenario c.in_ok-order.order
     c.run_in_order.result c.in_ok-scenario.ensures.read
-    (subst (λ (n : ℕ). OrderCame (depots g.D.Depot.files g.D.Depot.gave g.D.Depot.fetch_failed g.D.Depot.fetch_faults) c.args.order.now c.in_ok-scenario.scenario.cpus n c.fetch_scenario.new.depot c.in_ok-order.order.blocks c.fetch_order.new.depot)
+    (subst (λ (n : ℕ). OrderCame (depots g.D.Depot.files g.D.Depot.gave g.D.Depot.fetch_failed g.D.Depot.fetch_faults g.D.Depot.took g.D.Depot.append_failed g.D.Depot.append_faults) c.args.order.now c.in_ok-scenario.scenario.cpus n c.fetch_scenario.new.depot c.in_ok-order.order.blocks c.fetch_order.new.depot)
     same c.in_ok-order.ensures.read)
-    c.run_in_order.ensures.report c.run_in_order.ensures.idle
+    c.run_in_order.ensures.report c.run_in_order.ensures.idle c.run_in_order.ensures.order
     (record { forests = c.delegations_stay_a_forest.ensures; revokes = c.a_returned_revoke_left_nothing.ensures.reached })

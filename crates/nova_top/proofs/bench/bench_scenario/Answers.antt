@@ -1,0 +1,30 @@
+use Rattle.std.proofs.Common.{◌≡◌, ℕ, Result, Ok, Err, ap, sym, ◌∙◌, subst}
+use Rattle.nova_gen.specs.Generated.{generated}
+use Rattle.nova_scenario.specs.Fault.{At}
+use Rattle.nova_scenario.specs.Read.{IsFault}
+use Rattle.nova_scenario.specs.Scenario.{scenario}
+use Rattle.nova_scenario.specs.declared.fault.ScenarioFault.{ScenarioFault}
+use Rattle.nova_scenario.specs.declared.fault.ScenarioFault.TheVariants.{At as AtLine}
+use Rattle.nova_scenario.specs.declared.fault.Why.{Why}
+use Rattle.nova_scenario.specs.declared.scenario.Scenario.{Scenario}
+use Rattle.nova_top.specs.Prepared.{IsAlone}
+use Rattle.nova_top.proofs.bench.bench_scenario.Goals as goal
+
+same_ok : {A B : Type 0} (r : Result A B) (is other : A) → r ≡ Ok is → r ≡ Ok other → is ≡ other
+same_ok r is other good too = cc
+
+no_fault : (r : Result Scenario At) (from : Scenario) (fault : ScenarioFault) (line : ℕ) (why_ : Why) → r ≡ Ok from → IsFault r fault → fault ≡ AtLine line why_ → ⊥
+no_fault r from fault line why_ good bad is = let wrong : r ≡ Err (record { line = line; why = why_ }) = subst (IsFault r) is bad in absurd (cc)
+
+pub returns-in-Ok-clause-alone : goal.returns-in-Ok-clause-alone
+returns-in-Ok-clause-alone c =
+    let law = c.a_bench_is_a_scenario.ensures c.args.number c.requires.size in
+    let text = c.deref.ensures.value ∙ c.in_ok-text.ensures in
+    let same = same_ok (scenario (generated c.args.number)) law.0 c.in-Ok.scenario law.1 (ap scenario (sym text) ∙ c.in-Ok.ensures.exact) in
+    subst IsAlone same law.2
+
+pub unreachable-requires : goal.unreachable-requires
+unreachable-requires c =
+    let law = c.a_bench_is_a_scenario.ensures c.args.number c.requires.size in
+    let text = c.deref.ensures.value ∙ c.in_ok-text.ensures in
+    no_fault (scenario c.deref.result.now) law.0 c.in-Err-At.field-0 c.in-Err-At.field-0-0 c.in-Err-At.field-0-1 (ap scenario text ∙ law.1) c.in-Err-At.ensures.exact c.in-Err-At.field-0-is
