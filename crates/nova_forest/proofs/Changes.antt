@@ -1,23 +1,20 @@
 -- A turn changes one derivation at most, and each change keeps the forest.
 use Rattle.std.proofs.Common.{◌≡◌, ℕ, List, [], ◌∷◌, sym, subst}
-use Rattle.std.specs.Prelude.{Option, Some, None}
 use Rattle.nova_objects.specs.declared.object.Object.{Object}
 use Rattle.nova_range.specs.declared.range.Kind.TheVariants.{Obj}
 use Rattle.nova_model.specs.Boot.{Scenario, boot}
-use Rattle.nova_model.specs.Choice.{choice}
 use Rattle.nova_model.specs.Deeds.{deed, done}
 use Rattle.nova_model.specs.Delegations.{Delegations, covers}
 use Rattle.nova_model.specs.Forest.{IsForest, IsFitting}
 use Rattle.nova_model.specs.Runs.{after, run}
 use Rattle.nova_model.specs.State.{KernelState}
-use Rattle.nova_model.specs.Choice.{Candidate}
 use Rattle.nova_model.specs.declared.deed.Deed.{Deed}
 use Rattle.nova_model.specs.declared.delegation.Derivation.{Derivation}
 use Rattle.nova_forest.specs.Changes.{Change, Stays, Joins, Goes}
-use Rattle.nova_forest.specs.Made.{IsFirstCapability, Grows, Leaves, MakesObject, GivesChild, TakesLeaf, GrowsBy}
+use Rattle.nova_forest.specs.Made.{IsFirstCapability, Grows, Leaves, MakesObject, GivesChild, TakesLeaf}
 use Rattle.nova_forest.proofs.Boots.{capability_fits, boot_forest}
 use Rattle.nova_forest.proofs.Forests.{forest_add, forest_without}
-use Rattle.nova_forest.proofs.Growth.{deed_grows, turn_grows}
+use Rattle.nova_forest.proofs.Growth.{deed_grows, turn_growth}
 use Rattle.nova_forest.proofs.Members.{none_found}
 
 pub change_forest : (f g : Delegations) → Change f g → IsForest f → IsForest g
@@ -45,11 +42,7 @@ done_forest k ec d is forest =
 
 -- and so does a turn
 pub turn_change : (k : KernelState) (cpu : ℕ) → IsForest k.delegations → Change k.delegations (after k cpu).delegations
-turn_change k cpu forest = by_choice (choice k cpu) (turn_grows k cpu)
-  where
-    by_choice : (c : Option Candidate) → GrowsBy k c (after k cpu) → Change k.delegations (after k cpu).delegations
-    by_choice None s = Stays s.delegations
-    by_choice (Some c) g = grows_change k (after k cpu) c.actor forest g
+turn_change k cpu forest = let g = turn_growth k cpu in grows_change k (after k cpu) g.ec forest g.grows
 
 pub run_forest : (k : KernelState) (turns : List ℕ) → IsForest k.delegations → IsForest (run k turns).delegations
 run_forest k [] forest = forest

@@ -1,6 +1,6 @@
 -- What a turn adds to objects and delegations: what the effect of its deed makes, and what joins or goes.
 use Rattle.std.proofs.Common.{◌≡◌, ℕ, [], ◌∷◌, ◌++◌, refl, ap, sym, ◌∙◌, subst}
-use Rattle.std.specs.Prelude.{Option, Some, None, option_map}
+use Rattle.std.specs.Prelude.{Option, option_map}
 use Rattle.nova_model.specs.Choice.{Candidate, choice}
 use Rattle.nova_model.specs.Creation.{object_of, root_capability}
 use Rattle.nova_model.specs.Deeds.{deed, done}
@@ -58,6 +58,24 @@ pub deed_grows : (k : KernelState) (ec : ℕ) → Grows k ec (done k ec (deed k 
 deed_grows k ec =
     let is = done_is k ec (deed k ec) in
     grows k (done k ec (deed k ec)) ec (deed k ec) (deed_allowed k ec) (ap (λ (s : KernelState). s.objects) is) (ap (λ (s : KernelState). s.delegations) is)
+
+-- a turn, whoever takes it
+pub record HasGrown (old new : KernelState) : Type 0 where
+  pub ec : ℕ
+  pub grows : Grows old ec new
+
+pub turn_growth : (k : KernelState) (cpu : ℕ) → HasGrown k (after k cpu)
+turn_growth k cpu = elim (comes k cpu) [
+  | Idles is same answer ↦
+      record { ec = 0; grows = Leaves (record { objects = ap (λ (s : KernelState). s.objects) same; delegations = ap (λ (s : KernelState). s.delegations) same }) }
+  | Takes t e comes state answer ↦ elim comes [
+    | Acts c chosen is event ↦
+        let now = state ∙ ap (turned k cpu) is in record {
+          ec = c.actor;
+          grows = grows k (after k cpu) c.actor (deed k c.actor) (deed_allowed k c.actor) (ap (λ (s : KernelState). s.objects) now) (ap (λ (s : KernelState). s.delegations) now);
+        }
+  ]
+]
 
 pub turn_grows : (k : KernelState) (cpu : ℕ) → GrowsBy k (choice k cpu) (after k cpu)
 turn_grows k cpu = elim (comes k cpu) [

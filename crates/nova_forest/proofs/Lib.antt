@@ -21,3 +21,4 @@ pub mod Courses
 pub mod Under
 pub mod Doing
 pub mod Turning
+pub mod Actors

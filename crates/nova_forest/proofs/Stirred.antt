@@ -8,40 +8,6 @@ use Rattle.nova_model.specs.State.{KernelState, entry}
 use Rattle.nova_model.specs.declared.deed.Deed.{Deed}
 use Rattle.nova_model.specs.declared.deed.Deed.TheVariants.{Refuses}
 
-pub record AreOnlyStirred (old new : KernelState) : Type 0 where
-  pub delegations : new.delegations ≡ old.delegations
-  pub objects : new.objects ≡ old.objects
-  pub contexts : new.contexts ≡ old.contexts
-  pub messages : new.messages ≡ old.messages
-  pub transfers : new.transfers ≡ old.transfers
-  pub budgets : new.budgets ≡ old.budgets
-  pub identifiers : new.identifiers ≡ old.identifiers
-  pub semaphores : new.semaphores ≡ old.semaphores
-  pub memory : new.memory ≡ old.memory
-  pub next_stamp : new.next_stamp ≡ old.next_stamp
-  pub turns : new.turns ≡ old.turns
-  pub cpus : new.cpus ≡ old.cpus
-  pub consoles : new.consoles ≡ old.consoles
-  pub processors : new.stirs.processors ≡ old.stirs.processors
-
-pub stirred_leaves : (k : KernelState) (ec : ℕ) (d : Deed) (after : KernelState) → AreOnlyStirred after (stirred k ec d after)
-stirred_leaves k ec d after = record {
-  delegations = refl;
-  objects = refl;
-  contexts = refl;
-  messages = refl;
-  transfers = refl;
-  budgets = refl;
-  identifiers = refl;
-  semaphores = refl;
-  memory = refl;
-  next_stamp = refl;
-  turns = refl;
-  cpus = refl;
-  consoles = refl;
-  processors = refl;
-}
-
 -- the state when the one who acts has done its deed, with what it stirs counted
 abbrev pub acted : KernelState → ℕ → KernelState
 acted k ec = stirred k ec (deed k ec) (done k ec (deed k ec))

@@ -7,13 +7,14 @@ use Rattle.nova_model.specs.Deeds.{deed, done}
 use Rattle.nova_model.specs.Inputs.{is_stirred, stirred, stirred_count, stirred_from}
 use Rattle.nova_model.specs.Runs.{after, run}
 use Rattle.nova_model.specs.State.{KernelState, budget_at}
-use Rattle.nova_model.specs.Turn.{answer_of, charged, counted, event_of, paid_by, quantum_in, state_after, turn, turn_by}
+use Rattle.nova_model.specs.Turn.{Step, answer_of, charged, counted, event_of, paid_by, quantum_in, state_after, turn, turn_by}
 use Rattle.nova_model.specs.declared.budget.Budget.{Budget}
 use Rattle.nova_model.specs.declared.deed.Deed.{Deed}
 use Rattle.nova_model.specs.declared.deed.Deed.TheVariants.{Rests}
 use Rattle.nova_model.specs.declared.event.Event.{Event}
+use Rattle.nova_model.specs.declared.event.Turn.{Turn}
 use Rattle.nova_model.specs.declared.event.Turn.TheVariants.{Stepped, Idle}
-use Rattle.nova_forest.specs.Effects.{applied, effect}
+use Rattle.nova_forest.specs.Effects.{effect}
 use Rattle.nova_forest.specs.Turns.{Acts, Comes, Idles, IsTurning, Takes, Turning, acting, settled, stirred_counts, turned}
 use Rattle.nova_forest.proofs.Doing.{done_is}
 
@@ -34,7 +35,7 @@ charged_is s cpu sc stirs guests is =
     ∙ paid_is (record s { stirs = record s.stirs { guests = stirred_counts stirs 0 s.stirs.guests } }) cpu sc (budget_at s sc) refl
 
 -- the turn of who is chosen
-acting_is : (k : KernelState) (cpu : ℕ) (c : Candidate) → charged (stirred k c.actor (deed k c.actor) (done k c.actor (deed k c.actor))) cpu c.sc ≡ turned k cpu (acting k c)
+pub acting_is : (k : KernelState) (cpu : ℕ) (c : Candidate) → charged (stirred k c.actor (deed k c.actor) (done k c.actor (deed k c.actor))) cpu c.sc ≡ turned k cpu (acting k c)
 acting_is k cpu c =
     charged_is (done k c.actor (deed k c.actor)) cpu c.sc (is_stirred k c.actor (deed k c.actor)) _
     (counts_is k c.actor (deed k c.actor) 0 (done k c.actor (deed k c.actor)).stirs.guests)
@@ -47,6 +48,56 @@ comes k cpu = by_choice (choice k cpu) refl
     by_choice : (o : Option Candidate) → choice k cpu ≡ o → Comes k (state_after k (turn_by k cpu o)) cpu (answer_of (turn_by k cpu o))
     by_choice None is = Idles is refl refl
     by_choice (Some c) is = Takes (acting k c) (event_of cpu c (deed k c.actor)) (Acts c is refl refl) (acting_is k cpu c) refl
+
+-- the event that an answer has
+abbrev pub event_in : Turn → Option Event
+event_in Idle = None
+event_in (Stepped e) = Some e
+
+abbrev pub event_at : KernelState → ℕ → Option Event
+event_at k cpu = option_map (λ (s : Step). s.event) (turn k cpu)
+
+event_answered : (o : Option Step) → option_map (λ (s : Step). s.event) o ≡ event_in (answer_of o)
+event_answered None = refl
+event_answered (Some s) = refl
+
+-- what holds of a state that stays, without an event, and of each turn with its event, holds of what a processor comes to
+pub outcome : (P : KernelState → Option Event → Type 0) (k : KernelState) (cpu : ℕ) → (choice k cpu ≡ None → P k None) →
+    ((t : Turning) (e : Event) → IsTurning k cpu t e → P (turned k cpu t) (Some e)) → P (after k cpu) (event_at k cpu)
+outcome P k cpu idles takes = subst (P (after k cpu)) (sym (event_answered (turn k cpu))) (by_turn (comes k cpu))
+  where
+    by_turn : Comes k (after k cpu) cpu (answer_of (turn k cpu)) → P (after k cpu) (event_in (answer_of (turn k cpu)))
+    by_turn (Idles none same answer) = subst (λ (a : Turn). P (after k cpu) (event_in a)) (sym answer) (subst (λ (s : KernelState). P s None) (sym same) (idles none))
+    by_turn (Takes t e is state answer) =
+        subst (λ (a : Turn). P (after k cpu) (event_in a)) (sym answer) (subst (λ (s : KernelState). P s (Some e)) (sym state) (takes t e is))
+
+-- who is chosen takes the turn
+pub chosen_turn : (k : KernelState) (cpu : ℕ) (c : Candidate) → choice k cpu ≡ Some c → after k cpu ≡ turned k cpu (acting k c)
+chosen_turn k cpu c chosen = elim (comes k cpu) [
+  | Idles none same answer ↦ absurd (let both : None ≡ Some c = sym none ∙ chosen in cc)
+  | Takes t e is state answer ↦ elim is [
+    | Acts d taken acts event ↦
+        let both : Some d ≡ Some c = sym taken ∙ chosen in
+        let one : d ≡ c = cc in state ∙ ap (turned k cpu) acts ∙ ap (λ (x : Candidate). turned k cpu (acting k x)) one
+  ]
+]
+
+-- no turn is taken exactly where nobody is chosen
+none_answered : (o : Option Step) → answer_of o ≡ Idle → o ≡ None
+none_answered None is = refl
+none_answered (Some s) is = absurd cc
+
+pub none_taken : (k : KernelState) (cpu : ℕ) → choice k cpu ≡ None → turn k cpu ≡ None
+none_taken k cpu none = elim (comes k cpu) [
+  | Idles is same answer ↦ none_answered (turn k cpu) answer
+  | Takes t e is state answer ↦ elim is [ Acts c chosen acts event ↦ absurd (let both : None ≡ Some c = sym none ∙ chosen in cc) ]
+]
+
+pub none_chosen : (k : KernelState) (cpu : ℕ) → turn k cpu ≡ None → choice k cpu ≡ None
+none_chosen k cpu none = elim (comes k cpu) [
+  | Idles is same answer ↦ is
+  | Takes t e is state answer ↦ absurd (let both : Idle ≡ Stepped e = sym (ap answer_of none) ∙ answer in cc)
+]
 
 -- of a turn that answers an event
 pub record IsTurn (k new : KernelState) (cpu : ℕ) (e : Event) : Type 0 where

@@ -15,11 +15,10 @@ use Rattle.nova_guest.specs.declared.guest.GuestState.TheVariants as guest
 use Rattle.nova_guest.specs.declared.input.Input.{Input}
 use Rattle.nova_guest.specs.declared.input.Input.TheVariants as input_as
 use Rattle.nova_model.specs.Calls.{exit_admitted}
-use Rattle.nova_model.specs.Choice.{Candidate, choice}
 use Rattle.nova_model.specs.Deeds.{deed, deed_in, instruction, ready, signalled, stepping}
 use Rattle.nova_model.specs.Exits.{exit_at, exit_portal, exit_to, exits}
 use Rattle.nova_model.specs.Forest.{IsFitting}
-use Rattle.nova_model.specs.Guests.{input, input_by}
+use Rattle.nova_model.specs.Guests.{input}
 use Rattle.nova_model.specs.Inputs.{foreign_at, foreign_by, given_of, in_ram, input_of, is_covered_for, only_if, others_input, own_input, reply_of, store_of}
 use Rattle.nova_model.specs.Portals.{handler_of}
 use Rattle.nova_model.specs.State.{KernelState, context, is_thread, message, pd_of}
@@ -37,10 +36,12 @@ use Rattle.nova_range.specs.Rights.{write_right}
 use Rattle.nova_model.specs.AddressSpaces.{frame_for}
 use Rattle.nova_model.specs.Deeds.{address_space}
 use Rattle.nova_range.specs.declared.status.Status.{Status}
+use Rattle.nova_forest.proofs.Actors.{of_input}
 use Rattle.nova_isolation.specs.Sound.{IsSound, IsVirtual}
 use Rattle.nova_isolation.proofs.Exchanges.{IsApartFrom, apart_maps, covered_for, none_overlap}
 use Rattle.nova_isolation.proofs.Facts.{deed_facts}
-use Rattle.nova_isolation.proofs.OtherTurns.{Facts, WaitsFor, fits_apart, view_cells}
+use Rattle.nova_isolation.proofs.OtherTurns.{fits_apart, view_cells}
+use Rattle.nova_isolation.proofs.Unseen.{Facts, WaitsFor}
 use Rattle.nova_isolation.proofs.Outputs.{guest_no_thread}
 use Rattle.nova_isolation.proofs.OwnTurns.{not_thread}
 use Rattle.nova_isolation.proofs.Premises.{HasPremises, IsGuest, IsGuestState, guest as guest_there, premises}
@@ -161,9 +162,4 @@ deed_met k ec g sound is = elim (cases_eq ec g) [
 ]
 
 pub input_met : (k : KernelState) (cpu g : ℕ) → IsSound k → IsVirtual k g → IfSome (input k cpu g) (λ i. admits (view k g) i ≡ true)
-unfolding input
-input_met k cpu g sound is = by_choice (choice k cpu)
-  where
-    by_choice : (c : Option Candidate) → IsMet (view k g) (input_by k g c)
-    by_choice None = tt
-    by_choice (Some c) = deed_met k c.actor g (premises k sound) (guest_there k g sound is)
+input_met k cpu g sound is = of_input (IsMet (view k g)) k cpu g tt (λ c chosen. deed_met k c.actor g (premises k sound) (guest_there k g sound is))

@@ -14,11 +14,11 @@ use Rattle.nova_guest.specs.declared.input.Input.{Input}
 use Rattle.nova_guest.specs.declared.input.Input.TheVariants as input_as
 use Rattle.nova_model.specs.AddressSpaces.{space}
 use Rattle.nova_model.specs.Boot.{Scenario, boot}
-use Rattle.nova_model.specs.Choice.{Candidate, choice, in_front}
+use Rattle.nova_model.specs.Choice.{in_front}
 use Rattle.nova_model.specs.Deeds.{address_space, deed, instruction}
 use Rattle.nova_model.specs.Delegations.{is_memory}
 use Rattle.nova_model.specs.Forest.{IsAligned}
-use Rattle.nova_model.specs.Guests.{input, input_by, inputs}
+use Rattle.nova_model.specs.Guests.{input, inputs}
 use Rattle.nova_model.specs.Inputs.{contents_of, foreign_at, foreign_by, frame_of_store, given_of, input_of, is_covered_for, only_if, others_input, own_input, reply_of, store_of}
 use Rattle.nova_model.specs.State.{KernelState, context, message, pd_of}
 use Rattle.nova_model.specs.Runs.{after, run}
@@ -29,6 +29,7 @@ use Rattle.nova_model.specs.declared.deed.Deed.TheVariants.{Steps, Raises, Dies,
 use Rattle.nova_model.specs.declared.delegation.Derivation.{Derivation}
 use Rattle.nova_model.specs.declared.transfer.Sequel.TheVariants.{Replied}
 use Rattle.std.proofs.lemmas.Bool.{and_parts}
+use Rattle.nova_forest.proofs.Actors.{of_input}
 use Rattle.nova_isolation.specs.Sound.{AreRanges, AreWhole, IsRanged, IsSound}
 use Rattle.nova_isolation.proofs.Exchanges.{all_drop, all_take, length_concat}
 use Rattle.nova_isolation.proofs.Instructions.{IsGood, one_good}
@@ -129,12 +130,8 @@ deed_admitted k ec g d sound ranges allowed = by_actor (ec == g)
     by_actor false = others_admitted k ec g d sound ranges allowed
 
 pub input_admitted : (k : KernelState) (cpu g : ℕ) → IsSound k → AreRanges k → IfSome (input k cpu g) IsInput
-unfolding input
-input_admitted k cpu g sound ranges = by_choice (choice k cpu)
-  where
-    by_choice : (c : Option Candidate) → IfSome (input_by k g c) IsInput
-    by_choice None = tt
-    by_choice (Some c) = deed_admitted k c.actor g (deed k c.actor) sound ranges (deed_allowed k c.actor)
+input_admitted k cpu g sound ranges =
+    of_input (λ i. IfSome i IsInput) k cpu g tt (λ c chosen. deed_admitted k c.actor g (deed k c.actor) sound ranges (deed_allowed k c.actor))
 
 -- ALONG A RUN
 

@@ -13,10 +13,9 @@ use Rattle.nova_guest.specs.declared.guest.Guest.{Guest}
 use Rattle.nova_guest.specs.declared.input.Input.{Input}
 use Rattle.nova_guest.specs.declared.input.Input.TheVariants as input_as
 use Rattle.nova_guest.specs.declared.map.Map.{Map}
-use Rattle.nova_model.specs.Choice.{Candidate, choice}
 use Rattle.nova_model.specs.Deeds.{deed, instruction}
 use Rattle.nova_model.specs.Forest.{IsForest}
-use Rattle.nova_model.specs.Guests.{input, input_by}
+use Rattle.nova_model.specs.Guests.{input}
 use Rattle.nova_model.specs.Inputs.{contents_of, foreign_at, foreign_by, frame_of_store, given_of, input_of, is_covered_for, only_if, others_input, own_input, reply_of, store_of}
 use Rattle.nova_model.specs.Runs.{after}
 use Rattle.nova_model.specs.State.{KernelState, context, message, pd_of}
@@ -26,6 +25,7 @@ use Rattle.nova_model.specs.declared.deed.Deed.{Deed}
 use Rattle.nova_model.specs.declared.deed.Deed.TheVariants.{Steps, Raises, Dies, Sends, Recalls, Gives, Removes, Finishes, Replies, Aborts}
 use Rattle.nova_model.specs.declared.delegation.Derivation.{Derivation}
 use Rattle.nova_model.specs.declared.transfer.Sequel.TheVariants.{Replied}
+use Rattle.nova_forest.proofs.Actors.{of_input}
 use Rattle.nova_isolation.specs.Law.{AreAlike, IsGivenAsSeen, IsTakenAsSeen, answered}
 use Rattle.nova_isolation.specs.Sound.{AreWhole, IsSound, IsVirtual}
 use Rattle.nova_isolation.proofs.Exchanges.{all_drop, all_take, given_again, numbered_at}
@@ -99,12 +99,7 @@ deed_of k ec g d forest allowed = by_actor (ec == g)
     by_actor false = others_of k ec g d forest allowed
 
 turn_of : (k : KernelState) (cpu g : ℕ) → IsForest k.delegations → IsOfState k (pd_of k g) (input k cpu g)
-unfolding input
-turn_of k cpu g forest = by_choice (choice k cpu)
-  where
-    by_choice : (c : Option Candidate) → IsOfState k (pd_of k g) (input_by k g c)
-    by_choice None = tt
-    by_choice (Some c) = deed_of k c.actor g (deed k c.actor) forest (deed_allowed k c.actor)
+turn_of k cpu g forest = of_input (IsOfState k (pd_of k g)) k cpu g tt (λ c chosen. deed_of k c.actor g (deed k c.actor) forest (deed_allowed k c.actor))
 
 -- so it is like the cells of those frames
 both : (t u : Bool) (o : Option (List ℕ)) (a b : List ℕ) → (if t then o else None) ≡ Some a → (if u then o else None) ≡ Some b → a ≡ b

@@ -41,7 +41,7 @@ use Rattle.nova_model.specs.declared.transfer.Sequel.TheVariants as sequel
 use Rattle.nova_forest.proofs.Leaves.{leaf_facts}
 use Rattle.nova_forest.proofs.Walk.{IfDone, deed_holds, is_asking, sm_ctrl_holds}
 use Rattle.nova_isolation.proofs.Premises.{HasPremises, IsGuest, IsGuestState}
-use Rattle.nova_isolation.proofs.OtherTurns.{Facts, WaitsFor}
+use Rattle.nova_isolation.proofs.Unseen.{Facts, WaitsFor}
 use Rattle.nova_isolation.proofs.OwnTurns.{caller_of, handler_apart, state_of, thread_apart}
 
 -- what comes after an answer, or after a condition

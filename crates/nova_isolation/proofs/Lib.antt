@@ -8,6 +8,7 @@ pub mod OwnTurns
 pub mod Replies
 pub mod Exchanges
 pub mod Removals
+pub mod Unseen
 pub mod OtherTurns
 pub mod Facts
 pub mod Turns

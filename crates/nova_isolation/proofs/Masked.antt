@@ -8,9 +8,8 @@ use Rattle.nova_guest.specs.declared.input.Input.TheVariants as input_as
 use Rattle.nova_range.specs.Mtds.{names}
 use Rattle.nova_range.specs.declared.mtd.TheConstants.Mtd.{PC, LOW, HIGH}
 use Rattle.nova_utcb.specs.Messages.{groups_in, word}
-use Rattle.nova_model.specs.Choice.{Candidate, choice}
 use Rattle.nova_model.specs.Deeds.{deed, instruction}
-use Rattle.nova_model.specs.Guests.{input, input_by}
+use Rattle.nova_model.specs.Guests.{input}
 use Rattle.nova_model.specs.Inputs.{foreign_at, foreign_by, frame_of_store, given_of, input_of, is_covered_for, only_if, others_input, own_input, reply_groups, reply_of, reply_word, reply_words, store_of}
 use Rattle.nova_model.specs.State.{KernelState, message, pd_of}
 use Rattle.nova_model.specs.Views.{is_memory_of}
@@ -18,6 +17,7 @@ use Rattle.nova_model.specs.declared.context.Mark.TheVariants as mark
 use Rattle.nova_model.specs.declared.deed.Deed.{Deed}
 use Rattle.nova_model.specs.declared.deed.Deed.TheVariants.{Steps, Raises, Dies, Sends, Recalls, Gives, Removes, Finishes, Replies, Aborts}
 use Rattle.nova_model.specs.declared.transfer.Sequel.TheVariants.{Replied}
+use Rattle.nova_forest.proofs.Actors.{of_input}
 use Rattle.nova_isolation.specs.Masked.{IsMasked, IsMaskedIn}
 use Rattle.nova_isolation.specs.Sound.{IsSound}
 use Rattle.nova_isolation.proofs.Replies.{group_kept, reply_at, reply_size}
@@ -92,9 +92,4 @@ deed_masked k ec g d sound = by_actor (ec == g)
     by_actor false = others_masked k ec g d sound
 
 pub input_masked : (k : KernelState) (cpu g : ℕ) → IsSound k → IfSome (input k cpu g) IsMaskedIn
-unfolding input
-input_masked k cpu g sound = by_choice (choice k cpu)
-  where
-    by_choice : (c : Option Candidate) → IfSome (input_by k g c) IsMaskedIn
-    by_choice None = tt
-    by_choice (Some c) = deed_masked k c.actor g (deed k c.actor) sound
+input_masked k cpu g sound = of_input (λ i. IfSome i IsMaskedIn) k cpu g tt (λ c chosen. deed_masked k c.actor g (deed k c.actor) sound)

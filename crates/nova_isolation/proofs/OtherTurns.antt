@@ -1,6 +1,6 @@
 -- A turn in which another execution context acts.
-use Rattle.std.proofs.Common.{◌≡◌, ℕ, zero, suc, ◌%◌, ◌≢◌, List, [], ◌∷◌, ◌++◌, length, ap, sym, ◌∙◌, subst, refl, inl, inr, arith}
-use Rattle.std.specs.Prelude.{Bool, Contains, true, false, not, ◌==◌, filter, slice_get, Option, Some, None, IsSome, is_some, option_and_then, option_map, if◌then◌else◌}
+use Rattle.std.proofs.Common.{◌≡◌, ℕ, ◌%◌, ◌≢◌, List, [], ◌∷◌, ◌++◌, length, ap, sym, ◌∙◌, subst, refl, inl, inr, arith}
+use Rattle.std.specs.Prelude.{Bool, true, false, not, ◌==◌, filter, slice_get, Option, Some, None, IsSome, is_some, option_and_then, option_map, if◌then◌else◌}
 use Rattle.std.specs.List.{AllByRecursion, list_any}
 use Rattle.std.proofs.lemmas.Bool.{cases_Bool, cases_eq, eq-eqb, ne_eqb}
 use Rattle.rv_model.specs.Step.{Once, Raised, Went, Store}
@@ -18,24 +18,20 @@ use Rattle.nova_objects.specs.declared.object.Object.TheVariants.{Pd, Ec, Sc, Pt
 use Rattle.nova_range.specs.Rights.{write_right}
 use Rattle.nova_model.specs.AddressSpaces.{frame_for, stored_at}
 use Rattle.nova_model.specs.Capabilities.{is_ec, is_vcpu}
-use Rattle.nova_model.specs.Creation.{context_of, object_of, root_capability, with_object}
 use Rattle.nova_model.specs.Deeds.{address_space, instruction, with_context, memory_after, messages_after, changed, stepped, recalled, resumed, brought, completed, with_transfer, done}
 use Rattle.nova_model.specs.Deeds.{told as told_words}
 use Rattle.nova_model.specs.Delegations.{added, without}
 use Rattle.nova_model.specs.Forest.{AreApart, IsFitting}
 use Rattle.nova_model.specs.Inputs.{contents_of, foreign_at, foreign_by, given_of, in_ram, is_covered_for, only_if, others_input, reply_of, store_of}
 use Rattle.nova_model.specs.Memory.{Memory, written, written_in}
-use Rattle.nova_model.specs.Semaphores.{upped}
-use Rattle.nova_model.specs.State.{KernelState, Contexts, ec_in, ec_of, context, context_at, context_in, message, pd_of}
+use Rattle.nova_model.specs.State.{KernelState, context, context_at, context_in, message, pd_of}
 use Rattle.nova_model.specs.Views.{view, guest_of, guest_state, is_memory_of, map_of, maps_of, cells_of}
 use Rattle.nova_model.specs.declared.context.EcState.{EcState}
 use Rattle.nova_model.specs.declared.context.Mark.{Mark}
 use Rattle.nova_model.specs.declared.context.Mark.TheVariants as mark
 use Rattle.nova_model.specs.declared.deed.Deed.{Deed}
-use Rattle.nova_model.specs.declared.deed.Deed.TheVariants.{Rests, Steps, Sends, Makes, Recalls, Names, Opens, Gives, Skips, Finishes, Calls, Replies, Removes, Ups, Downs, Blocks}
+use Rattle.nova_model.specs.declared.deed.Deed.TheVariants.{Steps, Recalls, Gives, Finishes, Replies, Removes}
 use Rattle.nova_model.specs.declared.delegation.Derivation.{Derivation}
-use Rattle.nova_model.specs.declared.new_object.NewObject.{NewObject}
-use Rattle.nova_model.specs.declared.new_object.NewObject.TheVariants as new
 use Rattle.nova_model.specs.declared.transfer.ItemEnd.{ItemEnd}
 use Rattle.nova_model.specs.declared.transfer.ItemWords.{ItemWords}
 use Rattle.nova_model.specs.declared.transfer.Sequel.{Sequel}
@@ -53,22 +49,10 @@ use Rattle.nova_isolation.proofs.Removals.{cells_taken, has_taken, maps_taken, m
 use Rattle.nova_isolation.proofs.Replies.{back_same}
 use Rattle.nova_isolation.proofs.Seen.{IsSeenSame, maps_at, seen_context, seen_same, seen_self, seen_trans, view_context, view_is, view_self, at_other}
 use Rattle.nova_isolation.proofs.Spaces.{MapsApart, apart_maps_of, cell_of, same_kind}
+use Rattle.nova_isolation.proofs.Unseen.{Facts, WaitsFor, unseen_law}
 use Rattle.nova_isolation.proofs.Stores.{cells_written, stored_nowhere}
 
--- the caller of a reply that completes, where it is the virtual CPU: it waits for the reply to its exit
-abbrev pub WaitsFor : KernelState → ℕ → ℕ → Mark → Type 0
-WaitsFor k g caller came = caller ≡ g → (came ≡ mark.Exit) × (guest_state (context k g).state ≡ guest.Waiting)
-
--- what the law asks of a deed that another does
-abbrev pub Facts : KernelState → ℕ → Deed → Type 0
-Facts k g (Sends handler ip identifier mtd reason q0 q1) = handler ≢ g
-Facts k g (Calls handler ip identifier items) = handler ≢ g
-Facts k g (Replies caller came items) = WaitsFor k g caller came
-Facts k g (Finishes item end words (sequel.Replied caller came)) = WaitsFor k g caller came × (came ≡ mark.Exit → words ≡ None)
-Facts k g (Removes leaf) = Contains k.delegations.list leaf
-Facts k g (Ups sm (Some whom)) = whom ≢ g
-Facts k g other = Unit {0}
-
+-- what another does is one input of it
 abbrev pub OtherLaw : KernelState → ℕ → ℕ → Deed → Type 0
 OtherLaw k ec g d = view (done k ec d) g ≡ (answered (view k g) (others_input k ec g d)).guest
 
@@ -267,27 +251,6 @@ take_law k g leaf sound there = elim (cases_Bool (is_memory_of (pd_of k g) leaf)
       (record { own = refl; object = refl; maps = maps_untaken (pd_of k g) k.delegations leaf sound.forest there not_; ram = refl }))
 ]
 
--- AN OBJECT THAT IS MADE
-
-ec_more : (cs ds : Contexts) (g : ℕ) → IsSome (ec_in cs g) → ec_of (cs ++ ds) g ≡ ec_of cs g
-ec_more [] ds g there = absurd (cc)
-ec_more (c ∷ cs) ds zero there = refl
-ec_more (c ∷ cs) ds (suc g) there = ec_more cs ds g there
-
-object_more : (os ps : List Object) (g : ℕ) → option_map is_vcpu (slice_get os g) ≡ Some true → slice_get (os ++ ps) g ≡ slice_get os g
-object_more [] ps g is = absurd (cc)
-object_more (o ∷ os) ps zero is = refl
-object_more (o ∷ os) ps (suc g) is = object_more os ps g is
-
-object_seen : (k : KernelState) (g : ℕ) → IsSome (context_at k g) → option_map is_vcpu (slice_get k.objects g) ≡ Some true → (domain target : ℕ) (made : NewObject) →
-    IsSeenSame k (with_object k domain target made) g
-object_seen k g there is domain target made = record {
-  own = ec_more k.contexts (context_of (length k.objects) made ∷ []) g there;
-  object = object_more k.objects (object_of made ∷ []) g is;
-  maps = maps_others (pd_of k g) (root_capability k domain target (object_of made)) k.delegations.list refl;
-  ram = refl;
-}
-
 -- EACH DEED
 
 -- its own context is written first, and then the rest
@@ -348,41 +311,13 @@ finishes_law k ec g item end words (sequel.Replied caller mark.Exit) sound ne is
         let d : Deed = Finishes item end words (sequel.Replied caller mark.Exit) in completed_law k (mid k ec d) ec g caller (mid_seen k ec g d ne) (mid_there k ec g d ne is) sound is refl facts.0
     by_words (Some w) none = absurd (cc)
 
-ups_law : (k : KernelState) (ec g sm : ℕ) (whom : Option ℕ) → ec ≢ g → Facts k g (Ups sm whom) → OtherLaw k ec g (Ups sm whom)
-ups_law k ec g sm None ne facts =
-    seen_same (mid k ec (Ups sm None)) _ g (record { own = refl; object = refl; maps = refl; ram = refl }) ∙ view_context k ec g _ ne
-ups_law k ec g sm (Some whom) ne facts =
-    view_context (record (mid k ec (Ups sm (Some whom))) { semaphores = upped k.semaphores sm }) whom g _ facts
-    ∙ (seen_same (mid k ec (Ups sm (Some whom))) _ g (record { own = refl; object = refl; maps = refl; ram = refl }) ∙ view_context k ec g _ ne)
-
-makes_law : (k : KernelState) (ec g : ℕ) (d : Deed) (domain target : ℕ) (made : NewObject) → ec ≢ g → IsGuest k g → view (with_object (mid k ec d) domain target made) g ≡ view k g
-makes_law k ec g d domain target made ne is =
-    seen_same k (with_object (mid k ec d) domain target made) g
-    (seen_trans k (mid k ec d) (with_object (mid k ec d) domain target made) g (mid_seen k ec g d ne) (object_seen (mid k ec d) g (mid_there k ec g d ne is) is.object domain target made))
-
--- one that only changes other tables
-unseen_law : (k s : KernelState) (ec g : ℕ) (d : Deed) → ec ≢ g → IsSeenSame (mid k ec d) s g → view s g ≡ view k g
-unseen_law k s ec g d ne seen = seen_same (mid k ec d) s g seen ∙ view_context k ec g _ ne
-
 pub other_law : (k : KernelState) (ec g : ℕ) (d : Deed) → HasPremises k → ec ≢ g → IsGuest k g → Facts k g d → GivesFitting k.delegations d → OtherLaw k ec g d
-other_law k ec g Rests sound ne is facts fits = refl
 other_law k ec g Steps sound ne is facts fits = steps_law k ec g sound ne (instruction k ec)
-other_law k ec g (Sends handler ip identifier mtd reason q0 q1) sound ne is facts fits =
-    view_context _ handler g _ facts ∙ unseen_law k _ ec g (Sends handler ip identifier mtd reason q0 q1) ne (record { own = refl; object = refl; maps = refl; ram = refl })
-other_law k ec g (Calls handler ip identifier items) sound ne is facts fits =
-    view_context _ handler g _ facts ∙ unseen_law k _ ec g (Calls handler ip identifier items) ne (record { own = refl; object = refl; maps = refl; ram = refl })
-other_law k ec g (Makes call target made) sound ne is facts fits = makes_law k ec g (Makes call target made) (pd_of k ec) target made ne is
-other_law k ec g (Opens target domain) sound ne is facts fits = makes_law k ec g (Opens target domain) (pd_of k ec) target new.Pd ne is
 other_law k ec g (Recalls whose) sound ne is facts fits =
     recall_law (mid k ec (Recalls whose)) whose g (mid_there k ec g (Recalls whose) ne is)
     ∙ ap (λ (v : Guest). (answered v (only_if (whose == g) input.Recall)).guest) (view_context k ec g _ ne)
-other_law k ec g (Names pt identifier) sound ne is facts fits = unseen_law k _ ec g (Names pt identifier) ne (record { own = refl; object = refl; maps = refl; ram = refl })
 other_law k ec g (Gives child cursor) sound ne is facts fits = transfer_view _ ec g _ ∙ give_law k g child sound fits
-other_law k ec g (Skips reason place cursor) sound ne is facts fits = transfer_view k ec g _
 other_law k ec g (Finishes item end words after) sound ne is facts fits = finishes_law k ec g item end words after sound ne is facts
 other_law k ec g (Replies caller came items) sound ne is facts fits = replies_law k ec g caller came items sound ne is facts
 other_law k ec g (Removes leaf) sound ne is facts fits = take_law k g leaf sound (in_from_contains k.delegations.list leaf facts)
-other_law k ec g (Ups sm whom) sound ne is facts fits = ups_law k ec g sm whom ne facts
-other_law k ec g (Downs sm) sound ne is facts fits = unseen_law k _ ec g (Downs sm) ne (record { own = refl; object = refl; maps = refl; ram = refl })
-other_law k ec g (Blocks sm) sound ne is facts fits = unseen_law k _ ec g (Blocks sm) ne (record { own = refl; object = refl; maps = refl; ram = refl })
-other_law k ec g other sound ne is facts fits = view_context k ec g _ ne
+other_law k ec g other sound ne is facts fits = unseen_law k ec g other refl ne is facts

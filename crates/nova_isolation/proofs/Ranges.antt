@@ -6,8 +6,8 @@ use Rattle.std.proofs.Math.Nat.{pow-le-pow_right}
 use Rattle.std.proofs.lemmas.Bool.{and_parts, cases_Bool}
 use Rattle.std.proofs.lemmas.List.{length-replicate, length-set}
 use Rattle.std.proofs.lemmas.List.Elements.{All-cons, All-nil}
-use Rattle.nova_forest.specs.Made.{Grows, GrowsBy, IsFirstCapability, IsGivenChild, Leaves, MakesObject, GivesChild, TakesLeaf}
-use Rattle.nova_forest.proofs.Growth.{turn_grows}
+use Rattle.nova_forest.specs.Made.{Grows, IsFirstCapability, IsGivenChild, Leaves, MakesObject, GivesChild, TakesLeaf}
+use Rattle.nova_forest.proofs.Growth.{turn_growth}
 use Rattle.nova_forest.proofs.Members.{all_at, all_from, all_more, filtered_in, in_from_contains}
 use Rattle.nova_guest.specs.Cells.{page_size}
 use Rattle.nova_guest.specs.Conditions.{AreMaps, AreWhole as AreWholeCells, IsGuest, IsMap}
@@ -19,7 +19,6 @@ use Rattle.nova_objects.specs.declared.object.Object.{Object}
 use Rattle.nova_range.specs.declared.range.Kind.{Kind}
 use Rattle.nova_range.specs.declared.range.Kind.TheVariants.{Mem, Obj}
 use Rattle.nova_model.specs.Boot.{Image, Scenario, bare, boot, console_derivation, laid, object_derivation, ram_derivation, with_image, with_images}
-use Rattle.nova_model.specs.Choice.{Candidate, choice}
 use Rattle.nova_model.specs.Delegations.{Delegations, is_memory, without}
 use Rattle.nova_model.specs.Forest.{ArePairs, HasParentIn, IsAligned, IsAlignedFor, IsForest, IsWithin}
 use Rattle.nova_model.specs.Memory.{Memory, written, written_in}
@@ -84,11 +83,8 @@ grown old new ec forest ranges (TakesLeaf t) =
     subst (AreIn (length old.memory.ram)) (sym t.delegations) (fewer (length old.memory.ram) old.delegations t.leaf.id ranges)
 
 pub turn_ranges : (k : KernelState) (cpu : ℕ) → IsSound k → AreRanges k → AreRanges (after k cpu)
-turn_ranges k cpu sound ranges = subst (λ (n : ℕ). AreIn n (after k cpu).delegations) (sym (turn_frames k cpu)) (by_choice (choice k cpu) (turn_grows k cpu))
-  where
-    by_choice : (c : Option Candidate) → GrowsBy k c (after k cpu) → AreIn (length k.memory.ram) (after k cpu).delegations
-    by_choice None same = subst (AreIn (length k.memory.ram)) (sym same.delegations) ranges
-    by_choice (Some c) grows = grown k (after k cpu) c.actor sound.forest ranges grows
+turn_ranges k cpu sound ranges = subst (λ (n : ℕ). AreIn n (after k cpu).delegations) (sym (turn_frames k cpu))
+    (let g = turn_growth k cpu in grown k (after k cpu) g.ec sound.forest ranges g.grows)
 
 -- A KERNEL BEGINS WITH THEM
 

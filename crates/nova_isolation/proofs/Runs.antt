@@ -1,10 +1,10 @@
 -- What always holds of a state is kept by turns, and so the law of one turn becomes one of runs.
 use Rattle.std.proofs.Common.{◌≡◌, ◌≢◌, ℕ, zero, suc, List, [], ◌∷◌, ◌++◌, ap, ap₂, sym, ◌∙◌, refl}
 use Rattle.std.specs.Prelude.{true, Option, Some, None, option_map, slice_get}
-use Rattle.nova_forest.specs.Made.{Grows, GrowsBy, Leaves, MakesObject, GivesChild, TakesLeaf}
+use Rattle.nova_forest.specs.Made.{Grows, Leaves, MakesObject, GivesChild, TakesLeaf}
 use Rattle.nova_forest.proofs.Boots.{boot_forest}
 use Rattle.nova_forest.proofs.Changes.{change_forest, turn_change}
-use Rattle.nova_forest.proofs.Growth.{turn_grows}
+use Rattle.nova_forest.proofs.Growth.{turn_growth}
 use Rattle.nova_guest.specs.Alone.{alone, guest_space}
 use Rattle.nova_guest.specs.declared.guest.Guest.{Guest}
 use Rattle.nova_guest.specs.declared.input.Input.{Input}
@@ -13,7 +13,7 @@ use Rattle.nova_laws.proofs.Donation.{begins_kept, keeps, keeps_in_memory}
 use Rattle.nova_model.specs.AddressSpaces.{space}
 use Rattle.nova_model.specs.Boot.{Image, Scenario, bare, boot, with_image, with_images}
 use Rattle.nova_model.specs.Capabilities.{is_vcpu}
-use Rattle.nova_model.specs.Choice.{Candidate, choice, in_front}
+use Rattle.nova_model.specs.Choice.{in_front}
 use Rattle.nova_model.specs.Deeds.{address_space, deed, done}
 use Rattle.nova_model.specs.Guests.{input, inputs}
 use Rattle.nova_model.specs.Runs.{after, run}
@@ -65,17 +65,13 @@ virtual_in : (os ps : List Object) (g : ℕ) → ps ≡ os → option_map is_vcp
 virtual_in os ps g same is = ap (λ (qs : List Object). option_map is_vcpu (slice_get qs g)) same ∙ is
 
 pub turn_virtual : (k : KernelState) (cpu g : ℕ) → IsVirtual k g → IsVirtual (after k cpu) g
-turn_virtual k cpu g is = by_choice (choice k cpu) (turn_grows k cpu)
+turn_virtual k cpu g is = let turn = turn_growth k cpu in by_growth turn.ec turn.grows
   where
     by_growth : (ec : ℕ) → Grows k ec (after k cpu) → IsVirtual (after k cpu) g
     by_growth ec (Leaves same) = virtual_in k.objects (after k cpu).objects g same.objects is
     by_growth ec (MakesObject made) = virtual_in (k.objects ++ made.object ∷ []) (after k cpu).objects g made.objects (object_stays k.objects (made.object ∷ []) g is)
     by_growth ec (GivesChild given) = virtual_in k.objects (after k cpu).objects g given.objects is
     by_growth ec (TakesLeaf taken) = virtual_in k.objects (after k cpu).objects g taken.objects is
-
-    by_choice : (c : Option Candidate) → GrowsBy k c (after k cpu) → IsVirtual (after k cpu) g
-    by_choice None same = virtual_in k.objects (after k cpu).objects g same.objects is
-    by_choice (Some c) grows = by_growth c.actor grows
 
 pub turn_is_one : (k : KernelState) (cpu g : ℕ) → IsSound k → IsVirtual k g → IsOneTurn k cpu g
 turn_is_one k cpu g sound is = one_turn k cpu g (premises k sound) (guest k g sound is)

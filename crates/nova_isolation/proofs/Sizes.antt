@@ -1,32 +1,34 @@
 -- Frames, messages and registers keep their sizes.
-use Rattle.std.proofs.Common.{◌≡◌, ℕ, zero, suc, ◌+◌, ◌/◌, ◌%◌, ◌≤◌, List, [], ◌∷◌, ◌++◌, length, ap, sym, ◌∙◌, subst, refl, arith}
-use Rattle.std.specs.Prelude.{Bool, true, false, ◌==◌, ◌&&◌, nat_lt, slice_get, slice_set, Option, Some, None, if◌then◌else◌}
+use Rattle.std.proofs.Common.{◌≡◌, ℕ, zero, suc, ◌+◌, ◌/◌, ◌%◌, ◌≤◌, List, [], ◌∷◌, ◌++◌, length, ◌∙◌, subst, refl, arith}
+use Rattle.std.specs.Prelude.{Bool, true, false, ◌==◌, ◌&&◌, nat_lt, slice_get, slice_set, Option, Some, None, IfSome, if◌then◌else◌}
 use Rattle.std.specs.List.{AllByRecursion}
 use Rattle.std.proofs.lemmas.List.{length-replicate, length-set, places}
 use Rattle.std.proofs.lemmas.Option.{same_Some}
 use Rattle.byteorder.specs.Endian.{little_bytes}
 use Rattle.byteorder.specs.Numbers.{length-bytes_low_first}
 use Rattle.rv_model.specs.Registers.{Registers, with_reg}
-use Rattle.rv_model.specs.Step.{Store}
+use Rattle.rv_model.specs.Step.{Once, Raised, Went, Store}
 use Rattle.nova_guest.specs.Frames.{replaced}
 use Rattle.nova_range.specs.declared.mtd.Mtd.{Mtd}
 use Rattle.nova_range.specs.declared.status.Status.{Status}
-use Rattle.nova_range.specs.declared.status.Status.TheVariants.{Aborted, Success}
-use Rattle.nova_utcb.specs.Messages.{copied, exited, stored as stored_words, with_item, written_back}
+use Rattle.nova_range.specs.declared.status.Status.TheVariants.{Success}
+use Rattle.nova_utcb.specs.Messages.{copied, exited, with_item, written_back}
 use Rattle.nova_utcb.proofs.Ruled.{length_ruled}
-use Rattle.nova_model.specs.AddressSpaces.{own_page, message_size, stored_among, words_at}
-use Rattle.nova_model.specs.Deeds.{address_space, answered, brought, changed, completed, exit_sent, followed, messages_after, passed, recalled, replied_to, resumed, sent, serving, told, with_context, with_value, woken_in}
+use Rattle.nova_model.specs.AddressSpaces.{own_page, message_size, words_at}
+use Rattle.nova_model.specs.Inputs.{store_of}
+use Rattle.nova_model.specs.Deeds.{address_space, answered, instruction, resumed, with_value}
 use Rattle.nova_model.specs.Memory.{Memory, written, written_in}
-use Rattle.nova_model.specs.State.{KernelState, Contexts, context, context_at, context_in, ec_of, entry, is_thread, message, message_in, no_words, own_words, with_ec, with_message}
+use Rattle.nova_model.specs.State.{KernelState, Contexts, context, ec_of, entry, is_thread, message, message_in, no_words, own_words, with_ec}
 use Rattle.nova_model.specs.declared.context.EcState.{EcState}
 use Rattle.nova_model.specs.declared.context.Mark.{Mark}
 use Rattle.nova_model.specs.declared.context.Mark.TheVariants as mark
 use Rattle.nova_model.specs.declared.deed.Deed.{Deed}
-use Rattle.nova_model.specs.declared.deed.Deed.TheVariants.{Refuses, Makes, Recalls, Tells, Names, Finishes, Replies, Aborts, Returns, Ups, Downs}
+use Rattle.nova_model.specs.declared.deed.Deed.TheVariants.{Rests, Steps, Sends, Recalls, Gives, Skips, Finishes, Calls, Replies, Aborts, Removes, Ups}
 use Rattle.nova_model.specs.declared.transfer.ItemWords.{ItemWords}
 use Rattle.nova_model.specs.declared.transfer.Sequel.{Sequel}
 use Rattle.nova_model.specs.declared.transfer.Sequel.TheVariants as sequel
-use Rattle.nova_isolation.proofs.Instructions.{length_reg}
+use Rattle.nova_forest.specs.Effects.{Answers, Edit, Edits, Moves, Resumes, Serves, all_edited, edit_at, edited, edits_by, follows_by, item_words, put, recalls_by, steps_by, store_words, wakes_by, words_by, words_stored}
+use Rattle.nova_isolation.proofs.Instructions.{IsGood, length_reg}
 
 -- frames stay whole
 whole_set : (n i : ℕ) (ram : List (List ℕ)) (b : List ℕ) → length b ≡ n → AllByRecursion (λ (p : List ℕ). length p ≡ n) ram → AllByRecursion (λ (p : List ℕ). length p ≡ n) (slice_set ram i b)
@@ -94,12 +96,6 @@ length_exited mtd q0 q1 r m = length_ruled _ m
 length_item : (m : List ℕ) (i first second : ℕ) → length (with_item m i first second) ≡ length m
 length_item m i first second = length-set (slice_set m _ first) _ second ∙ length-set m _ first
 
-stored_sized : (messages : List (Option (List ℕ))) (ec : ℕ) (s : Store) (words : Option (List ℕ)) → ((m : List ℕ) → words ≡ Some m → length m ≡ 128) → AreSized messages →
-    AreSized (stored_among messages ec s words)
-stored_sized messages ec s None own all = all
-stored_sized messages ec s (Some m) own all =
-    message_set messages ec (stored_words m (s.address % 4096) s.width s.value) (length-set m _ _ ∙ own m refl) all
-
 own_sized : (m : List ℕ) (t : Bool) (words : Option (List ℕ)) → ((n : List ℕ) → words ≡ Some n → length n ≡ 128) → (if t then words else None) ≡ Some m → length m ≡ 128
 own_sized m true words own e = own m e
 own_sized m false words own e = absurd (cc)
@@ -108,25 +104,37 @@ thread_sized : (k : KernelState) (ec : ℕ) (t : Bool) → AreSized k.messages �
 thread_sized k ec true all m e = subst (λ (n : List ℕ). length n ≡ 128) (same_Some (message k ec) m e) (all ec)
 thread_sized k ec false all m e = absurd (cc)
 
-pub messages_sized : (k : KernelState) (ec : ℕ) (store : Option Store) → AreSized k.messages → AreSized (messages_after (address_space k ec) ec store k.messages)
-messages_sized k ec None all = all
-messages_sized k ec (Some s) all =
-    stored_sized k.messages ec s (words_at (address_space k ec) s.address)
-    (λ m e. own_sized m ((s.address / 4096 == own_page) && nat_lt (s.address % 4096) message_size) (own_words k ec) (thread_sized k ec (is_thread k ec) all) e) all
+-- what an effect writes has as many
+abbrev pub IsOfSize : Option (ℕ × List ℕ) → Type 0
+IsOfSize o = IfSome o (λ w. length w.1 ≡ 128)
+
+stored_sized : (k : KernelState) (ec : ℕ) (s : Option Store) → AreSized k.messages → IsOfSize (store_words (address_space k ec) ec s)
+stored_sized k ec None all = tt
+stored_sized k ec (Some s) all =
+    by_words (words_at (address_space k ec) s.address)
+    (λ m e. own_sized m ((s.address / 4096 == own_page) && nat_lt (s.address % 4096) message_size) (own_words k ec) (thread_sized k ec (is_thread k ec) all) e)
+  where
+    by_words : (o : Option (List ℕ)) → ((m : List ℕ) → o ≡ Some m → length m ≡ 128) → IsOfSize (words_stored ec s o)
+    by_words None own = tt
+    by_words (Some m) own = length-set m _ _ ∙ own m refl
+
+item_sized : (k : KernelState) (item : ℕ) (words : Option ItemWords) → AreSized k.messages → IsOfSize (item_words k item words)
+item_sized k item None all = tt
+item_sized k item (Some w) all = length_item (message k w.ec) item w.first w.second ∙ all w.ec
+
+pub words_sized : (k : KernelState) (ec : ℕ) (d : Deed) → AreSized k.messages → IsOfSize (words_by k ec d)
+words_sized k ec Steps all = stored_sized k ec (store_of (instruction k ec)) all
+words_sized k ec (Calls handler ip identifier items) all = length_copied (message k ec) (message k handler) ∙ all handler
+words_sized k ec (Sends handler ip identifier mtd reason q0 q1) all = length_exited mtd q0 q1 (context k ec).regs (message k handler) ∙ all handler
+words_sized k ec (Replies caller mark.Call items) all = length_copied (message k ec) (message k caller) ∙ all caller
+words_sized k ec (Finishes item end words after) all = item_sized k item words all
+words_sized k ec other all = tt
+
+pub put_sized : (messages : List (Option (List ℕ))) (o : Option (ℕ × List ℕ)) → IsOfSize o → AreSized messages → AreSized (put messages o)
+put_sized messages None size all = all
+put_sized messages (Some (e, m)) size all = message_set messages e m size all
 
 -- REGISTERS
-
--- a state with the same objects, as many execution contexts, and the same number of registers in each
-pub record KeepsRegisters (k s : KernelState) : Type 0 where
-  pub objects : s.objects ≡ k.objects
-  pub places : length s.contexts ≡ length k.contexts
-  pub registers : (g : ℕ) → length (context s g).regs.x ≡ length (context k g).regs.x
-
-keeps_self : (k : KernelState) → KeepsRegisters k k
-keeps_self k = record { objects = refl; places = refl; registers = λ g. refl }
-
-keeps_then : (a b c : KernelState) → KeepsRegisters a b → KeepsRegisters b c → KeepsRegisters a c
-keeps_then a b c p q = record { objects = q.objects ∙ p.objects; places = q.places ∙ p.places; registers = λ g. q.registers g ∙ p.registers g }
 
 ec_set : (cs : Contexts) (e : ℕ) (y : EcState) (g : ℕ) → length y.regs.x ≡ length (ec_of cs e).regs.x → length (ec_of (with_ec cs e y) g).regs.x ≡ length (ec_of cs g).regs.x
 ec_set [] e y g h = refl
@@ -134,9 +142,6 @@ ec_set (c ∷ cs) zero y zero h = h
 ec_set (c ∷ cs) zero y (suc g) h = refl
 ec_set (c ∷ cs) (suc e) y zero h = refl
 ec_set (c ∷ cs) (suc e) y (suc g) h = ec_set cs e y g h
-
-pub keeps_context : (k : KernelState) (e : ℕ) (y : EcState) → length y.regs.x ≡ length (context k e).regs.x → KeepsRegisters k (with_context k e y)
-keeps_context k e y h = record { objects = refl; places = length-set k.contexts e (Some y); registers = λ g. ec_set k.contexts e y g h }
 
 -- answers, replies and calls
 length_value : (r : Registers) (value : Option ℕ) → length (with_value r value).x ≡ length r.x
@@ -154,106 +159,56 @@ length_resumed : (x : EcState) (came : Mark) (m : List ℕ) → length (resumed 
 length_resumed x mark.Call m = length_answered x Success None
 length_resumed x mark.Exit m = length_back m x.regs
 
-pub length_changed : (x : EcState) (d : Deed) → length (changed x d).regs.x ≡ length x.regs.x
-length_changed x (Refuses call status) = length_answered x status None
-length_changed x (Makes call target made) = length_answered x Success None
-length_changed x (Recalls ec) = length_answered x Success None
-length_changed x (Tells call value) = length_answered x Success (Some value)
-length_changed x (Names pt identifier) = length_answered x Success None
-length_changed x (Finishes item end words sequel.Item) = refl
-length_changed x (Finishes item end words sequel.Opened) = length_answered x Success None
-length_changed x (Finishes item end words sequel.Taken) = refl
-length_changed x (Finishes item end words (sequel.Replied caller came)) = refl
-length_changed x (Replies caller came true) = refl
-length_changed x (Replies caller came false) = refl
-length_changed x (Aborts handler mark.Call) = length_answered x Aborted None
-length_changed x (Aborts handler mark.Exit) = refl
-length_changed x Returns = length_answered x Success None
-length_changed x (Ups sm woken) = length_answered x Success None
-length_changed x (Downs sm) = length_answered x Success None
-length_changed x other = refl
+-- an edit that sets registers sets as many
+abbrev FitsEdit : EcState → Edit → Type 0
+FitsEdit x (Moves regs) = length regs.x ≡ length x.regs.x
+FitsEdit x other = Unit {0}
 
--- WHAT A DEED LEAVES WHOLE
+length_edited : (x : EcState) (e : Edit) → FitsEdit x e → length (edited x e).regs.x ≡ length x.regs.x
+length_edited x (Answers status value) fits = length_answered x status value
+length_edited x (Serves caller came ip identifier items) fits = length_reg x.regs 10 identifier
+length_edited x (Resumes came m) fits = length_resumed x came m
+length_edited x (Moves regs) fits = fits
+length_edited x other fits = refl
 
--- what is kept of memory and messages beside it
-pub record LeavesWhole (k s : KernelState) : Type 0 where
-  pub keeps : KeepsRegisters k s
-  pub memory : s.memory ≡ k.memory
-  pub messages : AreSized k.messages → AreSized s.messages
+abbrev pub AreFit : Contexts → Edits → Type 0
+AreFit cs [] = Unit {0}
+AreFit cs ((n, e) ∷ es) = FitsEdit (ec_of cs n) e × AreFit (edit_at cs n e) es
 
-leaves_self : (k : KernelState) → LeavesWhole k k
-leaves_self k = record { keeps = keeps_self k; memory = refl; messages = λ all. all }
+pub length_all : (cs : Contexts) (es : Edits) (g : ℕ) → AreFit cs es → length (ec_of (all_edited cs es) g).regs.x ≡ length (ec_of cs g).regs.x
+length_all cs [] g fits = refl
+length_all cs ((n, e) ∷ es) g fits =
+    length_all (edit_at cs n e) es g fits.1 ∙ ec_set cs n (edited (ec_of cs n) e) g (length_edited (ec_of cs n) e fits.0)
 
-pub leaves_then : (a b c : KernelState) → LeavesWhole a b → LeavesWhole b c → LeavesWhole a c
-leaves_then a b c p q = record { keeps = keeps_then a b c p.keeps q.keeps; memory = q.memory ∙ p.memory; messages = λ all. q.messages (p.messages all) }
+steps_fit : (k : KernelState) (ec : ℕ) (o : Once) → IsGood (length (context k ec).regs.x) o → AreFit k.contexts (steps_by ec o)
+steps_fit k ec (Raised reason q0 q1) good = tt
+steps_fit k ec (Went regs store) good = (good.0, tt)
 
-pub leaves_context : (k : KernelState) (e : ℕ) (y : EcState) → length y.regs.x ≡ length (context k e).regs.x → LeavesWhole k (with_context k e y)
-leaves_context k e y h = record { keeps = keeps_context k e y h; memory = refl; messages = λ all. all }
+recalls_fit : (cs : Contexts) (whose : ℕ) (o : Option EcState) → AreFit cs (recalls_by whose o)
+recalls_fit cs whose None = tt
+recalls_fit cs whose (Some x) = (tt, tt)
 
--- a message is written
-leaves_message : (k : KernelState) (e : ℕ) (m : List ℕ) → (AreSized k.messages → length m ≡ 128) → LeavesWhole k (with_message k e m)
-leaves_message k e m size = record {
-  keeps = record { objects = refl; places = refl; registers = λ g. refl };
-  memory = refl;
-  messages = λ all. message_set k.messages e m (size all) all;
-}
+wakes_fit : (cs : Contexts) (whom : Option ℕ) → AreFit cs (wakes_by whom)
+wakes_fit cs None = tt
+wakes_fit cs (Some w) = (tt, tt)
 
-passed_whole : (k : KernelState) (from to : ℕ) → LeavesWhole k (passed k from to)
-passed_whole k from to = leaves_message k to (copied (message k from) (message k to)) (λ all. length_copied (message k from) (message k to) ∙ all to)
+follows_fit : (cs : Contexts) (ec : ℕ) (m : List ℕ) (after : Sequel) → AreFit cs (follows_by ec m after)
+follows_fit cs ec m (sequel.Replied caller came) = (tt, (tt, tt))
+follows_fit cs ec m other = (tt, tt)
 
-length_serving : (x : EcState) (caller : ℕ) (came : Mark) (ip identifier : ℕ) (items : Bool) → length (serving x caller came ip identifier items).regs.x ≡ length x.regs.x
-length_serving x caller came ip identifier items = length_reg x.regs 10 identifier
-
-pub sent_whole : (k : KernelState) (caller handler ip identifier : ℕ) (items : Bool) → LeavesWhole k (sent k caller handler ip identifier items)
-sent_whole k caller handler ip identifier items =
-    leaves_then k (passed k caller handler) (sent k caller handler ip identifier items) (passed_whole k caller handler)
-    (leaves_context (passed k caller handler) handler (serving (context k handler) caller mark.Call ip identifier items) (length_serving (context k handler) caller mark.Call ip identifier items))
-
-pub exit_whole : (k : KernelState) (ec handler ip identifier : ℕ) (mtd : Mtd) (q0 q1 : ℕ) → LeavesWhole k (exit_sent k ec handler ip identifier mtd q0 q1)
-exit_whole k ec handler ip identifier mtd q0 q1 =
-    let m : List ℕ = exited mtd q0 q1 (context k ec).regs (message k handler) in
-    leaves_then k (with_message k handler m) (exit_sent k ec handler ip identifier mtd q0 q1)
-    (leaves_message k handler m (λ all. length_exited mtd q0 q1 (context k ec).regs (message k handler) ∙ all handler))
-    (leaves_context (with_message k handler m) handler (serving (context k handler) ec mark.Exit ip identifier false) (length_serving (context k handler) ec mark.Exit ip identifier false))
-
-pub completed_whole : (k : KernelState) (ec caller : ℕ) (came : Mark) → LeavesWhole k (completed k ec caller came)
-completed_whole k ec caller came = leaves_context k caller (resumed (context k caller) came (message k ec)) (length_resumed (context k caller) came (message k ec))
-
-brought_whole : (k : KernelState) (ec caller : ℕ) (came : Mark) → LeavesWhole k (brought k ec caller came)
-brought_whole k ec caller mark.Call = passed_whole k ec caller
-brought_whole k ec caller mark.Exit = leaves_self k
-
-pub replied_whole : (k : KernelState) (ec caller : ℕ) (came : Mark) (items : Bool) → LeavesWhole k (replied_to k ec caller came items)
-replied_whole k ec caller came true = brought_whole k ec caller came
-replied_whole k ec caller came false =
-    leaves_then k (brought k ec caller came) (replied_to k ec caller came false) (brought_whole k ec caller came) (completed_whole (brought k ec caller came) ec caller came)
-
-pub told_whole : (k : KernelState) (item : ℕ) (words : Option ItemWords) → LeavesWhole k (told k item words)
-told_whole k item None = leaves_self k
-told_whole k item (Some w) = leaves_message k w.ec (with_item (message k w.ec) item w.first w.second) (λ all. length_item (message k w.ec) item w.first w.second ∙ all w.ec)
-
-pub followed_whole : (k : KernelState) (ec : ℕ) (after : Sequel) → LeavesWhole k (followed k ec after)
-followed_whole k ec (sequel.Replied caller came) = completed_whole k ec caller came
-followed_whole k ec sequel.Item = leaves_self k
-followed_whole k ec sequel.Opened = leaves_self k
-followed_whole k ec sequel.Taken = leaves_self k
-
-pub recalled_whole : (k : KernelState) (whose : ℕ) (o : Option EcState) → context_at k whose ≡ o → LeavesWhole k (recalled k whose o)
-recalled_whole k whose None is = leaves_self k
-recalled_whole k whose (Some x) is = leaves_context k whose (record x { recall = true }) (ap (λ (o : Option EcState). length (context_in o).regs.x) (sym is))
-
-pub woken_whole : (k : KernelState) (whom : Option ℕ) → LeavesWhole k (woken_in k whom)
-woken_whole k None = leaves_self k
-woken_whole k (Some ec) = leaves_context k ec (answered (context k ec) Success None) (length_answered (context k ec) Success None)
-
--- other tables alone
-pub leaves_others : (k s : KernelState) → s.objects ≡ k.objects → s.contexts ≡ k.contexts → s.memory ≡ k.memory → s.messages ≡ k.messages → LeavesWhole k s
-leaves_others k s objects contexts memory messages = record {
-  keeps = record {
-    objects = objects;
-    places = ap length contexts;
-    registers = λ g. ap (λ (cs : Contexts). length (ec_of cs g).regs.x) contexts;
-  };
-  memory = memory;
-  messages = λ all. subst AreSized (sym messages) all;
-}
+-- only an instruction sets them
+pub edits_fit : (k : KernelState) (ec : ℕ) (d : Deed) → IsGood (length (context k ec).regs.x) (instruction k ec) → AreFit k.contexts (edits_by k ec d)
+edits_fit k ec Steps good = steps_fit k ec (instruction k ec) good
+edits_fit k ec Rests good = tt
+edits_fit k ec (Gives child cursor) good = tt
+edits_fit k ec (Skips reason place cursor) good = tt
+edits_fit k ec (Removes leaf) good = tt
+edits_fit k ec (Recalls whose) good = (tt, recalls_fit _ whose _)
+edits_fit k ec (Sends handler ip identifier mtd reason q0 q1) good = (tt, (tt, tt))
+edits_fit k ec (Calls handler ip identifier items) good = (tt, (tt, tt))
+edits_fit k ec (Finishes item end words after) good = follows_fit k.contexts ec _ after
+edits_fit k ec (Replies caller came true) good = (tt, tt)
+edits_fit k ec (Replies caller came false) good = (tt, (tt, tt))
+edits_fit k ec (Aborts handler mark.Call) good = (tt, tt)
+edits_fit k ec (Ups sm whom) good = (tt, wakes_fit _ whom)
+edits_fit k ec other good = (tt, tt)

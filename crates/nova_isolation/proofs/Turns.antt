@@ -1,6 +1,6 @@
 -- One turn, one input.
 use Rattle.std.proofs.Common.{◌≡◌, ℕ, ◌%◌, ◌≢◌, List, ap, sym, ◌∙◌, subst, refl, inl, inr}
-use Rattle.std.specs.Prelude.{Bool, true, false, ◌==◌, Option, Some, None, option_and_then, if◌then◌else◌}
+use Rattle.std.specs.Prelude.{Bool, true, false, ◌==◌, Option, Some, None, option_and_then, option_map, if◌then◌else◌}
 use Rattle.std.proofs.lemmas.Bool.{cases_eq, ne_eqb}
 use Rattle.rv_model.specs.Step.{Store}
 use Rattle.nova_guest.specs.Alone.{applied}
@@ -14,13 +14,18 @@ use Rattle.nova_model.specs.Guests.{input as turn_input, input_by}
 use Rattle.nova_model.specs.Inputs.{foreign_at, foreign_by, frame_of_store, given_of, input_of, is_covered_for, only_if, others_input, reply_of, store_of, stirred}
 use Rattle.nova_model.specs.Memory.{Memory}
 use Rattle.nova_model.specs.State.{KernelState, message, pd_of}
-use Rattle.nova_model.specs.Turn.{charged, state_after, turn, turn_by}
+use Rattle.nova_model.specs.Runs.{after}
+use Rattle.nova_model.specs.Turn.{Step, charged, event_of, turn}
 use Rattle.nova_model.specs.Views.{is_memory_of, view}
 use Rattle.nova_model.specs.declared.context.Mark.TheVariants as mark
 use Rattle.nova_model.specs.declared.deed.Deed.{Deed}
 use Rattle.nova_model.specs.declared.deed.Deed.TheVariants.{Steps, Recalls, Gives, Removes, Finishes, Replies}
 use Rattle.nova_model.specs.declared.delegation.Derivation.{Derivation}
+use Rattle.nova_guest.specs.declared.input.Out.{Out}
+use Rattle.nova_model.specs.declared.event.Event.{Event}
 use Rattle.nova_model.specs.declared.event.EventKind.{EventKind}
+use Rattle.nova_forest.specs.Turns.{Acts, IsTurning, Turning, acting, turned}
+use Rattle.nova_forest.proofs.Turning.{acting_is, outcome}
 use Rattle.nova_model.specs.declared.transfer.Sequel.TheVariants as sequel
 use Rattle.nova_isolation.specs.Law.{answered, IsOneInput, IsOneTurn, PutsOut, PutsOutIn}
 use Rattle.nova_isolation.proofs.Premises.{HasPremises, IsGuest}
@@ -111,18 +116,40 @@ puts_out : (t : Bool) (k s new : KernelState) (sign : EventKind × ℕ × ℕ) (
 puts_out true k s new sign o same out = record { event = out.event; log = ap (λ (m : Memory). m.log) same ∙ out.log }
 puts_out false k s new sign o same out = out
 
-turn_law : (k : KernelState) (cpu g : ℕ) → HasPremises k → IsGuest k g → (c : Option Candidate) →
-    (view (state_after k (turn_by k cpu c)) g ≡ (answered (view k g) (input_by k g c)).guest)
-    × PutsOutIn k (state_after k (turn_by k cpu c)) g (turn_by k cpu c) (answered (view k g) (input_by k g c)).out
-turn_law k cpu g sound is None = (refl, refl)
-turn_law k cpu g sound is (Some c) =
+-- by its event
+abbrev PutsOutAs : KernelState → KernelState → ℕ → Option Event → Option Out → Type 0
+PutsOutAs k new g None o = o ≡ None
+PutsOutAs k new g (Some e) o = PutsOut (e.ec == g) k new (e.kind, e.a, e.b) o
+
+puts_as : (k new : KernelState) (g : ℕ) (s : Option Step) (o : Option Out) → PutsOutAs k new g (option_map (λ (t : Step). t.event) s) o → PutsOutIn k new g s o
+puts_as k new g None o puts = puts
+puts_as k new g (Some s) o puts = puts
+
+-- what is law of the state and the event of a turn, for an input
+abbrev TurnLaw : KernelState → ℕ → Option Input → KernelState → Option Event → Type 0
+TurnLaw k g i s e = (view s g ≡ (answered (view k g) i).guest) × PutsOutAs k s g e (answered (view k g) i).out
+
+chosen_law : (k : KernelState) (cpu g : ℕ) → HasPremises k → IsGuest k g → (c : Candidate) →
+    TurnLaw k g (input_of k c.actor g (deed k c.actor)) (turned k cpu (acting k c)) (Some (event_of cpu c (deed k c.actor)))
+chosen_law k cpu g sound is c =
     let d : Deed = deed k c.actor in
     let s : KernelState = done k c.actor d in
-    let law : IsOneInput k s c.actor g d = one_input k c.actor g sound is in (
+    let law : IsOneInput k s c.actor g d = one_input k c.actor g sound is in
+    subst (λ (t : KernelState). TurnLaw k g (input_of k c.actor g d) t (Some (event_of cpu c d))) (acting_is k cpu c) (
       view_charged (stirred k c.actor d s) g cpu c.sc ∙ (view_stirred k c.actor d s g ∙ law.guest),
       puts_out (c.actor == g) k s (charged (stirred k c.actor d s) cpu c.sc) (sign_of d) (answered (view k g) (input_of k c.actor g d)).out (log_charged (stirred k c.actor d s) cpu c.sc) law.output,
     )
 
+turned_law : (k : KernelState) (cpu g : ℕ) → HasPremises k → IsGuest k g → (t : Turning) (e : Event) → IsTurning k cpu t e →
+    TurnLaw k g (input_by k g (choice k cpu)) (turned k cpu t) (Some e)
+turned_law k cpu g sound is t e (Acts c chosen acts event) =
+    subst (λ (o : Option Candidate). TurnLaw k g (input_by k g o) (turned k cpu t) (Some e)) (sym chosen)
+    (subst (λ (u : Turning). TurnLaw k g (input_by k g (Some c)) (turned k cpu u) (Some e)) (sym acts)
+    (subst (λ (x : Event). TurnLaw k g (input_by k g (Some c)) (turned k cpu (acting k c)) (Some x)) (sym event) (chosen_law k cpu g sound is c)))
+
 pub one_turn : (k : KernelState) (cpu g : ℕ) → HasPremises k → IsGuest k g → IsOneTurn k cpu g
-unfolding turn turn_input
-one_turn k cpu g sound is = let law = turn_law k cpu g sound is (choice k cpu) in record { guest = law.0; output = law.1 }
+unfolding turn_input
+one_turn k cpu g sound is =
+    let law = outcome (TurnLaw k g (input_by k g (choice k cpu))) k cpu
+    (λ none. subst (λ (o : Option Candidate). TurnLaw k g (input_by k g o) k None) (sym none) (refl, refl)) (turned_law k cpu g sound is) in
+    record { guest = law.0; output = puts_as k (after k cpu) g (turn k cpu) _ law.1 }

@@ -12,12 +12,6 @@ use Rattle.nova_laws.proofs.Setting.{entry_itself, entry_other}
 
 -- ENTRIES
 
-pub state_other : (cs : Contexts) (e f : ℕ) (x : EcState) → f ≢ e → state_in (with_ec cs e x) f ≡ state_in cs f
-state_other cs e f x other = ap (λ (o : Option EcState). option_map (λ y. y.state) o) (entry_other cs e f x other)
-
-pub state_itself : (cs : Contexts) (e : ℕ) (x : EcState) → IsSome (ec_in cs e) → state_in (with_ec cs e x) e ≡ Some x.state
-state_itself cs e x there = ap (λ (o : Option EcState). option_map (λ y. y.state) o) (entry_itself cs e x there)
-
 pub caller_there : (o : Option EcState) (c : ℕ) (mark : Mark) → (context_in o).caller ≡ Some (c, mark) → option_and_then (λ y. y.caller) o ≡ Some (c, mark)
 caller_there None c mark h = absurd (cc)
 caller_there (Some x) c mark h = h
@@ -63,12 +57,6 @@ Serves cs = (e c : ℕ) (mark : Mark) → is_dead (state_in cs e) ≡ false → 
 
 pub serves_of : (is_local : ℕ → Bool) (cs : Contexts) → AreServed is_local cs → Serves cs
 serves_of is_local cs served e c mark alive has = (served.linked c e).waits mark has alive
-
--- nobody whom another serves acts
-pub not_served : (cs : Contexts) (a e c : ℕ) (mark : Mark) → acts cs a ≡ true → Serves cs → is_dead (state_in cs e) ≡ false → caller_in cs e ≡ Some (c, mark) → c ≢ a
-not_served cs a e c mark able serves alive has same =
-    let waits : state_in cs a ≡ Some (Calling e) = subst (λ (n : ℕ). state_in cs n ≡ Some (Calling e)) same (serves e c mark alive has) in
-    let dead = waits_dead cs a e able waits in absurd (cc)
 
 -- whom one that acts serves
 pub served_waits : (k : KernelState) (ec caller : ℕ) (mark : Mark) → acts k.contexts ec ≡ true → Serves k.contexts → (context k ec).caller ≡ Some (caller, mark) →

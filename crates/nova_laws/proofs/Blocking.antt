@@ -1,4 +1,4 @@
--- Who is blocked waits at its semaphore, whatever is done: one row a deed.
+-- Who is blocked waits at its semaphore, whatever is done: an answer for each course of a deed.
 use Rattle.std.proofs.Common.{◌≡◌, ℕ, arith, [], ◌∷◌, ◌++◌, List, length, refl, ap, ◌∙◌, sym, subst, inl, inr}
 use Rattle.std.specs.Prelude.{◌≢◌, ◌==◌, ◌||◌, eqb, Bool, true, false, if◌then◌else◌, slice_get, Option, Some, None, IsSome, is_some, option_map, Result, Ok, Err}
 use Rattle.nova_objects.specs.declared.object.EcKind.TheVariants.{Local, Global, Vcpu}
@@ -260,14 +260,9 @@ abbrev Settled : KernelState → Type 0
 Settled k = AreBlocked k.contexts k.semaphores
 
 -- a state to which one comes by itself is none in which one waits
-free_state : (k : KernelState) (ec : ℕ) (s : State) → MayCome k ec s → is_blocked (Some s) ≡ false
-free_state k ec (Blocked sm) may = absurd may
-free_state k ec other may = refl
-
-pub told_same : (P : Contexts → Semaphores → Type 0) (k : KernelState) (item : ℕ) (words : Option ItemWords) → P k.contexts k.semaphores →
-    P (told k item words).contexts (told k item words).semaphores
-told_same P k item None h = h
-told_same P k item (Some w) h = h
+free_state : (k : KernelState) (ec : ℕ) (d : Deed) (s : State) → MayCome k ec d s → is_blocked (Some s) ≡ false
+free_state k ec d (Blocked sm) may = absurd may
+free_state k ec d other may = refl
 
 semaphore_there : (k : KernelState) (sm : ℕ) → HasTables k → IsOf k.objects is_sm sm → IsSome (semaphore_at k.semaphores sm)
 semaphore_there k sm h is = by_entry (slice_get k.semaphores sm) (kinds_at is_sm k.semaphores k.objects sm h.semaphores ∙ is)
@@ -277,17 +272,18 @@ semaphore_there k sm h is = by_entry (slice_get k.semaphores sm) (kinds_at is_sm
     by_entry (Some None) at = absurd (cc)
     by_entry (Some (Some x)) at = refl
 
-blocked_courses : (k : KernelState) (ec : ℕ) → IsActor k.contexts ec → HasTables k → AreServed (is_local_thread k) k.contexts → Settled k → Courses k ec AreBlocked
-blocked_courses k ec actor tables served h = record {
-  rests = h;
+blocked_courses : (k : KernelState) (ec : ℕ) (d : Deed) → IsActor k.contexts ec → HasTables k → AreServed (is_local_thread k) k.contexts → Settled k → Courses k ec d AreBlocked
+blocked_courses k ec d actor tables served h = record {
+  rests = λ to. h;
+  steps = λ regs is. stays k.contexts k.semaphores ec (record (context k ec) { regs = regs }) there refl h;
   stays = λ cs all w x y is self same now. stays cs all w y (ap is_some is) (same ∙ ap (λ (z : EcState). z.state) (sym (ap context_in is))) now;
-  goes = λ y self may. goes_on k.contexts k.semaphores ec y there actor.unblocked (free_state k ec y.state may) h;
-  sends = λ handler its ip identifier items of_call reached. sends k.contexts k.semaphores ec handler _ actor reached (begins_free items) h;
-  replies = λ caller its m keeps. replies (is_local_thread k) k.contexts k.semaphores ec caller its m actor keeps served h;
-  ups = λ sm is. wakes_nobody _ k.semaphores sm is answers;
-  wakes = λ sm w is. wakes _ k.semaphores sm w is answers;
-  downs = λ sm is. downs k.contexts k.semaphores sm ec _ there actor.unblocked refl is h;
-  blocks = λ sm is answer. blocks k.contexts k.semaphores sm ec _ there actor.unblocked refl (semaphore_there k sm tables is) answer h;
+  goes = λ y self to may. goes_on k.contexts k.semaphores ec y there actor.unblocked (free_state k ec d y.state may) h;
+  sends = λ handler its ip identifier items to of reached. sends k.contexts k.semaphores ec handler _ actor reached (begins_free items) h;
+  replies = λ caller its m to keeps. replies (is_local_thread k) k.contexts k.semaphores ec caller its m actor keeps served h;
+  ups = λ sm to is. wakes_nobody _ k.semaphores sm is answers;
+  wakes = λ sm w to is. wakes _ k.semaphores sm w is answers;
+  downs = λ sm to is. downs k.contexts k.semaphores sm ec _ there actor.unblocked refl is h;
+  blocks = λ sm to is answer. blocks k.contexts k.semaphores sm ec _ there actor.unblocked refl (semaphore_there k sm tables is) answer h;
 }
   where
     there : is_some (context_at k ec) ≡ true
@@ -304,4 +300,4 @@ joined_blocked n cs all (Some made) h = joins cs (context_of n made) all (count_
 pub applied_blocked : (k : KernelState) (ec : ℕ) (d : Deed) → IsActor k.contexts ec → Asks k ec d → HasTables k → AreServed (is_local_thread k) k.contexts → Settled k →
     Settled (applied k (effect k ec d))
 applied_blocked k ec d actor asks tables served h =
-    joined_blocked (length k.objects) _ _ (made_by d) (deed_course k ec AreBlocked d actor asks (blocked_courses k ec actor tables served h))
+    joined_blocked (length k.objects) _ _ (made_by d) (deed_course k ec AreBlocked d actor asks (blocked_courses k ec d actor tables served h))

@@ -63,18 +63,3 @@ paid_leaves k cpu sc quantum (Some b) = record {
 pub charge_leaves : (k : KernelState) (cpu sc : ℕ) → IsCharged k (charged k cpu sc) cpu sc
 unfolding charged
 charge_leaves k cpu sc = paid_leaves k cpu sc (quantum_in (slice_get k.objects sc)) (budget_at k sc)
-
--- the end of an item changes execution contexts and message words alone
-abbrev pub ended : KernelState → ℕ → ℕ → Option ItemWords → Sequel → KernelState
-ended k ec item words follows = followed (told k item words) ec follows
-
-pub ended_is : (k : KernelState) (ec item : ℕ) (words : Option ItemWords) (follows : Sequel) →
-    ended k ec item words follows ≡ record k { contexts = (ended k ec item words follows).contexts; messages = (ended k ec item words follows).messages }
-ended_is k ec item None sequel.Item = refl
-ended_is k ec item None sequel.Opened = refl
-ended_is k ec item None sequel.Taken = refl
-ended_is k ec item None (sequel.Replied caller mark) = refl
-ended_is k ec item (Some w) sequel.Item = refl
-ended_is k ec item (Some w) sequel.Opened = refl
-ended_is k ec item (Some w) sequel.Taken = refl
-ended_is k ec item (Some w) (sequel.Replied caller mark) = refl

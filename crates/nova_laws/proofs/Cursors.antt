@@ -1,31 +1,30 @@
 -- After each part the cursor is where the part moves it.
 use Rattle.std.proofs.Common.{◌≡◌, ℕ, ◌+◌, List, ap, ◌∙◌, sym, subst, refl, arith}
-use Rattle.std.specs.Prelude.{◌<◌, true, false, is_some, slice_get, slice_set, option_map, Option, Some, None, IfSome, IsSome}
+use Rattle.std.specs.Prelude.{◌<◌, true, is_some, slice_get, slice_set, option_map, Option, Some, None, IfSome, IsSome}
 use Rattle.nova_model.specs.Boot.{Scenario, boot}
 use Rattle.nova_model.specs.Choice.{choice}
 use Rattle.nova_model.specs.Deeds.{deed, done, gave, sign_of, skipped}
 use Rattle.nova_model.specs.Runs.{after, run}
 use Rattle.nova_model.specs.State.{KernelState, ec_in, entry, transfer, transfer_at, transfer_in}
-use Rattle.nova_model.specs.Turn.{answer_of, event_of, turn, turn_by}
+use Rattle.nova_model.specs.Turn.{answer_of, turn}
 use Rattle.nova_model.specs.Choice.{Candidate}
 use Rattle.nova_model.specs.declared.deed.Deed.{Deed}
-use Rattle.nova_model.specs.declared.deed.Deed.TheVariants.{Rests, Steps, Raises, Dies, Waits, Sends, Refuses, Makes, Recalls, Tells, Names, Opens, Gives, Skips, Finishes, Calls, Helps, Replies, Aborts, Revokes, Removes, Returns, Ups, Downs, Blocks}
+use Rattle.nova_model.specs.declared.deed.Deed.TheVariants.{Gives, Skips, Finishes, Replies}
 use Rattle.nova_model.specs.declared.delegation.Derivation.{Derivation}
 use Rattle.nova_model.specs.declared.event.Event.{Event}
 use Rattle.nova_model.specs.declared.event.EventKind.TheVariants.{Made, Skip}
 use Rattle.nova_model.specs.declared.event.Turn.TheVariants.{Stepped}
-use Rattle.nova_model.specs.declared.transfer.ItemEnd.TheVariants.{Given, Skipped, Translated}
+use Rattle.nova_model.specs.declared.transfer.ItemEnd.TheVariants.{Given, Skipped}
 use Rattle.nova_model.specs.declared.transfer.Reason.{Reason}
 use Rattle.nova_model.specs.declared.transfer.Skip.TheVariants as skip
 use Rattle.nova_model.specs.declared.transfer.Transfer.{Transfer}
-use Rattle.nova_forest.proofs.Stirred.{acted}
+use Rattle.nova_forest.specs.Turns.{acting, turned}
+use Rattle.nova_forest.proofs.Doing.{done_is}
 use Rattle.nova_forest.proofs.Turning.{of_event}
 use Rattle.nova_laws.specs.Giving.{HasMoved, MovesCursor}
-use Rattle.nova_laws.proofs.Charges.{charge_leaves}
 use Rattle.nova_laws.proofs.Chosen.{Acts, choice_acts}
 use Rattle.nova_laws.proofs.Fitting.{boot_run_fits, entry_acts, gives_there}
 use Rattle.nova_laws.proofs.Moving.{gives_move, skips_move}
-use Rattle.nova_laws.proofs.Refused.{turn_chosen}
 use Rattle.nova_laws.proofs.Setting.{entry_itself, entry_other}
 
 -- DOING
@@ -93,48 +92,48 @@ has_entry s turns cpu c chosen =
     by_entry (Some None) h = absurd cc
     by_entry None h = absurd cc
 
--- the charge leaves transfers
-moved_after : (k : KernelState) (cpu : ℕ) (c : Candidate) (place more : ℕ) → choice k cpu ≡ Some c → HasMoved k (done k c.actor (deed k c.actor)) c.actor place more →
-    HasMoved k (after k cpu) c.actor place more
-moved_after k cpu c place more chosen h =
-    let s = acted k c.actor in
-    let stays = (charge_leaves s cpu c.sc).transfers in
-    let own = ap (λ (ts : List (Option Transfer)). transfer_in (entry (slice_get ts c.actor))) stays in
-    subst (λ (new : KernelState). HasMoved k new c.actor place more) (sym (turn_chosen k cpu c chosen)) (record {
+-- and no other than its deed moves one
+moved_after : (k : KernelState) (cpu : ℕ) (c : Candidate) (place more : ℕ) → after k cpu ≡ turned k cpu (acting k c) →
+    HasMoved k (done k c.actor (deed k c.actor)) c.actor place more → HasMoved k (after k cpu) c.actor place more
+moved_after k cpu c place more state h =
+    let stays = ap (λ (s : KernelState). s.transfers) state ∙ sym (ap (λ (s : KernelState). s.transfers) (done_is k c.actor (deed k c.actor))) in
+    let own = ap (λ (ts : List (Option Transfer)). transfer_in (entry (slice_get ts c.actor))) stays in record {
       cursor = ap (λ (t : Transfer). t.cursor) own ∙ h.cursor;
       children = ap (λ (t : Transfer). t.children) own ∙ h.children;
       item = ap (λ (t : Transfer). t.item) own ∙ h.item;
       others = λ other differs. ap (λ (ts : List (Option Transfer)). entry (slice_get ts other)) stays ∙ h.others other differs;
-    })
+    }
 
-chosen_made : (s : Scenario) (turns : List ℕ) (cpu : ℕ) (c : Candidate) → choice (run (boot s) turns) cpu ≡ Some c → (sign_of (deed (run (boot s) turns) c.actor)).0 ≡ Made →
+chosen_made : (s : Scenario) (turns : List ℕ) (cpu : ℕ) (c : Candidate) → choice (run (boot s) turns) cpu ≡ Some c →
+    after (run (boot s) turns) cpu ≡ turned (run (boot s) turns) cpu (acting (run (boot s) turns) c) → (sign_of (deed (run (boot s) turns) c.actor)).0 ≡ Made →
     MovesCursor (run (boot s) turns) (after (run (boot s) turns) cpu) c.actor 1
-chosen_made s turns cpu c chosen tells =
+chosen_made s turns cpu c chosen state tells =
     let k = run (boot s) turns in
     let d = made (deed k c.actor) tells in record {
       place = d.cursor;
       on = gives_move k c.actor d.cursor d.child d.is;
-      moved = moved_after k cpu c d.cursor 1 chosen (gives_set k c.actor d.cursor d.child d.is (has_entry s turns cpu c chosen));
+      moved = moved_after k cpu c d.cursor 1 state (gives_set k c.actor d.cursor d.child d.is (has_entry s turns cpu c chosen));
     }
 
-chosen_skips : (s : Scenario) (turns : List ℕ) (cpu : ℕ) (c : Candidate) → choice (run (boot s) turns) cpu ≡ Some c → (sign_of (deed (run (boot s) turns) c.actor)).0 ≡ Skip →
+chosen_skips : (s : Scenario) (turns : List ℕ) (cpu : ℕ) (c : Candidate) → choice (run (boot s) turns) cpu ≡ Some c →
+    after (run (boot s) turns) cpu ≡ turned (run (boot s) turns) cpu (acting (run (boot s) turns) c) → (sign_of (deed (run (boot s) turns) c.actor)).0 ≡ Skip →
     2 < (sign_of (deed (run (boot s) turns) c.actor)).1 → MovesCursor (run (boot s) turns) (after (run (boot s) turns) cpu) c.actor 0
-chosen_skips s turns cpu c chosen tells part =
+chosen_skips s turns cpu c chosen state tells part =
     let k = run (boot s) turns in
     let d = skips (deed k c.actor) tells part in record {
       place = d.cursor;
       on = skips_move k c.actor d.place d.cursor d.reason d.is;
-      moved = moved_after k cpu c d.cursor 0 chosen (skips_set k c.actor d.place d.cursor d.reason d.is (has_entry s turns cpu c chosen));
+      moved = moved_after k cpu c d.cursor 0 state (skips_set k c.actor d.place d.cursor d.reason d.is (has_entry s turns cpu c chosen));
     }
 
 pub made_moves : (s : Scenario) (turns : List ℕ) (cpu : ℕ) (e : Event) → answer_of (turn (run (boot s) turns) cpu) ≡ Stepped e → e.kind ≡ Made →
     MovesCursor (run (boot s) turns) (after (run (boot s) turns) cpu) e.ec 1
 made_moves s turns cpu e steps tells =
     let k = run (boot s) turns in
-    of_event (λ (f : Event). f.kind ≡ Made → MovesCursor k (after k cpu) f.ec 1) k cpu e steps (λ c chosen state kind. chosen_made s turns cpu c chosen kind) tells
+    of_event (λ (f : Event). f.kind ≡ Made → MovesCursor k (after k cpu) f.ec 1) k cpu e steps (λ c chosen state kind. chosen_made s turns cpu c chosen state kind) tells
 
 pub skipped_moves : (s : Scenario) (turns : List ℕ) (cpu : ℕ) (e : Event) → answer_of (turn (run (boot s) turns) cpu) ≡ Stepped e → e.kind ≡ Skip → 2 < e.a →
     MovesCursor (run (boot s) turns) (after (run (boot s) turns) cpu) e.ec 0
 skipped_moves s turns cpu e steps tells part =
     let k = run (boot s) turns in
-    of_event (λ (f : Event). f.kind ≡ Skip → 2 < f.a → MovesCursor k (after k cpu) f.ec 0) k cpu e steps (λ c chosen state kind a. chosen_skips s turns cpu c chosen kind a) tells part
+    of_event (λ (f : Event). f.kind ≡ Skip → 2 < f.a → MovesCursor k (after k cpu) f.ec 0) k cpu e steps (λ c chosen state kind a. chosen_skips s turns cpu c chosen state kind a) tells part

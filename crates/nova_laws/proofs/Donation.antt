@@ -1,4 +1,4 @@
--- Edges stay sound along all turns: one row a deed, and the fold over turns.
+-- Edges stay sound along all turns: an answer for each course of a deed, and the fold over turns.
 use Rattle.std.proofs.Common.{◌≡◌, ℕ, List, [], ◌∷◌, length, refl, ap, sym, subst, ◌∙◌}
 use Rattle.std.specs.Prelude.{◌↔◌, ◌≢◌, Bool, true, false, if◌then◌else◌, option_and_then, Option, Some, None, IfSome, IsSome, is_some, option_map}
 use Rattle.nova_objects.specs.declared.object.EcKind.TheVariants.{Local, Global, Vcpu}
@@ -90,28 +90,29 @@ sent_edges k ec handler its ip identifier items actor reached sound =
     begins_free true = refl
     begins_free false = refl
 
-edges_courses : (k : KernelState) (ec : ℕ) → IsActor k.contexts ec → Fits k → AreEdges k.contexts → Courses k ec (λ cs all. AreEdges cs)
-edges_courses k ec actor fits sound = record {
-  rests = sound;
+edges_courses : (k : KernelState) (ec : ℕ) (d : Deed) → IsActor k.contexts ec → Fits k → AreEdges k.contexts → Courses k ec d (λ cs all. AreEdges cs)
+edges_courses k ec d actor fits sound = record {
+  rests = λ to. sound;
+  steps = λ regs is. keeps_on k.contexts ec (record (context k ec) { regs = regs }) (ap is_some actor.there) refl refl sound;
   stays = λ cs all w x y is self same h.
       let at : ec_of cs w ≡ x = ap context_in is in
       keeps_on cs w y (ap is_some is) (self.cpu ∙ ap (λ (z : EcState). z.cpu) (sym at)) (same ∙ ap (λ (z : EcState). z.state) (sym at)) h;
-  goes = λ y self may. edges_set k.contexts ec (context k ec) y (edge_of y.state) sound actor.there self.cpu refl (may_wait y.state may);
-  sends = λ handler its ip identifier items of_call reached. sent_edges k ec handler its ip identifier items actor reached sound;
-  replies = λ caller its m keeps. replied_edges k ec caller its m actor keeps fits sound;
-  ups = λ sm is. answers;
-  wakes = λ sm w is.
+  goes = λ y self to may. edges_set k.contexts ec (context k ec) y (edge_of y.state) sound actor.there self.cpu refl (may_wait y.state may);
+  sends = λ handler its ip identifier items to of reached. sent_edges k ec handler its ip identifier items actor reached sound;
+  replies = λ caller its m to keeps. replied_edges k ec caller its m actor keeps fits sound;
+  ups = λ sm to is. answers;
+  wakes = λ sm w to is.
       let one = with_ec k.contexts ec (answered (context k ec) Success None) in
       let there = blocked_there k.contexts w sm (woken_blocked k sm w is fits.blocked) in
       free_on one w (answered (ec_of one w) Success None) (set_there k.contexts ec _ w (ap is_some there)) refl refl answers;
-  downs = λ sm is. answers;
-  blocks = λ sm is answer. free_on k.contexts ec _ (ap is_some actor.there) refl refl sound;
+  downs = λ sm to is. answers;
+  blocks = λ sm to is answer. free_on k.contexts ec _ (ap is_some actor.there) refl refl sound;
 }
   where
     answers : AreEdges (with_ec k.contexts ec (answered (context k ec) Success None))
     answers = free_on k.contexts ec _ (ap is_some actor.there) refl refl sound
 
-    may_wait : (s : State) → MayCome k ec s → MayWait k.contexts ec (edge_of s)
+    may_wait : (s : State) → MayCome k ec d s → MayWait k.contexts ec (edge_of s)
     may_wait (Calling h) may = absurd may
     may_wait (Helping h) may = may
     may_wait (Sending reason q0 q1 h) may = may
@@ -123,7 +124,7 @@ joined_edges n cs (Some made) sound = edges_more cs (context_of n made) sound (n
 
 applied_edges : (k : KernelState) (ec : ℕ) (d : Deed) → IsActor k.contexts ec → Asks k ec d → Fits k → AreEdges k.contexts → AreEdges (applied k (effect k ec d)).contexts
 applied_edges k ec d actor asks fits sound =
-    joined_edges (length k.objects) _ (made_by d) (deed_course k ec (λ cs all. AreEdges cs) d actor asks (edges_courses k ec actor fits sound))
+    joined_edges (length k.objects) _ (made_by d) (deed_course k ec (λ cs all. AreEdges cs) d actor asks (edges_courses k ec d actor fits sound))
 
 -- A TURN
 

@@ -1,18 +1,18 @@
 -- The event at the end of an item tells what its execution context counted.
 use Rattle.std.proofs.Common.{◌≡◌, ℕ, List, ap, ◌∙◌, subst, refl}
-use Rattle.std.specs.Prelude.{true, false, Option, Some, None}
+use Rattle.std.specs.Prelude.{true, false, Option, Some}
 use Rattle.nova_model.specs.Boot.{Scenario, boot}
-use Rattle.nova_model.specs.Choice.{Candidate, choice}
+use Rattle.nova_model.specs.Choice.{Candidate}
 use Rattle.nova_model.specs.Deeds.{deed, sign_of}
 use Rattle.nova_model.specs.Deliveries.{delivery}
 use Rattle.nova_model.specs.Hypercalls.{row}
 use Rattle.nova_model.specs.Runs.{run, trace}
 use Rattle.nova_model.specs.State.{KernelState, context, pd_of, transfer}
-use Rattle.nova_model.specs.Turn.{event_of, answer_of, turn, turn_by}
+use Rattle.nova_model.specs.Turn.{event_of, answer_of, turn}
 use Rattle.nova_model.specs.declared.context.State.{State}
 use Rattle.nova_model.specs.declared.context.State.TheVariants.{Granting, Replying}
 use Rattle.nova_model.specs.declared.deed.Deed.{Deed}
-use Rattle.nova_model.specs.declared.deed.Deed.TheVariants.{Rests, Steps, Raises, Dies, Waits, Sends, Refuses, Makes, Recalls, Tells, Names, Opens, Gives, Skips, Finishes, Calls, Helps, Replies, Aborts, Revokes, Removes, Returns, Ups, Downs, Blocks}
+use Rattle.nova_model.specs.declared.deed.Deed.TheVariants.{Finishes, Replies}
 use Rattle.nova_model.specs.declared.event.Event.{Event}
 use Rattle.nova_model.specs.declared.event.EventKind.TheVariants.{Ended}
 use Rattle.nova_model.specs.declared.event.Turn.TheVariants.{Stepped}

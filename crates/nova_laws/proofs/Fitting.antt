@@ -1,4 +1,4 @@
--- Tables fit the objects, and callers stay with those who serve them: one row a deed, the charge, and the fold over turns.
+-- Tables fit the objects, and callers stay with those who serve them: what is kept of both in a deed and along turns.
 use Rattle.std.proofs.Common.{◌≡◌, ℕ, List, [], ◌∷◌, ◌++◌, length, refl, ap, ◌∙◌, sym, subst, inl, inr}
 use Rattle.std.specs.Prelude.{◌≢◌, Bool, true, false, slice_get, Option, Some, None, IfSome, IsSome, Ok, is_some, option_map}
 use Rattle.rv_model.specs.Step.{Once, Raised, Went}
@@ -42,7 +42,7 @@ use Rattle.nova_laws.specs.Links.{AreServed, IsLinked, is_giving, state_at}
 use Rattle.nova_laws.specs.Tables.{HasTables}
 use Rattle.nova_laws.specs.Virtual.{AreGuests}
 use Rattle.nova_laws.specs.Waiting.{AreBlocked}
-use Rattle.nova_laws.proofs.Courses.{Courses, IsSelf, MayCome, deed_course, edited_length}
+use Rattle.nova_laws.proofs.Courses.{Courses, IsSelf, MayCome, deed_course, edited_length, has_caller, of_call}
 use Rattle.nova_laws.proofs.Blocking.{applied_blocked, bare_blocked, woken_blocked}
 use Rattle.nova_laws.proofs.Chosen.{choice_acts}
 use Rattle.nova_laws.proofs.Links.{IsNewborn, is_taking, served_more}
@@ -50,7 +50,7 @@ use Rattle.nova_laws.proofs.Referring.{Asks, Follows, IsCallerOf, TellsIn, deed_
 use Rattle.nova_laws.proofs.Serving.{IsActor, acts_on, actor_of, awaited, blocked_there, exit_reaches, is_blocked, replies_on, reached_there, send_reaches, sends_on, stays_on, wakes_on}
 use Rattle.nova_laws.proofs.Setting.{entry_other, get_last, joined_other}
 use Rattle.nova_laws.proofs.Tabling.{AreThere, IsPlaced, applied_tables, contexts_length, owner_thread, set_there, settled_tables, transfer_there, with_memory}
-use Rattle.nova_laws.proofs.Virtual.{among_of, caller_thread, done_guests, guests_of, is_guest_deed, reached_thread, root_among, thread_does}
+use Rattle.nova_laws.proofs.Virtual.{among_of, applied_guests, caller_thread, guests_of, is_guest_deed, reached_thread, root_among, thread_does}
 
 abbrev Served : KernelState → Type 0
 Served k = AreServed (is_local_thread k) k.contexts
@@ -222,42 +222,44 @@ record IsPlain (k : KernelState) (ec : ℕ) (s : State) : Type 0 where
   gives : is_giving (Some s) ≡ true → IsSome (context k ec).caller
   takes : is_taking (Some s) ≡ false
 
-plain : (k : KernelState) (ec : ℕ) (s : State) → MayCome k ec s → IsPlain k ec s
-plain k ec (Calling h) may = absurd may
-plain k ec Parked may = absurd may
-plain k ec (Granting None) may = absurd may
-plain k ec Replying may = record { calls = λ h is. cc; works = refl; gives = λ is. may; takes = refl }
-plain k ec other may = record { calls = λ h is. cc; works = refl; gives = λ is. absurd cc; takes = refl }
+plain : (k : KernelState) (ec : ℕ) (d : Deed) (s : State) → MayCome k ec d s → IsPlain k ec s
+plain k ec d (Calling h) may = absurd may
+plain k ec d Parked may = absurd may
+plain k ec d (Granting None) may = absurd may
+plain k ec d Replying may = record { calls = λ h is. cc; works = refl; gives = λ is. has_caller k ec may.caller may.its may.keeps; takes = refl }
+plain k ec d other may = record { calls = λ h is. cc; works = refl; gives = λ is. absurd cc; takes = refl }
 
 -- who is woken is another than the one who acts
-woken_apart : (k : KernelState) (ec sm w : ℕ) → IsActor k.contexts ec → state_in k.contexts w ≡ Some (Blocked sm) → w ≢ ec
+pub woken_apart : (k : KernelState) (ec sm w : ℕ) → IsActor k.contexts ec → state_in k.contexts w ≡ Some (Blocked sm) → w ≢ ec
 woken_apart k ec sm w actor waits same =
     let at = ap (λ (n : ℕ). is_blocked (state_in k.contexts n)) (sym same) ∙ ap is_blocked waits in
     let none = actor.unblocked in absurd cc
 
-served_courses : (k : KernelState) (ec : ℕ) → IsActor k.contexts ec → AreBlocked k.contexts k.semaphores → Served k → Courses k ec (λ cs all. AreServed (is_local_thread k) cs)
-served_courses k ec actor blocked served = record {
-  rests = served;
+served_courses : (k : KernelState) (ec : ℕ) (d : Deed) → IsActor k.contexts ec → AreBlocked k.contexts k.semaphores → Served k → Courses k ec d (λ cs all. AreServed (is_local_thread k) cs)
+served_courses k ec d actor blocked served = record {
+  rests = λ to. served;
+  steps = λ regs is. stays_on (is_local_thread k) k.contexts ec (record (context k ec) { regs = regs }) (ap is_some actor.there) refl refl refl served;
   stays = λ cs all w x y is self same h. remains_on cs w x y is self same h;
-  goes = λ y self may. goes_on y self may;
-  sends = λ handler its ip identifier items of_call reached. sends_on (is_local_thread k) k.contexts ec handler its ip identifier items of_call actor reached served;
-  replies = λ caller its m keeps. replies_on (is_local_thread k) k.contexts ec caller its m actor keeps served;
-  ups = λ sm is. answers;
-  wakes = λ sm w is.
+  goes = λ y self to may. goes_on y self may;
+  sends = λ handler its ip identifier items to of reached.
+      sends_on (is_local_thread k) k.contexts ec handler its ip identifier items (of_call d handler ip identifier items its of) actor reached served;
+  replies = λ caller its m to keeps. replies_on (is_local_thread k) k.contexts ec caller its m actor keeps served;
+  ups = λ sm to is. answers;
+  wakes = λ sm w to is.
       let waits = woken_blocked k sm w is blocked in
       wakes_on (is_local_thread k) (with_ec k.contexts ec (answered (context k ec) Success None)) w sm
       (ap state_at (entry_other k.contexts ec w (answered (context k ec) Success None) (woken_apart k ec sm w actor waits)) ∙ waits) answers;
-  downs = λ sm is. answers;
-  blocks = λ sm is answer. acts_on (is_local_thread k) k.contexts ec _ actor refl refl (λ h same. cc) refl (λ gives. absurd cc) refl served;
+  downs = λ sm to is. answers;
+  blocks = λ sm to is answer. acts_on (is_local_thread k) k.contexts ec _ actor refl refl (λ h same. cc) refl (λ gives. absurd cc) refl served;
 }
   where
-    goes_on : (y : EcState) → IsSelf (context k ec) y → MayCome k ec y.state → AreServed (is_local_thread k) (with_ec k.contexts ec y)
+    goes_on : (y : EcState) → IsSelf (context k ec) y → MayCome k ec d y.state → AreServed (is_local_thread k) (with_ec k.contexts ec y)
     goes_on y self may =
-        let its = plain k ec y.state may in
+        let its = plain k ec d y.state may in
         acts_on (is_local_thread k) k.contexts ec y actor self.caller self.cpu its.calls its.works its.gives its.takes served
 
     answers : AreServed (is_local_thread k) (with_ec k.contexts ec (answered (context k ec) Success None))
-    answers = goes_on (answered (context k ec) Success None) (record { id = refl; cpu = refl; caller = refl }) tt
+    answers = goes_on (answered (context k ec) Success None) (record { id = refl; cpu = refl; caller = refl; regs = λ gives. absurd cc }) tt
 
     remains_on : (cs : Contexts) (w : ℕ) (x y : EcState) → ec_in cs w ≡ Some x → IsSelf x y → y.state ≡ x.state → AreServed (is_local_thread k) cs →
         AreServed (is_local_thread k) (with_ec cs w y)
@@ -269,7 +271,7 @@ served_courses k ec actor blocked served = record {
 applied_served : (k : KernelState) (ec : ℕ) (d : Deed) → IsActor k.contexts ec → Asks k ec d → AreBlocked k.contexts k.semaphores → HasTables k → Served k → Served (applied k (effect k ec d))
 applied_served k ec d actor asks blocked h served =
     joined_served k.objects (all_edited k.contexts (edits_by k ec d)) (made_by d) (edited_length k.contexts (edits_by k ec d) ∙ contexts_length k h)
-    (deed_course k ec (λ cs all. AreServed (is_local_thread k) cs) d actor asks (served_courses k ec actor blocked served))
+    (deed_course k ec (λ cs all. AreServed (is_local_thread k) cs) d actor asks (served_courses k ec d actor blocked served))
 
 -- A TURN
 
@@ -283,11 +285,8 @@ applied_fits k ec actor h =
       tables = applied_tables k (effect k ec (deed k ec)) (effect_placed k ec (deed k ec) actor thread asks h) h.tables;
       served = applied_served k ec (deed k ec) actor asks h.blocked h.tables h.served;
       blocked = applied_blocked k ec (deed k ec) actor asks h.tables h.served h.blocked;
-      guests = subst AreGuests (done_is k ec (deed k ec)) (done_guests k ec (deed k ec) thread asks h.tables h.served h.guests);
+      guests = applied_guests k ec (deed k ec) actor thread asks h.tables h.served h.guests;
     }
-
-pub done_fits : (k : KernelState) (ec : ℕ) → IsActor k.contexts ec → Fits k → Fits (done k ec (deed k ec))
-done_fits k ec actor h = subst Fits (sym (done_is k ec (deed k ec))) (applied_fits k ec actor h)
 
 settled_fits : (s : KernelState) (cpu : ℕ) (t : Turning) → Fits s → Fits (settled s cpu t)
 settled_fits s cpu t h = record {

@@ -1,67 +1,45 @@
--- Whoever gives has a range and a protection domain to give it to, and whoever doesn't is at the beginning: one row a deed, the charge,
--- and the fold over turns.
+-- Whoever gives has a range and a protection domain to give it to, and whoever doesn't is at the beginning.
 use Rattle.std.proofs.Common.{◌≡◌, ℕ, zero, suc, List, [], ◌∷◌, ◌++◌, length, refl, ap, ◌∙◌, sym, subst}
-use Rattle.std.specs.Prelude.{Bool, true, false, slice_get, slice_set, option_map, is_some, Option, Some, None, IfSome, IsSome, Ok}
+use Rattle.std.specs.Prelude.{Bool, true, false, if◌then◌else◌, slice_get, slice_set, option_map, Option, Some, None, IsSome}
 use Rattle.rv_model.specs.Registers.{Registers}
-use Rattle.rv_model.specs.Step.{Once, Raised, Went}
 use Rattle.nova_objects.specs.declared.object.EcKind.{EcKind}
 use Rattle.nova_objects.specs.declared.object.EcKind.TheVariants.{Local, Global, Vcpu}
 use Rattle.nova_objects.specs.declared.object.Object.{Object}
 use Rattle.nova_objects.specs.declared.object.Object.TheVariants.{Pd, Ec, Sc, Pt, Sm}
-use Rattle.nova_range.specs.declared.mtd.Mtd.{Mtd}
 use Rattle.nova_range.specs.declared.status.Status.TheVariants.{Success}
 use Rattle.nova_model.specs.Boot.{Scenario, Image, boot, bare, with_image, with_images}
-use Rattle.nova_model.specs.Choice.{choice}
+use Rattle.nova_model.specs.Calls.{is_parked}
 use Rattle.nova_model.specs.Creation.{context_of, first_registers, first_state, object_of, transfer_of}
-use Rattle.nova_model.specs.Deeds.{after_item, answered, changed, deed, done, instruction, parked, recalled, resumed, serving, stepped, with_context}
-use Rattle.nova_model.specs.Runs.{after, run}
-use Rattle.nova_model.specs.Semaphores.{semaphore, woken}
-use Rattle.nova_model.specs.State.{KernelState, Contexts, budget_at, context, context_in, ec_in, ec_of, entry, is_local_thread, no_transfer, transfer_in, with_ec}
-use Rattle.nova_model.specs.Turn.{charged, counted, paid_by, quantum_in, state_after, turn, turn_by}
-use Rattle.nova_model.specs.declared.budget.Budget.{Budget}
-use Rattle.nova_model.specs.Choice.{Candidate}
+use Rattle.nova_model.specs.Deeds.{answered, changed, deed, parked, resumed, serving}
+use Rattle.nova_model.specs.Deliveries.{delivery, given_to, taken_from}
+use Rattle.nova_model.specs.Runs.{run}
+use Rattle.nova_model.specs.State.{KernelState, Contexts, context, context_in, ec_in, ec_of, entry, is_local_thread, no_transfer, transfer, transfer_in, with_ec}
 use Rattle.nova_model.specs.declared.context.EcState.{EcState}
 use Rattle.nova_model.specs.declared.context.State.{State}
-use Rattle.nova_model.specs.declared.context.State.TheVariants.{Blocked, Parked, Calling, Granting, Replying}
+use Rattle.nova_model.specs.declared.context.State.TheVariants.{Blocked, Parked, Ready, Calling, Granting, Replying}
 use Rattle.nova_model.specs.declared.context.Mark.{Mark}
 use Rattle.nova_model.specs.declared.context.Mark.TheVariants as mark
-use Rattle.nova_model.specs.declared.transfer.ItemEnd.{ItemEnd}
-use Rattle.nova_model.specs.declared.transfer.ItemWords.{ItemWords}
-use Rattle.nova_model.specs.declared.transfer.Sequel.{Sequel}
+use Rattle.nova_model.specs.declared.event.Event.{Event}
 use Rattle.nova_model.specs.declared.transfer.Sequel.TheVariants as sequel
-use Rattle.nova_model.specs.Edges.{acts, state_in}
+use Rattle.nova_model.specs.Edges.{state_in}
 use Rattle.nova_model.specs.declared.deed.Deed.{Deed}
-use Rattle.nova_model.specs.declared.deed.Deed.TheVariants.{Rests, Steps, Raises, Dies, Waits, Sends, Refuses, Makes, Recalls, Tells, Names, Opens, Gives, Skips, Finishes, Calls, Helps, Replies, Aborts, Revokes, Removes, Returns, Ups, Downs, Blocks}
+use Rattle.nova_model.specs.declared.deed.Deed.TheVariants.{Rests, Gives, Skips, Finishes}
 use Rattle.nova_model.specs.declared.new_object.NewObject.{NewObject}
 use Rattle.nova_model.specs.declared.new_object.NewObject.TheVariants as new
 use Rattle.nova_model.specs.declared.transfer.Transfer.{Transfer}
-use Rattle.nova_forest.proofs.Stirred.{acted}
+use Rattle.nova_forest.specs.Effects.{applied, effect, joined, made_by, put, transfer_by}
+use Rattle.nova_forest.specs.Turns.{Acts, IsTurning, Turning, turned}
+use Rattle.nova_forest.proofs.Turning.{along}
 use Rattle.nova_laws.specs.Giving.{is_giving}
-use Rattle.nova_laws.specs.Waiting.{AreBlocked}
-use Rattle.nova_laws.proofs.Setting.{get_kept}
-use Rattle.nova_laws.proofs.Opening.{GoesTo, HasRange, Wants, deed_wants}
-use Rattle.nova_laws.proofs.Chosen.{Acts, choice_acts}
-use Rattle.nova_laws.proofs.Awaiting.{Serves, served_waits, serves_of}
+use Rattle.nova_laws.specs.Links.{state_at}
+use Rattle.nova_laws.proofs.Awaiting.{Serves, serves_of}
 use Rattle.nova_laws.proofs.Blocking.{woken_blocked}
-use Rattle.nova_laws.proofs.Fitting.{Fits, after_fits, boot_fits}
-
--- TABLES
-
--- what holds at each number of a table where an entry is set, and where one joins
-pub set_at : {T : Type 0} (Q : Option T → Type 0) (xs : List (Option T)) (e f : ℕ) (x : T) → Q (entry (slice_get xs f)) → (f ≡ e → Q (Some x)) →
-    Q (entry (slice_get (slice_set xs e (Some x)) f))
-set_at Q [] e f x old new = old
-set_at Q (o ∷ xs) zero zero x old new = new refl
-set_at Q (o ∷ xs) zero (suc f) x old new = old
-set_at Q (o ∷ xs) (suc e) zero x old new = old
-set_at Q (o ∷ xs) (suc e) (suc f) x old new = set_at Q xs e f x old (λ same. new (ap suc same))
-
-pub more_at : {T : Type 0} (Q : Option T → Type 0) (xs : List (Option T)) (o : Option T) (f : ℕ) → Q (entry (slice_get xs f)) → (Q None → Q o) →
-    Q (entry (slice_get (xs ++ o ∷ []) f))
-more_at Q [] o zero old new = new old
-more_at Q [] o (suc f) old new = old
-more_at Q (x ∷ xs) o zero old new = old
-more_at Q (x ∷ xs) o (suc f) old new = more_at Q xs o f old new
+use Rattle.nova_laws.proofs.Courses.{Courses, IsOpening, IsSelf, IsTo, MayCome, deed_course, has_caller}
+use Rattle.nova_laws.proofs.Fitting.{Fits, boot_fits, chosen_acts, turned_fits}
+use Rattle.nova_laws.proofs.Opening.{HasRange, Wants, deed_wants, is_of_item, wants_quiet}
+use Rattle.nova_laws.proofs.Referring.{Asks, deed_asks}
+use Rattle.nova_laws.proofs.Serving.{IsActor, actor_of, awaited}
+use Rattle.nova_laws.proofs.Setting.{get_kept, more_at, set_at}
 
 -- WHO GIVES AND WHO DOESN'T
 
@@ -108,22 +86,6 @@ entry_anywhere : (os : List Object) (o : Option EcState) (t u : Transfer) → is
 entry_anywhere os None t u gives h = absurd (cc)
 entry_anywhere os (Some x) t u gives h = anywhere os x.state x.regs x.caller t u gives h
 
-entry_gives_on : (os : List Object) (o : Option EcState) (t u : Transfer) → is_giving (context_in o).state ≡ true → IsForEntry os o t →
-    IsFor os (context_in o).state (context_in o).regs (context_in o).caller u
-entry_gives_on os None t u gives h = absurd (cc)
-entry_gives_on os (Some x) t u gives h = anywhere os x.state x.regs x.caller t u gives h
-
--- and may always be at the beginning
-begins : (os : List Object) (s : State) (r : Registers) (c : Option (ℕ × Mark)) (t : Transfer) → IsFor os s r c t → IsFor os s r c no_transfer
-begins os (Granting (Some domain)) r c t h = h
-begins os (Granting None) r c t h = h
-begins os Replying r c t h = h
-begins os other r c t h = refl
-
-entry_begins : (os : List Object) (o : Option EcState) (t : Transfer) → IsForEntry os o t → IsForEntry os o no_transfer
-entry_begins os None t h = refl
-entry_begins os (Some x) t h = begins os x.state x.regs x.caller t h
-
 -- objects join
 longer : (os : List Object) (o : Object) (s : State) (r : Registers) (c : Option (ℕ × Mark)) (t : Transfer) → IsFor os s r c t → IsFor (os ++ o ∷ []) s r c t
 longer os o (Granting (Some domain)) r c t h = (get_kept os o domain Pd h.0, h.1)
@@ -149,23 +111,17 @@ give_for os cs ts e t new h f =
     set_at (λ o. IsForEntry os (ec_in cs f) (transfer_in o)) ts e f t (h f) (λ same. subst (λ (n : ℕ). IsForEntry os (ec_in cs n) t) (sym same) new)
 
 -- an object joins, with what goes with it
-joins_for : (os : List Object) (o : Object) (cs : Contexts) (x : Option EcState) (ts : List (Option Transfer)) (t : Option Transfer) →
-    ((u : Transfer) → u ≡ no_transfer → IsForEntry (os ++ o ∷ []) x u) → transfer_in t ≡ no_transfer → AreFor os cs ts →
-    AreFor (os ++ o ∷ []) (cs ++ x ∷ []) (ts ++ t ∷ [])
-joins_for os o cs x ts t new none h f =
-    more_at (λ y. IsForEntry (os ++ o ∷ []) (ec_in (cs ++ x ∷ []) f) (transfer_in y)) ts t f
-    (more_at (λ y. IsForEntry (os ++ o ∷ []) y (transfer_in (entry (slice_get ts f)))) cs x f (entry_longer os o (ec_in cs f) _ (h f)) (λ first. new _ first))
-    (λ first. subst (IsForEntry (os ++ o ∷ []) (ec_in (cs ++ x ∷ []) f)) (sym none) first)
-
--- DOING
+joins_for : (os : List Object) (cs : Contexts) (x : Option EcState) (ts : List (Option Transfer)) (t : Option Transfer) →
+    ((u : Transfer) → u ≡ no_transfer → IsForEntry os x u) → transfer_in t ≡ no_transfer → AreFor os cs ts → AreFor os (cs ++ x ∷ []) (ts ++ t ∷ [])
+joins_for os cs x ts t new none h f =
+    more_at (λ y. IsForEntry os (ec_in (cs ++ x ∷ []) f) (transfer_in y)) ts t f
+    (more_at (λ y. IsForEntry os y (transfer_in (entry (slice_get ts f)))) cs x f (h f) (λ first. new _ first))
+    (λ first. subst (IsForEntry os (ec_in (cs ++ x ∷ []) f)) (sym none) first)
 
 -- one that doesn't give, and doesn't then
 rests_at : (os : List Object) (cs : Contexts) (ts : List (Option Transfer)) (e : ℕ) (x : EcState) → is_giving (ec_of cs e).state ≡ false → is_giving x.state ≡ false →
     AreFor os cs ts → AreFor os (with_ec cs e x) ts
 rests_at os cs ts e x rests still h = set_for os cs ts e x (of_rest os x.state x.regs x.caller _ still (entry_rests os (ec_in cs e) _ rests (h e))) h
-
-stays_for : (k : KernelState) (ec : ℕ) (x : EcState) → is_giving (context k ec).state ≡ false → is_giving x.state ≡ false → Sound k → AreFor k.objects (with_ec k.contexts ec x) k.transfers
-stays_for k ec x rests still h = rests_at k.objects k.contexts k.transfers ec x rests still h
 
 -- another that doesn't
 pub quiet_set : (cs : Contexts) (a w : ℕ) (x : EcState) → is_giving x.state ≡ false → is_giving (ec_of cs w).state ≡ false → is_giving (ec_of (with_ec cs a x) w).state ≡ false
@@ -178,15 +134,31 @@ quiet_by cs w s is quiet = by_entry (ec_in cs w) is
     by_entry None h = refl
     by_entry (Some y) h = let same : y.state ≡ s = cc in ap is_giving same ∙ quiet
 
-stepped_for : (k : KernelState) (ec : ℕ) (o : Once) → is_giving (context k ec).state ≡ false → Sound k → Sound (stepped k ec o)
-stepped_for k ec (Raised reason q0 q1) rests h = h
-stepped_for k ec (Went regs store) rests h = stays_for k ec (record (context k ec) { regs = regs }) rests rests h
+pub parked_quiet : (o : Option EcState) → is_parked (state_at o) ≡ true → is_giving (context_in o).state ≡ false
+parked_quiet None is = refl
+parked_quiet (Some x) is = by_state x.state is
+  where
+    by_state : (s : State) → is_parked (Some s) ≡ true → is_giving s ≡ false
+    by_state Parked parks = refl
+    by_state other parks = absurd cc
 
-recalled_for : (k : KernelState) (other : ℕ) (o : Option EcState) → ec_in k.contexts other ≡ o → Sound k → Sound (recalled k other o)
-recalled_for k other None is h = h
-recalled_for k other (Some x) is h =
-    set_for k.objects k.contexts k.transfers other (record x { recall = true })
-    (subst (λ (o : Option EcState). IsForEntry k.objects o (transfer_in (entry (slice_get k.transfers other)))) is (h other)) h
+-- whom it served goes on, and gives nothing
+pub resumed_quiet : (x : EcState) (mark : Mark) (m : List ℕ) → is_giving (resumed x mark m).state ≡ false
+resumed_quiet x mark.Call m = refl
+resumed_quiet x mark.Exit m = refl
+
+-- one in its state
+same_for : (os : List Object) (x y : EcState) (t : Transfer) → IsSelf x y → y.state ≡ x.state → IsFor os x.state x.regs x.caller t → IsFor os y.state y.regs y.caller t
+same_for os x y t self same h = by_test (is_giving y.state) refl
+  where
+    by_test : (test : Bool) → is_giving y.state ≡ test → IsFor os y.state y.regs y.caller t
+    by_test true gives = rw (same, self.regs gives, self.caller) h
+    by_test false rests = of_rest os y.state y.regs y.caller t rests (at_rest os x.state x.regs x.caller t (ap is_giving (sym same) ∙ rests) h)
+
+entry_at : (os : List Object) (o : Option EcState) (x : EcState) (t : Transfer) → o ≡ Some x → IsForEntry os o t → IsFor os x.state x.regs x.caller t
+entry_at os o x t is h = subst (λ (p : Option EcState). IsForEntry os p t) is h
+
+-- OBJECTS THAT JOIN
 
 first_rests : (os : List Object) (kind : EcKind) (r : Registers) (c : Option (ℕ × Mark)) (t : Transfer) → t ≡ no_transfer → IsFor os (first_state kind) r c t
 first_rests os Local r c t h = h
@@ -211,163 +183,167 @@ last_there : (os : List Object) (o : Object) → slice_get (os ++ o ∷ []) (len
 last_there [] o = refl
 last_there (x ∷ os) o = last_there os o
 
-set_none : (ts : List (Option Transfer)) (e : ℕ) → transfer_in (entry (slice_get (slice_set ts e (Some no_transfer)) e)) ≡ no_transfer
+joined_longer : (os : List Object) (cs : Contexts) (ts : List (Option Transfer)) (o : Option Object) → AreFor os cs ts → AreFor (joined os o) cs ts
+joined_longer os cs ts None h = h
+joined_longer os cs ts (Some o) h = λ e. entry_longer os o (ec_in cs e) _ (h e)
+
+joined_for : (os : List Object) (n : ℕ) (cs : Contexts) (ts : List (Option Transfer)) (made : Option NewObject) → AreFor os cs ts →
+    AreFor os (joined cs (option_map (context_of n) made)) (joined ts (option_map (λ m. transfer_of (object_of m)) made))
+joined_for os n cs ts None h = h
+joined_for os n cs ts (Some made) h = joins_for os cs (context_of n made) ts (transfer_of (object_of made)) (new_rests os n made) (new_transfer (object_of made)) h
+
+-- WHAT A DEED MAKES OF TRANSFERS
+
+abbrev pub at : List (Option Transfer) → ℕ → Transfer
+at ts e = transfer_in (entry (slice_get ts e))
+
+-- how far all are when it is done, but for an object that joins
+abbrev pub transfers_by : KernelState → ℕ → Deed → List (Option Transfer)
+transfers_by k ec d = put k.transfers (transfer_by k ec d)
+
+pub transfers_for : (k : KernelState) (ec : ℕ) (d : Deed) → Wants k ec d → Sound k → AreFor k.objects k.contexts (transfers_by k ec d)
+transfers_for k ec (Gives child cursor) wants h = give_for k.objects k.contexts k.transfers ec _ (entry_anywhere k.objects (ec_in k.contexts ec) _ _ wants (h ec)) h
+transfers_for k ec (Skips reason place cursor) wants h = give_for k.objects k.contexts k.transfers ec _ (entry_anywhere k.objects (ec_in k.contexts ec) _ _ wants (h ec)) h
+transfers_for k ec (Finishes item end words after) wants h = give_for k.objects k.contexts k.transfers ec _ (entry_anywhere k.objects (ec_in k.contexts ec) _ _ wants.0 (h ec)) h
+transfers_for k ec other wants h = h
+
+set_none : (ts : List (Option Transfer)) (e : ℕ) → at (slice_set ts e (Some no_transfer)) e ≡ no_transfer
 set_none [] e = refl
 set_none (t ∷ ts) zero = refl
 set_none (t ∷ ts) (suc e) = set_none ts e
 
--- a protection domain joins, and its creator gives. The object joins first here, so that the creator's state speaks of one that is there.
-opened_for : (k : KernelState) (ec domain : ℕ) (x : EcState) → domain ≡ length k.objects → x.state ≡ Granting (Some domain) → HasRange x.regs → Sound k →
-    AreFor (k.objects ++ Pd ∷ []) (with_ec k.contexts ec x ++ None ∷ []) (k.transfers ++ None ∷ [])
-opened_for k ec domain x number state range h f =
-    more_at (λ y. IsForEntry (k.objects ++ Pd ∷ []) (ec_in (with_ec k.contexts ec x ++ None ∷ []) f) (transfer_in y)) k.transfers None f
-    (more_at (λ y. IsForEntry (k.objects ++ Pd ∷ []) y (transfer_in (entry (slice_get k.transfers f)))) (with_ec k.contexts ec x) None f
-    (set_at (λ y. IsForEntry (k.objects ++ Pd ∷ []) y (transfer_in (entry (slice_get k.transfers f)))) k.contexts ec f x
-    (entry_longer k.objects Pd (ec_in k.contexts f) _ (h f)) (λ same. gives (transfer_in (entry (slice_get k.transfers f)))))
-    (λ first. first)) (λ first. first)
+-- one without an item to give is at the beginning
+none_to_give : (k : KernelState) (ec : ℕ) → delivery k ec (context k ec).state ≡ None → Sound k → transfer k ec ≡ no_transfer
+none_to_give k ec none h = by_entry (ec_in k.contexts ec) refl (h ec)
   where
-    gives : (t : Transfer) → IsFor (k.objects ++ Pd ∷ []) x.state x.regs x.caller t
-    gives t =
-        subst (λ (s : State). IsFor (k.objects ++ Pd ∷ []) s x.regs x.caller t) (sym state)
-        (ap (slice_get (k.objects ++ Pd ∷ [])) number ∙ last_there k.objects Pd, range)
+    by_caller : (c : Option (ℕ × Mark)) → IsSome c → given_to k ec (transfer k ec).item c ≡ None → ⊥
+    by_caller None some is = absurd (cc)
+    by_caller (Some (caller, mark)) some is = absurd (cc)
 
--- where an item ended, at the beginning of the next one or of none
-begun_for : (k : KernelState) (ec : ℕ) (t : Transfer) → is_giving (context k ec).state ≡ true → Sound k → AreFor k.objects k.contexts (slice_set k.transfers ec (Some t))
-begun_for k ec t gives h = give_for k.objects k.contexts k.transfers ec t (entry_anywhere k.objects (ec_in k.contexts ec) _ t gives (h ec)) h
+    by_taker : (c : Option (ℕ × Mark)) → IsSome c → taken_from k ec (transfer k ec).item c ≡ None → ⊥
+    by_taker None some is = absurd (cc)
+    by_taker (Some (caller, mark)) some is = absurd (cc)
 
-ends_for : (k : KernelState) (ec : ℕ) (x : EcState) → is_giving (context k ec).state ≡ true → is_giving x.state ≡ false → Sound k →
-    AreFor k.objects (with_ec k.contexts ec x) (slice_set k.transfers ec (Some no_transfer))
-ends_for k ec x gives still h =
-    set_for k.objects k.contexts (slice_set k.transfers ec (Some no_transfer)) ec x (of_rest k.objects x.state x.regs x.caller _ still (set_none k.transfers ec))
-    (begun_for k ec no_transfer gives h)
+    by_entry : (o : Option EcState) → ec_in k.contexts ec ≡ o → IsForEntry k.objects o (transfer k ec) → transfer k ec ≡ no_transfer
+    by_entry None is for = for
+    by_entry (Some x) is for = by_state x.state refl for (sym (ap (delivery k ec) (ap (λ (y : Option EcState). (context_in y).state) is)) ∙ none)
+      where
+        by_state : (s : State) → x.state ≡ s → IsFor k.objects s x.regs x.caller (transfer k ec) → delivery k ec s ≡ None → transfer k ec ≡ no_transfer
+        by_state (Granting (Some domain)) at for nothing = absurd (cc)
+        by_state (Granting None) at for nothing =
+            absurd (by_taker x.caller for (ap (taken_from k ec (transfer k ec).item) (sym (ap (λ (y : Option EcState). (context_in y).caller) is)) ∙ nothing))
+        by_state Replying at for nothing =
+            absurd (by_caller x.caller for (ap (given_to k ec (transfer k ec).item) (sym (ap (λ (y : Option EcState). (context_in y).caller) is)) ∙ nothing))
+        by_state other at for nothing = for
 
--- whom it served goes on, and gives nothing
-pub resumed_quiet : (x : EcState) (mark : Mark) (m : List ℕ) → is_giving (resumed x mark m).state ≡ false
-resumed_quiet x mark.Call m = refl
-resumed_quiet x mark.Exit m = refl
+-- one that does something else is at the beginning
+pub quiet_own : (k : KernelState) (ec : ℕ) (d : Deed) → is_of_item d ≡ false → Wants k ec d → Sound k → transfer k ec ≡ no_transfer
+quiet_own k ec Rests apart wants h = none_to_give k ec wants h
+quiet_own k ec (Gives child cursor) apart wants h = absurd cc
+quiet_own k ec (Skips reason place cursor) apart wants h = absurd cc
+quiet_own k ec (Finishes item end words after) apart wants h = absurd cc
+quiet_own k ec other apart wants h = entry_rests k.objects (ec_in k.contexts ec) (transfer k ec) (wants_quiet k ec other refl wants) (h ec)
 
-frees_for : (k : KernelState) (ec caller : ℕ) (mark : Mark) (y : EcState) → is_giving (context k ec).state ≡ true → acts k.contexts ec ≡ true → Serves k.contexts →
-    (context k ec).caller ≡ Some (caller, mark) → is_giving y.state ≡ false → Sound k →
-    AreFor k.objects (with_ec (with_ec k.contexts ec (parked (context k ec))) caller y) (slice_set k.transfers ec (Some no_transfer))
-frees_for k ec caller mark y gives able serves has still h =
-    rests_at k.objects (with_ec k.contexts ec (parked (context k ec))) (slice_set k.transfers ec (Some no_transfer)) caller y
-    (quiet_set k.contexts ec caller (parked (context k ec)) refl (quiet_by k.contexts caller (Calling ec) (served_waits k ec caller mark able serves has) refl)) still
-    (ends_for k ec (parked (context k ec)) gives refl h)
+-- and so is one that gives no more
+own_rests : (k : KernelState) (ec : ℕ) (d : Deed) → Wants k ec d → Sound k → is_giving (changed (context k ec) d).state ≡ false → at (transfers_by k ec d) ec ≡ no_transfer
+own_rests k ec (Gives child cursor) wants h quiet = absurd cc
+own_rests k ec (Skips reason place cursor) wants h quiet = absurd cc
+own_rests k ec (Finishes item end words sequel.Item) wants h quiet = absurd (let gives = wants.0 in cc)
+own_rests k ec (Finishes item end words sequel.Opened) wants h quiet = set_none k.transfers ec
+own_rests k ec (Finishes item end words other) wants h quiet = set_none k.transfers ec
+own_rests k ec other wants h quiet = quiet_own k ec other refl wants h
 
-next_for : (k : KernelState) (ec : ℕ) (t : Transfer) → is_giving (context k ec).state ≡ true → Sound k →
-    AreFor k.objects (with_ec k.contexts ec (context k ec)) (slice_set k.transfers ec (Some t))
-next_for k ec t gives h =
-    set_for k.objects k.contexts (slice_set k.transfers ec (Some t)) ec (context k ec)
-    (entry_gives_on k.objects (ec_in k.contexts ec) _ _ gives (h ec)) (begun_for k ec t gives h)
+-- A DEED
 
-finished_for : (k : KernelState) (ec item : ℕ) (end : ItemEnd) (words : Option ItemWords) (after : Sequel) → is_giving (context k ec).state ≡ true → GoesTo k ec after →
-    acts k.contexts ec ≡ true → Serves k.contexts → Sound k → Sound (done k ec (Finishes item end words after))
-finished_for k ec item end None sequel.Item gives goes able serves h = next_for k ec _ gives h
-finished_for k ec item end None sequel.Opened gives goes able serves h = ends_for k ec (after_item (context k ec) sequel.Opened) gives refl h
-finished_for k ec item end None sequel.Taken gives goes able serves h = ends_for k ec (after_item (context k ec) sequel.Taken) gives refl h
-finished_for k ec item end None (sequel.Replied caller mark) gives goes able serves h = frees_for k ec caller mark _ gives able serves goes (resumed_quiet (ec_of (with_ec k.contexts ec (parked (context k ec))) caller) mark _) h
-finished_for k ec item end (Some words) sequel.Item gives goes able serves h = next_for k ec _ gives h
-finished_for k ec item end (Some words) sequel.Opened gives goes able serves h = ends_for k ec (after_item (context k ec) sequel.Opened) gives refl h
-finished_for k ec item end (Some words) sequel.Taken gives goes able serves h = ends_for k ec (after_item (context k ec) sequel.Taken) gives refl h
-finished_for k ec item end (Some words) (sequel.Replied caller mark) gives goes able serves h = frees_for k ec caller mark _ gives able serves goes (resumed_quiet (ec_of (with_ec k.contexts ec (parked (context k ec))) caller) mark _) h
+-- what joins is the protection domain that it opens
+opens_there : (k : KernelState) (ec domain : ℕ) (d : Deed) → Wants k ec d → IsOpening d domain →
+    (slice_get (joined k.objects (option_map object_of (made_by d))) domain ≡ Some Pd) × HasRange (context k ec).regs
+opens_there k ec domain d wants is =
+    let asked = subst (Wants k ec) is.deed wants in (
+      ap (λ (e : Deed). slice_get (joined k.objects (option_map object_of (made_by e))) domain) is.deed
+          ∙ ap (slice_get (k.objects ++ Pd ∷ [])) asked.1 ∙ last_there k.objects Pd,
+      asked.2,
+    )
 
--- a call is sent, and its handler takes items or doesn't
-sent_for : (k : KernelState) (ec handler ip identifier : ℕ) (items : Bool) → is_giving (context k ec).state ≡ false → state_in k.contexts handler ≡ Some Parked → Sound k →
-    Sound (done k ec (Calls handler ip identifier items))
-sent_for k ec handler ip identifier true rests idle h =
-    let x = record (context k ec) { state = Calling handler } in
-    set_for k.objects (with_ec k.contexts ec x) k.transfers handler (serving (ec_of (with_ec k.contexts ec x) handler) ec mark.Call ip identifier true) refl
-    (stays_for k ec x rests refl h)
-sent_for k ec handler ip identifier false rests idle h =
-    let x = record (context k ec) { state = Calling handler } in
-    rests_at k.objects (with_ec k.contexts ec x) k.transfers handler (serving (ec_of (with_ec k.contexts ec x) handler) ec mark.Call ip identifier false)
-    (quiet_set k.contexts ec handler x refl (quiet_by k.contexts handler Parked idle refl)) refl (stays_for k ec x rests refl h)
+begins_for : (os : List Object) (items : Bool) (r : Registers) (c : ℕ × Mark) (t : Transfer) → t ≡ no_transfer → IsFor os (if items then Granting None else Ready) r (Some c) t
+begins_for os true r c t none = refl
+begins_for os false r c t none = none
 
--- and so is an exit
-exit_sent_for : (k : KernelState) (ec handler ip identifier : ℕ) (mtd : Mtd) (reason q0 q1 : ℕ) → is_giving (context k ec).state ≡ false →
-    state_in k.contexts handler ≡ Some Parked → Sound k → Sound (done k ec (Sends handler ip identifier mtd reason q0 q1))
-exit_sent_for k ec handler ip identifier mtd reason q0 q1 rests idle h =
-    let x = record (context k ec) { state = Calling handler } in
-    rests_at k.objects (with_ec k.contexts ec x) k.transfers handler (serving (ec_of (with_ec k.contexts ec x) handler) ec mark.Exit ip identifier false)
-    (quiet_set k.contexts ec handler x refl (quiet_by k.contexts handler Parked idle refl)) refl (stays_for k ec x rests refl h)
+for_courses : (k : KernelState) (ec : ℕ) (d : Deed) → IsActor k.contexts ec → Wants k ec d → Fits k → Sound k →
+    Courses k ec d (λ cs all. AreFor (joined k.objects (option_map object_of (made_by d))) cs (transfers_by k ec d))
+for_courses k ec d actor wants fits h =
+    let os = joined k.objects (option_map object_of (made_by d)) in
+    let ts = transfers_by k ec d in record {
+      rests = λ to. base;
+      steps = λ regs is. quiet (record (context k ec) { regs = regs }) (ap (λ (e : Deed). (changed (context k ec) e).state) is) (subst (Wants k ec) is wants);
+      stays = λ cs all w x y is self same now. set_for os cs ts w y (same_for os x y _ self same (entry_at os (ec_in cs w) x _ is (now w))) now;
+      goes = λ y self to may. goes y self to may;
+      sends = λ handler its ip identifier items to of reached.
+          let x : EcState = record (context k ec) { state = Calling handler } in
+          let one = with_ec k.contexts ec x in
+          let own = quiet x to refl in
+          let rests = entry_rests os (ec_in one handler) _ (quiet_set k.contexts ec handler x refl (parked_quiet (ec_in k.contexts handler) reached.parked)) (own handler) in
+          set_for os one ts handler (serving (ec_of one handler) ec its ip identifier items) (begins_for os items _ (ec, its) _ rests) own;
+      replies = λ caller its m to keeps.
+          let one = with_ec k.contexts ec (parked (context k ec)) in
+          rests_at os one ts caller (resumed (ec_of one caller) its m)
+          (quiet_set k.contexts ec caller (parked (context k ec)) refl (ap is_giving (awaited (is_local_thread k) k.contexts ec caller its actor keeps fits.served).waits))
+          (resumed_quiet (ec_of one caller) its m) (quiet (parked (context k ec)) to refl);
+      ups = λ sm to is. answers to;
+      wakes = λ sm w to is.
+          rests_at os (with_ec k.contexts ec (answered (context k ec) Success None)) ts w _
+          (quiet_set k.contexts ec w _ refl (quiet_by k.contexts w (Blocked sm) (woken_blocked k sm w is fits.blocked) refl)) refl (answers to);
+      downs = λ sm to is. answers to;
+      blocks = λ sm to is answer. quiet (record (context k ec) { state = Blocked sm }) to refl;
+    }
+  where
+    base : AreFor (joined k.objects (option_map object_of (made_by d))) k.contexts (transfers_by k ec d)
+    base = joined_longer k.objects k.contexts (transfers_by k ec d) (option_map object_of (made_by d)) (transfers_for k ec d wants h)
 
--- a reply completes at once
-completes_for : (k : KernelState) (ec caller : ℕ) (mark : Mark) (y : EcState) → is_giving (context k ec).state ≡ false → (context k ec).caller ≡ Some (caller, mark) →
-    acts k.contexts ec ≡ true → Serves k.contexts → is_giving y.state ≡ false → Sound k →
-    AreFor k.objects (with_ec (with_ec k.contexts ec (parked (context k ec))) caller y) k.transfers
-completes_for k ec caller mark y rests has able serves still h =
-    rests_at k.objects (with_ec k.contexts ec (parked (context k ec))) k.transfers caller y
-    (quiet_set k.contexts ec caller (parked (context k ec)) refl (quiet_by k.contexts caller (Calling ec) (served_waits k ec caller mark able serves has) refl)) still
-    (stays_for k ec (parked (context k ec)) rests refl h)
+    quiet : (y : EcState) → IsTo k ec d y.state → is_giving y.state ≡ false →
+        AreFor (joined k.objects (option_map object_of (made_by d))) (with_ec k.contexts ec y) (transfers_by k ec d)
+    quiet y to still =
+        set_for (joined k.objects (option_map object_of (made_by d))) k.contexts (transfers_by k ec d) ec y
+        (of_rest (joined k.objects (option_map object_of (made_by d))) y.state y.regs y.caller _ still (own_rests k ec d wants h (ap is_giving to ∙ still))) base
 
-replied_for : (k : KernelState) (ec caller : ℕ) (mark : Mark) (items : Bool) → is_giving (context k ec).state ≡ false → (context k ec).caller ≡ Some (caller, mark) →
-    acts k.contexts ec ≡ true → Serves k.contexts → Sound k → Sound (done k ec (Replies caller mark items))
-replied_for k ec caller mark.Call true rests has able serves h =
-    set_for k.objects k.contexts k.transfers ec (changed (context k ec) (Replies caller mark.Call true)) (ap is_some has) h
-replied_for k ec caller mark.Exit true rests has able serves h =
-    set_for k.objects k.contexts k.transfers ec (changed (context k ec) (Replies caller mark.Exit true)) (ap is_some has) h
-replied_for k ec caller mark.Call false rests has able serves h = completes_for k ec caller mark.Call _ rests has able serves refl h
-replied_for k ec caller mark.Exit false rests has able serves h = completes_for k ec caller mark.Exit _ rests has able serves refl h
+    answers : IsTo k ec d Ready →
+        AreFor (joined k.objects (option_map object_of (made_by d))) (with_ec k.contexts ec (answered (context k ec) Success None)) (transfers_by k ec d)
+    answers to = quiet (answered (context k ec) Success None) to refl
 
--- who is woken gave nothing, and goes on
-woken_for : (k : KernelState) (ec sm : ℕ) (whom : Option ℕ) → is_giving (context k ec).state ≡ false → woken (semaphore k.semaphores sm) ≡ Ok whom →
-    AreBlocked k.contexts k.semaphores → Sound k → Sound (done k ec (Ups sm whom))
-woken_for k ec sm None rests wakes blocked h = stays_for k ec (answered (context k ec) Success None) rests refl h
-woken_for k ec sm (Some w) rests wakes blocked h =
-    let x = answered (context k ec) Success None in
-    rests_at k.objects (with_ec k.contexts ec x) k.transfers w _
-    (quiet_set k.contexts ec w x refl (quiet_by k.contexts w (Blocked sm) (woken_blocked k sm w wakes blocked) refl)) refl (stays_for k ec x rests refl h)
+    given : (s : State) (y : EcState) → IsSelf (context k ec) y → is_giving y.state ≡ true → MayCome k ec d s → is_giving s ≡ true →
+        IsFor (joined k.objects (option_map object_of (made_by d))) s y.regs y.caller (at (transfers_by k ec d) ec)
+    given (Granting (Some domain)) y self gives may some =
+        let o = opens_there k ec domain d wants may in (o.0, subst HasRange (sym (self.regs gives)) o.1)
+    given (Granting None) y self gives may some = absurd may
+    given Replying y self gives may some = rw self.caller (has_caller k ec may.caller may.its may.keeps)
+    given other y self gives may some = absurd cc
+
+    goes : (y : EcState) → IsSelf (context k ec) y → IsTo k ec d y.state → MayCome k ec d y.state →
+        AreFor (joined k.objects (option_map object_of (made_by d))) (with_ec k.contexts ec y) (transfers_by k ec d)
+    goes y self to may = by_test (is_giving y.state) refl
+      where
+        by_test : (test : Bool) → is_giving y.state ≡ test → AreFor (joined k.objects (option_map object_of (made_by d))) (with_ec k.contexts ec y) (transfers_by k ec d)
+        by_test true gives =
+            set_for (joined k.objects (option_map object_of (made_by d))) k.contexts (transfers_by k ec d) ec y (given y.state y self gives may gives) base
+        by_test false still = quiet y to still
+
+applied_for : (k : KernelState) (ec : ℕ) (d : Deed) → IsActor k.contexts ec → Asks k ec d → Wants k ec d → Fits k → Sound k → Sound (applied k (effect k ec d))
+applied_for k ec d actor asks wants fits h =
+    joined_for (joined k.objects (option_map object_of (made_by d))) (length k.objects) _ (transfers_by k ec d) (made_by d)
+    (deed_course k ec (λ cs all. AreFor (joined k.objects (option_map object_of (made_by d))) cs (transfers_by k ec d)) d actor asks (for_courses k ec d actor wants fits h))
 
 -- whom each serves
 pub serves_in : (k : KernelState) → Fits k → Serves k.contexts
 serves_in k fits = serves_of (is_local_thread k) k.contexts fits.served
 
-pub done_for : (k : KernelState) (ec : ℕ) (d : Deed) → Wants k ec d → acts k.contexts ec ≡ true → Fits k → Sound k → Sound (done k ec d)
-done_for k ec Rests wants able serves h = h
-done_for k ec Steps wants able serves h = stepped_for k ec (instruction k ec) wants h
-done_for k ec (Makes call target made) wants able serves h =
-    joins_for k.objects (object_of made) _ (context_of (length k.objects) made) k.transfers (transfer_of (object_of made))
-    (new_rests (k.objects ++ object_of made ∷ []) (length k.objects) made) (new_transfer (object_of made))
-    (stays_for k ec (changed (context k ec) (Makes call target made)) wants refl h)
-done_for k ec (Recalls other) wants able serves h =
-    recalled_for (with_context k ec (changed (context k ec) (Recalls other))) other _ refl (stays_for k ec (changed (context k ec) (Recalls other)) wants refl h)
-done_for k ec (Opens target domain) wants able serves h = opened_for k ec domain (changed (context k ec) (Opens target domain)) wants.1 refl wants.2 h
-done_for k ec (Gives child cursor) wants able serves h =
-    give_for k.objects k.contexts k.transfers ec _ (entry_anywhere k.objects (ec_in k.contexts ec) _ _ wants (h ec)) h
-done_for k ec (Skips reason place cursor) wants able serves h =
-    give_for k.objects k.contexts k.transfers ec _ (entry_anywhere k.objects (ec_in k.contexts ec) _ _ wants (h ec)) h
-done_for k ec (Finishes item end words after) wants able fits h = finished_for k ec item end words after wants.0 wants.1 able (serves_in k fits) h
-done_for k ec (Calls handler ip identifier items) wants able serves h = sent_for k ec handler ip identifier items wants.0 wants.1 h
-done_for k ec (Replies caller mark items) wants able fits h = replied_for k ec caller mark items wants.0 wants.1 able (serves_in k fits) h
-done_for k ec (Aborts handler mark.Call) wants able serves h = stays_for k ec (changed (context k ec) (Aborts handler mark.Call)) wants refl h
-done_for k ec (Sends handler ip identifier mtd reason q0 q1) wants able serves h =
-    exit_sent_for k ec handler ip identifier mtd reason q0 q1 wants.0 wants.1 h
-done_for k ec (Removes leaf) wants able serves h = h
-done_for k ec (Ups sm whom) wants able fits h = woken_for k ec sm whom wants.0 wants.1 fits.blocked h
-done_for k ec other wants able serves h = stays_for k ec (changed (context k ec) other) wants refl h
-
 -- TURNS
 
-paid_for : (k : KernelState) (cpu sc quantum : ℕ) (o : Option Budget) → Sound k → Sound (counted (paid_by k sc quantum o) cpu)
-paid_for k cpu sc quantum None h = h
-paid_for k cpu sc quantum (Some b) h = h
-
-charged_for : (k : KernelState) (cpu sc : ℕ) → Sound k → Sound (charged k cpu sc)
-unfolding charged
-charged_for k cpu sc h = paid_for k cpu sc (quantum_in (slice_get k.objects sc)) (budget_at k sc) h
-
-turn_by_for : (k : KernelState) (cpu : ℕ) (c : Option Candidate) → IfSome c (Acts k) → Fits k → Sound k → Sound (state_after k (turn_by k cpu c))
-turn_by_for k cpu None able fits h = h
-turn_by_for k cpu (Some c) able fits h =
-    charged_for (acted k c.actor) cpu c.sc (done_for k c.actor (deed k c.actor) (deed_wants k c.actor) able fits h)
-
-pub after_for : (k : KernelState) (cpu : ℕ) → Fits k → Sound k → Sound (after k cpu)
-unfolding turn
-after_for k cpu fits h = turn_by_for k cpu (choice k cpu) (choice_acts k cpu) fits h
-
-run_for : (k : KernelState) (turns : List ℕ) → Fits k → Sound k → Sound (run k turns)
-run_for k [] fits h = h
-run_for k (cpu ∷ turns) fits h = run_for (after k cpu) turns (after_fits k cpu fits) (after_for k cpu fits h)
+pub turned_gives : (k : KernelState) (cpu : ℕ) (t : Turning) (e : Event) → IsTurning k cpu t e → Fits k × Sound k → Fits (turned k cpu t) × Sound (turned k cpu t)
+turned_gives k cpu t e (Acts c chosen is event) h = (
+  turned_fits k cpu t e (Acts c chosen is event) h.0,
+  subst (λ (u : Turning). Sound (turned k cpu u)) (sym is)
+      (applied_for k c.actor (deed k c.actor) (actor_of k.contexts c.actor (chosen_acts k cpu c chosen)) (deed_asks k c.actor) (deed_wants k c.actor) h.0 h.1),
+)
 
 images_for : (k : KernelState) (images : List Image) → Sound k → Sound (with_images k images)
 images_for k [] h = h
@@ -383,4 +359,4 @@ pub boot_for : (s : Scenario) → Sound (boot s)
 boot_for s = images_for (bare s.cpus s.ram s.consoles s.root) s.images (bare_for s)
 
 pub boot_run_for : (s : Scenario) (turns : List ℕ) → Sound (run (boot s) turns)
-boot_run_for s turns = run_for (boot s) turns (boot_fits s) (boot_for s)
+boot_run_for s turns = (along (λ k. Fits k × Sound k) (record { begins = λ b. (boot_fits b, boot_for b); turns = turned_gives }) s turns).1

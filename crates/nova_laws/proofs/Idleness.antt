@@ -5,7 +5,8 @@ use Rattle.std.specs.List.{list_all, range_with_len}
 use Rattle.std.proofs.lemmas.Bool.{and_parts}
 use Rattle.nova_model.specs.Choice.{Candidate, choice, is_quiet}
 use Rattle.nova_model.specs.State.{KernelState}
-use Rattle.nova_model.specs.Turn.{turn, turn_by}
+use Rattle.nova_model.specs.Turn.{turn}
+use Rattle.nova_forest.proofs.Turning.{none_chosen, none_taken}
 
 each_of : (p : ℕ → Bool) (first count n : ℕ) → list_all p (range_with_len first count) ≡ true → first ≤ n → n < first + count → p n ≡ true
 each_of p first zero n all least most = absurd (omega arith)
@@ -25,24 +26,12 @@ all_of p first (suc count) each =
     rw at others
 
 -- a processor has no turn exactly where it has no choice
-none_by : (k : KernelState) (cpu : ℕ) (o : Option Candidate) → is_none o ≡ true → turn_by k cpu o ≡ None
-none_by k cpu None h = refl
-none_by k cpu (Some c) h = absurd (cc)
-
-by_none : (k : KernelState) (cpu : ℕ) (o : Option Candidate) → turn_by k cpu o ≡ None → is_none o ≡ true
-by_none k cpu None h = refl
-by_none k cpu (Some c) h = absurd (cc)
-
-no_turn : (k : KernelState) (cpu : ℕ) → is_none (choice k cpu) ≡ true → turn k cpu ≡ None
-unfolding turn
-no_turn k cpu h = none_by k cpu (choice k cpu) h
-
-no_choice : (k : KernelState) (cpu : ℕ) → turn k cpu ≡ None → is_none (choice k cpu) ≡ true
-unfolding turn
-no_choice k cpu h = by_none k cpu (choice k cpu) h
+nobody : (o : Option Candidate) → is_none o ≡ true → o ≡ None
+nobody None h = refl
+nobody (Some c) h = absurd (cc)
 
 pub quiet_idle : (k : KernelState) → (is_quiet k ≡ true) ↔ ((cpu : ℕ) → cpu < k.cpus → turn k cpu ≡ None)
 quiet_idle k = (
-  λ quiet cpu there. no_turn k cpu (each_of (λ n. is_none (choice k n)) 0 k.cpus cpu quiet (omega arith) (omega arith)),
-  λ idle. all_of (λ n. is_none (choice k n)) 0 k.cpus (λ n least there. no_choice k n (idle n (omega arith))),
+  λ quiet cpu there. none_taken k cpu (nobody (choice k cpu) (each_of (λ n. is_none (choice k n)) 0 k.cpus cpu quiet (omega arith) (omega arith))),
+  λ idle. all_of (λ n. is_none (choice k n)) 0 k.cpus (λ n least there. ap is_none (none_chosen k n (idle n (omega arith)))),
 )

@@ -1,4 +1,4 @@
--- Whoever gives items is at one of them: one row a deed, the charge, and the fold over turns.
+-- Whoever gives items is at one of them: what is kept of it where tables change.
 use Rattle.std.proofs.Common.{◌≡◌, ◌<◌, ℕ, List, [], ◌∷◌, ◌++◌, refl, ap, ◌∙◌, sym, subst}
 use Rattle.std.specs.Prelude.{true, false, slice_set, Option, Some, None, option_map}
 use Rattle.nova_objects.specs.declared.object.EcKind.{EcKind}
@@ -21,8 +21,8 @@ use Rattle.nova_model.specs.declared.transfer.ItemWords.{ItemWords}
 use Rattle.nova_model.specs.declared.transfer.Sequel.{Sequel}
 use Rattle.nova_model.specs.declared.transfer.Transfer.{Transfer}
 use Rattle.nova_laws.specs.Giving.{is_giving, source_in}
-use Rattle.nova_laws.proofs.Counting.{at}
-use Rattle.nova_laws.proofs.Giving.{more_at, new_transfer, set_at}
+use Rattle.nova_laws.proofs.Giving.{at, new_transfer}
+use Rattle.nova_laws.proofs.Setting.{more_at, set_at}
 use Rattle.nova_laws.proofs.Messages.{IsFinish, NoSource, actor_none, more_words, no_source, words_in}
 use Rattle.nova_laws.proofs.Awaiting.{Serves, served_waits}
 

@@ -15,6 +15,7 @@ pub mod Serving
 pub mod Blocking
 pub mod Virtual
 pub mod Fitting
+pub mod States
 pub mod Donation
 pub mod Calling
 pub mod Suited

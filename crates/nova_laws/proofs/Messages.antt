@@ -30,10 +30,9 @@ use Rattle.nova_model.specs.declared.transfer.ItemWords.{ItemWords}
 use Rattle.nova_model.specs.declared.transfer.Sequel.{Sequel}
 use Rattle.nova_forest.proofs.Walk.{IfDone, deed_holds, sm_ctrl_holds}
 use Rattle.nova_laws.specs.Giving.{source_in}
-use Rattle.nova_laws.proofs.Giving.{more_at}
 use Rattle.nova_laws.proofs.Rows.{call_holds, makes_hold, named_holds, reply_holds, create_pd_holds}
 use Rattle.nova_laws.proofs.Awaiting.{Serves, waits_dead}
-use Rattle.nova_laws.proofs.Setting.{entry_other}
+use Rattle.nova_laws.proofs.Setting.{entry_other, more_at}
 
 -- WORDS
 

@@ -7,10 +7,11 @@ use Rattle.nova_model.specs.Choice.{Candidate, actor, candidate_of, candidate_wi
 use Rattle.nova_model.specs.Deeds.{deed}
 use Rattle.nova_model.specs.Edges.{acts, after_edges, chase, edge, met_within, or_itself, stays}
 use Rattle.nova_model.specs.State.{Contexts, KernelState, budget_at}
-use Rattle.nova_model.specs.Turn.{answer_of, event_of, turn, turn_by}
+use Rattle.nova_model.specs.Turn.{answer_of, event_of, turn}
 use Rattle.nova_model.specs.declared.budget.Budget.{Budget}
 use Rattle.nova_model.specs.declared.event.Event.{Event}
 use Rattle.nova_model.specs.declared.event.Turn.TheVariants.{Stepped}
+use Rattle.nova_forest.proofs.Turning as turning
 use Rattle.nova_forest.proofs.Turning.{of_event}
 use Rattle.nova_laws.specs.Events.{ActsFor, NamesChosen}
 use Rattle.nova_laws.proofs.Candidates.{schedule_of, the_chosen}
@@ -107,13 +108,15 @@ names k cpu c is =
 
 -- NONE IS CHOSEN
 
-none_by : (k : KernelState) (cpu : ℕ) (o : Option Candidate) → (option_map (λ (c : Candidate). c.sc) o ≡ None) ↔ (turn_by k cpu o ≡ None)
-none_by k cpu None = (λ h. refl, λ h. refl)
-none_by k cpu (Some c) = (λ h. absurd (cc), λ h. absurd (cc))
+nobody : (o : Option Candidate) → option_map (λ (c : Candidate). c.sc) o ≡ None → o ≡ None
+nobody None h = refl
+nobody (Some c) h = absurd (cc)
 
 pub none_chosen : (k : KernelState) (cpu : ℕ) → (choose k cpu ≡ None) ↔ (turn k cpu ≡ None)
-unfolding turn
-none_chosen k cpu = none_by k cpu (choice k cpu)
+none_chosen k cpu = (
+  λ h. turning.none_taken k cpu (nobody (choice k cpu) h),
+  λ h. ap (λ (o : Option Candidate). option_map (λ (c : Candidate). c.sc) o) (turning.none_chosen k cpu h),
+)
 
 pub event_names : (k : KernelState) (cpu : ℕ) (e : Event) → answer_of (turn k cpu) ≡ Stepped e → NamesChosen k cpu e
 event_names k cpu e steps = of_event (NamesChosen k cpu) k cpu e steps (λ c chosen state. names k cpu c chosen)

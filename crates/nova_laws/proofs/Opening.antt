@@ -60,6 +60,31 @@ Wants k ec (Sends handler ip identifier mtd reason q0 q1) = (is_giving (context 
 Wants k ec (Ups sm whom) = (is_giving (context k ec).state ≡ false) × (woken (semaphore k.semaphores sm) ≡ Ok whom)
 Wants k ec other = is_giving (context k ec).state ≡ false
 
+-- a part of an item, or the end of one
+abbrev pub is_of_item : Deed → Bool
+is_of_item (Gives child cursor) = true
+is_of_item (Skips reason place cursor) = true
+is_of_item (Finishes item end words after) = true
+is_of_item other = false
+
+-- what neither is one nor nothing
+abbrev pub is_apart : Deed → Bool
+is_apart Rests = false
+is_apart d = not (is_of_item d)
+
+-- is of one that doesn't give
+pub wants_quiet : (k : KernelState) (ec : ℕ) (d : Deed) → is_apart d ≡ true → Wants k ec d → is_giving (context k ec).state ≡ false
+wants_quiet k ec Rests apart wants = absurd cc
+wants_quiet k ec (Gives child cursor) apart wants = absurd cc
+wants_quiet k ec (Skips reason place cursor) apart wants = absurd cc
+wants_quiet k ec (Finishes item end words after) apart wants = absurd cc
+wants_quiet k ec (Opens target domain) apart wants = wants.0
+wants_quiet k ec (Calls handler ip identifier items) apart wants = wants.0
+wants_quiet k ec (Replies caller mark items) apart wants = wants.0
+wants_quiet k ec (Sends handler ip identifier mtd reason q0 q1) apart wants = wants.0
+wants_quiet k ec (Ups sm whom) apart wants = wants.0
+wants_quiet k ec other apart wants = wants
+
 -- WHAT A CALL WAS READ FROM
 
 -- a call that makes a protection domain and gives a range

@@ -5,12 +5,12 @@ use Rattle.nova_objects.specs.declared.object.Object.{Object}
 use Rattle.nova_model.specs.Boot.{Image, Scenario, bare, boot, with_image, with_images}
 use Rattle.nova_model.specs.Hypercalls.{ticks_in}
 use Rattle.std.proofs.lemmas.Bool.{eqb-true}
-use Rattle.nova_model.specs.Choice.{Candidate, choice, in_front}
+use Rattle.nova_model.specs.Choice.{Candidate, in_front}
 use Rattle.nova_model.specs.Creation.{budget_of, object_of}
 use Rattle.nova_model.specs.Deeds.{deed}
 use Rattle.nova_model.specs.Runs.{after, run, trace}
 use Rattle.nova_model.specs.State.{KernelState, budget_at, entry}
-use Rattle.nova_model.specs.Turn.{Step, answer_of, budget_after, event_of, is_spent, quantum_in, stamp_after, turn, turn_by}
+use Rattle.nova_model.specs.Turn.{Step, answer_of, budget_after, event_of, is_spent, quantum_in, stamp_after, turn}
 use Rattle.nova_model.specs.declared.budget.Budget.{Budget}
 use Rattle.nova_model.specs.declared.event.Event.{Event}
 use Rattle.nova_model.specs.declared.event.Turn.TheVariants.{Stepped}

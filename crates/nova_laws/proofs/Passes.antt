@@ -5,9 +5,9 @@ use Rattle.std.specs.List.{AllByRecursion, list_all, range_with_len}
 use Rattle.std.proofs.lemmas.List.{length-append}
 use Rattle.nova_model.specs.State.{KernelState}
 use Rattle.nova_model.specs.Choice.{choice, is_quiet}
-use Rattle.nova_model.specs.Turn.{turn, turn_by}
+use Rattle.nova_model.specs.Turn.{Step, turn}
+use Rattle.nova_forest.proofs.Turning.{none_chosen}
 use Rattle.nova_model.specs.Runs.{IsFreeOfIdle, after, run, pass, passes, rounds}
-use Rattle.nova_model.specs.Choice.{Candidate}
 use Rattle.nova_laws.specs.Orders.{IsRunOut}
 use Rattle.nova_laws.proofs.Processors.{run_cpus}
 
@@ -101,13 +101,12 @@ passes_within (suc n) k most =
 -- THE END
 
 -- a processor has no turn where it has no choice
-idle_by : (k : KernelState) (cpu : ℕ) (o : Option Candidate) → is_some (turn_by k cpu o) ≡ false → is_none o ≡ true
-idle_by k cpu (Some c) h = cc
-idle_by k cpu None h = refl
-
 idle : (k : KernelState) (cpu : ℕ) → is_some (turn k cpu) ≡ false → is_none (choice k cpu) ≡ true
-unfolding turn
-idle k cpu h = idle_by k cpu (choice k cpu) h
+idle k cpu h = ap is_none (none_chosen k cpu (none_is (turn k cpu) h))
+  where
+    none_is : (o : Option Step) → is_some o ≡ false → o ≡ None
+    none_is None none = refl
+    none_is (Some s) none = absurd (cc)
 
 -- a pass that may take a turn and takes none finds each processor idle
 pass_idle : (k : KernelState) (cpu count most : ℕ) → pass k cpu count (suc most) ≡ [] →

@@ -2,33 +2,30 @@
 use Rattle.std.proofs.Common.{◌≡◌, ℕ, ◌+◌, List, [], ◌∷◌, ◌++◌, refl, sym, ap, ap₂, ◌∙◌, subst}
 use Rattle.std.specs.List.{list_any}
 use Rattle.std.specs.Prelude.{Bool, true, false, ◌≤◌, true, false, option_map, slice_get, slice_index, slice_set, Option, Some, None}
-use Rattle.rv_model.specs.Step.{Once, Raised, Went}
 use Rattle.nova_objects.specs.declared.object.Object.{Object}
 use Rattle.nova_objects.specs.declared.object.Object.TheVariants.{Sc}
 use Rattle.nova_model.specs.Boot.{Image, Scenario, bare, boot, with_image, with_images}
 use Rattle.nova_model.specs.Capabilities.{is_schedulable}
 use Rattle.nova_model.specs.Choice.{Candidate, choice}
 use Rattle.nova_model.specs.Creation.{budget_of, object_of, stamp_past}
-use Rattle.nova_model.specs.Deeds.{after_item, deed, done, instruction, recalled, stepped, with_context, woken_in}
+use Rattle.nova_model.specs.Deeds.{deed}
 use Rattle.nova_model.specs.Hypercalls.{schedules}
 use Rattle.nova_model.specs.Runs.{after, run}
-use Rattle.nova_model.specs.State.{KernelState, budget_at, context, entry, pd_of}
-use Rattle.nova_model.specs.Turn.{budget_after, charged, counted, is_spent, paid, paid_by, quantum_in, stamp_after, state_after, turn, turn_by}
+use Rattle.nova_model.specs.State.{KernelState, budget_at, entry, pd_of}
+use Rattle.nova_model.specs.Turn.{budget_after, is_spent, quantum_in, stamp_after}
 use Rattle.nova_model.specs.declared.budget.Budget.{Budget}
-use Rattle.nova_model.specs.declared.context.EcState.{EcState}
-use Rattle.nova_model.specs.declared.context.Mark.TheVariants as mark
 use Rattle.nova_model.specs.declared.deed.Deed.{Deed}
-use Rattle.nova_model.specs.declared.deed.Deed.TheVariants.{Rests, Steps, Makes, Opens, Recalls, Finishes, Replies, Ups}
+use Rattle.nova_model.specs.declared.deed.Deed.TheVariants.{Makes, Opens}
 use Rattle.nova_model.specs.declared.new_object.NewObject.{NewObject}
 use Rattle.nova_model.specs.declared.new_object.NewObject.TheVariants as new
 use Rattle.nova_forest.specs.Made.{IsBoundBy}
 use Rattle.nova_forest.proofs.Allowed.{IsAllowed, deed_allowed}
-use Rattle.nova_forest.proofs.Stirred.{acted}
-use Rattle.nova_forest.specs.Effects.{joined, made_by, stamp_with}
-use Rattle.nova_forest.proofs.Doing.{done_is}
+use Rattle.nova_forest.specs.Effects.{applied, effect, joined, made_by, stamp_with}
+use Rattle.nova_forest.specs.Turns as turns
+use Rattle.nova_forest.specs.Turns.{budgets_paid, stamp_paid}
+use Rattle.nova_forest.proofs.Turning as turning
+use Rattle.nova_forest.proofs.Turning.{chosen_turn, run_keeps}
 use Rattle.nova_laws.proofs.Candidates.{HasSchedule, schedule_of, the_chosen}
-use Rattle.nova_laws.proofs.Charges.{ended_is}
-use Rattle.nova_laws.proofs.Refused.{turn_chosen}
 use Rattle.nova_laws.proofs.Setting.{entry_kept, get_kept}
 
 -- A DEED
@@ -45,24 +42,8 @@ adds k s ec (Makes call target made) asked objects budgets next = AddsOne made a
 adds k s ec (Opens target number) allowed objects budgets next = AddsOne new.Pd tt objects budgets next
 adds k s ec other allowed objects budgets next = AddsNone objects budgets next
 
-pub done_adds : (k : KernelState) (ec : ℕ) (d : Deed) → IsAllowed k ec d → Adds k (done k ec d) ec
-done_adds k ec d allowed =
-    let is = done_is k ec d in
-    adds k (done k ec d) ec d allowed (ap (λ (s : KernelState). s.objects) is) (ap (λ (s : KernelState). s.budgets) is) (ap (λ (s : KernelState). s.next_stamp) is)
-
--- and so does a state with the same
-same_adds : (k s new : KernelState) (ec : ℕ) → new.objects ≡ s.objects → new.budgets ≡ s.budgets → new.next_stamp ≡ s.next_stamp → Adds k s ec → Adds k new ec
-same_adds k s new ec o b n (AddsNone objects budgets next) = AddsNone (o ∙ objects) (b ∙ budgets) (n ∙ next)
-same_adds k s new ec o b n (AddsOne made bound objects budgets next) = AddsOne made bound (o ∙ objects) (b ∙ budgets) (n ∙ next)
-
--- it leaves the counts of turns
-pub record KeepsCounts (old new : KernelState) : Type 0 where
-  pub processors : new.stirs.processors ≡ old.stirs.processors
-  pub turns : new.turns ≡ old.turns
-
-done_counts : (k : KernelState) (ec : ℕ) (d : Deed) → KeepsCounts k (done k ec d)
-done_counts k ec d =
-    let is = done_is k ec d in record { processors = ap (λ (s : KernelState). s.stirs.processors) is; turns = ap (λ (s : KernelState). s.turns) is }
+pub applied_adds : (k : KernelState) (ec : ℕ) (d : Deed) → IsAllowed k ec d → Adds k (applied k (effect k ec d)) ec
+applied_adds k ec d allowed = adds k (applied k (effect k ec d)) ec d allowed refl refl refl
 
 -- what is there stays
 pub still_budget : (k s : KernelState) (ec n : ℕ) (b : Budget) → Adds k s ec → budget_at k n ≡ Some b → budget_at s n ≡ Some b
@@ -94,21 +75,14 @@ pub spent_ticks : (t : Bool) (quantum stamp : ℕ) (b : Budget) → (budget_afte
 spent_ticks true quantum stamp b = refl
 spent_ticks false quantum stamp b = refl
 
-charge_is : (k : KernelState) (cpu sc quantum : ℕ) (b : Budget) → budget_at k sc ≡ Some b → quantum_in (slice_get k.objects sc) ≡ quantum →
-    charged k cpu sc ≡ counted (paid k sc quantum b) cpu
-unfolding charged
-charge_is k cpu sc quantum b is whole = ap₂ (λ (o : Option Budget) (q : ℕ). counted (paid_by k sc q o) cpu) is whole
-
 pub turn_is : (k : KernelState) (cpu : ℕ) (c : Candidate) → choice k cpu ≡ Some c → IsTurn k (after k cpu) cpu c
 turn_is k cpu c chosen =
     let its = schedule_of k cpu c (the_chosen k cpu c chosen) in
-    let s = acted k c.actor in
-    let adds = same_adds k (done k c.actor (deed k c.actor)) s c.actor refl refl refl (done_adds k c.actor (deed k c.actor) (deed_allowed k c.actor)) in
-    let counts = done_counts k c.actor (deed k c.actor) in
+    let s = applied k (effect k c.actor (deed k c.actor)) in
+    let adds = applied_adds k c.actor (deed k c.actor) (deed_allowed k c.actor) in
     let object = still_object k s c.actor c.sc (Sc its.ec cpu its.priority its.quantum) adds its.object in
     let there = still_budget k s c.actor c.sc its.budget adds its.there in
-    let whole = ap quantum_in object in
-    subst (λ (new : KernelState). IsTurn k new cpu c) (sym (turn_chosen k cpu c chosen ∙ charge_is s cpu c.sc its.quantum its.budget there whole))
+    subst (λ (new : KernelState). IsTurn k new cpu c) (sym (chosen_turn k cpu c chosen))
     (record {
       its = its;
       between = s;
@@ -116,10 +90,10 @@ turn_is k cpu c chosen =
       object = object;
       there = there;
       objects = refl;
-      budgets = refl;
-      next = refl;
-      processors = ap (λ (l : List ℕ). slice_set l cpu (slice_index l cpu + 1)) counts.processors;
-      turns = ap (λ (n : ℕ). n + 1) counts.turns;
+      budgets = ap₂ (λ (o : Option Budget) (q : ℕ). budgets_paid s.budgets c.sc q s.next_stamp o) there (ap quantum_in object);
+      next = ap (stamp_paid s.next_stamp) there;
+      processors = refl;
+      turns = refl;
     })
 
 -- what a turn of a processor comes to, by its choice
@@ -127,16 +101,11 @@ pub data Comes (k new : KernelState) (cpu : ℕ) : Type 0 where
   Idles : choice k cpu ≡ None → new ≡ k → Comes k new cpu
   Takes : (c : Candidate) → choice k cpu ≡ Some c → IsTurn k new cpu c → Comes k new cpu
 
-pub idle_is : (k : KernelState) (cpu : ℕ) → choice k cpu ≡ None → after k cpu ≡ k
-unfolding turn
-idle_is k cpu is = ap (λ (o : Option Candidate). state_after k (turn_by k cpu o)) is
-
 pub comes : (k : KernelState) (cpu : ℕ) → Comes k (after k cpu) cpu
-comes k cpu = by_choice (choice k cpu) refl
-  where
-    by_choice : (o : Option Candidate) → choice k cpu ≡ o → Comes k (after k cpu) cpu
-    by_choice None is = Idles is (idle_is k cpu is)
-    by_choice (Some c) is = Takes c is (turn_is k cpu c is)
+comes k cpu = elim (turning.comes k cpu) [
+  | turns.Idles none same answer ↦ Idles none same
+  | turns.Takes t e is state answer ↦ elim is [ turns.Acts c chosen acts event ↦ Takes c chosen (turn_is k cpu c chosen) ]
+]
 
 -- WHAT TURNS KEEP
 
@@ -180,8 +149,7 @@ after_holds P lasts k cpu h = by_turn (after k cpu) (comes k cpu)
         (lasts.pays b.objects b.budgets b.next_stamp c.sc t.its.ec cpu t.its.priority t.its.quantum t.its.budget t.object t.there held)
 
 run_holds : (P : List Object → List (Option Budget) → ℕ → Type 0) → Lasts P → (k : KernelState) (turns : List ℕ) → Holds P k → Holds P (run k turns)
-run_holds P lasts k [] h = h
-run_holds P lasts k (cpu ∷ turns) h = run_holds P lasts (after k cpu) turns (after_holds P lasts k cpu h)
+run_holds P lasts k turns h = run_keeps (Holds P) (after_holds P lasts) k turns h
 
 images_hold : (P : List Object → List (Option Budget) → ℕ → Type 0) (k : KernelState) (images : List Image) → Holds P k → Holds P (with_images k images)
 images_hold P k [] h = h

@@ -1,73 +1,64 @@
--- Items are given in order: what each deed leaves of words, and where whoever gives is then; the charge, and the fold over turns.
+-- Items are given in order: what each deed leaves of words, and where whoever gives is then.
 use Rattle.std.proofs.Common.{◌≡◌, ◌<◌, ℕ, ◌+◌, List, length, refl, ap, ◌∙◌, sym, subst, arith}
-use Rattle.std.specs.Prelude.{◌≢◌, Bool, true, false, nat_lt, if◌then◌else◌, slice_set, Option, Some, None}
+use Rattle.std.specs.Prelude.{◌≢◌, Bool, true, false, nat_lt, if◌then◌else◌, slice_set, Option, Some, None, IfSome, option_map}
 use Rattle.std.proofs.lemmas.Bool.Decides.{nat_tests}
-use Rattle.rv_model.specs.Step.{Once, Raised, Went, Store}
-use Rattle.nova_objects.specs.declared.object.Object.TheVariants.{Pd}
-use Rattle.nova_range.specs.declared.mtd.Mtd.{Mtd}
+use Rattle.rv_model.specs.Step.{Store}
 use Rattle.nova_range.specs.declared.status.Status.TheVariants.{Success}
-use Rattle.nova_utcb.specs.Messages.{counted_items, has_counts, has_items}
-use Rattle.nova_model.specs.AddressSpaces.{stored_among, words_at}
-use Rattle.nova_model.specs.Creation.{context_of, object_of}
-use Rattle.nova_model.specs.Deeds.{address_space, after_item, answered, changed, done, instruction, parked, recalled, serving, stepped, transfer_after, with_context, woken_in}
+use Rattle.nova_utcb.specs.Messages.{counted_items}
+use Rattle.nova_model.specs.AddressSpaces.{words_at}
+use Rattle.nova_model.specs.Creation.{context_of, object_of, transfer_of, words_of}
+use Rattle.nova_model.specs.Deeds.{address_space, answered, instruction, parked, resumed, serving, transfer_after}
 use Rattle.nova_model.specs.Deliveries.{delivery, given_to, sequel_of, taken_from}
-use Rattle.nova_model.specs.Edges.{acts, state_in}
-use Rattle.nova_model.specs.Runs.{after}
-use Rattle.nova_model.specs.Semaphores.{upped}
-use Rattle.nova_model.specs.State.{KernelState, context, context_in, ec_in, ec_of, message, no_transfer, transfer, with_ec}
+use Rattle.nova_model.specs.Edges.{acts}
+use Rattle.nova_model.specs.Inputs.{store_of}
+use Rattle.nova_model.specs.State.{KernelState, Contexts, context, context_in, ec_in, ec_of, is_local_thread, message, no_transfer, transfer, with_ec}
 use Rattle.nova_model.specs.declared.context.EcState.{EcState}
 use Rattle.nova_model.specs.declared.context.Mark.{Mark}
 use Rattle.nova_model.specs.declared.context.Mark.TheVariants as mark
 use Rattle.nova_model.specs.declared.context.State.{State}
-use Rattle.nova_model.specs.declared.context.State.TheVariants.{Parked, Calling, Granting, Replying}
+use Rattle.nova_model.specs.declared.context.State.TheVariants.{Ready, Calling, Granting, Replying, Blocked}
 use Rattle.nova_model.specs.declared.deed.Deed.{Deed}
-use Rattle.nova_model.specs.declared.deed.Deed.TheVariants.{Rests, Steps, Raises, Dies, Waits, Sends, Refuses, Makes, Recalls, Tells, Names, Opens, Gives, Skips, Finishes, Calls, Helps, Replies, Aborts, Revokes, Removes, Returns, Ups, Downs, Blocks}
+use Rattle.nova_model.specs.declared.deed.Deed.TheVariants.{Steps, Sends, Gives, Skips, Finishes, Calls, Replies}
+use Rattle.nova_model.specs.declared.new_object.NewObject.{NewObject}
 use Rattle.nova_model.specs.declared.transfer.Delivery.{Delivery}
-use Rattle.nova_model.specs.declared.transfer.ItemEnd.{ItemEnd}
 use Rattle.nova_model.specs.declared.transfer.ItemWords.{ItemWords}
 use Rattle.nova_model.specs.declared.transfer.Sequel.{Sequel}
 use Rattle.nova_model.specs.declared.transfer.Sequel.TheVariants as sequel
 use Rattle.nova_model.specs.declared.transfer.Transfer.{Transfer}
+use Rattle.nova_forest.specs.Effects.{applied, effect, item_words, joined, made_by, put, store_words, words_by, words_stored}
 use Rattle.nova_laws.specs.Giving.{is_giving, source_in}
-use Rattle.nova_laws.proofs.Counting.{at}
-use Rattle.nova_laws.proofs.Giving.{Sound, entry_rests, quiet_by, resumed_quiet}
-use Rattle.nova_laws.proofs.Messages.{IsFinish, NoSource, Shows, more_words, other_words, some_items, words_in}
-use Rattle.nova_laws.proofs.Opening.{Wants}
-use Rattle.nova_laws.proofs.Awaiting.{Serves, not_parked, not_served, not_dead, caller_there, served_waits}
+use Rattle.nova_laws.proofs.Awaiting.{Serves, served_waits}
+use Rattle.nova_laws.proofs.Counting.{apart_stays}
+use Rattle.nova_laws.proofs.Courses.{Courses, IsCall, IsReply, IsSelf, MayCome, deed_course}
+use Rattle.nova_laws.proofs.Fitting.{Fits}
+use Rattle.nova_laws.proofs.Giving.{Sound, at, entry_rests, parked_quiet, quiet_own, resumed_quiet, serves_in, transfers_by, transfers_for}
 use Rattle.nova_laws.proofs.Items.{AreBounded, Bound, Bounded, BoundedEntry, entry_item, give_bounded, joins_bounded, new_quiet, own_none, parked_none, rests_bounded, reword, set_bounded, state_of, told_none, waiting_none}
+use Rattle.nova_laws.proofs.Messages.{IsFinish, NoSource, Shows, more_words, other_words, some_items, words_in}
+use Rattle.nova_laws.proofs.Opening.{Wants, is_of_item}
+use Rattle.nova_laws.proofs.Referring.{Asks}
+use Rattle.nova_laws.proofs.Serving.{IsActor, IsReached, actor_of, awaited, reached_apart}
 
 -- WORDS STAY
 
 abbrev pub Keeps : KernelState → List (Option (List ℕ)) → Type 0
 Keeps k ns = (e g : ℕ) (x : EcState) → ec_in k.contexts e ≡ Some x → source_in e x.state x.caller ≡ Some g → words_in ns g ≡ words_in k.messages g
 
-writes : (k : KernelState) (w : ℕ) (m : List ℕ) → NoSource k.contexts w → Keeps k (slice_set k.messages w (Some m))
-writes k w m none e g x is of = other_words k.messages w g m (λ same. none e x is (of ∙ ap Some same))
+put_keeps : (k : KernelState) (o : Option (ℕ × List ℕ)) → IfSome o (λ w. NoSource k.contexts w.0) → Keeps k (put k.messages o)
+put_keeps k None none e g x is of = refl
+put_keeps k (Some (w, m)) none e g x is of = other_words k.messages w g m (λ same. none e x is (of ∙ ap Some same))
 
-stored_keeps : (k : KernelState) (ec : ℕ) (s : Store) (o : Option (List ℕ)) → NoSource k.contexts ec → Keeps k (stored_among k.messages ec s o)
-stored_keeps k ec s None none e g x is of = refl
-stored_keeps k ec s (Some m) none e g x is of = writes k ec _ none e g x is of
+stored_none : (k : KernelState) (ec : ℕ) (s : Option Store) → NoSource k.contexts ec → IfSome (store_words (address_space k ec) ec s) (λ w. NoSource k.contexts w.0)
+stored_none k ec None none = tt
+stored_none k ec (Some s) none = by_words (words_at (address_space k ec) s.address)
+  where
+    by_words : (o : Option (List ℕ)) → IfSome (words_stored ec s o) (λ w. NoSource k.contexts w.0)
+    by_words None = tt
+    by_words (Some m) = none
 
-stepped_keeps : (k : KernelState) (ec : ℕ) (o : Once) → NoSource k.contexts ec → Keeps k (stepped k ec o).messages
-stepped_keeps k ec (Raised reason q0 q1) none e g x is of = refl
-stepped_keeps k ec (Went regs None) none e g x is of = refl
-stepped_keeps k ec (Went regs (Some s)) none e g x is of = stored_keeps k ec s (words_at (address_space k ec) s.address) none e g x is of
-
-recalled_keeps : (k s : KernelState) (other : ℕ) (o : Option EcState) → s.messages ≡ k.messages → Keeps k (recalled s other o).messages
-recalled_keeps k s other None same e g x is of = ap (λ (ms : List (Option (List ℕ))). words_in ms g) same
-recalled_keeps k s other (Some y) same e g x is of = ap (λ (ms : List (Option (List ℕ))). words_in ms g) same
-
-finished_keeps : (k : KernelState) (ec item : ℕ) (end : ItemEnd) (words : Option ItemWords) (after : Sequel) → IsFinish k ec item words after → acts k.contexts ec ≡ true →
-    Serves k.contexts → Keeps k (done k ec (Finishes item end words after)).messages
-finished_keeps k ec item end None sequel.Item f able serves e g x is of = refl
-finished_keeps k ec item end None sequel.Opened f able serves e g x is of = refl
-finished_keeps k ec item end None sequel.Taken f able serves e g x is of = refl
-finished_keeps k ec item end None (sequel.Replied caller mark) f able serves e g x is of = refl
-finished_keeps k ec item end (Some w) sequel.Item f able serves e g x is of = writes k w.ec _ (told_none k ec item w sequel.Item able serves f) e g x is of
-finished_keeps k ec item end (Some w) sequel.Opened f able serves e g x is of = writes k w.ec _ (told_none k ec item w sequel.Opened able serves f) e g x is of
-finished_keeps k ec item end (Some w) sequel.Taken f able serves e g x is of = writes k w.ec _ (told_none k ec item w sequel.Taken able serves f) e g x is of
-finished_keeps k ec item end (Some w) (sequel.Replied caller mark) f able serves e g x is of =
-    writes k w.ec _ (told_none k ec item w (sequel.Replied caller mark) able serves f) e g x is of
+item_none : (k : KernelState) (ec item : ℕ) (words : Option ItemWords) (after : Sequel) → acts k.contexts ec ≡ true → Serves k.contexts → IsFinish k ec item words after →
+    IfSome (item_words k item words) (λ w. NoSource k.contexts w.0)
+item_none k ec item None after able serves f = tt
+item_none k ec item (Some w) after able serves f = told_none k ec item w after able serves f
 
 caller_none : (k : KernelState) (ec caller : ℕ) (mark : Mark) → acts k.contexts ec ≡ true → Serves k.contexts → is_giving (context k ec).state ≡ false →
     (context k ec).caller ≡ Some (caller, mark) → NoSource k.contexts caller
@@ -75,39 +66,36 @@ caller_none k ec caller mark able serves quiet has =
     waiting_none k.contexts ec caller serves (served_waits k ec caller mark able serves has)
     (λ taking. (let gives = ap is_giving (state_of k.contexts ec (Granting None) taking) in absurd (cc)))
 
-woken_words : (k : KernelState) (whom : Option ℕ) → (woken_in k whom).messages ≡ k.messages
-woken_words k None = refl
-woken_words k (Some w) = refl
+-- nobody gives from where a deed writes
+written_none : (k : KernelState) (ec : ℕ) (d : Deed) → Wants k ec d → Shows k ec d → acts k.contexts ec ≡ true → Serves k.contexts →
+    IfSome (words_by k ec d) (λ w. NoSource k.contexts w.0)
+written_none k ec Steps wants shows able serves = stored_none k ec (store_of (instruction k ec)) (own_none k ec able serves wants)
+written_none k ec (Calls handler ip identifier items) wants shows able serves = parked_none k.contexts handler serves wants.1
+written_none k ec (Sends handler ip identifier mtd reason q0 q1) wants shows able serves = parked_none k.contexts handler serves wants.1
+written_none k ec (Replies caller mark.Call items) wants shows able serves = caller_none k ec caller mark.Call able serves wants.0 wants.1
+written_none k ec (Finishes item end words after) wants shows able serves = item_none k ec item words after able serves shows
+written_none k ec other wants shows able serves = tt
 
-pub done_keeps : (k : KernelState) (ec : ℕ) (d : Deed) → Wants k ec d → Shows k ec d → acts k.contexts ec ≡ true → Serves k.contexts → Keeps k (done k ec d).messages
-done_keeps k ec Steps wants shows able serves e g x is of = stepped_keeps k ec (instruction k ec) (own_none k ec able serves wants) e g x is of
-done_keeps k ec (Makes call target made) wants shows able serves e g x is of = more_words k.messages (object_of made) g
-done_keeps k ec (Opens target domain) wants shows able serves e g x is of = more_words k.messages Pd g
-done_keeps k ec (Recalls other) wants shows able serves e g x is of =
-    recalled_keeps k (with_context k ec (changed (context k ec) (Recalls other))) other _ refl e g x is of
-done_keeps k ec (Finishes item end words after) wants shows able serves e g x is of = finished_keeps k ec item end words after shows able serves e g x is of
-done_keeps k ec (Calls handler ip identifier items) wants shows able serves e g x is of =
-    writes k handler _ (parked_none k.contexts handler serves wants.1) e g x is of
-done_keeps k ec (Replies caller mark.Call true) wants shows able serves e g x is of =
-    writes k caller _ (caller_none k ec caller mark.Call able serves wants.0 wants.1) e g x is of
-done_keeps k ec (Replies caller mark.Call false) wants shows able serves e g x is of =
-    writes k caller _ (caller_none k ec caller mark.Call able serves wants.0 wants.1) e g x is of
-done_keeps k ec (Replies caller mark.Exit true) wants shows able serves e g x is of = refl
-done_keeps k ec (Replies caller mark.Exit false) wants shows able serves e g x is of = refl
-done_keeps k ec (Sends handler ip identifier mtd reason q0 q1) wants shows able serves e g x is of =
-    writes k handler _ (parked_none k.contexts handler serves wants.1) e g x is of
-done_keeps k ec (Ups sm whom) wants shows able serves e g x is of = ap (λ (ms : List (Option (List ℕ))). words_in ms g) (woken_words _ whom)
-done_keeps k ec d wants shows able serves e g x is of = refl
+-- message words when a deed is done, but for an object that joins
+abbrev words_after : KernelState → ℕ → Deed → List (Option (List ℕ))
+words_after k ec d = put k.messages (words_by k ec d)
+
+written_keeps : (k : KernelState) (ec : ℕ) (d : Deed) → Wants k ec d → Shows k ec d → acts k.contexts ec ≡ true → Serves k.contexts → Keeps k (words_after k ec d)
+written_keeps k ec d wants shows able serves = put_keeps k (words_by k ec d) (written_none k ec d wants shows able serves)
+
+joined_words : (ms : List (Option (List ℕ))) (made : Option NewObject) (g : ℕ) → words_in (joined ms (option_map (λ m. words_of (object_of m)) made)) g ≡ words_in ms g
+joined_words ms None g = refl
+joined_words ms (Some made) g = more_words ms (object_of made) g
+
+pub applied_keeps : (k : KernelState) (ec : ℕ) (d : Deed) → Wants k ec d → Shows k ec d → acts k.contexts ec ≡ true → Serves k.contexts →
+    Keeps k (applied k (effect k ec d)).messages
+applied_keeps k ec d wants shows able serves e g x is of = joined_words (words_after k ec d) (made_by d) g ∙ written_keeps k ec d wants shows able serves e g x is of
 
 -- WHERE WHOEVER GIVES IS
 
 to_entry : (ms : List (Option (List ℕ))) (e : ℕ) (o : Option EcState) (t : Transfer) → Bounded ms e (context_in o).state (context_in o).caller t → BoundedEntry ms e o t
 to_entry ms e None t h = tt
 to_entry ms e (Some x) t h = h
-
-from_entry : (ms : List (Option (List ℕ))) (e : ℕ) (o : Option EcState) (t : Transfer) → BoundedEntry ms e o t → Bounded ms e (context_in o).state (context_in o).caller t
-from_entry ms e None t h = tt
-from_entry ms e (Some x) t h = h
 
 begins_at : (ms : List (Option (List ℕ))) (e : ℕ) (s : State) (c : Option (ℕ × Mark)) (t : Transfer) → Bounded ms e s c t → Bounded ms e s c no_transfer
 begins_at ms e (Granting (Some new)) c t h = refl
@@ -165,147 +153,116 @@ bounded_by k ec n Replying v t is below at = by_caller (context k ec).caller is
     by_caller (Some (caller, mark)) e = let items : counted_items (message k ec) ≡ v.items = cc in omega (arith, below, at, items)
 bounded_by k ec n other v t is below at = tt
 
--- an item ended: the next one, or none
-next_bound : (k : KernelState) (ec item : ℕ) (words : Option ItemWords) (ns : List (Option (List ℕ))) → IsFinish k ec item words sequel.Item → Keeps k ns → Bound k →
-    AreBounded ns (with_ec k.contexts ec (context k ec)) (slice_set k.transfers ec (Some (transfer_after item sequel.Item)))
-next_bound k ec item words ns f keeps h =
+-- TRANSFERS AND WORDS
+
+-- an item ended: the next one
+next_bound : (k : KernelState) (ec item : ℕ) (words : Option ItemWords) → IsFinish k ec item words sequel.Item → Bound k →
+    AreBounded k.messages k.contexts (slice_set k.transfers ec (Some (transfer_after item sequel.Item)))
+next_bound k ec item words f h =
     let t = transfer_after item sequel.Item in
-    let ts = slice_set k.transfers ec (Some t) in
     let below = next_below k ec (transfer k ec).item f.present_item f.present f.follows in
     let now = bounded_by k ec ((transfer k ec).item + 1) (context k ec).state f.present_item t f.present below (ap (λ (n : ℕ). n + 1) f.number) in
-    let begun = reword k.messages ns k.contexts ts keeps (give_bounded k.messages k.contexts k.transfers ec t (to_entry k.messages ec (ec_in k.contexts ec) t now) h) in
-    set_bounded ns k.contexts ts ec (context k ec) (from_entry ns ec (ec_in k.contexts ec) (at ts ec) (begun ec)) begun
+    give_bounded k.messages k.contexts k.transfers ec t (to_entry k.messages ec (ec_in k.contexts ec) t now) h
 
-ends_bound : (k : KernelState) (ec : ℕ) (x : EcState) (ns : List (Option (List ℕ))) → is_giving x.state ≡ false → Keeps k ns → Bound k →
-    AreBounded ns (with_ec k.contexts ec x) (slice_set k.transfers ec (Some no_transfer))
-ends_bound k ec x ns quiet keeps h =
-    let ts = slice_set k.transfers ec (Some no_transfer) in
-    rests_bounded ns k.contexts ts ec x quiet
-    (reword k.messages ns k.contexts ts keeps
-    (give_bounded k.messages k.contexts k.transfers ec no_transfer (entry_begins k.messages ec (ec_in k.contexts ec) (transfer k ec) (h ec)) h))
-
-finished_bound : (k : KernelState) (ec item : ℕ) (end : ItemEnd) (words : Option ItemWords) (after : Sequel) → IsFinish k ec item words after →
-    Keeps k (done k ec (Finishes item end words after)).messages → Bound k → Bound (done k ec (Finishes item end words after))
-finished_bound k ec item end None sequel.Item f keeps h = next_bound k ec item None _ f keeps h
-finished_bound k ec item end None sequel.Opened f keeps h = ends_bound k ec (after_item (context k ec) sequel.Opened) _ refl keeps h
-finished_bound k ec item end None sequel.Taken f keeps h = ends_bound k ec (after_item (context k ec) sequel.Taken) _ refl keeps h
-finished_bound k ec item end None (sequel.Replied caller mark) f keeps h =
-    rests_bounded _ (with_ec k.contexts ec (parked (context k ec))) _ caller _ (resumed_quiet (ec_of (with_ec k.contexts ec (parked (context k ec))) caller) mark _) (ends_bound k ec (parked (context k ec)) _ refl keeps h)
-finished_bound k ec item end (Some w) sequel.Item f keeps h = next_bound k ec item (Some w) _ f keeps h
-finished_bound k ec item end (Some w) sequel.Opened f keeps h = ends_bound k ec (after_item (context k ec) sequel.Opened) _ refl keeps h
-finished_bound k ec item end (Some w) sequel.Taken f keeps h = ends_bound k ec (after_item (context k ec) sequel.Taken) _ refl keeps h
-finished_bound k ec item end (Some w) (sequel.Replied caller mark) f keeps h =
-    rests_bounded _ (with_ec k.contexts ec (parked (context k ec))) _ caller _ (resumed_quiet (ec_of (with_ec k.contexts ec (parked (context k ec))) caller) mark _) (ends_bound k ec (parked (context k ec)) _ refl keeps h)
-
--- its own change, after which it gives nothing
-quiets : (k : KernelState) (ec : ℕ) (x : EcState) → is_giving x.state ≡ false → Bound k → Bound (with_context k ec x)
-quiets k ec x quiet h = rests_bounded k.messages k.contexts k.transfers ec x quiet h
-
-stepped_bound : (k : KernelState) (ec : ℕ) (o : Once) → is_giving (context k ec).state ≡ false → Keeps k (stepped k ec o).messages → Bound k → Bound (stepped k ec o)
-stepped_bound k ec (Raised reason q0 q1) quiet keeps h = h
-stepped_bound k ec (Went regs store) quiet keeps h =
-    rests_bounded _ k.contexts k.transfers ec (record (context k ec) { regs = regs }) quiet (reword k.messages _ k.contexts k.transfers keeps h)
-
-recalled_bound : (k : KernelState) (other : ℕ) (o : Option EcState) → ec_in k.contexts other ≡ o → Bound k → Bound (recalled k other o)
-recalled_bound k other None is h = h
-recalled_bound k other (Some x) is h =
-    set_bounded k.messages k.contexts k.transfers other (record x { recall = true })
-    (subst (λ (o : Option EcState). BoundedEntry k.messages other o (at k.transfers other)) is (h other)) h
-
-sent_bound : (k : KernelState) (ec handler ip identifier : ℕ) (items : Bool) → state_in k.contexts handler ≡ Some Parked → handler ≢ ec →
-    (has_counts (message k ec) ≡ true) × (items ≡ has_items (message k ec)) → Sound k → Keeps k (done k ec (Calls handler ip identifier items)).messages → Bound k →
-    Bound (done k ec (Calls handler ip identifier items))
-sent_bound k ec handler ip identifier true idle apart shows sound keeps h =
-    let x = record (context k ec) { state = Calling handler } in
-    let ns = (done k ec (Calls handler ip identifier true)).messages in
-    let quiet = quiet_by k.contexts handler Parked idle refl in
-    let none = ap (λ (t : Transfer). t.item) (entry_rests k.objects (ec_in k.contexts handler) (transfer k handler) quiet (sound handler)) in
-    let words = other_words k.messages handler ec _ (λ same. apart (sym same)) in
-    let some = some_items (message k ec) shows.0 (sym shows.1) in
-    set_bounded ns (with_ec k.contexts ec x) k.transfers handler (serving (ec_of (with_ec k.contexts ec x) handler) ec mark.Call ip identifier true)
-    (subst (λ (m : List ℕ). (at k.transfers handler).item < counted_items m) (sym words) (omega (arith, none, some)))
-    (rests_bounded ns k.contexts k.transfers ec x refl (reword k.messages ns k.contexts k.transfers keeps h))
-sent_bound k ec handler ip identifier false idle apart shows sound keeps h =
-    let x = record (context k ec) { state = Calling handler } in
-    let ns = (done k ec (Calls handler ip identifier false)).messages in
-    rests_bounded ns (with_ec k.contexts ec x) k.transfers handler (serving (ec_of (with_ec k.contexts ec x) handler) ec mark.Call ip identifier false) refl
-    (rests_bounded ns k.contexts k.transfers ec x refl (reword k.messages ns k.contexts k.transfers keeps h))
-
--- an exit is sent, and its handler gives nothing
-exit_sent_bound : (k : KernelState) (ec handler ip identifier : ℕ) (mtd : Mtd) (reason q0 q1 : ℕ) → Keeps k (done k ec (Sends handler ip identifier mtd reason q0 q1)).messages →
-    Bound k → Bound (done k ec (Sends handler ip identifier mtd reason q0 q1))
-exit_sent_bound k ec handler ip identifier mtd reason q0 q1 keeps h =
-    let x = record (context k ec) { state = Calling handler } in
-    let ns = (done k ec (Sends handler ip identifier mtd reason q0 q1)).messages in
-    rests_bounded ns (with_ec k.contexts ec x) k.transfers handler (serving (ec_of (with_ec k.contexts ec x) handler) ec mark.Exit ip identifier false) refl
-    (rests_bounded ns k.contexts k.transfers ec x refl (reword k.messages ns k.contexts k.transfers keeps h))
-
--- who is woken gives nothing
-woken_bound : (k : KernelState) (whom : Option ℕ) → Bound k → Bound (woken_in k whom)
-woken_bound k None h = h
-woken_bound k (Some w) h = quiets k w _ refl h
-
-replied_bound : (k : KernelState) (ec caller : ℕ) (mark : Mark) (items : Bool) → is_giving (context k ec).state ≡ false → caller ≢ ec →
-    (has_counts (message k ec) ≡ true) × (items ≡ has_items (message k ec)) → Sound k → Keeps k (done k ec (Replies caller mark items)).messages → Bound k →
-    Bound (done k ec (Replies caller mark items))
-replied_bound k ec caller mark.Exit true quiet apart shows sound keeps h =
-    let none = ap (λ (t : Transfer). t.item) (entry_rests k.objects (ec_in k.contexts ec) (transfer k ec) quiet (sound ec)) in
-    let some = some_items (message k ec) shows.0 (sym shows.1) in
-    set_bounded k.messages k.contexts k.transfers ec (changed (context k ec) (Replies caller mark.Exit true)) (omega (arith, none, some)) h
-replied_bound k ec caller mark.Call true quiet apart shows sound keeps h =
-    let ns = (done k ec (Replies caller mark.Call true)).messages in
-    let none = ap (λ (t : Transfer). t.item) (entry_rests k.objects (ec_in k.contexts ec) (transfer k ec) quiet (sound ec)) in
-    let words = other_words k.messages caller ec _ (λ same. apart (sym same)) in
-    let some = some_items (message k ec) shows.0 (sym shows.1) in
-    set_bounded ns k.contexts k.transfers ec (changed (context k ec) (Replies caller mark.Call true))
-    (subst (λ (m : List ℕ). (at k.transfers ec).item < counted_items m) (sym words) (omega (arith, none, some)))
-    (reword k.messages ns k.contexts k.transfers keeps h)
-replied_bound k ec caller mark.Call false quiet apart shows sound keeps h =
-    let ns = (done k ec (Replies caller mark.Call false)).messages in
-    rests_bounded ns (with_ec k.contexts ec (parked (context k ec))) k.transfers caller _ refl
-    (rests_bounded ns k.contexts k.transfers ec (parked (context k ec)) refl (reword k.messages ns k.contexts k.transfers keeps h))
-replied_bound k ec caller mark.Exit false quiet apart shows sound keeps h =
-    let ns = (done k ec (Replies caller mark.Exit false)).messages in
-    rests_bounded ns (with_ec k.contexts ec (parked (context k ec))) k.transfers caller _ refl
-    (rests_bounded ns k.contexts k.transfers ec (parked (context k ec)) refl (reword k.messages ns k.contexts k.transfers keeps h))
-
-opened_bound : (k : KernelState) (ec target domain : ℕ) → is_giving (context k ec).state ≡ false → Sound k → Bound k → Bound (done k ec (Opens target domain))
-opened_bound k ec target domain quiet sound h =
-    let x = changed (context k ec) (Opens target domain) in
-    let none = ap (λ (t : Transfer). t.item) (entry_rests k.objects (ec_in k.contexts ec) (transfer k ec) quiet (sound ec)) in
-    joins_bounded k.messages (with_ec k.contexts ec x) k.transfers Pd None (λ e t. tt) (set_bounded k.messages k.contexts k.transfers ec x none h)
-
-parked_apart : (k : KernelState) (ec handler : ℕ) → acts k.contexts ec ≡ true → state_in k.contexts handler ≡ Some Parked → handler ≢ ec
-parked_apart k ec handler able idle same = absurd (not_parked k.contexts ec able (subst (λ (n : ℕ). state_in k.contexts n ≡ Some Parked) same idle))
-
-caller_apart : (k : KernelState) (ec caller : ℕ) (mark : Mark) → acts k.contexts ec ≡ true → Serves k.contexts → (context k ec).caller ≡ Some (caller, mark) → caller ≢ ec
-caller_apart k ec caller mark able serves has =
-    not_served k.contexts ec ec caller mark able serves (not_dead k.contexts ec able) (caller_there (ec_in k.contexts ec) caller mark has)
-
-pub done_bound : (k : KernelState) (ec : ℕ) (d : Deed) → Wants k ec d → Shows k ec d → acts k.contexts ec ≡ true → Serves k.contexts → Sound k →
-    Keeps k (done k ec d).messages → Bound k → Bound (done k ec d)
-done_bound k ec Rests wants shows able serves sound keeps h = h
-done_bound k ec Steps wants shows able serves sound keeps h = stepped_bound k ec (instruction k ec) wants keeps h
-done_bound k ec (Makes call target made) wants shows able serves sound keeps h =
-    joins_bounded k.messages (with_ec k.contexts ec (changed (context k ec) (Makes call target made))) k.transfers (object_of made) (context_of (length k.objects) made)
-    (new_quiet (length k.objects) made _) (quiets k ec (changed (context k ec) (Makes call target made)) refl h)
-done_bound k ec (Recalls other) wants shows able serves sound keeps h =
-    recalled_bound (with_context k ec (changed (context k ec) (Recalls other))) other _ refl (quiets k ec (changed (context k ec) (Recalls other)) refl h)
-done_bound k ec (Opens target domain) wants shows able serves sound keeps h = opened_bound k ec target domain wants.0 sound h
-done_bound k ec (Gives child cursor) wants shows able serves sound keeps h =
+transfers_bound : (k : KernelState) (ec : ℕ) (d : Deed) → Shows k ec d → Bound k → AreBounded k.messages k.contexts (transfers_by k ec d)
+transfers_bound k ec (Gives child cursor) shows h =
     give_bounded k.messages k.contexts k.transfers ec _ (entry_item k.messages ec (ec_in k.contexts ec) (transfer k ec) _ refl (h ec)) h
-done_bound k ec (Skips reason place cursor) wants shows able serves sound keeps h =
+transfers_bound k ec (Skips reason place cursor) shows h =
     give_bounded k.messages k.contexts k.transfers ec _ (entry_item k.messages ec (ec_in k.contexts ec) (transfer k ec) _ refl (h ec)) h
-done_bound k ec (Finishes item end words after) wants shows able serves sound keeps h = finished_bound k ec item end words after shows keeps h
-done_bound k ec (Calls handler ip identifier items) wants shows able serves sound keeps h =
-    sent_bound k ec handler ip identifier items wants.1 (parked_apart k ec handler able wants.1) shows sound keeps h
-done_bound k ec (Replies caller mark items) wants shows able serves sound keeps h =
-    replied_bound k ec caller mark items wants.0 (caller_apart k ec caller mark able serves wants.1) shows sound keeps h
-done_bound k ec (Aborts handler mark.Call) wants shows able serves sound keeps h = quiets k ec (changed (context k ec) (Aborts handler mark.Call)) refl h
-done_bound k ec (Sends handler ip identifier mtd reason q0 q1) wants shows able serves sound keeps h =
-    exit_sent_bound k ec handler ip identifier mtd reason q0 q1 keeps h
-done_bound k ec (Removes leaf) wants shows able serves sound keeps h = h
-done_bound k ec (Ups sm whom) wants shows able serves sound keeps h =
-    woken_bound (record (with_context k ec (answered (context k ec) Success None)) { semaphores = upped k.semaphores sm }) whom
-    (quiets k ec (answered (context k ec) Success None) refl h)
-done_bound k ec other wants shows able serves sound keeps h = quiets k ec (changed (context k ec) other) refl h
+transfers_bound k ec (Finishes item end words sequel.Item) shows h = next_bound k ec item words shows h
+transfers_bound k ec (Finishes item end words other) shows h =
+    give_bounded k.messages k.contexts k.transfers ec no_transfer (entry_begins k.messages ec (ec_in k.contexts ec) (transfer k ec) (h ec)) h
+transfers_bound k ec other shows h = h
+
+-- where it gives from then the words are as before
+reply_words : (k : KernelState) (ec caller : ℕ) (its : Mark) → caller ≢ ec → words_in (words_after k ec (Replies caller its true)) ec ≡ message k ec
+reply_words k ec caller mark.Call apart = other_words k.messages caller ec _ (λ same. apart (sym same))
+reply_words k ec caller mark.Exit apart = refl
+
+-- A DEED
+
+-- one that begins to give is at its first item
+first_item : (k : KernelState) (ec : ℕ) (d : Deed) → is_of_item d ≡ false → Wants k ec d → Sound k → (at (transfers_by k ec d) ec).item ≡ 0
+first_item k ec d apart wants sound = ap (λ (t : Transfer). t.item) (apart_stays k ec ec d apart ∙ quiet_own k ec d apart wants sound)
+
+replies_some : (k : KernelState) (ec : ℕ) (d : Deed) → IsActor k.contexts ec → Wants k ec d → Shows k ec d → Fits k → Sound k → IsReply k ec d →
+    (at (transfers_by k ec d) ec).item < counted_items (words_in (words_after k ec d) ec)
+replies_some k ec d actor wants shows fits sound is =
+    let shown = subst (Shows k ec) is.deed shows in
+    let apart = (awaited (is_local_thread k) k.contexts ec is.caller is.its actor is.keeps fits.served).apart in
+    let words = ap (λ (e : Deed). words_in (words_after k ec e) ec) is.deed ∙ reply_words k ec is.caller is.its apart in
+    let none = first_item k ec d (ap is_of_item is.deed) wants sound in
+    let some = some_items (message k ec) shown.0 (sym shown.1) in
+    subst (λ (m : List ℕ). (at (transfers_by k ec d) ec).item < counted_items m) (sym words) (omega (arith, none, some))
+
+-- a handler takes the items of a call from its first one on
+takes_some : (k : KernelState) (ec handler ip identifier : ℕ) (items : Bool) (its : Mark) (d : Deed) → IsActor k.contexts ec → Wants k ec d → Shows k ec d → Sound k →
+    IsReached k.contexts ec handler → IsCall d handler ip identifier items its →
+    Bounded (words_after k ec d) handler (if items then Granting None else Ready) (Some (ec, its)) (at (transfers_by k ec d) handler)
+takes_some k ec handler ip identifier false its d actor wants shows sound reached is = tt
+takes_some k ec handler ip identifier true mark.Exit d actor wants shows sound reached is = absurd cc
+takes_some k ec handler ip identifier true mark.Call d actor wants shows sound reached is =
+    let shown = subst (Shows k ec) is shows in
+    let words = ap (λ (e : Deed). words_in (words_after k ec e) ec) is ∙ other_words k.messages handler ec _ (reached_apart k.contexts ec handler actor reached) in
+    let none = ap (λ (t : Transfer). t.item)
+    (entry_rests k.objects (ec_in k.contexts handler) _ (parked_quiet (ec_in k.contexts handler) reached.parked) (transfers_for k ec d wants sound handler)) in
+    let some = some_items (message k ec) shown.0 (sym shown.1) in
+    subst (λ (m : List ℕ). (at (transfers_by k ec d) handler).item < counted_items m) (sym words) (omega (arith, none, some))
+
+bound_courses : (k : KernelState) (ec : ℕ) (d : Deed) → IsActor k.contexts ec → Wants k ec d → Shows k ec d → Fits k → Sound k → Keeps k (words_after k ec d) → Bound k →
+    Courses k ec d (λ cs all. AreBounded (words_after k ec d) cs (transfers_by k ec d))
+bound_courses k ec d actor wants shows fits sound keeps h =
+    let ns = words_after k ec d in
+    let ts = transfers_by k ec d in record {
+      rests = λ to. base;
+      steps = λ regs is. quiet (record (context k ec) { regs = regs }) (subst (Wants k ec) is wants);
+      stays = λ cs all w x y is self same now. set_bounded ns cs ts w y (rw (same, self.caller) (entry_bound w (ec_in cs w) x (at ts w) is (now w))) now;
+      goes = λ y self to may. goes y self may;
+      sends = λ handler its ip identifier items to of reached.
+          let one = with_ec k.contexts ec (record (context k ec) { state = Calling handler }) in
+          set_bounded ns one ts handler (serving (ec_of one handler) ec its ip identifier items)
+          (takes_some k ec handler ip identifier items its d actor wants shows sound reached of) (quiet (record (context k ec) { state = Calling handler }) refl);
+      replies = λ caller its m to keeps.
+          let one = with_ec k.contexts ec (parked (context k ec)) in
+          rests_bounded ns one ts caller (resumed (ec_of one caller) its m) (resumed_quiet (ec_of one caller) its m) (quiet (parked (context k ec)) refl);
+      ups = λ sm to is. quiet (answered (context k ec) Success None) refl;
+      wakes = λ sm w to is.
+          rests_bounded ns (with_ec k.contexts ec (answered (context k ec) Success None)) ts w _ refl (quiet (answered (context k ec) Success None) refl);
+      downs = λ sm to is. quiet (answered (context k ec) Success None) refl;
+      blocks = λ sm to is answer. quiet (record (context k ec) { state = Blocked sm }) refl;
+    }
+  where
+    base : AreBounded (words_after k ec d) k.contexts (transfers_by k ec d)
+    base = reword k.messages (words_after k ec d) k.contexts (transfers_by k ec d) keeps (transfers_bound k ec d shows h)
+
+    quiet : (y : EcState) → is_giving y.state ≡ false → AreBounded (words_after k ec d) (with_ec k.contexts ec y) (transfers_by k ec d)
+    quiet y still = rests_bounded (words_after k ec d) k.contexts (transfers_by k ec d) ec y still base
+
+    entry_bound : (w : ℕ) (o : Option EcState) (x : EcState) (t : Transfer) → o ≡ Some x → BoundedEntry (words_after k ec d) w o t → Bounded (words_after k ec d) w x.state x.caller t
+    entry_bound w o x t is b = subst (λ (p : Option EcState). BoundedEntry (words_after k ec d) w p t) is b
+
+    given : (s : State) (c : Option (ℕ × Mark)) → MayCome k ec d s → is_giving s ≡ true → Bounded (words_after k ec d) ec s c (at (transfers_by k ec d) ec)
+    given (Granting (Some domain)) c may some = first_item k ec d (ap is_of_item may.deed) wants sound
+    given (Granting None) c may some = absurd may
+    given Replying c may some = replies_some k ec d actor wants shows fits sound may
+    given other c may some = absurd cc
+
+    goes : (y : EcState) → IsSelf (context k ec) y → MayCome k ec d y.state → AreBounded (words_after k ec d) (with_ec k.contexts ec y) (transfers_by k ec d)
+    goes y self may = by_test (is_giving y.state) refl
+      where
+        by_test : (test : Bool) → is_giving y.state ≡ test → AreBounded (words_after k ec d) (with_ec k.contexts ec y) (transfers_by k ec d)
+        by_test true gives = set_bounded (words_after k ec d) k.contexts (transfers_by k ec d) ec y (given y.state y.caller may gives) base
+        by_test false still = quiet y still
+
+joined_bound : (ms : List (Option (List ℕ))) (cs : Contexts) (ts : List (Option Transfer)) (n : ℕ) (made : Option NewObject) → AreBounded ms cs ts →
+    AreBounded (joined ms (option_map (λ m. words_of (object_of m)) made)) (joined cs (option_map (context_of n) made)) (joined ts (option_map (λ m. transfer_of (object_of m)) made))
+joined_bound ms cs ts n None h = h
+joined_bound ms cs ts n (Some made) h = joins_bounded ms cs ts (object_of made) (context_of n made) (new_quiet n made _) h
+
+pub applied_bound : (k : KernelState) (ec : ℕ) (d : Deed) → acts k.contexts ec ≡ true → Asks k ec d → Wants k ec d → Shows k ec d → Fits k → Sound k → Bound k →
+    Bound (applied k (effect k ec d))
+applied_bound k ec d able asks wants shows fits sound h =
+    let actor = actor_of k.contexts ec able in
+    joined_bound (words_after k ec d) _ (transfers_by k ec d) (length k.objects) (made_by d)
+    (deed_course k ec (λ cs all. AreBounded (words_after k ec d) cs (transfers_by k ec d)) d actor asks
+    (bound_courses k ec d actor wants shows fits sound (written_keeps k ec d wants shows able (serves_in k fits)) h))

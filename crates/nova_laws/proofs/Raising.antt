@@ -1,13 +1,13 @@
 -- The words of one whose exit is sent stay.
 use Rattle.std.proofs.Common.{◌≡◌, ℕ, List, ap, ◌∙◌, sym, subst}
-use Rattle.std.specs.Prelude.{◌≢◌, true, Option, Some, None, IfSome}
+use Rattle.std.specs.Prelude.{◌≢◌, true, Option, Some, IfSome}
 use Rattle.nova_range.specs.declared.mtd.Mtd.{Mtd}
-use Rattle.nova_model.specs.Choice.{Candidate, choice}
+use Rattle.nova_model.specs.Choice.{Candidate}
 use Rattle.nova_model.specs.Deeds.{deed}
 use Rattle.nova_model.specs.Edges.{acts, state_in}
 use Rattle.nova_model.specs.Runs.{after}
 use Rattle.nova_model.specs.State.{KernelState}
-use Rattle.nova_model.specs.Turn.{answer_of, event_of, turn, turn_by}
+use Rattle.nova_model.specs.Turn.{answer_of, turn}
 use Rattle.nova_model.specs.declared.context.State.TheVariants.{Parked}
 use Rattle.nova_model.specs.declared.deed.Deed.TheVariants.{Sends}
 use Rattle.nova_model.specs.declared.event.Event.{Event}
@@ -15,7 +15,7 @@ use Rattle.nova_model.specs.declared.event.Turn.TheVariants.{Stepped}
 use Rattle.nova_forest.proofs.Turning.{of_event}
 use Rattle.nova_laws.specs.Words.{words_at, written_by}
 use Rattle.nova_laws.proofs.Awaiting.{not_parked}
-use Rattle.nova_laws.proofs.Chosen.{Acts, choice_acts}
+use Rattle.nova_laws.proofs.Chosen.{choice_acts}
 use Rattle.nova_laws.proofs.Opening.{Wants, deed_wants}
 use Rattle.nova_laws.proofs.Wording.{others_keep}
 

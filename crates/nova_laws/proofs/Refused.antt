@@ -13,7 +13,7 @@ use Rattle.nova_model.specs.Portals.{handler_of}
 use Rattle.nova_model.specs.Revokes.{next_leaf}
 use Rattle.nova_model.specs.Runs.{after}
 use Rattle.nova_model.specs.State.{KernelState, Contexts, context, context_at, context_in, ec_in, ec_of, transfer, pd_of}
-use Rattle.nova_model.specs.Turn.{charged, event_of, answer_of, turn, turn_by, state_after}
+use Rattle.nova_model.specs.Turn.{charged, event_of, answer_of, turn}
 use Rattle.nova_model.specs.Choice.{Candidate}
 use Rattle.nova_model.specs.declared.admit.ExitAdmit.{ExitAdmit}
 use Rattle.nova_model.specs.declared.admit.ExitAdmit.TheVariants as exit
@@ -21,15 +21,15 @@ use Rattle.nova_model.specs.declared.context.EcState.{EcState}
 use Rattle.nova_model.specs.declared.context.State.{State}
 use Rattle.nova_model.specs.declared.context.State.TheVariants.{Fresh, Ready, Parked, Calling, Helping, Exiting, Sending, Granting, Replying, Revoking, Blocked, Dead}
 use Rattle.nova_model.specs.declared.deed.Deed.{Deed}
-use Rattle.nova_model.specs.declared.deed.Deed.TheVariants.{Rests, Steps, Raises, Dies, Waits, Sends, Refuses, Makes, Recalls, Tells, Names, Opens, Gives, Skips, Finishes, Calls, Helps, Replies, Aborts, Revokes, Removes, Returns, Ups, Downs, Blocks}
+use Rattle.nova_model.specs.declared.deed.Deed.TheVariants.{Refuses, Finishes, Replies}
 use Rattle.nova_model.specs.declared.delegation.Derivation.{Derivation}
 use Rattle.nova_model.specs.declared.event.Event.{Event}
 use Rattle.nova_model.specs.declared.event.EventKind.TheVariants.{Answer}
 use Rattle.nova_model.specs.declared.event.Turn.TheVariants.{Stepped}
 use Rattle.nova_model.specs.declared.transfer.Delivery.{Delivery}
-use Rattle.nova_model.specs.declared.transfer.ItemEnd.TheVariants.{Given, Skipped, Translated}
+use Rattle.nova_model.specs.declared.transfer.ItemEnd.TheVariants.{Given}
 use Rattle.nova_forest.proofs.Stirred.{acted, refusal_stirred}
-use Rattle.nova_forest.proofs.Turning.{of_event}
+use Rattle.nova_forest.proofs.Turning.{acting_is, chosen_turn, of_event}
 use Rattle.nova_laws.specs.Refusals.{IsAnswered, IsRefusal, LeavesRest, is_asking}
 use Rattle.nova_forest.proofs.Walk.{delivers_holds}
 use Rattle.nova_laws.proofs.Charges.{charge_leaves}
@@ -98,8 +98,7 @@ deed_first k ec = state_first k ec (context k ec).state refl
 
 -- the turn of the chosen one
 pub turn_chosen : (k : KernelState) (cpu : ℕ) (c : Candidate) → choice k cpu ≡ Some c → after k cpu ≡ charged (acted k c.actor) cpu c.sc
-unfolding turn
-turn_chosen k cpu c chosen = ap (λ (o : Option Candidate). state_after k (turn_by k cpu o)) chosen
+turn_chosen k cpu c chosen = chosen_turn k cpu c chosen ∙ sym (acting_is k cpu c)
 
 -- the caller, and the rest, after a refusal and its charge
 answer_of_refusal : (x : EcState) (status : Status) → is_asking x.state ≡ true → IsAnswered (status_code status) x (answered x status None)

@@ -1,8 +1,8 @@
--- Revokes that run: one row a deed, the list of all, and a turn.
-use Rattle.std.proofs.Common.{◌≡◌, ◌≤◌, ℕ, zero, suc, ◌+◌, ◌-◌, List, [], ◌∷◌, ◌++◌, length, refl, ap, ap₂, ◌∙◌, sym, subst, arith}
-use Rattle.std.specs.Prelude.{◌==◌, Bool, true, false, if◌then◌else◌, slice_get, Option, Some, None, IfSome, IsSome, option_and_then, option_map, Ok}
+-- Revokes that run: after a deed, the list of all, and a turn.
+use Rattle.std.proofs.lemmas.Bool.{eq-eqb, ne_eqb}
+use Rattle.std.proofs.Common.{inl, inr, ◌≡◌, ◌≤◌, ℕ, zero, suc, ◌+◌, ◌-◌, List, [], ◌∷◌, ◌++◌, length, refl, ap, ap₂, ◌∙◌, sym, subst, arith}
+use Rattle.std.specs.Prelude.{◌≢◌, ◌==◌, Bool, true, false, if◌then◌else◌, slice_get, Option, Some, None, IsSome, option_and_then, option_map, Ok}
 use Rattle.std.specs.List.{cons_option, filter_map, range_with_len}
-use Rattle.rv_model.specs.Step.{Once, Raised, Went}
 use Rattle.nova_calls.specs.Hypercalls.{call_of}
 use Rattle.nova_calls.specs.declared.call.Call.{Call}
 use Rattle.nova_calls.specs.declared.call.Call.TheVariants as asks
@@ -11,51 +11,43 @@ use Rattle.nova_objects.specs.declared.object.EcKind.TheVariants.{Local, Global,
 use Rattle.nova_objects.specs.declared.object.Object.{Object}
 use Rattle.nova_range.specs.declared.range.Range.{Range}
 use Rattle.nova_range.specs.declared.rights.Rights.{Rights}
-use Rattle.nova_range.specs.declared.status.Status.TheVariants.{Success}
 use Rattle.nova_model.specs.Capabilities.{control_right, is_ec, is_pt, is_sc, named}
 use Rattle.nova_model.specs.Choice.{Candidate, choice}
-use Rattle.nova_model.specs.Creation.{context_of, object_of, with_object}
-use Rattle.nova_model.specs.Deeds.{after_item, answered, changed, deed, deed_in, done, instruction, parked, recalled, removes, resumed, serving, stepped, with_context}
-use Rattle.nova_model.specs.Edges.{acts, state_in}
+use Rattle.nova_model.specs.Creation.{context_of, object_of}
+use Rattle.nova_model.specs.Deeds.{changed, deed, deed_in, done, removes}
+use Rattle.nova_model.specs.Edges.{acts}
 use Rattle.nova_model.specs.Hypercalls.{new_domain, row, ticks_in}
 use Rattle.nova_model.specs.Revokes.{Revocation, next_leaf}
 use Rattle.nova_model.specs.Running.{Running, revoke_by, revoke_of, running, running_of}
 use Rattle.nova_model.specs.Runs.{after}
-use Rattle.nova_model.specs.Semaphores.{semaphore, woken}
-use Rattle.nova_model.specs.State.{Contexts, KernelState, budget_at, context, context_at, context_in, ec_in, ec_of, message, pd_in, pd_of, with_ec}
+use Rattle.nova_model.specs.State.{Contexts, KernelState, budget_at, context, context_at, context_in, ec_in, ec_of, pd_in, pd_of}
 use Rattle.nova_model.specs.declared.context.EcState.{EcState}
-use Rattle.nova_model.specs.declared.context.Mark.{Mark}
 use Rattle.nova_model.specs.declared.context.Mark.TheVariants as mark
 use Rattle.nova_model.specs.declared.context.State.{State}
-use Rattle.nova_model.specs.declared.context.State.TheVariants.{Blocked, Calling, Granting, Parked, Ready, Revoking}
+use Rattle.nova_model.specs.declared.context.State.TheVariants.{Revoking}
 use Rattle.nova_model.specs.declared.deed.Deed.{Deed}
-use Rattle.nova_model.specs.declared.deed.Deed.TheVariants.{Rests, Steps, Raises, Dies, Waits, Sends, Refuses, Makes, Recalls, Tells, Names, Opens, Gives, Skips, Finishes, Calls, Helps, Replies, Aborts, Revokes, Removes, Returns, Ups, Downs, Blocks}
+use Rattle.nova_model.specs.declared.deed.Deed.TheVariants.{Recalls, Tells, Names, Finishes, Replies, Aborts, Revokes, Removes, Returns}
 use Rattle.nova_model.specs.declared.delegation.Derivation.{Derivation}
 use Rattle.nova_model.specs.declared.new_object.NewObject.{NewObject}
 use Rattle.nova_model.specs.declared.new_object.NewObject.TheVariants as new
-use Rattle.nova_model.specs.declared.transfer.ItemEnd.{ItemEnd}
-use Rattle.nova_model.specs.declared.transfer.ItemWords.{ItemWords}
-use Rattle.nova_model.specs.declared.transfer.Sequel.{Sequel}
 use Rattle.nova_model.specs.declared.transfer.Sequel.TheVariants as sequel
-use Rattle.nova_forest.proofs.Allowed.{deed_allowed}
+use Rattle.nova_model.specs.declared.event.Event.{Event}
+use Rattle.nova_forest.specs.Effects.{all_edited, applied, edits_by, effect, joined, made_by}
+use Rattle.nova_forest.specs.Turns.{Acts, IsTurning, Turning, turned}
+use Rattle.nova_forest.proofs.Doing.{done_is}
 use Rattle.nova_forest.proofs.Running.{revokes_there}
-use Rattle.nova_forest.proofs.Stirred.{acted}
+use Rattle.nova_forest.proofs.Turning.{outcome}
 use Rattle.nova_forest.proofs.Walk.{IfDone, deed_holds, sm_ctrl_holds}
 use Rattle.nova_laws.specs.Keeping.{IsKept}
 use Rattle.nova_laws.specs.Revoking.{AsksRevoke, HasRevoked, revoke_after, revoke_in_turn, running_after}
-use Rattle.nova_laws.specs.Waiting.{AreBlocked}
-use Rattle.nova_laws.proofs.Awaiting.{acts_there, served_waits}
-use Rattle.nova_laws.proofs.Blocking.{woken_blocked}
-use Rattle.nova_laws.proofs.Charges.{charge_leaves}
-use Rattle.nova_laws.proofs.Chosen.{Acts, choice_acts}
-use Rattle.nova_laws.proofs.Fitting.{Fits, done_fits}
-use Rattle.nova_laws.proofs.Giving.{more_at, serves_in, set_at}
-use Rattle.nova_laws.proofs.Opening.{GoesTo, Wants, deed_wants}
-use Rattle.nova_laws.proofs.Paying.{Adds, AddsNone, AddsOne, done_adds, idle_is}
-use Rattle.nova_laws.proofs.Refused.{turn_chosen}
+use Rattle.nova_laws.proofs.Awaiting.{acts_there, same_or_not}
+use Rattle.nova_laws.proofs.Courses.{edited_length}
+use Rattle.nova_laws.proofs.Fitting.{Fits, chosen_acts}
 use Rattle.nova_laws.proofs.Rows.{call_holds, create_pd_holds, makes_hold, named_holds, reply_holds}
-use Rattle.nova_laws.proofs.Serving.{actor_of}
-use Rattle.nova_laws.proofs.Setting.{entry_below, entry_itself, entry_other, joined_length, joined_other, set_length}
+use Rattle.nova_laws.proofs.Referring.{Asks, deed_asks}
+use Rattle.nova_laws.proofs.Serving.{IsActor, actor_of}
+use Rattle.nova_laws.proofs.Setting.{entry_below, joined_length, joined_other, more_at}
+use Rattle.nova_laws.proofs.States.{Moves, has_begun, is_waiting, others_move, own_state}
 use Rattle.nova_laws.proofs.Tabling.{contexts_length}
 
 -- IN A TABLE OF EXECUTION CONTEXTS
@@ -80,26 +72,6 @@ entry_none : (pd : ℕ) (o : Option EcState) → is_revoking (context_in o).stat
 entry_none pd None quiet = refl
 entry_none pd (Some x) quiet = quiet_none pd x.state quiet
 
-state_none : (os : List Object) (cs : Contexts) (e : ℕ) (s : State) → state_in cs e ≡ Some s → is_revoking s ≡ false → among os cs e ≡ None
-state_none os cs e s is quiet = by_entry (ec_in cs e) is
-  where
-    by_entry : (o : Option EcState) → option_map (λ y. y.state) o ≡ Some s → revoke_at (pd_in (slice_get os e)) o ≡ None
-    by_entry None at = refl
-    by_entry (Some x) at = let same : x.state ≡ s = cc in quiet_none (pd_in (slice_get os e)) x.state (ap is_revoking same ∙ quiet)
-
--- one that doesn't revoke goes on in a state in which it doesn't
-set_quiet : (os : List Object) (cs : Contexts) (a e : ℕ) (y : EcState) → among os cs a ≡ None → is_revoking y.state ≡ false →
-    among os (with_ec cs a y) e ≡ among os cs e
-set_quiet os cs a e y none quiet =
-    set_at (λ o. revoke_at (pd_in (slice_get os e)) o ≡ among os cs e) cs a e y refl
-    (λ same. quiet_none (pd_in (slice_get os e)) y.state quiet ∙ sym (ap (among os cs) same ∙ none))
-
--- and so do two
-set_two : (os : List Object) (cs : Contexts) (a w e : ℕ) (x y : EcState) → among os cs a ≡ None → is_revoking x.state ≡ false → among os cs w ≡ None →
-    is_revoking y.state ≡ false → among os (with_ec (with_ec cs a x) w y) e ≡ among os cs e
-set_two os cs a w e x y none quiet other still =
-    set_quiet os (with_ec cs a x) w e y (set_quiet os cs a w x none quiet ∙ other) still ∙ set_quiet os cs a e x none quiet
-
 -- an object joins, with what goes with it
 born_none : (pd n : ℕ) (made : NewObject) → revoke_at pd (context_of n made) ≡ None
 born_none pd n new.Pd = refl
@@ -119,13 +91,14 @@ joined_same os o cs e as_many = by_entry (ec_in cs e) refl
         let below = entry_below cs e x is in
         ap (λ (b : Option Object). revoke_by (pd_in b) x.state) (joined_other os o e (λ same. omega (arith, below, same, as_many)))
 
-joins_quiet : (k : KernelState) (domain target e : ℕ) (made : NewObject) → length k.contexts ≡ length k.objects →
-    revoke_of (with_object k domain target made) e ≡ revoke_of k e
-joins_quiet k domain target e made as_many =
-    let os = k.objects ++ object_of made ∷ [] in
-    more_at (λ y. revoke_at (pd_in (slice_get os e)) y ≡ among os k.contexts e) k.contexts (context_of (length k.objects) made) e refl
-    (λ old. born_none (pd_in (slice_get os e)) (length k.objects) made ∙ old)
-    ∙ joined_same k.objects (object_of made) k.contexts e as_many
+joins_quiet : (os : List Object) (cs : Contexts) (e : ℕ) (made : Option NewObject) → length cs ≡ length os →
+    among (joined os (option_map object_of made)) (joined cs (option_map (context_of (length os)) made)) e ≡ among os cs e
+joins_quiet os cs e None as_many = refl
+joins_quiet os cs e (Some made) as_many =
+    let all = os ++ object_of made ∷ [] in
+    more_at (λ y. revoke_at (pd_in (slice_get all e)) y ≡ among all cs e) cs (context_of (length os) made) e refl
+    (λ old. born_none (pd_in (slice_get all e)) (length os) made ∙ old)
+    ∙ joined_same os (object_of made) cs e as_many
 
 -- WHO ACTS
 
@@ -157,116 +130,73 @@ own_none k ec quiet = entry_none (pd_of k ec) (context_at k ec) quiet
 
 -- A DEED
 
--- it goes on in a state of its own
-owns : (k : KernelState) (ec e : ℕ) (y : EcState) → is_revoking (context k ec).state ≡ false → is_revoking y.state ≡ false →
-    revoke_of (with_context k ec y) e ≡ revoke_of k e
-owns k ec e y quiet still = set_quiet k.objects k.contexts ec e y (own_none k ec quiet) still
+-- the revoke of one is that of its state
+revoke_is : (pd : ℕ) (o : Option EcState) → revoke_at pd o ≡ revoke_by pd (context_in o).state
+revoke_is pd None = refl
+revoke_is pd (Some x) = refl
 
-stepped_same : (k : KernelState) (ec e : ℕ) (o : Once) → is_revoking (context k ec).state ≡ false → revoke_of (stepped k ec o) e ≡ revoke_of k e
-stepped_same k ec e (Raised reason q0 q1) quiet = refl
-stepped_same k ec e (Went regs store) quiet = owns k ec e (record (context k ec) { regs = regs }) quiet quiet
+waiting_none : (pd : ℕ) (s : State) → is_waiting s ≡ true → revoke_by pd s ≡ None
+waiting_none pd (Revoking range own) waits = absurd cc
+waiting_none pd other waits = refl
 
-recalled_same : (k : KernelState) (other e : ℕ) (o : Option EcState) → context_at k other ≡ o → revoke_of (recalled k other o) e ≡ revoke_of k e
-recalled_same k other e None is = refl
-recalled_same k other e (Some x) is =
-    set_at (λ o. revoke_at (pd_of k e) o ≡ revoke_of k e) k.contexts other e (record x { recall = true }) refl
-    (λ same. ap (revoke_at (pd_of k e)) (sym (ap (ec_in k.contexts) same ∙ is)))
+begun_none : (pd : ℕ) (s : State) → has_begun s ≡ true → revoke_by pd s ≡ None
+begun_none pd (Revoking range own) begun = absurd cc
+begun_none pd other begun = refl
 
--- its own begins, or returns
-runs_own : (k : KernelState) (ec e : ℕ) (y : EcState) (r : Option Revocation) → IsSome (context_at k ec) → revoke_by (pd_of k ec) y.state ≡ r →
-    revoke_of (with_context k ec y) e ≡ (if e == ec then r else revoke_of k e)
-runs_own k ec e y r there now = by_test (e == ec) refl
-  where
-    by_test : (t : Bool) → (e == ec) ≡ t → among k.objects (with_ec k.contexts ec y) e ≡ (if t then r else among k.objects k.contexts e)
-    by_test true is =
-        let same : ec ≡ e = grind (arith, is) in
-        subst (λ (n : ℕ). among k.objects (with_ec k.contexts ec y) n ≡ r) same (ap (revoke_at (pd_of k ec)) (entry_itself k.contexts ec y there) ∙ now)
-    by_test false is = ap (revoke_at (pd_of k e)) (entry_other k.contexts ec e y (λ same. absurd (grind (arith, is, same))))
+-- another that doesn't act keeps its revoke
+moves_none : (pd : ℕ) (s t : State) → Moves s t → revoke_by pd t ≡ revoke_by pd s
+moves_none pd s t (inl same) = ap (revoke_by pd) same
+moves_none pd s t (inr goes) = begun_none pd t goes.1 ∙ sym (waiting_none pd s goes.0)
 
-begins_quiet : (items : Bool) → is_revoking (if items then Granting None else Ready) ≡ false
-begins_quiet true = refl
-begins_quiet false = refl
+others_run : (k : KernelState) (ec e : ℕ) (d : Deed) → IsActor k.contexts ec → Asks k ec d → Fits k → e ≢ ec →
+    among k.objects (all_edited k.contexts (edits_by k ec d)) e ≡ revoke_of k e
+others_run k ec e d actor asks fits other =
+    let now = all_edited k.contexts (edits_by k ec d) in
+    revoke_is (pd_of k e) (ec_in now e) ∙ moves_none (pd_of k e) (context k e).state (ec_of now e).state (others_move k ec d actor asks fits e other)
+    ∙ sym (revoke_is (pd_of k e) (context_at k e))
 
-resumed_quiet : (x : EcState) (its : Mark) (m : List ℕ) → is_revoking (resumed x its m).state ≡ false
-resumed_quiet x mark.Call m = refl
-resumed_quiet x mark.Exit m = refl
+other_after : (k : KernelState) (ec e : ℕ) (d : Deed) → e ≢ ec → revoke_after k ec d e ≡ revoke_of k e
+other_after k ec e (Revokes range own) other = rw (ne_eqb e ec other) refl
+other_after k ec e Returns other = rw (ne_eqb e ec other) refl
+other_after k ec e d other = refl
 
--- whom it serves waits for it
-caller_none : (k : KernelState) (ec caller : ℕ) (its : Mark) → acts k.contexts ec ≡ true → Fits k → (context k ec).caller ≡ Some (caller, its) → revoke_of k caller ≡ None
-caller_none k ec caller its able fits has =
-    state_none k.objects k.contexts caller (Calling ec) (served_waits k ec caller its able (serves_in k fits) has) refl
+-- only one deed begins a revoke
+abbrev is_beginning : Deed → Bool
+is_beginning (Revokes range own) = true
+is_beginning other = false
 
--- its caller goes on, and it parks
-frees : (k : KernelState) (ec caller e : ℕ) (its : Mark) (m : List ℕ) → is_revoking (context k ec).state ≡ false → acts k.contexts ec ≡ true → Fits k →
-    (context k ec).caller ≡ Some (caller, its) →
-    among k.objects (with_ec (with_ec k.contexts ec (parked (context k ec))) caller (resumed (ec_of (with_ec k.contexts ec (parked (context k ec))) caller) its m)) e
-    ≡ revoke_of k e
-frees k ec caller e its m quiet able fits has =
-    let x = parked (context k ec) in
-    let y = resumed (ec_of (with_ec k.contexts ec x) caller) its m in
-    set_two k.objects k.contexts ec caller e x y (own_none k ec quiet) refl (caller_none k ec caller its able fits has)
-    (resumed_quiet (ec_of (with_ec k.contexts ec x) caller) its m)
+changed_quiet : (x : EcState) (d : Deed) → is_beginning d ≡ false → is_revoking x.state ≡ false → is_revoking (changed x d).state ≡ false
+changed_quiet x (Revokes range own) none quiet = absurd cc
+changed_quiet x (Finishes item end words sequel.Item) none quiet = quiet
+changed_quiet x (Replies caller its true) none quiet = refl
+changed_quiet x (Aborts handler mark.Call) none quiet = refl
+changed_quiet x other none quiet = search quiet
 
--- one that is parked begins to serve
-begins : (k : KernelState) (ec handler e : ℕ) (its : Mark) (ip identifier : ℕ) (items : Bool) → is_revoking (context k ec).state ≡ false →
-    state_in k.contexts handler ≡ Some Parked →
-    let one = with_ec k.contexts ec (record (context k ec) { state = Calling handler }) in
-    among k.objects (with_ec one handler (serving (ec_of one handler) ec its ip identifier items)) e ≡ revoke_of k e
-begins k ec handler e its ip identifier items quiet idle =
-    let x : EcState = record (context k ec) { state = Calling handler } in
-    let y = serving (ec_of (with_ec k.contexts ec x) handler) ec its ip identifier items in
-    set_two k.objects k.contexts ec handler e x y (own_none k ec quiet) refl (state_none k.objects k.contexts handler Parked idle refl) (begins_quiet items)
+own_after : (k : KernelState) (ec : ℕ) (d : Deed) → Idle k ec d → revoke_by (pd_of k ec) (changed (context k ec) d).state ≡ revoke_after k ec d ec
+own_after k ec (Revokes range own) idle = rw (eq-eqb ec ec refl) refl
+own_after k ec Returns idle = rw (eq-eqb ec ec refl) refl
+own_after k ec (Removes leaf) idle = sym (revoke_is (pd_of k ec) (context_at k ec))
+own_after k ec other idle = quiet_none (pd_of k ec) (changed (context k ec) other).state (changed_quiet (context k ec) other refl idle) ∙ sym (own_none k ec idle)
 
-finished_same : (k : KernelState) (ec e item : ℕ) (end : ItemEnd) (words : Option ItemWords) (follows : Sequel) → is_revoking (context k ec).state ≡ false →
-    GoesTo k ec follows → acts k.contexts ec ≡ true → Fits k → revoke_of (done k ec (Finishes item end words follows)) e ≡ revoke_of k e
-finished_same k ec e item end None sequel.Item quiet goes able fits = owns k ec e (context k ec) quiet quiet
-finished_same k ec e item end None sequel.Opened quiet goes able fits = owns k ec e (after_item (context k ec) sequel.Opened) quiet refl
-finished_same k ec e item end None sequel.Taken quiet goes able fits = owns k ec e (after_item (context k ec) sequel.Taken) quiet refl
-finished_same k ec e item end None (sequel.Replied caller its) quiet goes able fits = frees k ec caller e its _ quiet able fits goes
-finished_same k ec e item end (Some w) sequel.Item quiet goes able fits = owns k ec e (context k ec) quiet quiet
-finished_same k ec e item end (Some w) sequel.Opened quiet goes able fits = owns k ec e (after_item (context k ec) sequel.Opened) quiet refl
-finished_same k ec e item end (Some w) sequel.Taken quiet goes able fits = owns k ec e (after_item (context k ec) sequel.Taken) quiet refl
-finished_same k ec e item end (Some w) (sequel.Replied caller its) quiet goes able fits = frees k ec caller e its _ quiet able fits goes
+own_runs : (k : KernelState) (ec : ℕ) (d : Deed) → IsActor k.contexts ec → Asks k ec d → Idle k ec d → Fits k →
+    among k.objects (all_edited k.contexts (edits_by k ec d)) ec ≡ revoke_after k ec d ec
+own_runs k ec d actor asks idle fits =
+    revoke_is (pd_of k ec) (ec_in (all_edited k.contexts (edits_by k ec d)) ec) ∙ ap (revoke_by (pd_of k ec)) (own_state k ec d actor asks fits) ∙ own_after k ec d idle
 
--- who is woken was blocked
-woken_same : (k : KernelState) (ec e sm : ℕ) (whom : Option ℕ) → is_revoking (context k ec).state ≡ false → woken (semaphore k.semaphores sm) ≡ Ok whom →
-    AreBlocked k.contexts k.semaphores → revoke_of (done k ec (Ups sm whom)) e ≡ revoke_of k e
-woken_same k ec e sm None quiet wakes blocked = owns k ec e (answered (context k ec) Success None) quiet refl
-woken_same k ec e sm (Some w) quiet wakes blocked =
-    let x = answered (context k ec) Success None in
-    set_two k.objects k.contexts ec w e x (answered (ec_of (with_ec k.contexts ec x) w) Success None) (own_none k ec quiet) refl
-    (state_none k.objects k.contexts w (Blocked sm) (woken_blocked k sm w wakes blocked) refl) refl
+applied_runs : (k : KernelState) (ec e : ℕ) (d : Deed) → IsActor k.contexts ec → Asks k ec d → Idle k ec d → Fits k →
+    revoke_of (applied k (effect k ec d)) e ≡ revoke_after k ec d e
+applied_runs k ec e d actor asks idle fits =
+    let now = all_edited k.contexts (edits_by k ec d) in
+    joins_quiet k.objects now e (made_by d) (edited_length k.contexts (edits_by k ec d) ∙ contexts_length k fits.tables)
+    ∙ same_or_not e ec (among k.objects now e ≡ revoke_after k ec d e)
+    (λ same. subst (λ (n : ℕ). among k.objects now n ≡ revoke_after k ec d n) (sym same) (own_runs k ec d actor asks idle fits))
+    (λ other. others_run k ec e d actor asks fits other ∙ sym (other_after k ec e d other))
 
-made_same : (k : KernelState) (ec e target : ℕ) (y : EcState) (made : NewObject) → is_revoking (context k ec).state ≡ false → is_revoking y.state ≡ false → Fits k →
-    revoke_of (with_object (with_context k ec y) (pd_of k ec) target made) e ≡ revoke_of k e
-made_same k ec e target y made quiet still fits =
-    joins_quiet (with_context k ec y) (pd_of k ec) target e made (set_length k.contexts ec (Some y) ∙ contexts_length k fits.tables)
-    ∙ owns k ec e y quiet still
-
-done_runs : (k : KernelState) (ec e : ℕ) (d : Deed) → Idle k ec d → Wants k ec d → acts k.contexts ec ≡ true → Fits k →
-    revoke_of (done k ec d) e ≡ revoke_after k ec d e
-done_runs k ec e Rests idle wants able fits = refl
-done_runs k ec e Steps idle wants able fits = stepped_same k ec e (instruction k ec) idle
-done_runs k ec e (Sends handler ip identifier mtd reason q0 q1) idle wants able fits = begins k ec handler e mark.Exit ip identifier false idle wants.1
-done_runs k ec e (Makes call target made) idle wants able fits = made_same k ec e target (changed (context k ec) (Makes call target made)) made idle refl fits
-done_runs k ec e (Recalls other) idle wants able fits =
-    recalled_same (with_context k ec (changed (context k ec) (Recalls other))) other e _ refl ∙ owns k ec e (changed (context k ec) (Recalls other)) idle refl
-done_runs k ec e (Opens target domain) idle wants able fits = made_same k ec e target (changed (context k ec) (Opens target domain)) new.Pd idle refl fits
-done_runs k ec e (Gives child cursor) idle wants able fits = refl
-done_runs k ec e (Skips reason place cursor) idle wants able fits = refl
-done_runs k ec e (Finishes item end words follows) idle wants able fits = finished_same k ec e item end words follows idle wants.1 able fits
-done_runs k ec e (Calls handler ip identifier items) idle wants able fits = begins k ec handler e mark.Call ip identifier items idle wants.1
-done_runs k ec e (Replies caller mark.Call false) idle wants able fits = frees k ec caller e mark.Call (message k ec) idle able fits wants.1
-done_runs k ec e (Replies caller mark.Exit false) idle wants able fits = frees k ec caller e mark.Exit (message k ec) idle able fits wants.1
-done_runs k ec e (Aborts handler mark.Call) idle wants able fits = owns k ec e (changed (context k ec) (Aborts handler mark.Call)) idle refl
-done_runs k ec e (Revokes range own) idle wants able fits = runs_own k ec e (changed (context k ec) (Revokes range own)) _ (acts_there k.contexts ec able) refl
-done_runs k ec e (Removes leaf) idle wants able fits = refl
-done_runs k ec e Returns idle wants able fits = runs_own k ec e (changed (context k ec) Returns) None (acts_there k.contexts ec able) refl
-done_runs k ec e (Ups sm whom) idle wants able fits = woken_same k ec e sm whom idle wants.1 fits.blocked
-done_runs k ec e other idle wants able fits = owns k ec e (changed (context k ec) other) idle refl
+chosen_runs : (k : KernelState) (ec e : ℕ) → acts k.contexts ec ≡ true → Fits k → revoke_of (applied k (effect k ec (deed k ec))) e ≡ revoke_after k ec (deed k ec) e
+chosen_runs k ec e able fits = applied_runs k ec e (deed k ec) (actor_of k.contexts ec able) (deed_asks k ec) (deed_idle k ec) fits
 
 deed_runs : (k : KernelState) (ec : ℕ) → acts k.contexts ec ≡ true → Fits k → (e : ℕ) → revoke_of (done k ec (deed k ec)) e ≡ revoke_after k ec (deed k ec) e
-deed_runs k ec able fits e = done_runs k ec e (deed k ec) (deed_idle k ec) (deed_wants k ec) able fits
+deed_runs k ec able fits e = ap (λ (s : KernelState). revoke_of s e) (done_is k ec (deed k ec)) ∙ chosen_runs k ec e able fits
 
 -- ALL OF THEM
 
@@ -314,16 +244,15 @@ after_past k ec e (Revokes range own) there past = other_past k ec e _ there pas
 after_past k ec e Returns there past = other_past k ec e None there past
 after_past k ec e other there past = past_none k e past
 
-longer_by : (k new : KernelState) (ec : ℕ) → length k.contexts ≡ length k.objects → length new.contexts ≡ length new.objects → Adds k new ec →
-    length k.contexts ≤ length new.contexts
-longer_by k new ec old now (AddsNone objects budgets next) = let same = ap (λ (os : List Object). length os) objects in omega (arith, old, now, same)
-longer_by k new ec old now (AddsOne made bound objects budgets next) =
-    let more = ap (λ (os : List Object). length os) objects ∙ joined_length k.objects (object_of made) in omega (arith, old, now, more)
+longer : (cs : Contexts) (made : Option (Option EcState)) → length cs ≤ length (joined cs made)
+longer cs None = omega arith
+longer cs (Some x) = let more = joined_length cs x in omega (arith, more)
 
-stays_long : (k : KernelState) (ec : ℕ) → acts k.contexts ec ≡ true → Fits k → length k.contexts ≤ length (done k ec (deed k ec)).contexts
-stays_long k ec able fits =
-    longer_by k (done k ec (deed k ec)) ec (contexts_length k fits.tables) (contexts_length _ (done_fits k ec (actor_of k.contexts ec able) fits).tables)
-    (done_adds k ec (deed k ec) (deed_allowed k ec))
+stays_long : (k : KernelState) (ec : ℕ) (d : Deed) → length k.contexts ≤ length (done k ec d).contexts
+stays_long k ec d =
+    let same = ap (λ (s : KernelState). length s.contexts) (done_is k ec d) in
+    let more = longer (all_edited k.contexts (edits_by k ec d)) (option_map (context_of (length k.objects)) (made_by d)) in
+    let all = edited_length k.contexts (edits_by k ec d) in omega (arith, same, more, all)
 
 all_run : (k : KernelState) (ec : ℕ) → acts k.contexts ec ≡ true → Fits k → running (done k ec (deed k ec)) ≡ running_after k ec (deed k ec)
 all_run k ec able fits =
@@ -339,7 +268,7 @@ all_run k ec able fits =
     now e = running_of e (revoke_after k ec (deed k ec) e)
 
     many : length (done k ec (deed k ec)).contexts ≡ (length (done k ec (deed k ec)).contexts - length k.contexts) + length k.contexts
-    many = let long = stays_long k ec able fits in omega (arith, long)
+    many = let long = stays_long k ec (deed k ec) in omega (arith, long)
 
 -- WHO BEGINS AND WHO RETURNS
 
@@ -398,18 +327,17 @@ pub all_after : (k : KernelState) (ec : ℕ) → IsKept k → acts k.contexts ec
 all_after k ec h able = all_run k ec able (fits_of k h)
 
 pub none_goes : (k : KernelState) (ec : ℕ) → IsKept k → acts k.contexts ec ≡ true → length k.contexts ≤ length (done k ec (deed k ec)).contexts
-none_goes k ec h able = stays_long k ec able (fits_of k h)
+none_goes k ec h able = stays_long k ec (deed k ec)
+
+turned_runs : (k : KernelState) (cpu e : ℕ) (t : Turning) (f : Event) → IsTurning k cpu t f → Fits k → revoke_of (turned k cpu t) e ≡ revoke_in_turn k (choice k cpu) e
+turned_runs k cpu e t f (Acts c chosen is event) fits =
+    ap (λ (u : Turning). revoke_of (turned k cpu u) e) is ∙ chosen_runs k c.actor e (chosen_acts k cpu c chosen) fits
+    ∙ ap (λ (o : Option Candidate). revoke_in_turn k o e) (sym chosen)
 
 pub turns_leave : (k : KernelState) (cpu : ℕ) → IsKept k → (e : ℕ) → revoke_of (after k cpu) e ≡ revoke_in_turn k (choice k cpu) e
-turns_leave k cpu h e = by_choice (choice k cpu) refl (choice_acts k cpu)
-  where
-    by_choice : (o : Option Candidate) → choice k cpu ≡ o → IfSome o (Acts k) → revoke_of (after k cpu) e ≡ revoke_in_turn k o e
-    by_choice None idle able = ap (λ (s : KernelState). revoke_of s e) (idle_is k cpu idle)
-    by_choice (Some c) chosen able =
-        let left = charge_leaves (acted k c.actor) cpu c.sc in
-        ap (λ (s : KernelState). revoke_of s e) (turn_chosen k cpu c chosen)
-        ∙ ap₂ (λ (os : List Object) (cs : Contexts). among os cs e) left.objects left.contexts
-        ∙ deed_runs k c.actor able (fits_of k h) e
+turns_leave k cpu h e =
+    outcome (λ s o. revoke_of s e ≡ revoke_in_turn k (choice k cpu) e) k cpu
+    (λ none. ap (λ (o : Option Candidate). revoke_in_turn k o e) (sym none)) (λ t f is. turned_runs k cpu e t f is (fits_of k h))
 
 pub begins_asked : (k : KernelState) (ec : ℕ) (range : Range) (own : Bool) → deed k ec ≡ Revokes range own → AsksRevoke k ec range own
 begins_asked k ec range own is =

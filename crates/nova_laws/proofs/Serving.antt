@@ -1,4 +1,4 @@
--- Callers stay with those who serve them, whatever is done: one row a deed.
+-- Callers stay with those who serve them, whatever becomes of one or two execution contexts.
 use Rattle.std.proofs.Common.{◌≡◌, ℕ, zero, suc, List, [], ◌∷◌, refl, ap, ◌∙◌, sym, subst, inl, inr}
 use Rattle.std.specs.Prelude.{◌≢◌, Bool, true, false, if◌then◌else◌, Option, Some, None, IsSome, is_some, option_and_then}
 use Rattle.nova_range.specs.declared.status.Status.TheVariants.{Success}

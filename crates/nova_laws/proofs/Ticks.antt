@@ -13,7 +13,10 @@ use Rattle.nova_model.specs.Deeds.{deed}
 use Rattle.nova_model.specs.Hypercalls.{ticks_in}
 use Rattle.nova_model.specs.Runs.{after, run, trace}
 use Rattle.nova_model.specs.State.{KernelState, entry}
-use Rattle.nova_model.specs.Turn.{Step, budget_after, event_of, is_spent, turn, turn_by}
+use Rattle.nova_model.specs.Turn.{Step, budget_after, event_of, is_spent, turn}
+use Rattle.nova_model.specs.declared.event.Event.{Event}
+use Rattle.nova_forest.specs.Turns.{Acts, IsTurning, Turning}
+use Rattle.nova_forest.proofs.Turning.{outcome}
 use Rattle.nova_model.specs.declared.budget.Budget.{Budget}
 use Rattle.nova_model.specs.declared.event.Event.{Event}
 use Rattle.nova_model.specs.declared.new_object.NewObject.{NewObject}
@@ -105,9 +108,13 @@ front_passes p e es = by_test (p e)
 
 pub event_is : (k : KernelState) (cpu : ℕ) (o : Option Candidate) → choice k cpu ≡ o →
     option_map (λ (s : Step). s.event) (turn k cpu) ≡ option_map (λ (c : Candidate). event_of cpu c (deed k c.actor)) o
-unfolding turn
-event_is k cpu None is = ap (λ (o : Option Candidate). option_map (λ (s : Step). s.event) (turn_by k cpu o)) is
-event_is k cpu (Some c) is = ap (λ (o : Option Candidate). option_map (λ (s : Step). s.event) (turn_by k cpu o)) is
+event_is k cpu o is =
+    outcome (λ s x. x ≡ option_map (λ (c : Candidate). event_of cpu c (deed k c.actor)) (choice k cpu)) k cpu
+    (λ none. sym (ap (option_map (λ (c : Candidate). event_of cpu c (deed k c.actor))) none)) turned
+    ∙ ap (option_map (λ (c : Candidate). event_of cpu c (deed k c.actor))) is
+  where
+    turned : (t : Turning) (e : Event) → IsTurning k cpu t e → Some e ≡ option_map (λ (c : Candidate). event_of cpu c (deed k c.actor)) (choice k cpu)
+    turned t e (Acts c chosen acts event) = ap Some event ∙ sym (ap (option_map (λ (d : Candidate). event_of cpu d (deed k d.actor))) chosen)
 
 -- what one turn does to a sum, the events do after it
 record IsCountedOn (k s : KernelState) (by cpu : ℕ) (es : List Event) : Type 0 where

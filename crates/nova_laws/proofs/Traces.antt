@@ -3,12 +3,14 @@ use Rattle.std.proofs.Common.{◌≡◌, ℕ, zero, suc, subst, List, [], ◌∷
 use Rattle.std.specs.Prelude.{slice_get, take, Bool, true, false, ◌==◌, filter, if◌then◌else◌, map, Option, Some, None, IfSome, IsSome, option_map}
 use Rattle.std.proofs.lemmas.List.{length-map}
 use Rattle.nova_model.specs.Boot.{Scenario, boot}
-use Rattle.nova_model.specs.Choice.{Candidate, choice, in_front}
+use Rattle.nova_model.specs.Choice.{in_front}
 use Rattle.nova_model.specs.Runs.{IsFreeOfIdle, after, run, trace}
 use Rattle.nova_model.specs.State.{KernelState}
-use Rattle.nova_model.specs.Turn.{Step, answer_of, turn, turn_by}
+use Rattle.nova_model.specs.Turn.{Step, answer_of, turn}
 use Rattle.nova_model.specs.declared.event.Event.{Event}
 use Rattle.nova_model.specs.declared.event.Turn.TheVariants.{Stepped}
+use Rattle.nova_forest.specs.Turns.{Acts, IsTurning, Turning}
+use Rattle.nova_forest.proofs.Turning.{outcome}
 use Rattle.nova_laws.specs.Events.{turns_given}
 use Rattle.nova_laws.specs.Scheduling.{paid_on, turns_of}
 use Rattle.nova_laws.proofs.Ticks.{ticks_are_turns}
@@ -16,13 +18,15 @@ use Rattle.nova_laws.proofs.Ticks.{ticks_are_turns}
 abbrev IsOn : ℕ → Step → Type 0
 IsOn cpu s = s.event.cpu ≡ cpu
 
-turn_on_by : (k : KernelState) (cpu : ℕ) (o : Option Candidate) → IfSome (turn_by k cpu o) (IsOn cpu)
-turn_on_by k cpu None = tt
-turn_on_by k cpu (Some c) = refl
+turning_on : (k : KernelState) (cpu : ℕ) (t : Turning) (e : Event) → IsTurning k cpu t e → e.cpu ≡ cpu
+turning_on k cpu t e (Acts c chosen is event) = ap (λ (x : Event). x.cpu) event
 
 turn_on : (k : KernelState) (cpu : ℕ) → IfSome (turn k cpu) (IsOn cpu)
-unfolding turn
-turn_on k cpu = turn_on_by k cpu (choice k cpu)
+turn_on k cpu = by_step (turn k cpu) (outcome (λ s o. IfSome o (λ e. e.cpu ≡ cpu)) k cpu (λ none. tt) (turning_on k cpu))
+  where
+    by_step : (o : Option Step) → IfSome (option_map (λ (s : Step). s.event) o) (λ e. e.cpu ≡ cpu) → IfSome o (IsOn cpu)
+    by_step None on = tt
+    by_step (Some s) on = on
 
 in_front_on : (cpu : ℕ) (o : Option Step) (es : List Event) → IsSome o → IfSome o (IsOn cpu) →
     map (λ (e : Event). e.cpu) (in_front (option_map (λ (s : Step). s.event) o) es) ≡ cpu ∷ map (λ (e : Event). e.cpu) es

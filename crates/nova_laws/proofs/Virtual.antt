@@ -1,4 +1,4 @@
--- Virtual CPUs: what deeds they do, and that whatever is done they stay in their states, and who comes by a call is a thread: one row a deed.
+-- Virtual CPUs: what deeds they do, and that whatever is done they stay in their states, and who comes by a call is a thread.
 use Rattle.std.proofs.Common.{◌≡◌, ℕ, zero, suc, List, [], ◌∷◌, ◌++◌, length, refl, ap, ◌∙◌, sym, subst, inl, inr, arith}
 use Rattle.std.specs.Prelude.{◌≢◌, ◌==◌, ◌&&◌, Bool, true, false, slice_get, Option, Some, None, is_some, option_map, option_and_then, Result, Ok, Err}
 use Rattle.rv_model.specs.Step.{Once, Raised, Went, environment_call}
@@ -9,32 +9,32 @@ use Rattle.nova_range.specs.declared.status.Status.{Status}
 use Rattle.nova_model.specs.Boot.{root_context, root_objects}
 use Rattle.nova_model.specs.Calls.{exit_admitted}
 use Rattle.nova_model.specs.Capabilities.{is_ec, is_vcpu}
-use Rattle.nova_model.specs.Creation.{context_of, object_of, with_object}
-use Rattle.nova_model.specs.Deeds.{brought, changed, deed, deed_in, done, followed, instruction, ready, recalled, replied_to, resumed, serving, signalled, stepped, stepping, told, with_context, woken_in}
+use Rattle.nova_model.specs.Creation.{context_of, object_of}
+use Rattle.nova_model.specs.Deeds.{answered, changed, deed, deed_in, instruction, parked, ready, resumed, serving, signalled, stepping}
 use Rattle.nova_model.specs.Exits.{exit_at, exit_portal, exit_to}
 use Rattle.nova_model.specs.Portals.{handler_of}
-use Rattle.nova_model.specs.State.{Contexts, KernelState, context, context_at, context_in, ec_in, ec_of, is_local_in, is_local_thread, is_thread, is_thread_in, nobody, pd_of, with_ec}
+use Rattle.nova_model.specs.State.{Contexts, KernelState, context, context_at, context_in, ec_in, ec_of, is_local_in, is_local_thread, is_thread, is_thread_in, nobody, with_ec}
 use Rattle.nova_model.specs.declared.admit.ExitAdmit.{ExitAdmit}
 use Rattle.nova_model.specs.declared.admit.ExitAdmit.TheVariants as exit
 use Rattle.nova_model.specs.declared.context.EcState.{EcState}
 use Rattle.nova_model.specs.declared.context.Mark.{Mark}
 use Rattle.nova_model.specs.declared.context.Mark.TheVariants as mark
 use Rattle.nova_model.specs.declared.context.State.{State}
-use Rattle.nova_model.specs.declared.context.State.TheVariants.{Fresh, Ready, Calling, Exiting, Sending, Dead}
+use Rattle.nova_model.specs.declared.context.State.TheVariants.{Fresh, Ready, Calling, Exiting, Sending, Blocked, Dead}
 use Rattle.nova_model.specs.declared.deed.Deed.{Deed}
-use Rattle.nova_model.specs.declared.deed.Deed.TheVariants.{Rests, Steps, Raises, Dies, Waits, Sends, Makes, Recalls, Opens, Gives, Skips, Finishes, Calls, Replies, Aborts, Removes, Ups}
+use Rattle.nova_model.specs.declared.deed.Deed.TheVariants.{Rests, Steps, Raises, Dies, Waits, Sends, Aborts}
 use Rattle.nova_model.specs.declared.new_object.NewObject.{NewObject}
 use Rattle.nova_model.specs.declared.new_object.NewObject.TheVariants as new
 use Rattle.nova_model.specs.declared.root.Root.{Root}
-use Rattle.nova_model.specs.declared.transfer.ItemWords.{ItemWords}
-use Rattle.nova_model.specs.declared.transfer.Sequel.{Sequel}
-use Rattle.nova_model.specs.declared.transfer.Sequel.TheVariants as sequel
+use Rattle.nova_range.specs.declared.status.Status.TheVariants.{Success}
+use Rattle.nova_forest.specs.Effects.{applied, edits_by, effect, joined, made_by}
 use Rattle.nova_laws.specs.Links.{AreServed}
 use Rattle.nova_laws.specs.Tables.{HasTables, IsOf}
 use Rattle.nova_laws.specs.Virtual.{AreGuests, is_guest_state}
 use Rattle.nova_laws.proofs.Referring.{Asks, IsCallerOf}
-use Rattle.nova_laws.proofs.Serving.{IsReached, exit_reaches, mark_in, number_in, send_reaches}
-use Rattle.nova_laws.proofs.Setting.{entry_below, entry_joined, entry_set, get_kept, get_last, joined_other, set_length}
+use Rattle.nova_laws.proofs.Courses.{Courses, IsCall, IsSelf, IsTo, deed_course, edited_length}
+use Rattle.nova_laws.proofs.Serving.{IsActor, IsReached, mark_in, number_in}
+use Rattle.nova_laws.proofs.Setting.{entry_below, entry_joined, entry_set, get_kept, get_last, joined_other}
 use Rattle.nova_laws.proofs.Tabling.{context_is, contexts_length}
 
 -- KINDS
@@ -137,9 +137,6 @@ pub record IsGuestEntry (os : List Object) (n : ℕ) (x : EcState) : Type 0 wher
 abbrev pub AreAmong : List Object → Contexts → Type 0
 AreAmong os cs = (n : ℕ) → IsGuestEntry os n (ec_of cs n)
 
-abbrev Among : KernelState → Type 0
-Among k = AreAmong k.objects k.contexts
-
 entry_caller : (o : Option EcState) (p : ℕ × Mark) → (context_in o).caller ≡ Some p → option_and_then (λ (x : EcState). x.caller) o ≡ Some p
 entry_caller None p is = absurd (cc)
 entry_caller (Some x) p is = is
@@ -219,23 +216,6 @@ changed_state x (Aborts handler mark.Call) guest h = refl
 changed_state x (Aborts handler mark.Exit) guest h = refl
 changed_state x other guest h = absurd (cc)
 
-changed_caller : (x : EcState) (d : Deed) (p : ℕ × Mark) → (changed x d).caller ≡ Some p → x.caller ≡ Some p
-changed_caller x (Finishes item end words sequel.Item) p is = is
-changed_caller x (Finishes item end words sequel.Opened) p is = is
-changed_caller x (Finishes item end words sequel.Taken) p is = is
-changed_caller x (Finishes item end words (sequel.Replied caller its)) p is = absurd (cc)
-changed_caller x (Replies caller its true) p is = is
-changed_caller x (Replies caller its false) p is = absurd (cc)
-changed_caller x (Aborts handler mark.Call) p is = is
-changed_caller x (Aborts handler mark.Exit) p is = is
-changed_caller x other p is = is
-
-acts_entry : (os : List Object) (n : ℕ) (x : EcState) (d : Deed) → (IsOf os is_vcpu n → is_guest_deed d ≡ true) → IsGuestEntry os n x → IsGuestEntry os n (changed x d)
-acts_entry os n x d guest h = record {
-  state = λ is. changed_state x d (guest is) (h.state is);
-  callers = λ c is. h.callers c (changed_caller x d (c, mark.Call) is);
-}
-
 -- ANOTHER
 
 -- one that goes on, and keeps its caller
@@ -264,38 +244,6 @@ serves_among os cs h caller its ip identifier items local thread all =
 
 -- DEEDS
 
-stepped_among : (k : KernelState) (ec : ℕ) (o : Once) → Among k → Among (stepped k ec o)
-stepped_among k ec (Raised reason q0 q1) h = h
-stepped_among k ec (Went regs store) h = set_among k.objects k.contexts ec _ (record { state = (h ec).state; callers = (h ec).callers }) h
-
-recalled_among : (k : KernelState) (e : ℕ) (o : Option EcState) → ec_in k.contexts e ≡ o → Among k → Among (recalled k e o)
-recalled_among k e None is h = h
-recalled_among k e (Some x) is h =
-    let old : IsGuestEntry k.objects e x = subst (IsGuestEntry k.objects e) (ap context_in is) (h e) in
-    set_among k.objects k.contexts e (record x { recall = true }) (record { state = old.state; callers = old.callers }) h
-
-told_among : (k : KernelState) (item : ℕ) (words : Option ItemWords) → Among k → Among (told k item words)
-told_among k item None h = h
-told_among k item (Some w) h = h
-
-followed_among : (k : KernelState) (ec : ℕ) (follows : Sequel) → Among k → Among (followed k ec follows)
-followed_among k ec sequel.Item h = h
-followed_among k ec sequel.Opened h = h
-followed_among k ec sequel.Taken h = h
-followed_among k ec (sequel.Replied caller its) h = resumed_among k.objects k.contexts caller its _ h
-
-brought_among : (k : KernelState) (ec caller : ℕ) (its : Mark) → Among k → Among (brought k ec caller its)
-brought_among k ec caller mark.Call h = h
-brought_among k ec caller mark.Exit h = h
-
-replied_among : (k : KernelState) (ec caller : ℕ) (its : Mark) (items : Bool) → Among k → Among (replied_to k ec caller its items)
-replied_among k ec caller its true h = brought_among k ec caller its h
-replied_among k ec caller its false h = resumed_among _ _ caller its _ (brought_among k ec caller its h)
-
-woken_among : (k : KernelState) (whom : Option ℕ) → Among k → Among (woken_in k whom)
-woken_among k None h = h
-woken_among k (Some w) h = set_among k.objects k.contexts w _ (ready_entry k.objects w (context k w) _ refl refl (h w)) h
-
 -- a deed that only a thread does is no virtual CPU's
 guest_does : (k : KernelState) (ec : ℕ) (d : Deed) → (is_guest_deed d ≡ false → is_thread k ec ≡ true) → IsOf k.objects is_vcpu ec → is_guest_deed d ≡ true
 guest_does k ec d thread virtual = by_test (is_guest_deed d) refl
@@ -304,42 +252,56 @@ guest_does k ec d thread virtual = by_test (is_guest_deed d) refl
     by_test true is = refl
     by_test false is = absurd (let does = thread is in let not = virtual_alone (slice_get k.objects ec) virtual in cc)
 
-abbrev DoneBy : KernelState → ℕ → Deed → Type 0
-DoneBy k ec d = Among (with_context k ec (changed (context k ec) d))
+guest_courses : (k : KernelState) (ec : ℕ) (d : Deed) → IsActor k.contexts ec → (is_guest_deed d ≡ false → is_thread k ec ≡ true) → AreServed (is_local_thread k) k.contexts →
+    AreAmong k.objects k.contexts → Courses k ec d (λ cs all. AreAmong k.objects cs)
+guest_courses k ec d actor thread served h = record {
+  rests = λ to. h;
+  steps = λ regs is. own (record (context k ec) { regs = regs }) (λ p is. is) (ap (λ (e : Deed). (changed (context k ec) e).state) is);
+  stays = λ cs all w x y is self same now. stays cs w x y is self same now;
+  goes = λ y self to may. own y (λ p is. sym self.caller ∙ is) to;
+  sends = λ handler its ip identifier items to of reached.
+      serves_among k.objects (with_ec k.contexts ec (record (context k ec) { state = Calling handler })) handler ec its ip identifier items (reached_thread k ec handler reached served)
+      (calls handler ip identifier items its of) (own (record (context k ec) { state = Calling handler }) (λ p is. is) to);
+  replies = λ caller its m to keeps.
+      resumed_among k.objects (with_ec k.contexts ec (parked (context k ec))) caller its m (own (parked (context k ec)) (λ p is. absurd cc) to);
+  ups = λ sm to is. answers to;
+  wakes = λ sm w to is.
+      let one = with_ec k.contexts ec (answered (context k ec) Success None) in
+      set_among k.objects one w _ (ready_entry k.objects w (ec_of one w) _ refl refl (answers to w)) (answers to);
+  downs = λ sm to is. answers to;
+  blocks = λ sm to is answer. own (record (context k ec) { state = Blocked sm }) (λ p is. is) to;
+}
+  where
+    own : (y : EcState) → ((p : ℕ × Mark) → y.caller ≡ Some p → (context k ec).caller ≡ Some p) → IsTo k ec d y.state → AreAmong k.objects (with_ec k.contexts ec y)
+    own y callers to = set_among k.objects k.contexts ec y (record {
+      state = λ is. ap is_guest_state (sym to) ∙ changed_state (context k ec) d (guest_does k ec d thread is) ((h ec).state is);
+      callers = λ c is. (h ec).callers c (callers (c, mark.Call) is);
+    }) h
 
-more_done : (k : KernelState) (ec target : ℕ) (d : Deed) (made : NewObject) → length k.contexts ≡ length k.objects → DoneBy k ec d →
-    Among (with_object (with_context k ec (changed (context k ec) d)) (pd_of k ec) target made)
-more_done k ec target d made as_many now =
-    more_among k.objects (object_of made) (with_ec k.contexts ec (changed (context k ec) d)) (context_of (length k.objects) made)
-    (set_length k.contexts ec (Some (changed (context k ec) d)) ∙ as_many) (born_entry k.objects (length k.objects) made) now
+    answers : IsTo k ec d Ready → AreAmong k.objects (with_ec k.contexts ec (answered (context k ec) Success None))
+    answers to = own (answered (context k ec) Success None) (λ p is. is) to
 
-done_among : (k : KernelState) (ec : ℕ) (d : Deed) → (is_guest_deed d ≡ false → is_thread k ec ≡ true) → Asks k ec d → AreServed (is_local_thread k) k.contexts →
-    length k.contexts ≡ length k.objects → Among k → DoneBy k ec d → Among (done k ec d)
-done_among k ec Rests thread asks served as_many h now = h
-done_among k ec Steps thread asks served as_many h now = stepped_among k ec (instruction k ec) h
-done_among k ec (Makes call target made) thread asks served as_many h now = more_done k ec target (Makes call target made) made as_many now
-done_among k ec (Opens target domain) thread asks served as_many h now = more_done k ec target (Opens target domain) new.Pd as_many now
-done_among k ec (Recalls whose) thread asks served as_many h now = recalled_among _ whose _ refl now
-done_among k ec (Calls handler ip identifier items) thread asks served as_many h now =
-    serves_among k.objects (with_ec k.contexts ec (changed (context k ec) (Calls handler ip identifier items))) handler ec mark.Call ip identifier items
-    (reached_thread k ec handler (send_reaches k.contexts ec handler asks.flag asks.admits) served) (λ called. thread refl) now
-done_among k ec (Sends handler ip identifier mtd reason q0 q1) thread asks served as_many h now =
-    serves_among k.objects (with_ec k.contexts ec (changed (context k ec) (Sends handler ip identifier mtd reason q0 q1))) handler ec mark.Exit ip identifier false
-    (reached_thread k ec handler (exit_reaches k.contexts ec handler asks.admits) served) (λ called. absurd (cc)) now
-done_among k ec (Replies caller its items) thread asks served as_many h now = replied_among _ ec caller its items now
-done_among k ec (Ups sm whom) thread asks served as_many h now = woken_among _ whom now
-done_among k ec (Finishes item end words follows) thread asks served as_many h now = followed_among _ ec follows (told_among _ item words now)
-done_among k ec (Gives child cursor) thread asks served as_many h now = h
-done_among k ec (Skips reason place cursor) thread asks served as_many h now = h
-done_among k ec (Removes leaf) thread asks served as_many h now = h
-done_among k ec other thread asks served as_many h now = now
+    calls : (handler ip identifier : ℕ) (items : Bool) (its : Mark) → IsCall d handler ip identifier items its → its ≡ mark.Call → is_thread k ec ≡ true
+    calls handler ip identifier items mark.Call is called = thread (ap is_guest_deed is)
+    calls handler ip identifier items mark.Exit is called = absurd cc
 
-pub done_guests : (k : KernelState) (ec : ℕ) (d : Deed) → (is_guest_deed d ≡ false → is_thread k ec ≡ true) → Asks k ec d → HasTables k →
-    AreServed (is_local_thread k) k.contexts → AreGuests k → AreGuests (done k ec d)
-done_guests k ec d thread asks tables served h =
-    let all = among_of k h in
-    let own = acts_entry k.objects ec (context k ec) d (guest_does k ec d thread) (all ec) in
-    guests_of (done k ec d) (done_among k ec d thread asks served (contexts_length k tables) all (set_among k.objects k.contexts ec (changed (context k ec) d) own all))
+    stays : (cs : Contexts) (w : ℕ) (x y : EcState) → ec_in cs w ≡ Some x → IsSelf x y → y.state ≡ x.state → AreAmong k.objects cs → AreAmong k.objects (with_ec cs w y)
+    stays cs w x y is self same now =
+        let old : IsGuestEntry k.objects w x = subst (IsGuestEntry k.objects w) (ap context_in is) (now w) in
+        set_among k.objects cs w y
+        (record { state = λ virtual. ap is_guest_state same ∙ old.state virtual; callers = λ c keeps. old.callers c (sym self.caller ∙ keeps) }) now
+
+joined_among : (os : List Object) (cs : Contexts) (made : Option NewObject) → length cs ≡ length os → AreAmong os cs →
+    AreAmong (joined os (option_map object_of made)) (joined cs (option_map (context_of (length os)) made))
+joined_among os cs None as_many h = h
+joined_among os cs (Some made) as_many h = more_among os (object_of made) cs (context_of (length os) made) as_many (born_entry os (length os) made) h
+
+pub applied_guests : (k : KernelState) (ec : ℕ) (d : Deed) → IsActor k.contexts ec → (is_guest_deed d ≡ false → is_thread k ec ≡ true) → Asks k ec d → HasTables k →
+    AreServed (is_local_thread k) k.contexts → AreGuests k → AreGuests (applied k (effect k ec d))
+applied_guests k ec d actor thread asks tables served h =
+    guests_of (applied k (effect k ec d))
+    (joined_among k.objects _ (made_by d) (edited_length k.contexts (edits_by k ec d) ∙ contexts_length k tables)
+    (deed_course k ec (λ cs all. AreAmong k.objects cs) d actor asks (guest_courses k ec d actor thread served (among_of k h))))
 
 -- at the beginning there is none, and nobody called
 pub root_among : (root : Root) → AreAmong (root_objects root) (None ∷ Some (root_context root) ∷ None ∷ [])

@@ -1,8 +1,7 @@
--- Edges lead to local threads along all turns: one row a deed.
+-- Edges lead to local threads along all turns.
 use Rattle.std.proofs.Common.{◌≡◌, ℕ, List, [], ◌∷◌, ◌++◌, length, inl, inr, ap, sym, ◌∙◌, subst, refl}
 use Rattle.std.specs.Prelude.{Bool, true, false, slice_get, Option, Some, None, IfSome, option_map, Ok}
 use Rattle.std.proofs.lemmas.Option.{same_Some}
-use Rattle.rv_model.specs.Step.{Once, Raised, Went}
 use Rattle.nova_calls.specs.declared.numbers.TheConstants.{CREATE_EC, CREATE_SC, CREATE_PT, CREATE_SM, SC_CTRL}
 use Rattle.nova_calls.specs.declared.call.Call.{Call}
 use Rattle.nova_calls.specs.declared.call.Call.TheVariants as asks
@@ -12,32 +11,34 @@ use Rattle.nova_objects.specs.declared.object.Object.TheVariants.{Pd, Ec, Sc, Pt
 use Rattle.nova_range.specs.declared.range.Range.{Range}
 use Rattle.nova_range.specs.declared.rights.Rights.{Rights}
 use Rattle.nova_forest.proofs.Walk.{IfDone, deed_holds, sm_ctrl_holds}
-use Rattle.nova_forest.proofs.Stirred.{acted}
 use Rattle.nova_model.specs.Capabilities.{call_right, control_right, event_right, is_ec, is_local, is_pt, is_sc, named}
-use Rattle.nova_model.specs.Choice.{Candidate, choice}
 use Rattle.nova_model.specs.Creation.{context_of, object_of}
-use Rattle.nova_model.specs.Deeds.{brought, changed, deed, done, followed, instruction, recalled, replied_to, resumed, serving, stepped, told, with_context, woken_in}
+use Rattle.nova_model.specs.Deeds.{answered, changed, deed, parked, resumed, serving}
 use Rattle.nova_model.specs.Edges.{edge_of}
 use Rattle.nova_model.specs.Hypercalls.{new_domain, row, ticks_in}
 use Rattle.nova_model.specs.Portals.{handler_in, handler_of}
 use Rattle.nova_model.specs.Runs.{after}
-use Rattle.nova_model.specs.Turn.{charged}
 use Rattle.nova_model.specs.State.{Contexts, KernelState, budget_at, context, context_in, ec_in, ec_of, nobody, pd_of, with_ec}
 use Rattle.nova_model.specs.declared.context.EcState.{EcState}
 use Rattle.nova_model.specs.declared.context.Mark.{Mark}
 use Rattle.nova_model.specs.declared.context.Mark.TheVariants as mark
 use Rattle.nova_model.specs.declared.deed.Deed.{Deed}
-use Rattle.nova_model.specs.declared.deed.Deed.TheVariants.{Rests, Steps, Raises, Dies, Waits, Sends, Refuses, Makes, Recalls, Tells, Names, Opens, Gives, Skips, Finishes, Calls, Helps, Replies, Aborts, Revokes, Removes, Returns, Ups, Downs, Blocks}
+use Rattle.nova_model.specs.declared.deed.Deed.TheVariants.{Waits, Sends, Recalls, Tells, Names, Finishes, Calls, Helps, Replies, Aborts}
 use Rattle.nova_model.specs.declared.new_object.NewObject.{NewObject}
 use Rattle.nova_model.specs.declared.new_object.NewObject.TheVariants as new
-use Rattle.nova_model.specs.declared.transfer.ItemWords.{ItemWords}
-use Rattle.nova_model.specs.declared.transfer.Sequel.{Sequel}
 use Rattle.nova_model.specs.declared.transfer.Sequel.TheVariants as sequel
+use Rattle.nova_range.specs.declared.status.Status.TheVariants.{Success}
+use Rattle.nova_model.specs.declared.context.State.TheVariants.{Calling, Blocked}
+use Rattle.nova_model.specs.declared.event.Event.{Event}
+use Rattle.nova_forest.specs.Effects.{joined, made_by}
+use Rattle.nova_forest.specs.Turns.{Acts, IsTurning, Turning, turned}
+use Rattle.nova_forest.proofs.Turning.{outcome}
 use Rattle.nova_laws.specs.Tables.{HasTables, IsOf, Refers}
-use Rattle.nova_laws.proofs.Charges.{charge_leaves}
+use Rattle.nova_laws.proofs.Courses.{Courses, IsTo, deed_course}
+use Rattle.nova_laws.proofs.Fitting.{chosen_acts}
 use Rattle.nova_laws.proofs.Holding.{IsNamedAt, named_at}
-use Rattle.nova_laws.proofs.Paying.{idle_is}
-use Rattle.nova_laws.proofs.Refused.{turn_chosen}
+use Rattle.nova_laws.proofs.Referring.{deed_asks}
+use Rattle.nova_laws.proofs.Serving.{actor_of}
 use Rattle.nova_laws.proofs.Rows.{call_holds, create_pd_holds, makes_hold, named_holds, reply_holds}
 use Rattle.nova_laws.proofs.Setting.{entry_joined, entry_set, get_kept}
 use Rattle.nova_laws.proofs.Tabling.{all_get}
@@ -149,114 +150,66 @@ new_free n (new.Sc ec cpu priority quantum) = refl
 new_free n (new.Pt ec mtd ip) = refl
 new_free n (new.Sm count) = refl
 
--- ROWS
+-- A DEED
+
+-- the one that acts
+changed_aimed : (k : KernelState) (x : EcState) (d : Deed) → Aims k d → IsAimed k.objects x → IsAimed k.objects (changed x d)
+changed_aimed k x (Waits handler reason q0 q1) aims aimed h leads = subst (IsOf k.objects is_local) (same_Some handler h leads) aims
+changed_aimed k x (Sends handler ip identifier mtd reason q0 q1) aims aimed h leads = subst (IsOf k.objects is_local) (same_Some handler h leads) aims
+changed_aimed k x (Calls handler ip identifier items) aims aimed h leads = subst (IsOf k.objects is_local) (same_Some handler h leads) aims
+changed_aimed k x (Helps handler) aims aimed h leads = subst (IsOf k.objects is_local) (same_Some handler h leads) aims
+changed_aimed k x (Finishes item end words sequel.Item) aims aimed h leads = aimed h leads
+changed_aimed k x (Replies caller its true) aims aimed h leads = absurd cc
+changed_aimed k x (Aborts handler mark.Call) aims aimed h leads = absurd cc
+changed_aimed k x other aims aimed h leads = first_of (cc, search (aimed, leads))
+
+resumed_aimed : (os : List Object) (cs : Contexts) (e : ℕ) (its : Mark) (m : List ℕ) → AreAimed os cs → AreAimed os (with_ec cs e (resumed (ec_of cs e) its m))
+resumed_aimed os cs e mark.Call m all = set_aimed os cs e _ (λ h leads. absurd (cc)) all
+resumed_aimed os cs e mark.Exit m all = set_aimed os cs e _ (λ h leads. absurd (cc)) all
+
+serves_aimed : (os : List Object) (cs : Contexts) (h caller : ℕ) (its : Mark) (ip identifier : ℕ) (items : Bool) → AreAimed os cs →
+    AreAimed os (with_ec cs h (serving (ec_of cs h) caller its ip identifier items))
+serves_aimed os cs h caller its ip identifier true all = set_aimed os cs h _ (λ h leads. absurd (cc)) all
+serves_aimed os cs h caller its ip identifier false all = set_aimed os cs h _ (λ h leads. absurd (cc)) all
+
+aimed_courses : (k : KernelState) (ec : ℕ) (d : Deed) → Aims k d → AreAimed k.objects k.contexts → Courses k ec d (λ cs all. AreAimed k.objects cs)
+aimed_courses k ec d aims h = record {
+  rests = λ to. h;
+  steps = λ regs is. set_aimed k.objects k.contexts ec _ (same_entry k.objects (context k ec) (record (context k ec) { regs = regs }) refl (h ec)) h;
+  stays = λ cs all w x y is self same now.
+      set_aimed k.objects cs w y (same_entry k.objects x y same (subst (IsAimed k.objects) (ap context_in is) (now w))) now;
+  goes = λ y self to may. own y to;
+  sends = λ handler its ip identifier items to of reached.
+      serves_aimed k.objects (with_ec k.contexts ec (record (context k ec) { state = Calling handler })) handler ec its ip identifier items
+      (own (record (context k ec) { state = Calling handler }) to);
+  replies = λ caller its m to keeps. resumed_aimed k.objects (with_ec k.contexts ec (parked (context k ec))) caller its m (own (parked (context k ec)) to);
+  ups = λ sm to is. own (answered (context k ec) Success None) to;
+  wakes = λ sm w to is.
+      set_aimed k.objects (with_ec k.contexts ec (answered (context k ec) Success None)) w _ (λ n leads. absurd (cc)) (own (answered (context k ec) Success None) to);
+  downs = λ sm to is. own (answered (context k ec) Success None) to;
+  blocks = λ sm to is answer. own (record (context k ec) { state = Blocked sm }) to;
+}
+  where
+    own : (y : EcState) → IsTo k ec d y.state → AreAimed k.objects (with_ec k.contexts ec y)
+    own y to = set_aimed k.objects k.contexts ec y (λ n leads. changed_aimed k (context k ec) d aims (h ec) n (ap edge_of to ∙ leads)) h
+
+joined_aimed : (os : List Object) (n : ℕ) (cs : Contexts) (made : Option NewObject) → AreAimed os cs →
+    AreAimed (joined os (option_map object_of made)) (joined cs (option_map (context_of n) made))
+joined_aimed os n cs None all = all
+joined_aimed os n cs (Some made) all = more_aimed os (object_of made) cs (context_of n made) (new_free n made) all
+
+-- A TURN
 
 abbrev Aimed : KernelState → Type 0
 Aimed k = AreAimed k.objects k.contexts
 
--- the one that acts
-changed_aimed : (k : KernelState) (x : EcState) (d : Deed) → Aims k d → IsAimed k.objects x → IsAimed k.objects (changed x d)
-changed_aimed k x Rests aims aimed = aimed
-changed_aimed k x Steps aims aimed = aimed
-changed_aimed k x (Waits handler reason q0 q1) aims aimed = λ h leads. subst (IsOf k.objects is_local) (same_Some handler h leads) aims
-changed_aimed k x (Sends handler ip identifier mtd reason q0 q1) aims aimed = λ h leads. subst (IsOf k.objects is_local) (same_Some handler h leads) aims
-changed_aimed k x (Calls handler ip identifier items) aims aimed = λ h leads. subst (IsOf k.objects is_local) (same_Some handler h leads) aims
-changed_aimed k x (Helps handler) aims aimed = λ h leads. subst (IsOf k.objects is_local) (same_Some handler h leads) aims
-changed_aimed k x (Finishes item end words sequel.Item) aims aimed = aimed
-changed_aimed k x (Finishes item end words sequel.Opened) aims aimed = λ h leads. absurd (cc)
-changed_aimed k x (Finishes item end words sequel.Taken) aims aimed = λ h leads. absurd (cc)
-changed_aimed k x (Finishes item end words (sequel.Replied caller its)) aims aimed = λ h leads. absurd (cc)
-changed_aimed k x (Replies caller its true) aims aimed = λ h leads. absurd (cc)
-changed_aimed k x (Replies caller its false) aims aimed = λ h leads. absurd (cc)
-changed_aimed k x (Aborts handler mark.Call) aims aimed = λ h leads. absurd (cc)
-changed_aimed k x (Aborts handler mark.Exit) aims aimed = λ h leads. absurd (cc)
-changed_aimed k x (Gives child cursor) aims aimed = aimed
-changed_aimed k x (Skips reason place cursor) aims aimed = aimed
-changed_aimed k x (Removes leaf) aims aimed = aimed
-changed_aimed k x (Raises reason q0 q1) aims aimed = λ h leads. absurd (cc)
-changed_aimed k x (Dies reason q0) aims aimed = λ h leads. absurd (cc)
-changed_aimed k x (Refuses call status) aims aimed = λ h leads. absurd (cc)
-changed_aimed k x (Makes call target made) aims aimed = λ h leads. absurd (cc)
-changed_aimed k x (Recalls other) aims aimed = λ h leads. absurd (cc)
-changed_aimed k x (Tells call value) aims aimed = λ h leads. absurd (cc)
-changed_aimed k x (Names pt identifier) aims aimed = λ h leads. absurd (cc)
-changed_aimed k x (Opens target domain) aims aimed = λ h leads. absurd (cc)
-changed_aimed k x (Revokes range own) aims aimed = λ h leads. absurd (cc)
-changed_aimed k x Returns aims aimed = λ h leads. absurd (cc)
-changed_aimed k x (Ups sm whom) aims aimed = λ h leads. absurd (cc)
-changed_aimed k x (Downs sm) aims aimed = λ h leads. absurd (cc)
-changed_aimed k x (Blocks sm) aims aimed = λ h leads. absurd (cc)
-
--- others
-resumed_aimed : (k : KernelState) (e : ℕ) (its : Mark) (m : List ℕ) → Aimed k → Aimed (with_context k e (resumed (context k e) its m))
-resumed_aimed k e mark.Call m all = set_aimed k.objects k.contexts e _ (λ h leads. absurd (cc)) all
-resumed_aimed k e mark.Exit m all = set_aimed k.objects k.contexts e _ (λ h leads. absurd (cc)) all
-
-serves_aimed : (k : KernelState) (h caller : ℕ) (its : Mark) (ip identifier : ℕ) (items : Bool) → Aimed k → Aimed (with_context k h (serving (context k h) caller its ip identifier items))
-serves_aimed k h caller its ip identifier true all = set_aimed k.objects k.contexts h _ (λ h leads. absurd (cc)) all
-serves_aimed k h caller its ip identifier false all = set_aimed k.objects k.contexts h _ (λ h leads. absurd (cc)) all
-
-stepped_aimed : (k : KernelState) (ec : ℕ) (o : Once) → Aimed k → Aimed (stepped k ec o)
-stepped_aimed k ec (Raised reason q0 q1) all = all
-stepped_aimed k ec (Went regs store) all = set_aimed k.objects k.contexts ec _ (same_entry k.objects (context k ec) (record (context k ec) { regs = regs }) refl (all ec)) all
-
-recalled_aimed : (k : KernelState) (e : ℕ) (o : Option EcState) → ec_in k.contexts e ≡ o → Aimed k → Aimed (recalled k e o)
-recalled_aimed k e None is all = all
-recalled_aimed k e (Some x) is all = set_aimed k.objects k.contexts e _ (same_entry k.objects x (record x { recall = true }) refl (subst (IsAimed k.objects) (ap context_in is) (all e))) all
-
-told_aimed : (k : KernelState) (item : ℕ) (words : Option ItemWords) → Aimed k → Aimed (told k item words)
-told_aimed k item None all = all
-told_aimed k item (Some w) all = all
-
-followed_aimed : (k : KernelState) (ec : ℕ) (follows : Sequel) → Aimed k → Aimed (followed k ec follows)
-followed_aimed k ec sequel.Item all = all
-followed_aimed k ec sequel.Opened all = all
-followed_aimed k ec sequel.Taken all = all
-followed_aimed k ec (sequel.Replied caller its) all = resumed_aimed k caller its _ all
-
-brought_aimed : (k : KernelState) (ec caller : ℕ) (its : Mark) → Aimed k → Aimed (brought k ec caller its)
-brought_aimed k ec caller mark.Call all = all
-brought_aimed k ec caller mark.Exit all = all
-
-replied_aimed : (k : KernelState) (ec caller : ℕ) (its : Mark) (items : Bool) → Aimed k → Aimed (replied_to k ec caller its items)
-replied_aimed k ec caller its true all = brought_aimed k ec caller its all
-replied_aimed k ec caller its false all = resumed_aimed (brought k ec caller its) caller its _ (brought_aimed k ec caller its all)
-
-woken_aimed : (k : KernelState) (whom : Option ℕ) → Aimed k → Aimed (woken_in k whom)
-woken_aimed k None all = all
-woken_aimed k (Some w) all = set_aimed k.objects k.contexts w _ (λ h leads. absurd (cc)) all
-
-done_aimed : (k : KernelState) (ec : ℕ) (d : Deed) → Aimed k → Aimed (with_context k ec (changed (context k ec) d)) → Aimed (done k ec d)
-done_aimed k ec Rests all now = all
-done_aimed k ec Steps all now = stepped_aimed k ec (instruction k ec) all
-done_aimed k ec (Makes call target made) all now = more_aimed k.objects (object_of made) _ (context_of _ made) (new_free _ made) now
-done_aimed k ec (Opens target domain) all now = more_aimed k.objects (object_of new.Pd) _ (context_of (length k.objects) new.Pd) refl now
-done_aimed k ec (Recalls whose) all now = recalled_aimed _ whose _ refl now
-done_aimed k ec (Calls handler ip identifier items) all now = serves_aimed (with_context k ec (changed (context k ec) (Calls handler ip identifier items))) handler ec mark.Call ip identifier items now
-done_aimed k ec (Sends handler ip identifier mtd reason q0 q1) all now = serves_aimed (with_context k ec (changed (context k ec) (Sends handler ip identifier mtd reason q0 q1))) handler ec mark.Exit ip identifier false now
-done_aimed k ec (Replies caller its items) all now = replied_aimed _ ec caller its items now
-done_aimed k ec (Ups sm whom) all now = woken_aimed _ whom now
-done_aimed k ec (Finishes item end words follows) all now = followed_aimed _ ec follows (told_aimed _ item words now)
-done_aimed k ec (Gives child cursor) all now = all
-done_aimed k ec (Skips reason place cursor) all now = all
-done_aimed k ec (Removes leaf) all now = all
-done_aimed k ec other all now = now
-
--- A TURN
-
-chosen_aimed : (k : KernelState) (cpu : ℕ) (c : Candidate) → HasTables k → choice k cpu ≡ Some c → Aimed k → Aimed (after k cpu)
-chosen_aimed k cpu c tables chosen all =
-    let s = acted k c.actor in
-    let left = charge_leaves s cpu c.sc in
+turned_aimed : (k : KernelState) (cpu : ℕ) (t : Turning) (e : Event) → IsTurning k cpu t e → HasTables k → Aimed k → Aimed (turned k cpu t)
+turned_aimed k cpu t e (Acts c chosen is event) tables all =
     let d = deed k c.actor in
-    subst Aimed (sym (turn_chosen k cpu c chosen))
-    (subst (λ (os : List Object). AreAimed os (charged s cpu c.sc).contexts) (sym left.objects)
-    (subst (λ (cs : Contexts). AreAimed s.objects cs) (sym left.contexts)
-    (done_aimed k c.actor d all (set_aimed k.objects k.contexts c.actor _ (changed_aimed k (context k c.actor) d (deed_aims k c.actor tables) (all c.actor)) all))))
+    let actor = actor_of k.contexts c.actor (chosen_acts k cpu c chosen) in
+    subst (λ (u : Turning). Aimed (turned k cpu u)) (sym is)
+    (joined_aimed k.objects (length k.objects) _ (made_by d)
+    (deed_course k c.actor (λ cs all. AreAimed k.objects cs) d actor (deed_asks k c.actor) (aimed_courses k c.actor d (deed_aims k c.actor tables) all)))
 
 pub turn_aimed : (k : KernelState) (cpu : ℕ) → HasTables k → AreAimed k.objects k.contexts → AreAimed (after k cpu).objects (after k cpu).contexts
-turn_aimed k cpu tables all = by_choice (choice k cpu) refl
-  where
-    by_choice : (o : Option Candidate) → choice k cpu ≡ o → Aimed (after k cpu)
-    by_choice None idle = subst Aimed (sym (idle_is k cpu idle)) all
-    by_choice (Some c) chosen = chosen_aimed k cpu c tables chosen all
+turn_aimed k cpu tables all = outcome (λ s o. Aimed s) k cpu (λ none. all) (λ t e is. turned_aimed k cpu t e is tables all)

@@ -7,12 +7,13 @@ use Rattle.nova_model.specs.Choice.{Candidate, choice, in_front}
 use Rattle.nova_model.specs.Deeds.{deed}
 use Rattle.nova_model.specs.Runs.{after, trace}
 use Rattle.nova_model.specs.State.{KernelState}
-use Rattle.nova_model.specs.Turn.{event_of, turn, turn_by}
+use Rattle.nova_model.specs.Turn.{event_of, turn}
 use Rattle.nova_model.specs.Views.{view}
 use Rattle.nova_model.specs.declared.budget.Budget.{Budget}
 use Rattle.nova_model.specs.declared.deed.Deed.{Deed}
 use Rattle.nova_model.specs.declared.deed.Deed.TheVariants.{Steps}
 use Rattle.nova_model.specs.declared.event.Event.{Event}
+use Rattle.nova_laws.proofs.Ticks.{event_is}
 use Rattle.nova_isolation.specs.Sound.{IsSound}
 use Rattle.nova_isolation.proofs.Premises.{guest, premises}
 use Rattle.nova_isolation.proofs.Runs.{turn_sound}
@@ -22,9 +23,7 @@ use Rattle.nova_leases.proofs.Bursting.{IsStepped, first_quiet, next_leasable, n
 use Rattle.nova_leases.proofs.Stepping.{plain}
 
 shown : (k : KernelState) (cpu : ℕ) (c : Candidate) → choice k cpu ≡ Some c → deed k c.actor ≡ Steps → option_map (λ s. s.event) (turn k cpu) ≡ Some (step_of cpu c)
-unfolding turn
-shown k cpu c chosen does =
-    ap (λ (o : Option Candidate). option_map (λ s. s.event) (turn_by k cpu o)) chosen ∙ ap (λ (d : Deed). Some (event_of cpu c d)) does
+shown k cpu c chosen does = event_is k cpu (Some c) chosen ∙ ap (λ (d : Deed). Some (event_of cpu c d)) does
 
 one_shown : (k : KernelState) (cpu : ℕ) (c : Candidate) (b : Budget) → IsSound k → IsLeasable k cpu c b → (applied (view k c.actor) Own).out ≡ None →
     option_map (λ s. s.event) (turn k cpu) ≡ Some (step_of cpu c)

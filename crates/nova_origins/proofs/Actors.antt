@@ -1,20 +1,21 @@
 -- Who acts in a turn, and what the turn does to objects and delegations.
 use Rattle.std.proofs.Common.{◌≡◌, ℕ, zero, suc, ◌<◌, List, [], ◌∷◌, ◌++◌, length, ap, sym, ◌∙◌, subst, refl, arith}
-use Rattle.std.specs.Prelude.{true, false, IfSome, slice_get, Option, Some, None, option_map}
+use Rattle.std.specs.Prelude.{true, false, slice_get, Option, Some, None, option_map}
 use Rattle.std.proofs.lemmas.Option.{same_Some, slice_get_within}
 use Rattle.nova_forest.specs.Effects.{branch_by, branched, joined, made_by}
 use Rattle.nova_forest.specs.Turns.{Acts as Chosen, Idles, Takes, acting, turned}
 use Rattle.nova_forest.proofs.Turning.{comes}
 use Rattle.nova_guest.specs.declared.input.Input.{Input}
 use Rattle.nova_isolation.specs.Sound.{IsSound, IsVirtual}
-use Rattle.nova_laws.proofs.Chosen.{Acts as Able, choice_acts}
+use Rattle.nova_forest.proofs.Actors.{chosen_input, of_input, who_acts}
+use Rattle.nova_laws.proofs.Fitting.{chosen_acts}
 use Rattle.nova_laws.proofs.Serving.{IsActor, actor_of}
 use Rattle.nova_model.specs.Capabilities.{is_vcpu}
-use Rattle.nova_model.specs.Choice.{Candidate, choice}
+use Rattle.nova_model.specs.Choice.{Candidate}
 use Rattle.nova_model.specs.Creation.{object_of}
 use Rattle.nova_model.specs.Deeds.{deed}
 use Rattle.nova_model.specs.Edges.{acts, is_dead, is_free, state_in}
-use Rattle.nova_model.specs.Guests.{input, input_by}
+use Rattle.nova_model.specs.Guests.{input}
 use Rattle.nova_model.specs.Inputs.{input_of}
 use Rattle.nova_model.specs.Runs.{after}
 use Rattle.nova_model.specs.State.{Contexts, KernelState, context, context_in, ec_in, ec_of, entry}
@@ -28,11 +29,7 @@ use Rattle.nova_origins.proofs.Coming.{IsSpecial}
 -- WHO ACTS
 
 pub is_able : (k : KernelState) (cpu ec : ℕ) → Acts k cpu ec → acts k.contexts ec ≡ true
-is_able k cpu ec is = by_choice (choice k cpu) is (choice_acts k cpu)
-  where
-    by_choice : (o : Option Candidate) → option_map (λ c. c.actor) o ≡ Some ec → IfSome o (Able k) → acts k.contexts ec ≡ true
-    by_choice None h able = absurd (cc)
-    by_choice (Some c) h able = subst (λ (n : ℕ). acts k.contexts n ≡ true) (same_Some c.actor ec h) able
+is_able k cpu ec is = who_acts (λ n. acts k.contexts n ≡ true) k cpu ec is (λ c chosen. chosen_acts k cpu c chosen)
 
 awake_lives : (s : State) → is_free (Some s) ≡ false → is_dead (Some s) ≡ false
 awake_lives Dead h = absurd (cc)
@@ -44,21 +41,12 @@ actor_lives k cpu ec is =
     ap (λ (o : Option EcState). is_dead (option_map (λ x. x.state) o)) actor.there ∙ awake_lives (ec_of k.contexts ec).state actor.awake
 
 pub input_is : (k : KernelState) (cpu ec g : ℕ) → Acts k cpu ec → input k cpu g ≡ input_of k ec g (deed k ec)
-unfolding input
-input_is k cpu ec g is = by_choice (choice k cpu) is
-  where
-    by_choice : (o : Option Candidate) → option_map (λ c. c.actor) o ≡ Some ec → input_by k g o ≡ input_of k ec g (deed k ec)
-    by_choice None h = absurd (cc)
-    by_choice (Some c) h = ap (λ (n : ℕ). input_of k n g (deed k n)) (same_Some c.actor ec h)
+input_is k cpu ec g is = who_acts (λ n. input k cpu g ≡ input_of k n g (deed k n)) k cpu ec is (λ c chosen. chosen_input k cpu g c chosen)
 
 -- some one acts in the turn of an input
 pub some_acts : (k : KernelState) (cpu g : ℕ) (i : Input) → input k cpu g ≡ Some i → (ec : ℕ) × Acts k cpu ec
-unfolding input
-some_acts k cpu g i is = by_choice (choice k cpu) is
-  where
-    by_choice : (o : Option Candidate) → input_by k g o ≡ Some i → (ec : ℕ) × (option_map (λ c. c.actor) o ≡ Some ec)
-    by_choice None h = absurd (cc)
-    by_choice (Some c) h = (c.actor, refl)
+some_acts k cpu g i is =
+    of_input (λ o. o ≡ Some i → (ec : ℕ) × Acts k cpu ec) k cpu g (λ h. absurd (cc)) (λ c chosen h. (c.actor, ap (option_map (λ x. x.actor)) chosen)) is
 
 -- WHAT IT DOES
 

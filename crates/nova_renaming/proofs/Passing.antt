@@ -4,6 +4,7 @@ use Rattle.std.specs.Prelude.{Bool, true, false, ◌%◌, slice_get, Option, Som
 use Rattle.std.proofs.lemmas.Bool.{and_parts}
 use Rattle.rv_model.specs.Step.{Once, Raised, Went}
 use Rattle.nova_range.specs.declared.mtd.Mtd.{Mtd}
+use Rattle.nova_forest.proofs.Actors.{of_input}
 use Rattle.nova_forest.proofs.Allowed.{IsAllowed, deed_allowed}
 use Rattle.nova_guest.specs.declared.input.Input.{Input}
 use Rattle.nova_guest.specs.declared.input.Input.TheVariants.{Own, Reply, Recall, Taken, Foreign, Sent, Died}
@@ -89,9 +90,4 @@ deed_passes k ec g P each d allowed = by_actor (ec == g)
     by_actor false = others_pass k ec g P each d allowed
 
 pub input_passes : (k : KernelState) (cpu g : ℕ) (P : Input → Type 0) → Passes k g P → IfSome (input k cpu g) P
-unfolding input
-input_passes k cpu g P each = by_choice (choice k cpu)
-  where
-    by_choice : (c : Option Candidate) → IfSome (input_by k g c) P
-    by_choice None = tt
-    by_choice (Some c) = deed_passes k c.actor g P each (deed k c.actor) (deed_allowed k c.actor)
+input_passes k cpu g P each = of_input (λ i. IfSome i P) k cpu g tt (λ c chosen. deed_passes k c.actor g P each (deed k c.actor) (deed_allowed k c.actor))

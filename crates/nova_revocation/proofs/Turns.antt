@@ -1,5 +1,5 @@
 -- The turn of the one who acts, and what it is for a revoke.
-use Rattle.std.proofs.Common.{◌≡◌, ℕ, ap, sym, ◌∙◌, subst, refl}
+use Rattle.std.proofs.Common.{◌≡◌, ℕ, ap, sym, ◌∙◌, refl}
 use Rattle.std.specs.Prelude.{◌==◌, Bool, true, false, Option, Some, None, option_map}
 use Rattle.std.proofs.lemmas.Bool.{eqb-true, eqb-false, eq-eqb, ne_eqb}
 use Rattle.std.proofs.lemmas.Option.{same_Some}
@@ -10,7 +10,7 @@ use Rattle.nova_model.specs.Revokes.{Revocation, next_leaf, scope}
 use Rattle.nova_model.specs.Running.{revoke_of}
 use Rattle.nova_model.specs.Runs.{after}
 use Rattle.nova_model.specs.State.{KernelState}
-use Rattle.nova_model.specs.Turn.{answer_of, event_of, turn, turn_by}
+use Rattle.nova_model.specs.Turn.{answer_of, event_of, turn}
 use Rattle.nova_model.specs.declared.deed.Deed.{Deed}
 use Rattle.nova_model.specs.declared.deed.Deed.TheVariants.{Removes, Returns, Revokes}
 use Rattle.nova_model.specs.declared.delegation.Derivation.{Derivation}
@@ -19,25 +19,17 @@ use Rattle.nova_model.specs.declared.event.Turn.TheVariants.{Stepped}
 use Rattle.nova_forest.specs.Made.{IsSame}
 use Rattle.nova_forest.proofs.Leaves.{leaf_or_none}
 use Rattle.nova_forest.proofs.Running.{revoking_there}
-use Rattle.nova_forest.proofs.Stirred.{acted}
+use Rattle.nova_forest.proofs.Actors.{chosen_answers, who_acts}
+use Rattle.nova_forest.proofs.Doing.{done_is}
+use Rattle.nova_forest.proofs.Turning.{chosen_turn, of_event}
 use Rattle.nova_laws.specs.Keeping.{IsKept}
 use Rattle.nova_laws.specs.Revoking.{revoke_after, revoke_in_turn}
-use Rattle.nova_laws.proofs.Charges.{charge_leaves}
-use Rattle.nova_laws.proofs.Refused.{turn_chosen}
 use Rattle.nova_laws.proofs.Revoking.{turns_leave}
 use Rattle.nova_revocation.specs.Along.{Acts, HasEvent, acts_once}
 use Rattle.nova_revocation.specs.Sound.{IsSound}
 use Rattle.nova_revocation.specs.Whole.{HasReturned}
 
 -- WHO ACTS
-
--- what holds of the chosen one holds of the one who acts
-acting : (k : KernelState) (cpu ec : ℕ) → Acts k cpu ec → (P : ℕ → Type 0) → ((c : Candidate) → choice k cpu ≡ Some c → P c.actor) → P ec
-acting k cpu ec acts P h = by_choice (choice k cpu) refl acts
-  where
-    by_choice : (o : Option Candidate) → choice k cpu ≡ o → option_map (λ c. c.actor) o ≡ Some ec → P ec
-    by_choice None is e = absurd (cc)
-    by_choice (Some c) is e = subst P (same_Some c.actor ec e) (h c is)
 
 -- an execution context acts in the turn, or it doesn't
 pub data HasPart (k : KernelState) (cpu ec : ℕ) : Type 0 where
@@ -64,26 +56,24 @@ part_of k cpu ec = by_choice (choice k cpu) refl
 -- WHAT ITS TURN LEAVES AND TELLS
 
 pub turn_same : (k : KernelState) (cpu ec : ℕ) (d : Deed) → Acts k cpu ec → deed k ec ≡ d → IsSame (done k ec d) (after k cpu)
-turn_same k cpu ec d acts is = acting k cpu ec acts (λ (n : ℕ). deed k n ≡ d → IsSame (done k n d) (after k cpu)) of_chosen is
+turn_same k cpu ec d acts is = who_acts (λ n. deed k n ≡ d → IsSame (done k n d) (after k cpu)) k cpu ec acts of_chosen is
   where
     of_chosen : (c : Candidate) → choice k cpu ≡ Some c → deed k c.actor ≡ d → IsSame (done k c.actor d) (after k cpu)
     of_chosen c chosen its =
-        let left = charge_leaves (acted k c.actor) cpu c.sc in
-        let turns = turn_chosen k cpu c chosen in
-        let does = ap (λ (e : Deed). done k c.actor e) its in
+        let turns = chosen_turn k cpu c chosen in
+        let does = sym (done_is k c.actor (deed k c.actor)) ∙ ap (λ (e : Deed). done k c.actor e) its in
         record {
-          objects = ap (λ (s : KernelState). s.objects) turns ∙ left.objects ∙ ap (λ (s : KernelState). s.objects) does;
-          delegations = ap (λ (s : KernelState). s.delegations) turns ∙ left.delegations ∙ ap (λ (s : KernelState). s.delegations) does;
+          objects = ap (λ (s : KernelState). s.objects) turns ∙ ap (λ (s : KernelState). s.objects) does;
+          delegations = ap (λ (s : KernelState). s.delegations) turns ∙ ap (λ (s : KernelState). s.delegations) does;
         }
 
 pub turn_event : (k : KernelState) (cpu ec : ℕ) (d : Deed) → Acts k cpu ec → deed k ec ≡ d → HasEvent k cpu ec (sign_of d).0 (sign_of d).1 (sign_of d).2
-unfolding turn
-turn_event k cpu ec d acts is = acting k cpu ec acts (λ (n : ℕ). deed k n ≡ d → HasEvent k cpu n (sign_of d).0 (sign_of d).1 (sign_of d).2) of_chosen is
+turn_event k cpu ec d acts is = who_acts (λ n. deed k n ≡ d → HasEvent k cpu n (sign_of d).0 (sign_of d).1 (sign_of d).2) k cpu ec acts of_chosen is
   where
     of_chosen : (c : Candidate) → choice k cpu ≡ Some c → deed k c.actor ≡ d → HasEvent k cpu c.actor (sign_of d).0 (sign_of d).1 (sign_of d).2
     of_chosen c chosen its = record {
       event = event_of cpu c (deed k c.actor);
-      answers = ap (λ (o : Option Candidate). answer_of (turn_by k cpu o)) chosen;
+      answers = chosen_answers k cpu c chosen;
       ec = refl;
       kind = ap (λ (e : Deed). (sign_of e).0) its;
       a = ap (λ (e : Deed). (sign_of e).1) its;
@@ -92,19 +82,14 @@ turn_event k cpu ec d acts is = acting k cpu ec acts (λ (n : ℕ). deed k n ≡
 
 -- whom an event names acts
 pub event_acts : (k : KernelState) (cpu ec : ℕ) (e : Event) → answer_of (turn k cpu) ≡ Stepped e → e.ec ≡ ec → Acts k cpu ec
-unfolding turn
-event_acts k cpu ec e answers its = by_choice (choice k cpu) refl answers
-  where
-    by_choice : (o : Option Candidate) → choice k cpu ≡ o → answer_of (turn_by k cpu o) ≡ Stepped e → option_map (λ c. c.actor) (choice k cpu) ≡ Some ec
-    by_choice None idle h = absurd (cc)
-    by_choice (Some c) chosen h =
-        let same : event_of cpu c (deed k c.actor) ≡ e = cc in
-        ap (option_map (λ (x : Candidate). x.actor)) chosen ∙ ap (λ (n : ℕ). Some n) (ap (λ (f : Event). f.ec) same ∙ its)
+event_acts k cpu ec e answers its =
+    of_event (λ (f : Event). f.ec ≡ ec → Acts k cpu ec) k cpu e answers
+    (λ c chosen state is. ap (option_map (λ (x : Candidate). x.actor)) chosen ∙ ap (λ (n : ℕ). Some n) is) its
 
 -- WHICH REVOKE RUNS AFTER IT
 
 pub its_revoke : (k : KernelState) (cpu ec : ℕ) (d : Deed) → IsKept k → Acts k cpu ec → deed k ec ≡ d → revoke_of (after k cpu) ec ≡ revoke_after k ec d ec
-its_revoke k cpu ec d kept acts is = acting k cpu ec acts (λ (n : ℕ). deed k n ≡ d → revoke_of (after k cpu) n ≡ revoke_after k n d n) of_chosen is
+its_revoke k cpu ec d kept acts is = who_acts (λ n. deed k n ≡ d → revoke_of (after k cpu) n ≡ revoke_after k n d n) k cpu ec acts of_chosen is
   where
     of_chosen : (c : Candidate) → choice k cpu ≡ Some c → deed k c.actor ≡ d → revoke_of (after k cpu) c.actor ≡ revoke_after k c.actor d c.actor
     of_chosen c chosen its =

@@ -4,21 +4,22 @@ use Rattle.std.specs.Prelude.{◌⊎◌, Bool, true, false, ◌&&◌, Option, So
 use Rattle.std.specs.List.{AllByRecursion, list_all, range_with_len}
 use Rattle.nova_model.specs.State.{KernelState}
 use Rattle.nova_model.specs.Choice.{Candidate, choice, is_quiet}
-use Rattle.nova_model.specs.Turn.{turn, turn_by}
+use Rattle.nova_model.specs.Turn.{turn}
+use Rattle.nova_forest.proofs.Turning.{none_taken}
 use Rattle.nova_model.specs.Runs.{IsFreeOfIdle, after, run, rounds}
 use Rattle.nova_laws.specs.Orders.{IsRunOut}
 use Rattle.nova_laws.proofs.Passes.{rounds_run_out}
 use Rattle.nova_laws.proofs.Processors.{run_cpus}
 
 -- where the one processor has no choice, its turn is idle
-idle_by : (k : KernelState) (o : Option Candidate) → (is_none o && true) ≡ true → IsSome (turn_by k 0 o) → ⊥
-idle_by k None h some = absurd (cc)
-idle_by k (Some c) h some = absurd (cc)
+idle_by : (o : Option Candidate) → (is_none o && true) ≡ true → o ≡ None
+idle_by None h = refl
+idle_by (Some c) h = absurd (cc)
 
 quiet_is_idle : (k : KernelState) → k.cpus ≡ 1 → is_quiet k ≡ true → IsSome (turn k 0) → ⊥
-unfolding turn
 quiet_is_idle k one quiet some =
-    idle_by k (choice k 0) (subst (λ (n : ℕ). list_all (λ cpu. is_none (choice k cpu)) (range_with_len 0 n) ≡ true) one quiet) some
+    let idle = idle_by (choice k 0) (subst (λ (n : ℕ). list_all (λ cpu. is_none (choice k cpu)) (range_with_len 0 n) ≡ true) one quiet) in
+    let none = none_taken k 0 idle in cc
 
 zero_of : (x cpus : ℕ) → cpus ≡ 1 → x < cpus → x ≡ 0
 zero_of x cpus one less = omega arith
