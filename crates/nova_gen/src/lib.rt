@@ -2,7 +2,5 @@
 #![tactic(auto)]
 
 mod bench;
-#[cfg(test)]
-mod tests;
 
 pub use bench::generate;

@@ -22,6 +22,7 @@ use Rattle.nova_top.specs.Causes.{OrderRefused, TextRefused}
 use Rattle.nova_top.specs.Made.{ScenarioCame}
 use Rattle.nova_top.specs.Orders.{OrderCame}
 use Rattle.nova_top.specs.Outside.{Depots}
+use Rattle.nova_origins.specs.Lives.{AreGuestsAlone}
 use Rattle.nova_revocation.specs.Whole.{HasEnded}
 use Rattle.nova_top.specs.Runs.{IsReturned}
 use Rattle.nova_top.specs.Prepared.{IsOrderReadBy, IsReportOf, IsTogether, IsIdleFault, IsPrepared}
@@ -37,6 +38,7 @@ use Rattle.nova_top.proofs.Reports.{boot_cpus, out_reported, spent_of}
 pub record HasLaws : Type 0 where
   pub forests : (s : Scenario) (turns : List ℕ) → IsForest (run (boot s) turns).delegations
   pub revokes : (s : Scenario) (before : List ℕ) (cpu ec : ℕ) → IsReturned (run (boot s) before) cpu ec → HasEnded (run (boot s) before) cpu ec
+  pub guests : (s : Scenario) (turns : List ℕ) → AreGuestsAlone (boot s) turns
 
 module _ {D : Type 0} (d : Depots D) where
   -- AN ORDER THAT WAS NOT READ, OR HAS AN IDLE TURN
@@ -122,6 +124,7 @@ module _ {D : Type 0} (d : Depots D) where
       processors = reported.processors;
       forests = λ before after whole. laws.forests (scenario_of from) before;
       revokes = λ before after cpu ec whole. laws.revokes (scenario_of from) before cpu ec;
+      guests = laws.guests (scenario_of from) (rounds (boot (scenario_of from)) most);
     };
   }
 
@@ -150,6 +153,7 @@ module _ {D : Type 0} (d : Depots D) where
       processors = reported.processors;
       forests = λ before after whole. laws.forests (scenario_of from) before;
       revokes = λ before after cpu ec whole. laws.revokes (scenario_of from) before cpu ec;
+      guests = laws.guests (scenario_of from) (turns list.blocks);
     };
   }
 
@@ -170,6 +174,7 @@ module _ {D : Type 0} (d : Depots D) where
       processors = together.reported.processors;
       forests = λ before after whole. laws.forests (scenario_of from) before;
       revokes = λ before after cpu ec whole. laws.revokes (scenario_of from) before cpu ec;
+      guests = laws.guests (scenario_of from) (turns together.blocks);
     };
   }
 
@@ -195,6 +200,7 @@ module _ {D : Type 0} (d : Depots D) where
           processors = reported.processors;
           forests = λ before after whole. laws.forests (scenario_of from) before;
           revokes = λ before after cpu ec whole. laws.revokes (scenario_of from) before cpu ec;
+          guests = laws.guests (scenario_of from) (rounds k most);
         };
       }
 

@@ -9,6 +9,7 @@ use Rattle.nova_model.specs.declared.event.EventKind.TheVariants.{Answer}
 use Rattle.nova_calls.specs.declared.numbers.TheConstants.{REVOKE}
 use Rattle.nova_range.specs.Statuses.{status_code}
 use Rattle.nova_range.specs.declared.status.Status.TheVariants.{Success}
+use Rattle.nova_origins.specs.Lives.{AreGuestsAlone}
 use Rattle.nova_revocation.specs.Along.{HasEvent}
 use Rattle.nova_revocation.specs.Whole.{HasEnded}
 use Rattle.nova_command.specs.declared.command.Command.{Command}
@@ -33,7 +34,8 @@ said_by (Bench number most) = summary number
 -- a run of a command from a state: there is an order of turns, which is the command's; none of its turns is idle; and the text is what
 -- the command says of the run over it with its trace. The run is complete exactly where it ends quiet. The order has no more turns than the command
 -- allows, and each is of a processor that is there. After each part of it, from the first turn on, delegations are a sound forest. And each of its turns
--- whose event answers SUCCESS to a revoke ends one that ran, with nothing left of its scope: no descendant of what was revoked.
+-- whose event answers SUCCESS to a revoke ends one that ran, with nothing left of its scope: no descendant of what was revoked. And each virtual CPU that
+-- was made at one of its turns is a guest alone from then on: its view at the end, its exits and its bytes are what the guest alone makes of its inputs.
 pub record IsRun {D : Type 0} (d : Depots D) (command : Command) (k : KernelState) (old new : D) (complete : Bool) (bytes text : List ℕ) : Type 0 where
   pub order : List ℕ
   pub of_command : IsOrderOf d command k old new order bytes
@@ -45,6 +47,7 @@ pub record IsRun {D : Type 0} (d : Depots D) (command : Command) (k : KernelStat
   pub processors : AllByRecursion (λ cpu. cpu < k.cpus) order
   pub forests : (before after : List ℕ) → before ++ after ≡ order → IsForest (run k before).delegations
   pub revokes : (before after : List ℕ) (cpu ec : ℕ) → before ++ cpu ∷ after ≡ order → IsReturned (run k before) cpu ec → HasEnded (run k before) cpu ec
+  pub guests : AreGuestsAlone k order
 
 -- what a command makes of the boot state: check says that the scenario is valid, and any other command runs it
 abbrev pub IsDone : {D : Type 0} → Depots D → Command → KernelState → D → D → Bool → List ℕ → List ℕ → Type 0

@@ -1,21 +1,16 @@
-ghost use Rattle.std.specs.Prelude.{◌≡◌, ℕ, ◌≤◌, Ok, IfOk, IfErr};
+ghost use Rattle.std.specs.Prelude.{◌≡◌, Ok, IfOk, IfErr};
 ghost use Rattle.nova_command.specs.Limit.{IsSize};
 ghost use Rattle.nova_gen.specs.Generated.{generated};
 ghost use Rattle.nova_scenario.specs.Scenario.{scenario};
 ghost use Rattle.nova_scenario.specs.Sound.{IsSound};
-ghost use Rattle.nova_scenario.specs.declared.scenario.Scenario.{Scenario};
 ghost use Rattle.nova_top.specs.Prepared.{IsAlone};
 ghost use Rattle.nova_top.specs.declared.exit.Exit.TheVariants.{Memory};
 
 use crate::exit::Exit;
+use nova_bench::a_bench_is_a_scenario;
 use nova_gen::generate;
 use nova_scenario::{Scenario, ScenarioFault, read};
 use std::alloc::Global;
-
-/// The text of a bench is a valid scenario of one processor, whatever its number is.
-pub fn a_bench_is_a_scenario()
-    ensures { (number : ℕ) → IsSize number → (from : Scenario) × (scenario (generated number) ≡ Ok from) × IsAlone from }
-{}
 
 /// The scenario of a bench.
 pub fn bench_scenario(alloc: Global, number: u32) -> Result<Scenario, Exit>

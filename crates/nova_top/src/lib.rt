@@ -10,8 +10,6 @@ mod outcome;
 mod prepared;
 mod replay;
 mod sending;
-#[cfg(test)]
-mod tests;
 
 pub use exit::{Exit, OrderWhy, ScenarioWhy};
 pub use main_call::nova_main;

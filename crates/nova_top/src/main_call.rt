@@ -53,7 +53,8 @@ fn serve<R: Threads + Wait + Sync, D: Depot, O: Sink, G: Gate + Sync>(
 /// scenario that `generated` gives, which is valid and of one processor, so that its order is round robin; it writes a line that
 /// sums the run up, and does nothing to the depot. None of a run's turns is idle, and it has at most N turns. Delegations are a sound forest after
 /// each part of it. Where the event of a turn answers SUCCESS to a revoke, that revoke ran, and after the
-/// turn nothing is left of what it took away. The answer is Done exactly where the run ends quiet, and Limit exactly where it
+/// turn nothing is left of what it took away. From the turn that made it on each virtual CPU is a guest alone: its view at the end, its
+/// exits and the bytes that it stores to consoles are what its view then and its inputs since come to. The answer is Done exactly where the run ends quiet, and Limit exactly where it
 /// doesn't; it has then taken N turns, unless the order was read. `check` writes `ok` and answers Done.
 ///
 /// Other answers, in this order: Usage exactly where the words are no command. ReadFault only where the

@@ -6,6 +6,7 @@ ghost use Rattle.nova_model.specs.Boot.{boot};
 ghost use Rattle.nova_model.specs.Choice.{is_quiet};
 ghost use Rattle.nova_model.specs.Runs.{rounds};
 ghost use Rattle.nova_order.specs.Blocks.{turns, is_within};
+ghost use Rattle.nova_order.specs.Text.{text_of};
 ghost use Rattle.nova_report.specs.Report.{report};
 ghost use Rattle.nova_report.specs.Summary.{summary};
 ghost use Rattle.nova_run.specs.Finished.{IsFinished};
@@ -60,8 +61,29 @@ fn reported(alloc: Global, finished: &Finished, order: Vec<u8>) -> Result<Outcom
     })
 }
 
+/// The report of a run that is let go, beside the text of an order that is to be appended.
+fn closed(alloc: Global, finished: Finished, order: Vec<u8>) -> Result<Outcome, AllocError>
+    ensures order { IfOk result (λ made. made.order.items ≡ order.items) }
+    ensures text { IfOk result (λ made. made.text.items ≡ report finished.kernel.state finished.trace.items) }
+    ensures quiet { IfOk result (λ made. made.is_complete ≡ is_quiet finished.kernel.state) }
+{
+    reported(alloc, &finished, order)
+}
+
+/// The report of a run that is let go, beside the text of its own order, which is to be appended.
+fn recorded(alloc: Global, finished: Finished) -> Result<Outcome, AllocError>
+    ensures order { IfOk result (λ made. made.order.items ≡ text_of finished.order.blocks) }
+    ensures text { IfOk result (λ made. made.text.items ≡ report finished.kernel.state finished.trace.items) }
+    ensures quiet { IfOk result (λ made. made.is_complete ≡ is_quiet finished.kernel.state) }
+{
+    match finished.order.text() {
+        Ok(order) => reported(alloc, &finished, order),
+        Err(failed) => Err(failed),
+    }
+}
+
 /// The summary of a finished bench. No order is to be appended.
-pub fn summed_up(alloc: Global, finished: &Finished, number: u32) -> Result<Outcome, AllocError>
+fn summed(alloc: Global, finished: &Finished, number: u32) -> Result<Outcome, AllocError>
     ensures order { IfOk result (λ made. made.order.items ≡ []) }
     ensures text { IfOk result (λ made. made.text.items ≡ summary number finished.now.kernel.state finished.now.trace.items) }
     ensures quiet { IfOk result (λ made. made.is_complete ≡ is_quiet finished.now.kernel.state) }
@@ -72,6 +94,15 @@ pub fn summed_up(alloc: Global, finished: &Finished, number: u32) -> Result<Outc
         order: Vec::new(alloc),
         text,
     })
+}
+
+/// The summary of a finished bench, which is let go. No order is to be appended.
+pub fn summed_up(alloc: Global, finished: Finished, number: u32) -> Result<Outcome, AllocError>
+    ensures order { IfOk result (λ made. made.order.items ≡ []) }
+    ensures text { IfOk result (λ made. made.text.items ≡ summary number finished.kernel.state finished.trace.items) }
+    ensures quiet { IfOk result (λ made. made.is_complete ≡ is_quiet finished.kernel.state) }
+{
+    summed(alloc, &finished, number)
 }
 
 /// Boots a scenario and runs it by round robin for at most `limit` turns.
@@ -87,7 +118,7 @@ pub fn run_rounds(alloc: Global, scenario: &Scenario, limit: u32) -> Result<Outc
     let most = u64::from(limit);
     let kernel = boot(alloc, scenario, most)?;
     let finished = round_robin(alloc, kernel, most)?;
-    Ok(reported(alloc, &finished, Vec::new(alloc))?)
+    Ok(closed(alloc, finished, Vec::new(alloc))?)
 }
 
 /// Boots a scenario and runs it over an order of at most `limit` turns.
@@ -107,7 +138,7 @@ pub fn run_in_order(
     let most = u64::from(limit);
     let kernel = boot(alloc, scenario, most)?;
     let finished = run_order(alloc, kernel, order, most)?;
-    Ok(reported(alloc, &finished, Vec::new(alloc))?)
+    Ok(closed(alloc, finished, Vec::new(alloc))?)
 }
 
 /// Boots a scenario and runs it with a thread for each processor, for at most `limit` turns.
@@ -145,8 +176,7 @@ pub fn run_together<R: Threads + Wait + Sync, G: Gate + Sync>(
 {
     let finished = work(rt, alloc, scenario, limit, gate)?;
     let _blocks = finished.order.blocks();
-    let order = finished.order.text()?;
-    Ok(reported(alloc, &finished, order)?)
+    Ok(recorded(alloc, finished)?)
 }
 
 /// Boots a scenario of one processor and runs it with a thread for it, for at most `limit` turns. Its order is round robin.

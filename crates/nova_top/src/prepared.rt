@@ -15,6 +15,7 @@ use crate::outcome::{
 use nova_command::{Command, Name};
 use nova_forest::delegations_stay_a_forest;
 use nova_io::Depot;
+use nova_origins::virtual_cpus_are_guests_alone_from_their_birth;
 use nova_revocation::a_returned_revoke_left_nothing;
 use nova_run::Gate;
 use std::alloc::Global;
@@ -49,6 +50,7 @@ fn run<R: Threads + Wait + Sync, D: Depot, G: Gate + Sync>(
 {
     delegations_stay_a_forest();
     a_returned_revoke_left_nothing();
+    virtual_cpus_are_guests_alone_from_their_birth();
     let scenario = fetch_scenario(alloc, depot, name)?;
     run_together(rt, alloc, &scenario, limit, gate)
 }
@@ -63,6 +65,7 @@ fn solo<D: Depot>(alloc: Global, depot: &mut D, name: &Name, limit: u32) -> Resu
 {
     delegations_stay_a_forest();
     a_returned_revoke_left_nothing();
+    virtual_cpus_are_guests_alone_from_their_birth();
     let scenario = fetch_scenario(alloc, depot, name)?;
     run_rounds(alloc, &scenario, limit)
 }
@@ -83,6 +86,7 @@ fn solo_in_order<D: Depot>(
 {
     delegations_stay_a_forest();
     a_returned_revoke_left_nothing();
+    virtual_cpus_are_guests_alone_from_their_birth();
     let scenario = fetch_scenario(alloc, depot, scenario)?;
     let order = fetch_order(alloc, depot, order, scenario.cpus, u64::from(limit))?;
     run_in_order(alloc, &scenario, &order, limit)
@@ -103,9 +107,10 @@ fn bench<R: Threads + Wait + Sync, D: Depot, G: Gate + Sync>(
 {
     delegations_stay_a_forest();
     a_returned_revoke_left_nothing();
+    virtual_cpus_are_guests_alone_from_their_birth();
     let scenario = bench_scenario(alloc, number)?;
     let finished = run_alone(rt, alloc, &scenario, limit, gate)?;
-    Ok(summed_up(alloc, &finished, number)?)
+    Ok(summed_up(alloc, finished, number)?)
 }
 
 /// What a command makes, before the first byte goes out.

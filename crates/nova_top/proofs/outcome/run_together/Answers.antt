@@ -1,4 +1,4 @@
-use Rattle.std.proofs.Common.{◌≡◌, List, ◌∙◌, sym, subst, IfErr, Result, rules}
+use Rattle.std.proofs.Common.{◌≡◌, List, sym, subst, IfErr, Result, rules}
 use Rattle.nova_model.specs.Boot.{boot}
 use Rattle.nova_boot.specs.Boot.{scenario_of}
 use Rattle.nova_order.specs.Blocks.{IsOrder}
@@ -12,16 +12,11 @@ use Rattle.nova_top.proofs.outcome.run_together.Goals as goal
 pub returns-clause-run : goal.returns-clause-run
 returns-clause-run g c =
     let sound : IsOrder c.in_ok-finished.finished.order.blocks = search rules in
-    together_from (boot (scenario_of c.args.scenario.now)) c.args.limit c.in_ok-finished.finished c.in_ok-reported.field-0
-    c.in_ok-finished.ensures.finished c.in_ok-finished.ensures.out c.in_ok-reported.ensures.text c.in_ok-reported.ensures.quiet
-    sound (c.in_ok-reported.ensures.order ∙ c.in_ok-order.ensures)
+    together_from (boot (scenario_of c.args.scenario.now)) c.args.limit c.in_ok-finished.finished c.in_ok-recorded.field-0
+    c.in_ok-finished.ensures.finished c.in_ok-finished.ensures.out c.in_ok-recorded.ensures.text c.in_ok-recorded.ensures.quiet
+    sound c.in_ok-recorded.ensures.order
 
-pub returns-in_err-order-clause-memory : goal.returns-in_err-order-clause-memory
-returns-in_err-order-clause-memory g c =
-    let p = err_from_is_err_and c.from_residual-in_err-order.result c.from_residual-in_err-order.ensures.1 in
-    subst (λ (r : Result Outcome Exit). IfErr r (λ exit. exit ≡ Memory)) (sym p.1) p.2
-
-pub returns-in_err-reported-clause-memory : goal.returns-in_err-reported-clause-memory
-returns-in_err-reported-clause-memory g c =
-    let p = err_from_is_err_and c.from_residual-in_err-reported.result c.from_residual-in_err-reported.ensures.1 in
+pub returns-in_err-recorded-clause-memory : goal.returns-in_err-recorded-clause-memory
+returns-in_err-recorded-clause-memory g c =
+    let p = err_from_is_err_and c.from_residual-in_err-recorded.result c.from_residual-in_err-recorded.ensures.1 in
     subst (λ (r : Result Outcome Exit). IfErr r (λ exit. exit ≡ Memory)) (sym p.1) p.2
