@@ -21,9 +21,10 @@ of_one P image (first ∷ images) all (inr later) = of_one P image images all.1 
 
 pub segments_held : (m : Memory) (images : List Image) (address : ℕ) (file : List ℕ) (segments : List Segment) → AllByRecursion (LiesThere m) images → AllByRecursion (Fits (length file)) segments → AreLaidIn images address file segments → AllByRecursion (HoldsSegment m address file) segments
 segments_held m images address file [] there fit among = tt
-segments_held m images address file (s ∷ segments) there fit among =
-    (segment_held address file s fit.0 m (of_one (LiesThere m) (segment_image address file s) images there among.0),
-    segments_held m images address file segments there fit.1 among.1)
+segments_held m images address file (s ∷ segments) there fit among = (
+  segment_held address file s fit.0 m (of_one (LiesThere m) (segment_image address file s) images there among.0),
+  segments_held m images address file segments there fit.1 among.1,
+)
 
 pub items_held : (m : Memory) (images : List Image) (its : List Item) → AllByRecursion (LiesThere m) images → AllByRecursion (IsLaidItem images) its → AllByRecursion (HoldsItem m) its
 items_held m images [] there laid = tt
@@ -31,11 +32,17 @@ items_held m images (FaultyLine line why ∷ its) there laid = (tt, items_held m
 items_held m images (SettingLine line setting ∷ its) there laid = (tt, items_held m images its there laid.1)
 items_held m images (ImageBlock head block ∷ its) there laid = (
   λ of_form.
-      let h = laid.0 of_form in
-      (h.0, h.1, h.2, h.3, h.4, record {
-        is_program = h.5.is_program;
-        segments = segments_held m images h.0 h.1 h.2.segments there (program_fits h.1 h.2 h.5.is_program) h.5.laid;
-      }),
+      let h = laid.0 of_form in (
+        h.0,
+        h.1,
+        h.2,
+        h.3,
+        h.4,
+        record {
+          is_program = h.5.is_program;
+          segments = segments_held m images h.0 h.1 h.2.segments there (program_fits h.1 h.2 h.5.is_program) h.5.laid;
+        },
+      ),
   items_held m images its there laid.1,
 )
 

@@ -60,11 +60,12 @@ module _ (stored : GivesStored) (leaves : LeavesOthers) where
   pub each_there : (k : KernelState) (images : List Image) → Sized k images → ImagesAreApart images → AllByRecursion (LiesThere (with_images k (map image_of images)).memory) images
   each_there k [] sized apart = tt
   each_there k (image ∷ images) sized apart =
-      let next = next_sized k image images sized in
-      (λ j below.
-          byte_kept (with_image k (image_of image)) images (image.address + j) next (away_of (image.address + j) image images (omega arith, omega arith) apart.0)
-          ∙ (first_laid k image images sized).laid j below,
-      each_there (with_image k (image_of image)) images next apart.1)
+      let next = next_sized k image images sized in (
+        λ j below.
+            byte_kept (with_image k (image_of image)) images (image.address + j) next (away_of (image.address + j) image images (omega arith, omega arith) apart.0)
+            ∙ (first_laid k image images sized).laid j below,
+        each_there (with_image k (image_of image)) images next apart.1,
+      )
 
   ram_kept : (k : KernelState) (images : List Image) → Sized k images → length (with_images k (map image_of images)).memory.ram ≡ length k.memory.ram
   ram_kept k [] sized = refl
@@ -88,10 +89,10 @@ empty_byte m frames address is below =
     let zeros : List ℕ = replicate 4096 0 in
     let there : frame < frames = omega arith in
     let found : slice_get (replicate frames zeros) frame ≡ Some zeros =
-        slice_get-get_or (replicate frames zeros) frame zeros (let len = length-replicate frames zeros in omega arith)
-        ∙ ap Some (get_or-replicate frames frame zeros zeros there) in
+    slice_get-get_or (replicate frames zeros) frame zeros (let len = length-replicate frames zeros in omega arith)
+    ∙ ap Some (get_or-replicate frames frame zeros zeros there) in
     let byte : get_or (drop (address % 4096) zeros) 0 0 ≡ 0 =
-        get_or-drop (address % 4096) zeros 0 0 ∙ get_or-replicate 4096 (address % 4096 + 0) 0 0 (omega arith) in
+    get_or-drop (address % 4096) zeros 0 0 ∙ get_or-replicate 4096 (address % 4096 + 0) 0 0 (omega arith) in
     ap (λ ram. read_in (slice_get ram frame) (address % 4096) 1) is
     ∙ ap (λ o. read_in o (address % 4096) 1) found
     ∙ omega (arith, byte)

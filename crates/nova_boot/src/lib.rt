@@ -3,8 +3,6 @@
 
 mod laws;
 mod start;
-#[cfg(test)]
-mod tests;
 
 pub use laws::{bytes_lie_where_they_are_laid, executables_lie_in_memory, images_lie_in_memory};
 pub use start::boot;

@@ -6,8 +6,6 @@ pub mod call;
 pub mod laws;
 pub mod numbers;
 pub mod read;
-#[cfg(test)]
-mod tests;
 
 pub use call::{Call, SmAction};
 pub use read::read_call;

@@ -14,6 +14,3 @@ pub use command::Command;
 pub use fault::CommandFault;
 pub use name::Name;
 pub use reader::read_command;
-
-#[cfg(test)]
-mod tests;

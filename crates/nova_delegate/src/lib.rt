@@ -5,10 +5,6 @@
 pub mod jobs;
 pub mod laws;
 pub mod parts;
-#[cfg(test)]
-mod tests;
-#[cfg(test)]
-mod translation_tests;
 pub mod translations;
 
 pub use jobs::job;

@@ -5,8 +5,6 @@ pub mod ecs;
 pub mod laws;
 mod registers;
 mod states;
-#[cfg(test)]
-mod tests;
 
 pub use ecs::Ecs;
 pub use nova_model::{EcState, Mark, State};

@@ -10,8 +10,6 @@ mod header;
 mod headers;
 mod program;
 mod reader;
-#[cfg(test)]
-mod tests;
 
 pub use fault::ElfFault;
 pub use program::{Program, Segment, Segments};

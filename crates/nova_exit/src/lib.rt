@@ -5,8 +5,6 @@
 mod exits;
 pub mod laws;
 mod replies;
-#[cfg(test)]
-mod tests;
 
 pub use exits::{admit, die, raise, send, wait};
 pub use nova_model::ExitAdmit;

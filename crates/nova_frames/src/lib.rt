@@ -5,8 +5,6 @@
 
 pub mod frames;
 pub mod laws;
-#[cfg(test)]
-mod tests;
 mod words;
 
 pub use frames::{FRAME_SIZE, Frames};

@@ -13,8 +13,6 @@ pub mod page;
 mod registers;
 mod runs;
 mod sight;
-#[cfg(test)]
-mod tests;
 pub mod words;
 
 pub use bytes::Bytes;

@@ -79,20 +79,3 @@ impl Sink for MemSink {
         Ok(bytes.len())
     }
 }
-
-#[cfg(test)]
-mod tests {
-    use super::*;
-    use crate::write_all;
-
-    #[test]
-    fn keeps_what_fits(rt: HostRuntime) {
-        let writes = vec![in rt.alloc(); 2].expect(&rt, "memory");
-        let mut sink = MemSink::new(rt.alloc(), 5, writes).expect(&rt, "memory");
-        for (piece, is_taken) in [("ab", true), ("cd", false), ("cdef", false), ("cde", true)] {
-            let result = write_all(&mut sink, piece.as_bytes());
-            assert!(rt; result.is_ok() == is_taken, "{piece}");
-        }
-        assert!(rt; sink.bytes() == b"abcde".as_slice());
-    }
-}

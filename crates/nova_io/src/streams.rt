@@ -78,6 +78,3 @@ pub(crate) fn put_to<W: Write>(out: &mut W, faults: &mut u64, bytes: &[u8]) -> R
         _ => Err(raise(faults)),
     }
 }
-
-#[cfg(test)]
-mod tests;

@@ -5,8 +5,6 @@
 mod calls;
 pub mod laws;
 mod replies;
-#[cfg(test)]
-mod tests;
 
 pub use calls::{admit, help, send};
 pub use nova_model::Admit;

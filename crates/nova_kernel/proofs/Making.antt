@@ -11,10 +11,10 @@ use Rattle.nova_model.specs.Choice.{Candidate}
 use Rattle.nova_model.specs.declared.deed.Deed.{Deed}
 use Rattle.nova_model.specs.declared.deed.Deed.TheVariants.{Makes, Opens, Gives}
 use Rattle.nova_kernel.specs.Views.{HasMade, IsMaking}
-use Rattle.nova_kernel.specs.Choices.{chosen_of}
-use Rattle.nova_kernel.specs.declared.choice.Chosen.{Chosen}
-use Rattle.nova_kernel.proofs.Chosen.{IsTold, told_by}
-use Rattle.nova_kernel.proofs.Counts.{delegations-charged}
+use Rattle.nova_choice.specs.Choices.{chosen_of}
+use Rattle.nova_choice.specs.declared.choice.Chosen.{Chosen}
+use Rattle.nova_choice.proofs.Choosing.{IsTold, told_by}
+use Rattle.nova_deeds.proofs.Counts.{delegations-charged}
 
 done-making : (k : KernelState) (ec : ℕ) (d : Deed) → is_making d ≡ true → HasMade k (done k ec d)
 done-making k ec (Makes call target new) making = omega arith

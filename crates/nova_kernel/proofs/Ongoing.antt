@@ -36,22 +36,23 @@ use Rattle.nova_model.specs.declared.transfer.Reason.TheVariants as reason
 use Rattle.nova_model.specs.declared.transfer.Sequel.{Sequel}
 use Rattle.nova_model.specs.declared.transfer.Sequel.TheVariants as sequel
 use Rattle.nova_laws.specs.Revoking.{AsksRevoke, revoke_after, running_after}
-use Rattle.nova_forest.proofs.Busy.{busy_whatever_rights}
 use Rattle.nova_forest.proofs.Lines.{member_found}
 use Rattle.nova_forest.proofs.Running.{revokes_there, revoking_there}
 use Rattle.nova_forest.proofs.Transfers.{next_facts}
 use Rattle.nova_revoke.specs.Done.{done_of, would_grow}
 use Rattle.nova_revoke.specs.declared.leaves.RevokeDone.TheVariants.{Removed, Ended}
-use Rattle.nova_kernel.specs.Acts.{Fits, begun, is_over, part_now, with_part}
-use Rattle.nova_kernel.specs.Parts.{AreTables, HasRoomFor, shown}
-use Rattle.nova_kernel.specs.Revoking.{AreRunning, BeginsWithin, RevokesState, busy_under, revoke_in, revokes_after}
-use Rattle.nova_kernel.specs.Stirs.{risen_in}
+use Rattle.nova_deeds.specs.Acts.{Fits, begun, is_over, part_now, with_part}
+use Rattle.nova_deeds.specs.Counted.{AreTables}
+use Rattle.nova_kernel.specs.Parts.{HasRoomFor, shown}
+use Rattle.nova_kernel.specs.Revoking.{AreRunning, BeginsWithin, revokes_after}
+use Rattle.nova_running.specs.Runners.{RevokesState, busy_under, revoke_in}
+use Rattle.nova_deeds.specs.Stirs.{risen_in}
 use Rattle.nova_kernel.specs.declared.parts.Parts.{Parts}
 use Rattle.nova_ec.proofs.Changes.{there_at}
 use Rattle.nova_ec.proofs.Tables.{there_below}
-use Rattle.nova_kernel.proofs.Keeps.{done-keeps}
-use Rattle.nova_kernel.proofs.Steps.{begun-over}
-use Rattle.nova_kernel.proofs.Runners.{runs_begun, runs_ended, runs_fewer, runs_found}
+use Rattle.nova_deeds.proofs.Keeps.{done-keeps}
+use Rattle.nova_deeds.proofs.Steps.{begun-over}
+use Rattle.nova_running.proofs.Runners.{runs_begun, runs_ended, runs_fewer, runs_found}
 
 -- WHO RUNS ONE
 
@@ -230,33 +231,6 @@ bare_runs cpus ram consoles root k r is (none, places) = record {
 }
 
 -- PARTS OF ITEMS
-
--- whether a new derivation is busy doesn't hang on its rights
-same_busy : (f : Delegations) (x : Derivation) → IsForest f → x.id ≡ f.next → IfSome x.parent (λ id. IsSome (with_id f.list id)) → (runs : List Running) →
-    list_any (λ w. busy w.revoke f.list (record x { rights = record { 0 = 0 } })) runs ≡ busy_under runs f.list x
-same_busy f x forest id parent [] = refl
-same_busy f x forest id parent (w ∷ ws) =
-    ap₂ (λ (s t : Bool). s || t) (busy_whatever_rights w.revoke f x (record { 0 = 0 }) forest id parent) (same_busy f x forest id parent ws)
-
-busy_child : (f : Delegations) (j : Job) (d : Derivation) → IsForest f → next_source f.list j ≡ Some d → (runs : List Running) →
-    busy_by (λ w. would_grow w.revoke) runs f (child_of j f.next d) ≡ busy_under runs f.list (child_of j f.next d)
-busy_child f j d forest next runs =
-    let there = member_found f.list d forest.rising (next_facts f.list j d next).there in
-    same_busy f (child_of j f.next d) forest refl (rw there refl) runs
-
-judged_same : (b c : Derivation → Bool) (list : List Derivation) (x : Derivation) → b x ≡ c x → judged b list x ≡ judged c list x
-judged_same b c list x same =
-    ap (λ (t : Bool). if x.rights.0 == 0 then Err reason.Rights else if is_held_in list x.pd (range_of x) then Err reason.Taken else if t then Err reason.Busy else Ok x) same
-
-pub part_under : (f : Delegations) (j : Job) (runs : List Running) → IsForest f → next_under (λ w. would_grow w.revoke) runs f j ≡ next_part (busy_under runs f.list) f j
-part_under f j runs forest = by_source (next_source f.list j) refl
-  where
-    by_source : (o : Option Derivation) → next_source f.list j ≡ o →
-        option_map (part_of (busy_by (λ w. would_grow w.revoke) runs f) f j) o ≡ option_map (part_of (busy_under runs f.list) f j) o
-    by_source None next = refl
-    by_source (Some d) next =
-        ap (λ c. Some (record { source = d; child = c }))
-        (judged_same (busy_by (λ w. would_grow w.revoke) runs f) (busy_under runs f.list) f.list (child_of j f.next d) (busy_child f j d forest next runs))
 
 -- with the revokes of the state
 pub part_of_now : (k : KernelState) (j : Job) (r : RevokesState) → AreRunning k r → next_part (busy_under r.list k.delegations.list) k.delegations j ≡ part_now k j

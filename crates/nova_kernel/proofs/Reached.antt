@@ -14,9 +14,9 @@ use Rattle.nova_model.specs.Memory.{Memory}
 use Rattle.nova_model.specs.State.{KernelState, Contexts, entry, ec_of, message_in, with_ec, context, pd_of, is_thread}
 use Rattle.nova_model.specs.declared.deed.Deed.TheVariants.{Steps}
 use Rattle.nova_model.specs.declared.delegation.Derivation.{Derivation}
-use Rattle.nova_kernel.specs.Acts.{outcome_of}
-use Rattle.nova_kernel.specs.Stirs.{frame_at, written_by}
-use Rattle.nova_kernel.specs.Reach.{ReachState, reached, fetched, loaded, takes, stored}
+use Rattle.nova_deeds.specs.Acts.{outcome_of}
+use Rattle.nova_deeds.specs.Stirs.{frame_at, written_by}
+use Rattle.nova_memory.specs.Reach.{ReachState, reached, fetched, loaded, takes, stored}
 
 -- the state with what an instruction reaches, and with another table of execution contexts
 abbrev pub reaching : KernelState → ReachState → Contexts → KernelState

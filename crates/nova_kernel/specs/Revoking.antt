@@ -1,37 +1,10 @@
--- The kernel's list of the revokes that run, and how it stands to the state.
-use Rattle.std.specs.Prelude.{ℕ, suc, ◌≡◌, ◌≤◌, ◌<◌, ◌==◌, Bool, nat_lt, List, [], ◌∷◌, length, slice_get, Option, option_map, if◌then◌else◌}
-use Rattle.std.specs.List.{insert, list_any, remove}
-use Rattle.nova_model.specs.Revokes.{Revocation, busy}
+-- How the list of the revokes that run stands to the state.
+use Rattle.std.specs.Prelude.{ℕ, ◌≡◌, ◌≤◌, ◌<◌, List, length}
 use Rattle.nova_model.specs.Running.{Running, running}
 use Rattle.nova_model.specs.State.{KernelState}
 use Rattle.nova_model.specs.declared.deed.Deed.{Deed}
 use Rattle.nova_model.specs.declared.deed.Deed.TheVariants.{Revokes, Returns}
-use Rattle.nova_model.specs.declared.delegation.Derivation.{Derivation}
-
--- those that run, by the number of the execution context, and how many may
-pub record RevokesState : Type 0 where
-  pub list : List Running
-  pub places : ℕ
-
--- where the revoke of an execution context stands, or the end of the list, and that revoke
-abbrev pub index_of : ℕ → List Running → ℕ
-index_of ec [] = 0
-index_of ec (w ∷ ws) = if w.ec == ec then 0 else suc (index_of ec ws)
-
-abbrev pub revoke_in : ℕ → List Running → Option Revocation
-revoke_in ec list = option_map (λ w. w.revoke) (slice_get list (index_of ec list))
-
--- where one goes: before the first of a greater number
-abbrev pub place_of : ℕ → List Running → ℕ
-place_of ec [] = 0
-place_of ec (w ∷ ws) = if nat_lt ec w.ec then 0 else suc (place_of ec ws)
-
--- one begins, and that of an execution context is over
-abbrev pub begun_in : Running → List Running → List Running
-begun_in w list = insert list (place_of w.ec list) w
-
-abbrev pub ended_in : ℕ → List Running → List Running
-ended_in ec list = remove list (index_of ec list)
+use Rattle.nova_running.specs.Runners.{RevokesState, begun_in, ended_in}
 
 -- all that run are in the list, and there is a place for one of each execution context
 pub record AreRunning (k : KernelState) (r : RevokesState) : Type 0 where
@@ -48,7 +21,3 @@ revokes_after pd ec other list = list
 abbrev pub BeginsWithin : RevokesState → Deed → Type 0
 BeginsWithin r (Revokes range own) = length r.list < r.places
 BeginsWithin r other = Unit {0}
-
--- a new derivation is busy while these run
-abbrev pub busy_under : List Running → List Derivation → Derivation → Bool
-busy_under runs list x = list_any (λ w. busy w.revoke list x) runs

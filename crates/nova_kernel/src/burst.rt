@@ -4,32 +4,21 @@ ghost use Rattle.nova_model.specs.Inputs.{is_covered_for};
 ghost use Rattle.nova_sched.specs.Queues as queues;
 ghost use Rattle.nova_leases.specs.Paging.{charged_times, stores_seen};
 ghost use Rattle.nova_kernel.specs.Bursts.{AreFrames, pages_written};
-ghost use Rattle.nova_kernel.specs.Parts.{shown, IsToBeCharged};
-ghost use Rattle.nova_kernel.specs.Schedules.{AreQueued};
+ghost use Rattle.nova_kernel.specs.Parts.{shown};
+ghost use Rattle.nova_deeds.specs.Counted.{IsToBeCharged};
+ghost use Rattle.nova_choice.specs.Schedules.{AreQueued};
 
 use crate::parts::Parts;
-use crate::reach::Reach;
-use nova_frames::Frames;
 use nova_leases::Page;
+use nova_memory::Reach;
 
 /// The bytes of copied frames take the place of those of the frames.
-fn write_back(frames: &mut Frames, pages: &[Page])
-    requires { AreFrames frames.old.memory.ram pages.now }
-    ensures frames { length frames.new.memory.ram ≡ length frames.old.memory.ram }
-    ensures written { frames.new ≡ record frames.old { memory = record frames.old.memory { ram = pages_written pages.now frames.old.memory.ram } } }
+pub fn write_pages(reach: &mut Reach, pages: &[Page])
+    requires { AreFrames reach.old.memory.ram pages.now }
+    ensures { reach.new ≡ record reach.old { memory = record reach.old.memory { ram = pages_written pages.now reach.old.memory.ram } } }
 {
     for page in pages {
-        frames.write_frame(page.frame, page.bytes.as_slice());
-    }
-}
-
-impl Reach {
-    /// The bytes of copied frames take the place of those of the frames.
-    pub fn write_pages(&mut self, pages: &[Page])
-        requires { AreFrames self.old.memory.ram pages.now }
-        ensures { self.new ≡ record self.old { memory = record self.old.memory { ram = pages_written pages.now self.old.memory.ram } } }
-    {
-        write_back(&mut self.frames, pages);
+        reach.write_frame(page.frame, page.bytes.as_slice());
     }
 }
 
@@ -42,7 +31,7 @@ impl Parts {
     {
         let mut count = 0;
         for page in pages {
-            if self.reach.nodes.leads_to(pd, page.frame) {
+            if self.reach.leads_to(pd, page.frame) {
                 count += page.stores;
             }
         }

@@ -1,13 +1,19 @@
-ghost use Rattle.std.specs.Prelude.{◌≡◌, IfOk, IsSome};
+ghost use Rattle.std.specs.Prelude.{◌≡◌, ◌<◌, true, false, length, Some, IfOk, IsSome};
+ghost use Rattle.nova_utcb.specs.Messages.{has_counts, has_items};
+ghost use Rattle.nova_model.specs.Calls.{admitted};
+ghost use Rattle.nova_model.specs.Deeds.{after_item, brought, followed, passed, performed, with_context};
+ghost use Rattle.nova_model.specs.Edges.{caller_in};
 ghost use Rattle.nova_model.specs.Hypercalls.{call, reply};
-ghost use Rattle.nova_model.specs.State.{context_at};
+ghost use Rattle.nova_model.specs.State.{context, context_at, message};
+ghost use Rattle.nova_deeds.specs.Acts.{IsAsked};
+ghost use Rattle.nova_deeds.specs.Counted.{AreTables};
 ghost use Rattle.nova_kernel.specs.Parts.{shown};
-ghost use Rattle.nova_kernel.specs.Acts.{IsAsked};
 
 use crate::capabilities::ObjectType;
 use crate::parts::Parts;
-use nova_ipc::admit;
-use nova_model::{Admit, Deed, Rights};
+use nova_exit::write_back;
+use nova_ipc::{admit, answer, complete, send};
+use nova_model::{Admit, Deed, Mark, Rights, Sequel, State};
 use nova_range::Status;
 
 impl Parts {
@@ -55,6 +61,98 @@ impl Parts {
                 items: message.has_items(),
             }),
             None => Err(Status::BadPar),
+        }
+    }
+
+    /// Its call is sent: the handler gets the message, and begins.
+    pub fn send(&mut self, ec: u32, handler: u32, ip: u32, identifier: u32)
+        requires there { IsSome (context_at (shown self.old) ec) }
+        requires admitted { admitted (shown self.old).contexts ec handler false ≡ Admit.Send }
+        requires counts { has_counts (message (shown self.old) ec) ≡ true }
+        requires tables { AreTables (shown self.old) }
+        ensures sent { shown self.new ≡ performed (shown self.old) ec (Deed.Calls handler ip identifier (has_items (message (shown self.old) ec))) }
+        ensures queues { self.new.queues ≡ self.old.queues }
+        ensures revokes { self.new.revokes ≡ self.old.revokes }
+        ensures log { self.new.reach.room ≡ self.old.reach.room }
+    {
+        let from = self.message(ec);
+        let mut to = self.message(handler);
+        send(
+            &mut self.contexts,
+            &from,
+            &mut to,
+            ec,
+            handler,
+            ip,
+            identifier,
+        );
+        self.set_message(handler, &to);
+    }
+
+    /// Its caller gets the message of its reply.
+    fn pass(&mut self, ec: u32, caller: u32)
+        requires counts { has_counts (message (shown self.old) ec) ≡ true }
+        requires there { caller < length (shown self.old).messages }
+        ensures passed { shown self.new ≡ passed (shown self.old) ec caller }
+        ensures queues { self.new.queues ≡ self.old.queues }
+        ensures revokes { self.new.revokes ≡ self.old.revokes }
+        ensures log { self.new.reach.room ≡ self.old.reach.room }
+    {
+        let from = self.message(ec);
+        let mut to = self.message(caller);
+        answer(&from, &mut to);
+        self.set_message(caller, &to);
+    }
+
+    /// A reply brings a caller who called its message; one who came by an exit gets none.
+    fn bring(&mut self, ec: u32, caller: u32, mark: Mark)
+        requires counts { has_counts (message (shown self.old) ec) ≡ true }
+        requires there { caller < length (shown self.old).messages }
+        ensures brought { shown self.new ≡ brought (shown self.old) ec caller mark }
+        ensures queues { self.new.queues ≡ self.old.queues }
+        ensures revokes { self.new.revokes ≡ self.old.revokes }
+        ensures log { self.new.reach.room ≡ self.old.reach.room }
+    {
+        match mark {
+            Mark::Call => self.pass(ec, caller),
+            Mark::Exit => {}
+        }
+    }
+
+    /// A reply completes: the execution context waits for a call, and its caller goes on.
+    pub fn complete(&mut self, ec: u32, caller: u32, mark: Mark)
+        requires { caller_in (shown self.old).contexts ec ≡ Some (caller, mark) }
+        ensures completed { shown self.new ≡ followed (with_context (shown self.old) ec (after_item (context (shown self.old) ec) (Sequel.Replied caller mark))) ec (Sequel.Replied caller mark) }
+        ensures queues { self.new.queues ≡ self.old.queues }
+        ensures revokes { self.new.revokes ≡ self.old.revokes }
+        ensures log { self.new.reach.room ≡ self.old.reach.room }
+    {
+        match mark {
+            Mark::Call => complete(&mut self.contexts, ec),
+            Mark::Exit => {
+                let message = self.message(ec);
+                write_back(&mut self.contexts, &message, ec);
+            }
+        }
+    }
+
+    /// It replies: a caller who called gets the message, and where no items are to be given the reply
+    /// completes.
+    pub fn reply_to(&mut self, ec: u32, caller: u32, mark: Mark, items: bool)
+        requires caller { caller_in (shown self.old).contexts ec ≡ Some (caller, mark) }
+        requires counts { has_counts (message (shown self.old) ec) ≡ true }
+        requires tables { AreTables (shown self.old) }
+        ensures replied { shown self.new ≡ performed (shown self.old) ec (Deed.Replies caller mark items) }
+        ensures queues { self.new.queues ≡ self.old.queues }
+        ensures revokes { self.new.revokes ≡ self.old.revokes }
+        ensures log { self.new.reach.room ≡ self.old.reach.room }
+    {
+        self.contexts.keeps_callers();
+        self.bring(ec, caller, mark);
+        if items {
+            self.contexts.set_state(ec, State::Replying);
+        } else {
+            self.complete(ec, caller, mark);
         }
     }
 }

@@ -2,15 +2,16 @@ ghost use Rattle.std.specs.Prelude.{◌≡◌, ◌+◌, ◌-◌, ◌^◌, ◌<�
 ghost use Rattle.nova_model.specs.State.{budget_at};
 ghost use Rattle.nova_model.specs.Turn.{quantum_in, paid_by, counted, charged};
 ghost use Rattle.nova_sched.specs.Queues as queues;
-ghost use Rattle.nova_kernel.specs.Parts.{shown, IsToBeCharged};
-ghost use Rattle.nova_kernel.specs.Schedules.{AreQueued};
+ghost use Rattle.nova_kernel.specs.Parts.{shown};
+ghost use Rattle.nova_deeds.specs.Counted.{IsToBeCharged};
+ghost use Rattle.nova_choice.specs.Schedules.{AreQueued};
 ghost use Rattle.nova_kernel.specs.Views.{ticks_of, left_of};
 
 use crate::parts::Parts;
 
 impl Parts {
     /// The turns that a scheduling context paid for; none where no scheduling context has the number.
-    #[tactic(auto, using(crate::proofs::Budgets::budget_queued))]
+    #[tactic(auto, using(nova_choice::proofs::Budgets::budget_queued))]
     pub fn ticks(&self, sc: u32) -> Option<u64>
         ensures { result ≡ ticks_of (shown self.now) sc }
     {
@@ -23,7 +24,7 @@ impl Parts {
 
     /// The turns that are left of a scheduling context's quantum; none where no scheduling context has
     /// the number.
-    #[tactic(auto, using(crate::proofs::Budgets::budget_queued))]
+    #[tactic(auto, using(nova_choice::proofs::Budgets::budget_queued))]
     pub fn left(&self, sc: u32) -> Option<u32>
         ensures { result ≡ left_of (shown self.now) sc }
     {

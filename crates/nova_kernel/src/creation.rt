@@ -1,155 +1,20 @@
 ghost use Rattle.std.specs.Prelude.{◌≡◌, ◌^◌, ◌-◌, ◌<◌, ◌≤◌, length, true, false, OnOk, OnErr};
-ghost use Rattle.nova_model.specs.Capabilities.{is_held, rights_to, target_of};
-ghost use Rattle.nova_model.specs.Creation.{first_state, new_context, object_of, context_of, transfer_of, identifier_of, count_of, stir_count_of, root_capability, with_object, words_of};
+ghost use Rattle.nova_model.specs.Capabilities.{is_held, rights_to};
+ghost use Rattle.nova_model.specs.Creation.{root_capability, with_object};
 ghost use Rattle.nova_model.specs.Deeds.{is_making};
 ghost use Rattle.nova_sched.specs.Queues.{HasRoom as HasRoomIn};
-ghost use Rattle.nova_kernel.specs.Parts.{shown, AreTables, FitsQueues, HasQueue, HasRoom, HasRoomFor, IsNumbered};
-ghost use Rattle.nova_kernel.specs.Schedules.{joined};
+ghost use Rattle.nova_kernel.specs.Parts.{shown, HasRoom, HasRoomFor};
+ghost use Rattle.nova_deeds.specs.Counted.{AreTables, IsNumbered};
+ghost use Rattle.nova_choice.specs.Schedules.{FitsQueues, HasQueue};
+ghost use Rattle.nova_choice.specs.Schedules.{joined};
 
 use crate::parts::Parts;
-use crate::queues::enqueue;
-use nova_model::{Deed, EcKind, EcState, NewObject, Object, Rights, State, Transfer};
-use nova_range::Target;
-use nova_utcb::Utcb;
-use rv_core::Regs;
-use std::alloc::AllocError;
-
-/// What an object is, as rights go by it.
-fn target_of(object: Object) -> Target
-    ensures { result ≡ target_of object }
-{
-    match object {
-        Object::Pd => Target::Pd,
-        Object::Ec { .. } => Target::Ec,
-        Object::Sc { .. } => Target::Sc,
-        Object::Pt { .. } => Target::Pt,
-        Object::Sm => Target::Sm,
-    }
-}
-
-/// How an execution context begins: a local thread waits for a caller.
-fn first_state(kind: EcKind) -> State
-    ensures { result ≡ first_state kind }
-{
-    match kind {
-        EcKind::Local => State::Parked,
-        EcKind::Global | EcKind::Vcpu => State::Fresh,
-    }
-}
-
-/// The object that is made.
-fn object_of(new: NewObject) -> Object
-    ensures { result ≡ object_of new }
-{
-    match new {
-        NewObject::Pd => Object::Pd,
-        NewObject::Ec {
-            pd,
-            cpu,
-            kind,
-            event,
-            ..
-        } => Object::Ec {
-            pd,
-            cpu,
-            kind,
-            event,
-        },
-        NewObject::Sc {
-            ec,
-            cpu,
-            priority,
-            quantum,
-        } => Object::Sc {
-            ec,
-            cpu,
-            priority,
-            quantum,
-        },
-        NewObject::Pt { ec, mtd, ip } => Object::Pt { ec, mtd, ip },
-        NewObject::Sm { .. } => Object::Sm,
-    }
-}
-
-/// The execution context at birth, where one of this number is made.
-fn context_of(number: u32, new: NewObject) -> Option<EcState>
-    ensures { result ≡ context_of number new }
-{
-    match new {
-        NewObject::Ec { cpu, kind, sp, .. } => Some(EcState {
-            id: number,
-            cpu,
-            state: first_state(kind),
-            regs: Regs::new(0, sp),
-            caller: None,
-            recall: false,
-        }),
-        _ => None,
-    }
-}
-
-/// An execution context gives no items yet.
-pub const NO_TRANSFER: Transfer = Transfer {
-    item: 0,
-    cursor: 0,
-    children: 0,
+use nova_choice::enqueue;
+use nova_deeds::births::{
+    context_of, count_of, identifier_of, object_of, stir_count_of, target_of, transfer_of, words_of,
 };
-
-/// How far an execution context that is made is with items.
-fn transfer_of(object: Object) -> Option<Transfer>
-    ensures { result ≡ transfer_of object }
-{
-    match object {
-        Object::Ec { .. } => Some(NO_TRANSFER),
-        _ => None,
-    }
-}
-
-/// The message words of a thread that is made, which are all 0; any other object has none.
-fn words_of(object: Object) -> Option<Utcb>
-    ensures { result ≡ words_of object }
-{
-    match object {
-        Object::Ec {
-            kind: EcKind::Local | EcKind::Global,
-            ..
-        } => Some(Utcb::new()),
-        _ => None,
-    }
-}
-
-/// The stir count of a virtual CPU that is made, which is 0; any other object has none.
-fn stir_count_of(object: Object) -> Option<u64>
-    ensures { result ≡ stir_count_of object }
-{
-    match object {
-        Object::Ec {
-            kind: EcKind::Vcpu,
-            ..
-        } => Some(0),
-        _ => None,
-    }
-}
-
-/// The identifier of a portal that is made.
-fn identifier_of(new: NewObject) -> Option<u32>
-    ensures { result ≡ identifier_of new }
-{
-    match new {
-        NewObject::Pt { .. } => Some(0),
-        _ => None,
-    }
-}
-
-/// The counter of a semaphore that is made.
-fn count_of(new: NewObject) -> Option<u32>
-    ensures { result ≡ count_of new }
-{
-    match new {
-        NewObject::Sm { count } => Some(count),
-        _ => None,
-    }
-}
+use nova_model::{Deed, NewObject, Rights};
+use std::alloc::AllocError;
 
 impl Parts {
     /// Makes room for one more object and its capability, which a protection domain holds. It refuses
@@ -240,7 +105,7 @@ impl Parts {
 
     /// Adds an object of the next number, and its capability at a selector, in the room that was
     /// made.
-    #[tactic(auto, using(crate::proofs::Added::added))]
+    #[tactic(auto, using(nova_deeds::proofs::Added::added))]
     pub fn add_object(&mut self, pd: u32, selector: u32, new: NewObject)
         requires room { HasRoom pd self.old }
         requires queue { HasQueue new (length self.old.objects.items) self.old.queues }

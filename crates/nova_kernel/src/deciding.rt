@@ -2,21 +2,20 @@ ghost use Rattle.std.specs.Prelude.{◌≡◌, ◌==◌, ◌&&◌, ◌+◌, ◌^
 ghost use Rattle.rv_model.specs.Step.{environment_call};
 ghost use Rattle.nova_model.specs.Deeds.{instruction, signalled, stepping, deed, is_making};
 ghost use Rattle.nova_model.specs.State.{context_at, context, is_thread};
-ghost use Rattle.nova_kernel.specs.Parts.{shown, IsCounted};
-ghost use Rattle.nova_kernel.specs.Acts.{Fits, IsAsked, begun, is_executing};
+ghost use Rattle.nova_kernel.specs.Parts.{shown};
+ghost use Rattle.nova_deeds.specs.Counted.{IsCounted};
+ghost use Rattle.nova_deeds.specs.Acts.{Fits, IsAsked, begun, is_executing};
 ghost use Rattle.nova_kernel.specs.Revoking.{AreRunning};
-ghost use Rattle.nova_kernel.specs.Stirs.{written_by};
+ghost use Rattle.nova_deeds.specs.Stirs.{written_by};
 
 use crate::parts::Parts;
+use nova_deeds::changes::RECALL;
 use nova_model::{Deed, State};
 use rv_core::outcome::{ENVIRONMENT_CALL, Outcome};
 use std::alloc::AllocError;
 
 /// The reason of a startup exit.
 const STARTUP: u32 = 0;
-
-/// The reason of a recall exit.
-pub const RECALL: u32 = 8;
 
 impl Parts {
     /// The deed of an instruction that raises: an ECALL of a thread is a hypercall, and any other is

@@ -8,38 +8,17 @@ ghost use Rattle.nova_model.specs.Forest.{IsForest};
 ghost use Rattle.nova_model.specs.Transfers.{job_of, moved};
 ghost use Rattle.nova_model.specs.Translations.{translated};
 ghost use Rattle.nova_delegate.specs.Parts.{HasChild, IsUnderWay, MakesChild, done_of};
-ghost use Rattle.nova_kernel.specs.Acts.{Fits, IsGivenBy, begun, is_over, now_at, part_now, with_part};
-ghost use Rattle.nova_kernel.specs.Parts.{shown, IsCounted};
+ghost use Rattle.nova_deeds.specs.Acts.{Fits, IsGivenBy, begun, is_over, now_at, part_now, with_part};
+ghost use Rattle.nova_kernel.specs.Parts.{shown};
+ghost use Rattle.nova_deeds.specs.Counted.{IsCounted};
 ghost use Rattle.nova_kernel.specs.Revoking.{AreRunning};
 
-use crate::creation::NO_TRANSFER;
-use crate::items::{DELEGATES, finished, flag, range_given};
 use crate::parts::Parts;
-use crate::reach::Reach;
-use nova_delegate::{PartDone, job, translate};
+use nova_deeds::births::NO_TRANSFER;
+use nova_deeds::items::{DELEGATES, finished, flag, gave, range_given};
+use nova_delegate::{PartDone, job};
 use nova_model::{Deed, Delivery, ItemEnd, Job, Reason, Transfer};
 use std::alloc::AllocError;
-
-/// How far it is after a part of which a child was made.
-fn gave(transfer: Transfer, cursor: u32) -> Transfer
-    requires { transfer.children < 2 ^ 31 }
-    ensures { result ≡ gave transfer cursor }
-{
-    Transfer {
-        cursor,
-        children: transfer.children + 1,
-        ..transfer
-    }
-}
-
-impl Reach {
-    /// The word that answers a range word of a giver's: the same memory or object as the receiver has it.
-    fn translate(&self, word: u32, window: u32, giver: u32, receiver: u32) -> u32
-        ensures { result ≡ translated self.now.nodes.delegations.list word window giver receiver }
-    {
-        translate(&self.nodes, word, window, giver, receiver)
-    }
-}
 
 impl Parts {
     /// How far an execution context is with the items that it gives.

@@ -4,8 +4,9 @@ ghost use Rattle.nova_model.specs.Deeds.{mark_in, performed};
 ghost use Rattle.nova_model.specs.Exits.{raised_exit, exit_portal, exits};
 ghost use Rattle.nova_model.specs.State.{context_at, context, event_base};
 ghost use Rattle.nova_model.specs.declared.admit.ExitAdmit.{ExitAdmit};
-ghost use Rattle.nova_kernel.specs.Acts.{IsAsked};
-ghost use Rattle.nova_kernel.specs.Parts.{shown, AreTables};
+ghost use Rattle.nova_deeds.specs.Acts.{IsAsked};
+ghost use Rattle.nova_kernel.specs.Parts.{shown};
+ghost use Rattle.nova_deeds.specs.Counted.{AreTables};
 
 use crate::capabilities::ObjectType;
 use crate::parts::Parts;

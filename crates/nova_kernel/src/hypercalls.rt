@@ -2,8 +2,9 @@ ghost use Rattle.std.specs.Prelude.{◌≡◌, ◌^◌, ◌<◌, ℕ, IfOk, IsSo
 ghost use Rattle.nova_calls.specs.SoundCalls.{IsSoundCall};
 ghost use Rattle.nova_model.specs.Hypercalls.{maker, unless_busy, new_domain, create_pd, create_ec, schedules, is_scheduled, create_sc, create_pt, create_sm, looked_up, ticks_in, row, asked, or_refuses, hypercall};
 ghost use Rattle.nova_model.specs.State.{budget_at, context_at, context, pd_of};
-ghost use Rattle.nova_kernel.specs.Parts.{shown, IsCharged, IsCounted};
-ghost use Rattle.nova_kernel.specs.Acts.{IsAsked};
+ghost use Rattle.nova_kernel.specs.Parts.{shown};
+ghost use Rattle.nova_deeds.specs.Counted.{IsCharged, IsCounted};
+ghost use Rattle.nova_deeds.specs.Acts.{IsAsked};
 ghost use Rattle.nova_kernel.specs.Revoking.{AreRunning};
 
 use crate::capabilities::ObjectType;
@@ -155,7 +156,7 @@ impl Parts {
     }
 
     /// `CREATE_SC`: makes the one scheduling context of an execution context, on its processor.
-    #[tactic(auto, using(crate::proofs::Named::placed_there))]
+    #[tactic(auto, using(nova_choice::proofs::Named::placed_there))]
     fn create_sc(
         &self,
         site: Site,

@@ -3,8 +3,8 @@ ghost use Rattle.nova_model.specs.Deeds.{instruction, done};
 ghost use Rattle.nova_model.specs.declared.deed.Deed.TheVariants.{Steps};
 ghost use Rattle.nova_model.specs.State.{context_at, pd_of, processor_of, is_thread, is_local_thread};
 ghost use Rattle.nova_kernel.specs.Parts.{shown};
-ghost use Rattle.nova_kernel.specs.Acts.{outcome_of};
-ghost use Rattle.nova_kernel.specs.Stirs.{written_by};
+ghost use Rattle.nova_deeds.specs.Acts.{outcome_of};
+ghost use Rattle.nova_deeds.specs.Stirs.{written_by};
 
 use crate::parts::Parts;
 use nova_model::{EcKind, Object};

@@ -1,109 +1,21 @@
-ghost use Rattle.std.specs.Prelude.{false, ◌≡◌, ◌<◌, ◌≤◌, ℕ, IsSome, IfSome};
-ghost use Rattle.nova_delegate.specs.Parts.{IsUnderWay};
-ghost use Rattle.nova_range.specs.RangeWords.{meaning_of};
-ghost use Rattle.nova_range.specs.Rights.{IsRights};
-ghost use Rattle.nova_model.specs.Transfers.{read_as};
-ghost use Rattle.nova_model.specs.Deliveries.{first_delivery, whole_of, translations_to, delegations_to, delivery_between, taken_from, told_by, given_to, delivery, flag, words_for, sequel_of, finished, range_given};
-ghost use Rattle.nova_model.specs.State.{KernelState, context_at, context, transfer};
-ghost use Rattle.nova_kernel.specs.Acts.{Fits, IsGivenBy, is_over};
+ghost use Rattle.std.specs.Prelude.{◌≡◌, ◌<◌, ◌≤◌, IsSome, IfSome};
+ghost use Rattle.nova_model.specs.Deeds.{after_item, done, followed, told, with_context};
+ghost use Rattle.nova_model.specs.Deliveries.{first_delivery, translations_to, delegations_to, delivery_between, taken_from, given_to, delivery};
+ghost use Rattle.nova_model.specs.State.{context_at, context, transfer};
+ghost use Rattle.nova_model.specs.declared.transfer.ItemEnd.{ItemEnd};
+ghost use Rattle.nova_deeds.specs.Acts.{IsGivenBy, IsSequel, IsToldThere};
+ghost use Rattle.nova_deeds.specs.Counted.{AreTables};
 ghost use Rattle.nova_kernel.specs.Parts.{shown};
 
 use crate::parts::Parts;
+use nova_deeds::changes::transfer_after;
+use nova_deeds::items::{DELEGATES, told_by, whole_of};
 use nova_ec::Mark;
-use nova_model::{Deed, Delivery, ItemEnd, ItemWords, Job, Sequel, State};
-use nova_range::{Range, read_word, word_of};
+use nova_model::{Deed, Delivery, ItemWords, Sequel, State};
+use nova_range::Status;
 
 /// The argument register that has the word of a first range.
 const RANGE_REGISTER: u32 = 12;
-
-/// The flag of an item that delegates.
-pub const DELEGATES: u32 = 1;
-
-/// The flag of an item: 1 delegates, 0 translates.
-pub fn flag(delivery: Delivery) -> u32
-    ensures { result ≡ flag delivery }
-{
-    delivery.second_word % 2
-}
-
-/// The words that tell what came of an item, where somebody is told.
-fn words_for(told: Option<u32>, first: u32, second: u32) -> Option<ItemWords>
-    ensures { result ≡ words_for told first second }
-{
-    let ec = told?;
-    Some(ItemWords { ec, first, second })
-}
-
-/// The next item, or what follows the last.
-fn sequel_of(delivery: Delivery, item: u32) -> Sequel
-    requires { item < 62 }
-    ensures { result ≡ sequel_of delivery item }
-{
-    if item + 1 < delivery.items {
-        Sequel::Item
-    } else {
-        delivery.last
-    }
-}
-
-/// The deed by which an item ends, with its answer.
-pub fn finished(delivery: Delivery, item: u32, end: ItemEnd, answer: u32) -> Deed
-    requires { item < 62 }
-    ensures deed { result ≡ finished delivery item end answer }
-    ensures fits { (k : KernelState) (ec : ℕ) → IsGivenBy k ec item delivery → Fits k ec result }
-    ensures later { is_over result ≡ false }
-{
-    Deed::Finishes {
-        item,
-        end,
-        words: words_for(delivery.told, answer, flag(delivery)),
-        after: sequel_of(delivery, item),
-    }
-}
-
-/// Who is told of the items of a reply: a caller who came by an exit isn't.
-fn told_by(caller: u32, mark: Mark) -> Option<u32>
-    ensures { result ≡ told_by caller mark }
-{
-    match mark {
-        Mark::Call => Some(caller),
-        Mark::Exit => None,
-    }
-}
-
-/// The window of the whole space that a range word is of; 0 for a word that doesn't read or is null.
-fn whole_of(word: u32) -> u32
-    ensures { result ≡ whole_of (read_as (meaning_of word)) }
-{
-    match read_word(word) {
-        Ok(Some((range, rights))) => {
-            let space = Range {
-                kind: range.kind,
-                base: 0,
-                order: 20,
-            };
-            word_of(Some((space, rights)))
-        }
-        _ => 0,
-    }
-}
-
-/// The answer of a delegation of which so many children were made: the word of where it went.
-pub fn range_given(job: Job, children: u32) -> u32
-    requires job { IsUnderWay job }
-    requires rights { IsRights job.rights }
-    ensures { result ≡ range_given job children }
-{
-    if children == 0 {
-        return 0;
-    }
-    let dest = Range {
-        kind: job.kind,
-        base: job.dest,
-        order: job.order,
-    };
-    word_of(Some((dest, job.rights)))
-}
 
 impl Parts {
     /// What a creator gives: a delegation of the range whose word is in x12, to the window that is the
@@ -218,5 +130,56 @@ impl Parts {
             State::Replying => self.given_to(ec, item, context.caller),
             _ => None,
         }
+    }
+
+    /// The words of an item that ended are written where they are to be found.
+    fn tell(&mut self, item: u32, words: Option<ItemWords>)
+        requires item { item < 62 }
+        requires there { IsToldThere (shown self.old) words }
+        requires tables { AreTables (shown self.old) }
+        ensures told { shown self.new ≡ told (shown self.old) item words }
+        ensures queues { self.new.queues ≡ self.old.queues }
+        ensures revokes { self.new.revokes ≡ self.old.revokes }
+        ensures log { self.new.reach.room ≡ self.old.reach.room }
+    {
+        if let Some(ItemWords { ec, first, second }) = words {
+            let mut message = self.message(ec);
+            message.set_item(item, first, second);
+            self.set_message(ec, &message);
+        }
+    }
+
+    /// What follows an item that ended.
+    fn follow(&mut self, ec: u32, item: u32, after: Sequel)
+        requires there { IsSome (context_at (shown self.old) ec) }
+        requires sequel { IsSequel (shown self.old) ec item after }
+        ensures followed { shown self.new ≡ followed (with_context (shown self.old) ec (after_item (context (shown self.old) ec) after)) ec after }
+        ensures queues { self.new.queues ≡ self.old.queues }
+        ensures revokes { self.new.revokes ≡ self.old.revokes }
+        ensures log { self.new.reach.room ≡ self.old.reach.room }
+    {
+        match after {
+            Sequel::Item => {}
+            Sequel::Opened => self.contexts.answer(ec, Status::Success, None),
+            Sequel::Taken => self.contexts.set_state(ec, State::Ready),
+            Sequel::Replied(caller, mark) => self.complete(ec, caller, mark),
+        }
+    }
+
+    /// An item ended: its words are written, and then the next item follows, or what ends it all.
+    pub fn finish(&mut self, ec: u32, item: u32, words: Option<ItemWords>, after: Sequel)
+        requires there { IsSome (context_at (shown self.old) ec) }
+        requires item { item < 62 }
+        requires words { IsToldThere (shown self.old) words }
+        requires sequel { IsSequel (shown self.old) ec item after }
+        requires tables { AreTables (shown self.old) }
+        ensures finished { (end : ItemEnd) → shown self.new ≡ done (shown self.old) ec (Deed.Finishes item end words after) }
+        ensures queues { self.new.queues ≡ self.old.queues }
+        ensures revokes { self.new.revokes ≡ self.old.revokes }
+        ensures log { self.new.reach.room ≡ self.old.reach.room }
+    {
+        self.tell(item, words);
+        self.follow(ec, item, after);
+        self.set_transfer(ec, transfer_after(item, after));
     }
 }

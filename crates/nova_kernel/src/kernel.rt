@@ -9,14 +9,14 @@ ghost use Rattle.nova_model.specs.Forest.{IsForest};
 ghost use Rattle.nova_laws.specs.Tables.{IsOf};
 ghost use Rattle.nova_model.specs.Capabilities.{is_vcpu};
 ghost use Rattle.nova_model.specs.Views.{view};
-ghost use Rattle.nova_kernel.specs.Stirs.{stir_of};
+ghost use Rattle.nova_deeds.specs.Stirs.{stir_of};
 ghost use Rattle.nova_kernel.specs.Views.{ticks_of, left_of, semaphore_at, derivation_from, turns_taken, IsMaking};
 
 use crate::parts::Parts;
-use crate::reach::Reach;
 use nova_frames::{Frames, LogByte};
 use nova_guest::Guest;
 use nova_laws::turns_keep_what_they_find;
+use nova_memory::Reach;
 use nova_model::{Derivation, EcKind, EcState, Kind, Object, Rights, Root, State, Turn};
 use rv_core::Regs;
 use std::alloc::{AllocError, Global};
@@ -34,11 +34,12 @@ impl Model for Kernel {
 
     ghost Value = { KernelView };
 
-    ghost use Rattle.nova_kernel.specs.Parts.{shown, IsCounted};
+    ghost use Rattle.nova_kernel.specs.Parts.{shown};
+    ghost use Rattle.nova_deeds.specs.Counted.{IsCounted};
 
     ghost view = { λ k. record { state = shown k.parts; room = k.parts.reach.room } };
 
-    ghost use Rattle.nova_kernel.specs.Schedules.{AreQueued};
+    ghost use Rattle.nova_choice.specs.Schedules.{AreQueued};
     ghost use Rattle.nova_kernel.specs.Revoking.{AreRunning};
 
     ghost invariant = { λ k. IsCounted (shown k.parts) × (AreQueued (shown k.parts) k.parts.queues.all × AreRunning (shown k.parts) k.parts.revokes) };
@@ -76,7 +77,7 @@ impl Kernel {
     }
 
     /// Lays bytes into RAM one after another from an address on. They lie in RAM.
-    #[tactic(auto, using(crate::proofs::Booted::laid_length))]
+    #[tactic(auto, using(nova_memory::proofs::Laid::laid_length))]
     pub fn put(&mut self, address: u32, bytes: &[u8])
         requires { address + length bytes.now ≤ 4096 * length self.old.state.memory.ram }
         ensures laid { self.new ≡ record self.old { state = record self.old.state { memory = laid self.old.state.memory address bytes.now } } }
@@ -137,7 +138,7 @@ impl Kernel {
         ensures bytes { slice_get self.now.state.memory.ram frame ≡ Some result.now }
         ensures size { length result.now ≡ 4096 }
     {
-        self.parts.reach.frames.frame(frame)
+        self.parts.reach.frame(frame)
     }
 
     /// Whether every processor is idle.
@@ -165,14 +166,14 @@ impl Kernel {
     pub fn ram(&self) -> u32
         ensures { result ≡ length self.now.state.memory.ram }
     {
-        self.parts.reach.frames.ram_frames()
+        self.parts.reach.ram_frames()
     }
 
     /// How many consoles there are.
     pub fn consoles(&self) -> u32
         ensures { result ≡ self.now.state.consoles }
     {
-        self.parts.reach.frames.consoles()
+        self.parts.reach.consoles()
     }
 
     /// The object of a number, as it was made; none where there is none.
@@ -245,7 +246,7 @@ impl Kernel {
     pub fn log(&self) -> &[LogByte]
         ensures { result.now ≡ self.now.state.memory.log }
     {
-        self.parts.reach.frames.log()
+        self.parts.reach.log()
     }
 
     /// The derivation of least id at or after a given one; none where there is none. Delegations are a

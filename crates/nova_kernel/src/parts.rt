@@ -2,12 +2,11 @@ ghost use Rattle.std.specs.Prelude.{◌≡◌, ◌≤◌, length, option_map, If
 ghost use Rattle.nova_kernel.specs.Parts.{shown};
 ghost use Rattle.nova_kernel.specs.Views.{semaphore_at};
 
-use crate::guests::Guests;
-use crate::reach::Reach;
-use crate::revokes::Revokes;
 use nova_ec::Ecs;
+use nova_memory::Reach;
 use nova_model::Transfer;
 use nova_objects::Objects;
+use nova_running::{Guests, Revokes};
 use nova_sched::Queues;
 use nova_sem::Sems;
 use std::alloc::AllocError;

@@ -1,33 +1,15 @@
 ghost use Rattle.std.specs.Prelude.{◌≡◌, IsSome};
 ghost use Rattle.nova_model.specs.Deeds.{deed_in};
-ghost use Rattle.nova_model.specs.Revokes.{next_leaf, revoked};
 ghost use Rattle.nova_model.specs.Running.{is_revoked};
 ghost use Rattle.nova_model.specs.State.{context, context_at};
-ghost use Rattle.nova_kernel.specs.Acts.{Fits, begun};
+ghost use Rattle.nova_deeds.specs.Acts.{Fits, begun};
 ghost use Rattle.nova_kernel.specs.Parts.{shown};
 ghost use Rattle.nova_kernel.specs.Revoking.{AreRunning};
-ghost use Rattle.nova_revoke.specs.Done.{done_of};
 
 use crate::parts::Parts;
-use crate::reach::Reach;
 use nova_model::{Deed, State};
 use nova_range::Range;
-use nova_revoke::{Revoke, RevokeDone, part};
-
-impl Reach {
-    /// One part of a revoke: the next leaf goes, or nothing is left of what it takes away.
-    fn take_away(&mut self, revoke: &Revoke) -> RevokeDone
-        ensures done { result ≡ done_of (next_leaf revoke.now self.old.nodes.delegations) }
-        ensures delegations { self.new.nodes.delegations ≡ revoked revoke.now self.old.nodes.delegations }
-        ensures memory { self.new.memory ≡ self.old.memory }
-        ensures messages { self.new.messages ≡ self.old.messages }
-        ensures consoles { self.new.consoles ≡ self.old.consoles }
-        ensures log { self.new.room ≡ self.old.room }
-    {
-        self.last = None;
-        part(&mut self.nodes, revoke)
-    }
-}
+use nova_revoke::RevokeDone;
 
 impl Parts {
     /// Whether an execution context of a protection domain revokes an object range that contains a selector.

@@ -5,8 +5,9 @@ ghost use Rattle.nova_model.specs.Hypercalls.{sm_ctrl};
 ghost use Rattle.nova_model.specs.Semaphores.{answer_of, semaphore, woken};
 ghost use Rattle.nova_model.specs.State.{context_at};
 ghost use Rattle.nova_model.specs.declared.semaphore.Down.{Down};
-ghost use Rattle.nova_kernel.specs.Acts.{IsAsked};
-ghost use Rattle.nova_kernel.specs.Parts.{shown, IsCounted};
+ghost use Rattle.nova_deeds.specs.Acts.{IsAsked};
+ghost use Rattle.nova_kernel.specs.Parts.{shown};
+ghost use Rattle.nova_deeds.specs.Counted.{IsCounted};
 
 use crate::capabilities::ObjectType;
 use crate::parts::Parts;

@@ -1,38 +1,21 @@
 ghost use Rattle.std.specs.Prelude.{◌≡◌, ◌-◌, ◌^◌, ◌<◌, ℕ, false, slice_get, IfSome};
 ghost use Rattle.std.specs.Bool.{OnFalse};
 ghost use Rattle.nova_model.specs.State.{entry};
-ghost use Rattle.nova_model.specs.Views.{is_memory_of};
 ghost use Rattle.nova_kernel.specs.Parts.{shown};
-ghost use Rattle.nova_kernel.specs.Stirs.{is_seen, is_stirring, risen_from, stirs_itself};
+ghost use Rattle.nova_deeds.specs.Stirs.{is_seen, is_stirring};
+ghost use Rattle.nova_running.specs.Guests.{risen_from};
 
 use crate::parts::Parts;
-use nova_model::{Deed, Derivation, Kind, Mark, Sequel};
-
-/// Whether a deed of a virtual CPU's own is an input from outside: its exit is sent, or it ends.
-fn stirs_itself(deed: Deed) -> bool
-    ensures { result ≡ stirs_itself deed }
-{
-    matches!(
-        deed,
-        Deed::Sends { .. } | Deed::Dies { .. } | Deed::Aborts { .. }
-    )
-}
-
-/// Whether a derivation is memory of a protection domain.
-fn is_memory_of(pd: u32, d: &Derivation) -> bool
-    ensures { result ≡ is_memory_of pd d.now }
-{
-    matches!(d.kind, Kind::Mem) && d.pd == pd
-}
+use nova_deeds::inputs::{is_memory_of, stirs_itself};
+use nova_model::{Deed, Mark, Sequel};
 
 impl Parts {
     /// Whether memory of a protection domain leads to the RAM frame that was stored to.
     fn is_seen(&self, pd: u32) -> bool
         ensures { result ≡ is_seen (shown self.now) pd self.now.reach.written }
     {
-        match self.reach.written {
-            Some(frame) => frame < self.reach.frames.ram_frames()
-                && self.reach.nodes.leads_to(pd, frame),
+        match self.reach.stored_to() {
+            Some(frame) => frame < self.reach.ram_frames() && self.reach.leads_to(pd, frame),
             None => false,
         }
     }
@@ -67,7 +50,7 @@ impl Parts {
         ensures { OnFalse result ((ec guest : ℕ) → is_stirring (shown self.now) self.now.reach.written ec deed guest ≡ false) }
     {
         match deed {
-            Deed::Steps => self.reach.written.is_some(),
+            Deed::Steps => self.reach.has_stored(),
             Deed::Raises { .. } | Deed::Rests | Deed::Skips { .. } => false,
             _ => true,
         }

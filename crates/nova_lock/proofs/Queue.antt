@@ -31,7 +31,7 @@ entries-added n m xs ys a ne = omega (arith, ap (entries n) a.1, entries-append 
 pub fronts-added : (n m : ℕ) (front xs ys : List ℕ) → Adds m xs ys → n ≢ m → IsFrontOf n front xs → IsFrontOf n front ys
 fronts-added n m front xs ys a ne f = record {
   prefix = subst (IsPrefix front) (sym a.1) (prefix_more front xs (replicate a.0 m) f.prefix);
-  whole = f.whole ∙ sym (entries-added n m xs ys a ne)
+  whole = f.whole ∙ sym (entries-added n m xs ys a ne);
 }
 
 pub fronts-self : (n : ℕ) (xs : List ℕ) → IsFrontOf n xs xs

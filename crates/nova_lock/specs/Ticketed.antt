@@ -57,7 +57,7 @@ module _ {T : Type 0} where
     -- the value at home, or the seat that has it
     abbrev pub Placed : ℕ → List ℕ → T → State T (View T) → Type 0
     Placed serving now k s = ((x : T) × (s.homes ≡ some x ∷ []) × (opening x ≡ opening k) × (history x ≡ now) × (uses x ≡ serving % 2 ^ 64))
-      ⊎ ((i : ℕ) × (v : View T) × (get_elem? s.views i ≡ some v) × (v.phase ≡ Called))
+        ⊎ ((i : ℕ) × (v : View T) × (get_elem? s.views i ≡ some v) × (v.phase ≡ Called))
 
     -- the rule: the numbers that the words have modulo 2 ^ 64, and the present history
     pub record IsSound (k : T) (s : State T (View T)) : Type 0 where

@@ -60,7 +60,11 @@ impl<T: Historied> Model for Seat<T> {
 
 impl<T: Historied> HistoryLock<T> {
     /// The lock of a value, with seat 0. Where memory is refused the value comes back.
-    fn open(alloc: Global, value: T, seats: u32) -> Result<(HistoryLock<T>, Seat<T>), (T, AllocError)>
+    fn open(
+        alloc: Global,
+        value: T,
+        seats: u32,
+    ) -> Result<(HistoryLock<T>, Seat<T>), (T, AllocError)>
         requires empty { T.history value ≡ [] }
         ensures ok { IfOk result (λ r. (r.0.opened ≡ value) × (r.0.seats ≡ seats) × (r.1 ≡ record { lock = r.0.id; opened = Some value; number = 0; front = []; made = 1; kept = [] })) }
         ensures err { IfErr result (λ e. e.0 ≡ value) }
@@ -234,7 +238,11 @@ impl<T: Historied> HistoryLock<T> {
         requires first { first.old.number ≡ 0 }
         ensures { first.new ≡ record first.old { kept = note other ∷ first.old.kept } }
     {
-        let Seat { seat, number: _, made: _ } = other;
+        let Seat {
+            seat,
+            number: _,
+            made: _,
+        } = other;
         self.table.shared.join_seat::<Leave>(&mut first.seat, seat);
     }
 
@@ -259,7 +267,11 @@ impl<T: Historied> HistoryLock<T> {
         ensures { Ends T.opening T.history self first result }
     {
         let HistoryLock { table, seats: _ } = self;
-        let Seat { seat, number: _, made: _ } = first;
+        let Seat {
+            seat,
+            number: _,
+            made: _,
+        } = first;
         let mut closed = table.close_with(seat);
         let value = closed.take(0);
         closed.free();

@@ -9,8 +9,6 @@ pub mod nodes;
 mod space;
 mod spaces;
 mod store;
-#[cfg(test)]
-mod tests;
 
 pub use guarded::Guarded;
 pub use list_index::ListIndex;

@@ -3,8 +3,6 @@
 
 pub mod object;
 pub mod objects;
-#[cfg(test)]
-mod tests;
 
 pub use object::{EcKind, Object};
 pub use objects::Objects;

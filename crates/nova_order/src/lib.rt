@@ -11,8 +11,6 @@ mod number;
 mod order;
 mod read;
 mod split;
-#[cfg(test)]
-mod tests;
 mod text;
 
 pub use block::Block;

@@ -9,8 +9,6 @@ pub mod mtd;
 pub mod range;
 pub mod rights;
 pub mod status;
-#[cfg(test)]
-mod tests;
 pub mod word;
 
 pub use bitflags::Flags;

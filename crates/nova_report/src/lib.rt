@@ -8,8 +8,6 @@ mod events;
 mod hex;
 mod objects;
 mod run;
-#[cfg(test)]
-mod tests;
 
 pub use bench::summary;
 pub use run::report;

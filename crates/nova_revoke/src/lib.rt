@@ -5,8 +5,6 @@
 pub mod leaves;
 pub mod revoke;
 pub mod scope;
-#[cfg(test)]
-mod tests;
 
 pub use leaves::{RevokeDone, part};
 pub use revoke::Revoke;

@@ -6,10 +6,10 @@ use Rattle.nova_shared.specs.Ran.{Ran, IsCpuSeat, AreCpuSeats}
 -- each is one of this lock, of a processor that is there
 pub each_there : (l : LockView Ran) (seats : List (SeatView Ran)) → AreCpuSeats l seats → All (λ s. IsCpuSeat l s) seats
 each_there l seats h = λ k d less. let s = h.all.each k d (omega (arith, less, h.all.len)) in record {
-    lock = s.lock;
-    opened = s.opened;
-    there = omega (arith, s.number, less, h.all.len, h.cpus);
-  }
+  lock = s.lock;
+  opened = s.opened;
+  there = omega (arith, s.number, less, h.all.len, h.cpus);
+}
 
 seat_kept : (l : LockView Ran) (i : ℕ) (s t : SeatView Ran) → t ≡ record s { front = t.front } → IsSeat l i s → IsSeat l i t
 seat_kept l i s t e h = subst (λ (x : SeatView Ran). IsSeat l i x) (sym e) (record { lock = h.lock; opened = h.opened; number = h.number; first = h.first })

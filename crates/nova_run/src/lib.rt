@@ -5,8 +5,6 @@ mod fault;
 mod gate;
 mod orders;
 mod rounds;
-#[cfg(test)]
-mod tests;
 mod turns;
 mod workers;
 

@@ -47,9 +47,12 @@ fn round<R: Threads + Wait + Sync, G: Gate + Sync>(
     ensures each { (i : ℕ) (d : SeatView Ran) → i < length seats.old → slice_index_or seats.new i d ≡ record (slice_index_or seats.old i d) { front = (slice_index_or seats.new i d).front } }
 {
     let threads = seats.len();
-    thread::for_each_mut(rt, seats, threads, &|_, seat| {
-        work(rt, shared, gate, seat)
-    });
+    thread::for_each_mut(
+        rt,
+        seats,
+        threads,
+        &|_, seat| { work(rt, shared, gate, seat) },
+    );
 }
 
 /// A sweep: one turn of each processor in rising number, where it is not idle; and whether another round follows. It does not where no turn was

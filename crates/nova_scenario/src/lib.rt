@@ -19,8 +19,6 @@ mod scenario;
 mod settings;
 mod slices;
 mod statement;
-#[cfg(test)]
-mod tests;
 mod words;
 
 pub use bytes::Bytes;

@@ -8,8 +8,6 @@ mod queue;
 pub mod queued;
 pub mod queues;
 mod ready;
-#[cfg(test)]
-mod tests;
 
 pub use queued::{Queued, Runnable};
 pub use queues::Queues;

@@ -4,8 +4,6 @@
 mod counter;
 pub mod laws;
 pub mod sems;
-#[cfg(test)]
-mod tests;
 
 pub use nova_model::{Down, Overflow};
 pub use sems::Sems;

@@ -203,9 +203,7 @@ impl Shared {
             × IfOk result (IsTold self.now.opened.opening.kernel.state self.now.opened.opening.limit seat.old.number found seat.new.front)
             × IfErr result (λ taken. (taken ≡ length found) × IsRefused self.now.opened.opening.kernel.state self.now.opened.opening.limit seat.old.number found seat.new.front) }
     {
-        let mut call = OneTurn {
-            cpu: seat.number(),
-        };
+        let mut call = OneTurn { cpu: seat.number() };
         self.lock.with(rt, seat, &mut call)
     }
 

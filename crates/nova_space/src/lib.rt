@@ -3,8 +3,6 @@
 
 mod cache;
 pub mod space;
-#[cfg(test)]
-mod tests;
 
 pub use nova_range::{Entry, Index, Range};
 pub use space::Space;

@@ -11,8 +11,6 @@ mod line;
 mod lines;
 mod number;
 mod span;
-#[cfg(test)]
-mod tests;
 
 pub use bytes::{before_comment, has_forbidden, is_separator};
 pub use line::{Line, Token};

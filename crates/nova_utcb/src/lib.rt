@@ -6,8 +6,6 @@ mod exit;
 mod item;
 pub mod laws;
 mod page;
-#[cfg(test)]
-mod tests;
 mod utcb;
 
 pub use counts::BadCounts;

@@ -22,8 +22,6 @@ mod register;
 mod slot;
 mod statement;
 mod syntax;
-#[cfg(test)]
-mod tests;
 mod words;
 
 pub use fault::AsmFault;

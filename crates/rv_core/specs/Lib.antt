@@ -5,5 +5,4 @@ pub use Rattle.rv_model.specs.Codes
 pub use Rattle.rv_model.specs.Step
 pub mod Rows
 pub mod Steps
-pub mod FlatMemory
 pub mod Encodable

@@ -8,8 +8,6 @@ pub mod hart;
 pub mod laws;
 pub mod outcome;
 pub mod table;
-#[cfg(test)]
-mod tests;
 
 pub use bus::Bus;
 pub use decoder::decode;

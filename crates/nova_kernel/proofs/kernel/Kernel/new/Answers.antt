@@ -1,11 +1,12 @@
 use Rattle.std.proofs.Common.{sym, subst}
 use Rattle.nova_model.specs.Boot.{bare}
-use Rattle.nova_kernel.specs.Parts.{IsCounted, shown}
-use Rattle.nova_kernel.specs.Schedules.{root_schedule}
-use Rattle.nova_kernel.proofs.Booted.{IsCounted_bare}
-use Rattle.nova_kernel.proofs.Moves.{queued_same}
+use Rattle.nova_deeds.specs.Counted.{IsCounted}
+use Rattle.nova_kernel.specs.Parts.{shown}
+use Rattle.nova_choice.specs.Schedules.{root_schedule}
+use Rattle.nova_deeds.proofs.Booted.{IsCounted_bare}
+use Rattle.nova_deeds.proofs.Moves.{queued_same}
 use Rattle.nova_kernel.proofs.Ongoing.{bare_runs}
-use Rattle.nova_kernel.proofs.Started.{queued_bare}
+use Rattle.nova_choice.proofs.Started.{queued_bare}
 use Rattle.nova_kernel.proofs.kernel.Kernel.new.Goals as goal
 
 pub invariant_of-result : goal.invariant_of-result

@@ -1,9 +1,9 @@
 use Rattle.std.proofs.Common.{◌≡◌, ◌++◌, ◌∷◌, [], length, arith, ap, ◌∙◌}
 use Rattle.std.proofs.lemmas.Grind.{common_steps}
 use Rattle.nova_model.specs.Creation.{budget_of, stamp_past}
-use Rattle.nova_kernel.specs.Schedules.{budgets_of, joined}
-use Rattle.nova_kernel.proofs.Added.{added}
-use Rattle.nova_kernel.proofs.Budgets.{budgets_with, stamp_with}
+use Rattle.nova_choice.specs.Schedules.{budgets_of, joined}
+use Rattle.nova_deeds.proofs.Added.{added}
+use Rattle.nova_choice.proofs.Budgets.{budgets_with, stamp_with}
 use Rattle.nova_kernel.proofs.parts.Parts.add_object.Goals as goal
 
 pub returns-clause-added : goal.returns-clause-added

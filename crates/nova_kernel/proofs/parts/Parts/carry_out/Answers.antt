@@ -1,10 +1,10 @@
 use Rattle.std.proofs.Common.{◌≡◌, ap, sym, ◌∙◌, subst, arith}
 use Rattle.std.specs.Prelude.{true, false}
 use Rattle.nova_model.specs.State.{KernelState, pd_of}
-use Rattle.nova_kernel.specs.Acts.{TakesFree, is_over}
+use Rattle.nova_deeds.specs.Acts.{TakesFree, is_over}
 use Rattle.nova_kernel.specs.Parts.{shown}
-use Rattle.nova_kernel.specs.Revoking.{RevokesState}
-use Rattle.nova_kernel.proofs.Steps.{act-does, begun-later, begun-over, takes-free}
+use Rattle.nova_running.specs.Runners.{RevokesState}
+use Rattle.nova_deeds.proofs.Steps.{act-does, begun-later, begun-over, takes-free}
 use Rattle.nova_kernel.proofs.Ongoing.{IsDecided, begins_within, done_runs, over_runs}
 use Rattle.nova_kernel.proofs.parts.Parts.carry_out.Goals as goal
 

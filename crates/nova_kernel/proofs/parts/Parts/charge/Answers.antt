@@ -1,5 +1,5 @@
 use Rattle.nova_kernel.specs.Parts.{shown}
-use Rattle.nova_kernel.proofs.Charges.{charge_queued}
+use Rattle.nova_deeds.proofs.Charges.{charge_queued}
 use Rattle.nova_kernel.proofs.parts.Parts.charge.Goals as goal
 
 pub returns-clause-queued : goal.returns-clause-queued

@@ -2,9 +2,10 @@ use Rattle.std.proofs.Common.{rules, arith, ◌≡◌, ◌+◌, ◌<◌, ◌^◌
 use Rattle.nova_model.specs.State.{KernelState, budget_at}
 use Rattle.nova_model.specs.Turn.{charged}
 use Rattle.nova_leases.specs.Paging.{charged_times}
-use Rattle.nova_kernel.specs.Parts.{IsToBeCharged, shown}
-use Rattle.nova_kernel.proofs.Budgets.{still_queued}
-use Rattle.nova_kernel.proofs.Bursts.{still_charged, still_there}
+use Rattle.nova_deeds.specs.Counted.{IsToBeCharged}
+use Rattle.nova_kernel.specs.Parts.{shown}
+use Rattle.nova_choice.proofs.Budgets.{still_queued}
+use Rattle.nova_deeds.proofs.Bursts.{still_charged, still_there}
 use Rattle.nova_kernel.proofs.parts.Parts.charge_times.Goals as goal
 
 pub loop-i-preserved : goal.loop-i-preserved

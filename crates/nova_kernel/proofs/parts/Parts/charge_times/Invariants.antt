@@ -1,8 +1,9 @@
 use Rattle.std.proofs.Common.{◌≡◌, ◌+◌, IsSome}
 use Rattle.nova_leases.specs.Paging.{charged_times}
 use Rattle.nova_sched.specs.Queues as queues
-use Rattle.nova_kernel.specs.Parts.{shown, IsToBeCharged}
-use Rattle.nova_kernel.specs.Schedules.{AreQueued}
+use Rattle.nova_kernel.specs.Parts.{shown}
+use Rattle.nova_deeds.specs.Counted.{IsToBeCharged}
+use Rattle.nova_choice.specs.Schedules.{AreQueued}
 use Rattle.nova_kernel.proofs.parts.Parts.charge_times.Given as goal
 
 -- the turns that are charged so far

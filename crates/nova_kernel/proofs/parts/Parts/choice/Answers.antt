@@ -1,6 +1,6 @@
 use Rattle.std.proofs.Common.{◌∙◌}
 use Rattle.nova_kernel.specs.Parts.{shown}
-use Rattle.nova_kernel.proofs.Chosen.{led_chosen}
+use Rattle.nova_choice.proofs.Choosing.{led_chosen}
 use Rattle.nova_kernel.proofs.parts.Parts.choice.Goals as goal
 
 pub returns-clause-choice : goal.returns-clause-choice

@@ -1,6 +1,6 @@
 use Rattle.std.proofs.Common.{sym, ◌∙◌}
 use Rattle.nova_kernel.specs.Parts.{shown}
-use Rattle.nova_kernel.proofs.Steps.{executing-deed}
+use Rattle.nova_deeds.proofs.Steps.{executing-deed}
 use Rattle.nova_kernel.proofs.parts.Parts.decide.Goals as goal
 
 pub returns-then-is_executing-clause-deed : goal.returns-then-is_executing-clause-deed

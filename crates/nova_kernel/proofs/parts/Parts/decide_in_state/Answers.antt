@@ -4,7 +4,7 @@ use Rattle.nova_model.specs.Deliveries.{delivery}
 use Rattle.nova_model.specs.State.{KernelState, context, transfer}
 use Rattle.nova_model.specs.declared.context.EcState.{EcState}
 use Rattle.nova_kernel.specs.Parts.{shown}
-use Rattle.nova_kernel.proofs.Steps.{gives-no-step, recall-deed}
+use Rattle.nova_deeds.proofs.Steps.{gives-no-step, recall-deed}
 use Rattle.nova_kernel.proofs.parts.Parts.decide_in_state.Goals as goal
 
 pub returns-in_ok-deed-in-Granting-clause-written : goal.returns-in_ok-deed-in-Granting-clause-written

@@ -4,7 +4,7 @@ use Rattle.nova_model.specs.State.{Contexts, KernelState, context}
 use Rattle.nova_model.specs.declared.transfer.Sequel.{Sequel}
 use Rattle.nova_ec.proofs.Steps.{with_ec-same}
 use Rattle.nova_kernel.specs.Parts.{shown}
-use Rattle.nova_kernel.proofs.Waits.{there_at}
+use Rattle.nova_choice.proofs.Waits.{there_at}
 use Rattle.nova_kernel.proofs.parts.Parts.follow.Goals as goal
 
 pub returns-in-Item-clause-followed : goal.returns-in-Item-clause-followed

@@ -3,9 +3,9 @@ use Rattle.std.specs.Prelude.{IfOk, OnErr, OnOk, Option}
 use Rattle.nova_delegate.specs.Parts.{HasChild, MakesChild, done_of}
 use Rattle.nova_model.specs.State.{KernelState}
 use Rattle.nova_model.specs.Transfers.{Part, given}
-use Rattle.nova_kernel.specs.Acts.{part_now}
+use Rattle.nova_deeds.specs.Acts.{part_now}
 use Rattle.nova_kernel.specs.Parts.{shown}
-use Rattle.nova_kernel.specs.Messages.{MessageTable}
+use Rattle.nova_memory.specs.Messages.{MessageTable}
 use Rattle.nova_kernel.proofs.Ongoing.{given_now, part_of_now}
 use Rattle.nova_kernel.proofs.parts.Parts.give.Goals as goal
 

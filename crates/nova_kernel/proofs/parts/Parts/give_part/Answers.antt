@@ -1,9 +1,9 @@
 use Rattle.std.proofs.Common.{sym, ap, ◌∙◌}
 use Rattle.nova_model.specs.State.{KernelState}
 use Rattle.nova_model.specs.declared.transfer.Job.{Job}
-use Rattle.nova_kernel.specs.Acts.{part_now}
+use Rattle.nova_deeds.specs.Acts.{part_now}
 use Rattle.nova_kernel.specs.Parts.{shown}
-use Rattle.nova_kernel.proofs.Granted.{made_deed, made_begun, skipped_deed, skipped_begun, ended_deed, ended_begun, made_there, wanted_err}
+use Rattle.nova_deeds.proofs.Granted.{made_deed, made_begun, skipped_deed, skipped_begun, ended_deed, ended_begun, made_there, wanted_err}
 use Rattle.nova_kernel.proofs.parts.Parts.give_part.Goals as goal
 
 pub returns-in-Made-clause-deed : goal.returns-in-Made-clause-deed

@@ -4,7 +4,7 @@ use Rattle.nova_model.specs.Deliveries.{delivery_between}
 use Rattle.nova_model.specs.State.{KernelState}
 use Rattle.nova_model.specs.declared.transfer.Sequel.TheVariants.{Replied}
 use Rattle.nova_kernel.specs.Parts.{shown}
-use Rattle.nova_kernel.proofs.Told.{given_to_caller}
+use Rattle.nova_deeds.proofs.Told.{given_to_caller}
 use Rattle.nova_kernel.proofs.parts.Parts.given_to.Goals as goal
 
 pub returns-clause-given : goal.returns-clause-given

@@ -2,7 +2,7 @@ use Rattle.std.proofs.Common.{◌≡◌, ℕ, ◌∙◌, sym, ap, arith}
 use Rattle.std.specs.Prelude.{Option, is_none, is_some, false}
 use Rattle.nova_model.specs.Choice.{choice, choose}
 use Rattle.nova_kernel.specs.Parts.{shown}
-use Rattle.nova_kernel.proofs.Chosen.{idle_choose}
+use Rattle.nova_choice.proofs.Choosing.{idle_choose}
 use Rattle.nova_kernel.proofs.Quiet.{quiet_more}
 use Rattle.nova_kernel.proofs.parts.Parts.is_quiet.Goals as goal
 

@@ -1,8 +1,8 @@
 use Rattle.std.proofs.Common.{ap, sym, ◌∙◌}
 use Rattle.nova_model.specs.Deeds.{sign_of}
 use Rattle.nova_kernel.specs.Parts.{shown}
-use Rattle.nova_kernel.proofs.Counts.{stirs-fit}
-use Rattle.nova_kernel.proofs.Taken.{GoesUnseen, goes_unseen}
+use Rattle.nova_deeds.proofs.Counts.{stirs-fit}
+use Rattle.nova_deeds.proofs.Taken.{GoesUnseen, goes_unseen}
 use Rattle.nova_kernel.proofs.parts.Parts.note.Goals as goal
 
 pub stir-requires : goal.stir-requires

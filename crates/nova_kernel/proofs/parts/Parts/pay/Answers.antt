@@ -1,6 +1,6 @@
 use Rattle.std.proofs.Common.{length, refl}
 use Rattle.nova_kernel.specs.Parts.{shown}
-use Rattle.nova_kernel.proofs.Charges.{paid_shown}
+use Rattle.nova_deeds.proofs.Charges.{paid_shown}
 use Rattle.nova_kernel.proofs.parts.Parts.pay.Goals as goal
 
 pub returns-clause-paid : goal.returns-clause-paid

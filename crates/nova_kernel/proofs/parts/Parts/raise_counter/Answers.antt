@@ -7,7 +7,7 @@ use Rattle.nova_model.specs.Deeds.{answered}
 use Rattle.nova_model.specs.Semaphores.{semaphore, woken}
 use Rattle.nova_model.specs.State.{KernelState, context, ec_in}
 use Rattle.nova_kernel.specs.Parts.{shown}
-use Rattle.nova_kernel.proofs.Served.{still_there, woken_there}
+use Rattle.nova_deeds.proofs.Served.{still_there, woken_there}
 use Rattle.nova_kernel.proofs.parts.Parts.raise_counter.Goals as goal
 
 pub answer-requires-in-Some : goal.answer-requires-in-Some

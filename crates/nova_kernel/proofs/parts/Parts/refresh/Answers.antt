@@ -1,6 +1,6 @@
 use Rattle.std.proofs.Common.{length, refl}
 use Rattle.nova_kernel.specs.Parts.{shown}
-use Rattle.nova_kernel.proofs.Marks.{refreshed_queued, refreshed_shown}
+use Rattle.nova_choice.proofs.Marks.{refreshed_queued, refreshed_shown}
 use Rattle.nova_kernel.proofs.parts.Parts.refresh.Goals as goal
 
 pub returns-clause-shown : goal.returns-clause-shown

@@ -1,6 +1,6 @@
 use Rattle.nova_model.specs.State.{KernelState}
 use Rattle.nova_kernel.specs.Parts.{shown}
-use Rattle.nova_kernel.proofs.Served.{message_below, served_there}
+use Rattle.nova_deeds.proofs.Served.{message_below, served_there}
 use Rattle.nova_kernel.proofs.parts.Parts.reply_to.Goals as goal
 
 pub bring-requires-clause-there : goal.bring-requires-clause-there

@@ -1,6 +1,6 @@
 use Rattle.nova_model.specs.State.{KernelState}
 use Rattle.nova_kernel.specs.Parts.{shown}
-use Rattle.nova_kernel.proofs.Served.{admitted_near, message_below, near_there}
+use Rattle.nova_deeds.proofs.Served.{admitted_near, message_below, near_there}
 use Rattle.nova_kernel.proofs.parts.Parts.send.Goals as goal
 
 pub set_message-requires : goal.set_message-requires

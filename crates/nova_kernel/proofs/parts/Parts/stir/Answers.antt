@@ -1,6 +1,6 @@
 use Rattle.nova_kernel.specs.Parts.{shown}
-use Rattle.nova_kernel.specs.Stirs.{is_stirring}
-use Rattle.nova_kernel.proofs.GuestTables.{none_rise}
+use Rattle.nova_deeds.specs.Stirs.{is_stirring}
+use Rattle.nova_deeds.proofs.Calm.{none_rise}
 use Rattle.nova_kernel.proofs.parts.Parts.stir.Goals as goal
 
 pub returns-else-may_stir-clause-shown : goal.returns-else-may_stir-clause-shown

@@ -1,10 +1,12 @@
 use Rattle.std.proofs.Common.{arith, ◌-◌, ◌^◌, ◌<◌, ℕ, List, length, refl, ap, sym, ◌∙◌}
 use Rattle.std.specs.Prelude.{drop, slice_index_or}
 use Rattle.nova_kernel.specs.Parts.{shown}
-use Rattle.nova_kernel.specs.Stirs.{GuestTable, is_stirring}
-use Rattle.nova_kernel.specs.GuestTables.{numbers_from}
+use Rattle.nova_running.specs.Guests.{GuestTable}
+use Rattle.nova_deeds.specs.Stirs.{is_stirring}
+use Rattle.nova_running.specs.Guests.{numbers_from}
 use Rattle.nova_kernel.specs.declared.parts.Parts.{Parts}
-use Rattle.nova_kernel.proofs.GuestTables.{but, but_all, but_none, next_count, next_left, next_stirred, numbers_now, tables_alone}
+use Rattle.nova_running.proofs.GuestTables.{but, but_all, but_none, next_count, next_left, next_stirred, numbers_now}
+use Rattle.nova_kernel.proofs.Alone.{tables_alone}
 use Rattle.nova_kernel.proofs.parts.Parts.stir_each.Goals.{then-is_stirring, else-is_stirring}
 use Rattle.nova_kernel.proofs.parts.Parts.stir_each.Goals as goal
 

@@ -1,9 +1,10 @@
 use Rattle.std.proofs.Common.{◌≡◌}
 use Rattle.std.specs.Prelude.{drop}
 use Rattle.nova_kernel.specs.Parts.{shown}
-use Rattle.nova_kernel.specs.Stirs.{is_stirring, risen_from}
-use Rattle.nova_kernel.specs.GuestTables.{numbers_from}
-use Rattle.nova_kernel.proofs.GuestTables.{but}
+use Rattle.nova_deeds.specs.Stirs.{is_stirring}
+use Rattle.nova_running.specs.Guests.{risen_from}
+use Rattle.nova_running.specs.Guests.{numbers_from}
+use Rattle.nova_running.proofs.GuestTables.{but}
 use Rattle.nova_kernel.proofs.parts.Parts.stir_each.Given as goal
 
 -- those that are left are still to rise

@@ -1,16 +1,17 @@
 use Rattle.std.proofs.Common.{IsSome, length, rules, ap, subst, sym, ◌∙◌}
 use Rattle.nova_model.specs.State.{KernelState}
 use Rattle.nova_model.specs.Turn.{charged}
-use Rattle.nova_kernel.specs.Parts.{shown, IsToBeCharged}
-use Rattle.nova_kernel.specs.Schedules.{AreQueued}
-use Rattle.nova_kernel.specs.Stirs.{is_stirring, risen_in}
+use Rattle.nova_kernel.specs.Parts.{shown}
+use Rattle.nova_deeds.specs.Counted.{IsToBeCharged}
+use Rattle.nova_choice.specs.Schedules.{AreQueued}
+use Rattle.nova_deeds.specs.Stirs.{is_stirring, risen_in}
 use Rattle.nova_sched.specs.Queues.{QueuesState, queued_at}
-use Rattle.nova_kernel.proofs.Budgets.{still_queued}
-use Rattle.nova_kernel.proofs.Charges.{queued_risen}
-use Rattle.nova_kernel.proofs.Counts.{IsCharged-kept, IsCharged-risen}
+use Rattle.nova_choice.proofs.Budgets.{still_queued}
+use Rattle.nova_deeds.proofs.Charges.{queued_risen}
+use Rattle.nova_deeds.proofs.Counts.{IsCharged-kept, IsCharged-risen}
 use Rattle.nova_kernel.proofs.Making.{making-wants}
 use Rattle.nova_kernel.proofs.Ongoing.{settled_runs}
-use Rattle.nova_kernel.proofs.Taken.{IsSettled, settled_counts, settled_state, told_acts}
+use Rattle.nova_deeds.proofs.Taken.{IsSettled, settled_counts, settled_state, told_acts}
 use Rattle.nova_kernel.proofs.parts.Parts.turn.Goals as goal
 
 pub act-requires-clause-acts : goal.act-requires-clause-acts

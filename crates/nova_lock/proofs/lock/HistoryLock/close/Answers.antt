@@ -22,7 +22,7 @@ returns-clause-fronts g c = λ i d less.
     let kept = ap (λ (x : SeatView g.row.T.Denot). x.kept) (c.take_all-first.ensures.first d) in
     let front = ap (λ (x : SeatView g.row.T.Denot). x.front) (c.take_all-first.ensures.first d) in
     by-place (λ j. j < c.args.self.seats → IsFrontOf j (slice_index_or c.args.seats.items j d).front h)
-        (λ _. subst (λ (f : List ℕ). IsFrontOf 0 f h) front c.finish.ensures.first)
-        (λ j pos l. c.finish.ensures.kept j (slice_index_or c.args.seats.items j d).front
-            (rw kept (subst (λ (n : ℕ). Contains {X = ℕ × List ℕ} (map note (drop 1 c.args.seats.items)) (n, (slice_index_or c.args.seats.items j d).front)) (c.requires.seats.each j d l).number (noted c.args.seats.items j d pos (search rules)))))
-        i less
+    (λ _. subst (λ (f : List ℕ). IsFrontOf 0 f h) front c.finish.ensures.first)
+    (λ j pos l. c.finish.ensures.kept j (slice_index_or c.args.seats.items j d).front
+    (rw kept (subst (λ (n : ℕ). Contains {X = ℕ × List ℕ} (map note (drop 1 c.args.seats.items)) (n, (slice_index_or c.args.seats.items j d).front)) (c.requires.seats.each j d l).number (noted c.args.seats.items j d pos (search rules)))))
+    i less

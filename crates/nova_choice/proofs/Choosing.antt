@@ -1,0 +1,56 @@
+-- The choice and its turn, by the number of the scheduling context and who acts.
+use Rattle.std.proofs.Common.{◌≡◌, ℕ, refl, ap, ◌∙◌}
+use Rattle.std.specs.Prelude.{true, false, Option, Some, None, is_none, is_some, option_map}
+use Rattle.nova_model.specs.Choice.{Candidate, choice, choose}
+use Rattle.nova_model.specs.State.{KernelState}
+use Rattle.nova_model.specs.Turn.{turn, turn_by}
+use Rattle.nova_sched.specs.Queues.{Schedule}
+use Rattle.nova_sched.specs.Queues as queues
+use Rattle.nova_choice.specs.Choices.{chosen_of, led, led_by, taken_by}
+use Rattle.nova_choice.specs.Schedules.{AreQueued}
+use Rattle.nova_choice.specs.declared.choice.Chosen.{Chosen}
+use Rattle.nova_choice.proofs.Nexts.{choose_told, chosen_acts}
+
+-- who acts in the turns of the one that the queues choose is who acts in those of the one that is chosen
+pub led_chosen : (k : KernelState) (s : Schedule) (cpu : ℕ) → AreQueued k s → led k (queues.choose s cpu) ≡ option_map chosen_of (choice k cpu)
+led_chosen k s cpu queued = ap (led k) (choose_told k s cpu queued) ∙ by_choice (choice k cpu) refl
+  where
+    by_choice : (o : Option Candidate) → choice k cpu ≡ o → led k (option_map (λ (c : Candidate). c.sc) o) ≡ option_map chosen_of o
+    by_choice None is = refl
+    by_choice (Some c) is = ap (led_by c.sc) (chosen_acts k cpu c is)
+
+-- the candidate that was told
+pub record IsTold (k : KernelState) (cpu : ℕ) (chosen : Chosen) : Type 0 where
+  pub candidate : Candidate
+  pub is : choice k cpu ≡ Some candidate
+  pub told : chosen_of candidate ≡ chosen
+
+pub told_by : (k : KernelState) (cpu : ℕ) (chosen : Chosen) → Some chosen ≡ option_map chosen_of (choice k cpu) → IsTold k cpu chosen
+told_by k cpu chosen h = by_choice (choice k cpu) refl h
+  where
+    by_choice : (o : Option Candidate) → choice k cpu ≡ o → Some chosen ≡ option_map chosen_of o → IsTold k cpu chosen
+    by_choice None is g = absurd cc
+    by_choice (Some c) is g = record { candidate = c; is = is; told = let same : chosen_of c ≡ chosen = cc in same }
+
+-- its turn
+pub turn_told : (k : KernelState) (cpu : ℕ) (chosen : Chosen) → Some chosen ≡ option_map chosen_of (choice k cpu) → turn k cpu ≡ Some (taken_by k cpu chosen)
+unfolding turn
+turn_told k cpu chosen h =
+    let told = told_by k cpu chosen h in
+    ap (turn_by k cpu) told.is ∙ ap (λ (c : Chosen). Some (taken_by k cpu c)) told.told
+
+-- and an idle one
+pub turn_none : (k : KernelState) (cpu : ℕ) → None ≡ option_map chosen_of (choice k cpu) → turn k cpu ≡ None
+unfolding turn
+turn_none k cpu h = by_choice (choice k cpu) refl h
+  where
+    by_choice : (o : Option Candidate) → choice k cpu ≡ o → None ≡ option_map chosen_of o → turn_by k cpu (choice k cpu) ≡ None
+    by_choice None is g = ap (turn_by k cpu) is
+    by_choice (Some c) is g = absurd cc
+
+pub idle_choose : (k : KernelState) (cpu : ℕ) → is_some (choose k cpu) ≡ false → is_none (choice k cpu) ≡ true
+idle_choose k cpu h = by_choice (choice k cpu) h
+  where
+    by_choice : (o : Option Candidate) → is_some (option_map (λ (c : Candidate). c.sc) o) ≡ false → is_none o ≡ true
+    by_choice None g = refl
+    by_choice (Some c) g = absurd cc

@@ -1,0 +1,147 @@
+-- How the queues of scheduling contexts stand to the state: each scheduling context waits as its object says, with its budget, and is marked
+-- runnable where its turns lead to an execution context that acts.
+use Rattle.std.specs.Prelude.{ℕ, ◌≡◌, ◌<◌, ◌≤◌, ◌==◌, ◌&&◌, Bool, true, false, not, List, [], ◌∷◌, length, map, max, slice_get, Option, Some, None, is_some, option_and_then, option_map, if◌then◌else◌}
+use Rattle.nova_objects.specs.declared.object.Object.{Object}
+use Rattle.nova_objects.specs.declared.object.Object.TheVariants.{Ec, Sc}
+use Rattle.nova_model.specs.Deeds.{changed}
+use Rattle.nova_model.specs.Edges.{acts, chase, cpu_in}
+use Rattle.nova_model.specs.State.{Contexts, KernelState, budget_at, context, with_ec}
+use Rattle.nova_model.specs.declared.budget.Budget.{Budget}
+use Rattle.nova_model.specs.declared.context.EcState.{EcState}
+use Rattle.nova_model.specs.declared.context.State.{State}
+use Rattle.nova_model.specs.declared.context.State.TheVariants.{Ready}
+use Rattle.nova_model.specs.declared.deed.Deed.{Deed}
+use Rattle.nova_model.specs.declared.deed.Deed.TheVariants.{Rests, Steps, Makes, Gives, Skips, Removes, Finishes, Ups, Downs}
+use Rattle.nova_model.specs.declared.new_object.NewObject.{NewObject}
+use Rattle.nova_model.specs.declared.new_object.NewObject.TheVariants as new
+use Rattle.nova_model.specs.declared.root.Root.{Root}
+use Rattle.nova_model.specs.declared.transfer.Sequel.TheVariants.{Item}
+use Rattle.nova_ec.specs.Tables.{actor_in}
+use Rattle.nova_sched.specs.Queues.{HasRoom, QueuesState, Schedule, added, marked, padded, queued_at}
+use Rattle.nova_sched.specs.declared.queued.Queued.{Queued}
+
+-- the budgets of scheduling contexts, in a table of so many numbers
+unfoldable pub budgets_of : Schedule → ℕ → List (Option Budget)
+budgets_of s count = padded count (map (option_map (λ e. e.budget)) s.entries)
+
+-- an execution context that is ready acts in its own turns
+abbrev pub is_ready : State → Bool
+is_ready Ready = true
+is_ready other = false
+
+abbrev pub is_ready_at : Option EcState → Bool
+is_ready_at (Some x) = is_ready x.state
+is_ready_at None = false
+
+-- the turns that an execution context is given lead to one that acts
+abbrev pub leads : Contexts → ℕ → Bool
+leads cs ec = acts cs (chase cs ec)
+
+-- who acts in the turns of a scheduling context
+abbrev pub actor_of : Contexts → Option Object → Option ℕ
+actor_of cs (Some (Sc ec cpu priority quantum)) = actor_in cs ec
+actor_of cs other = None
+
+-- how a scheduling context waits
+abbrev pub wanted_with : Contexts → Option Object → Option Budget → Option Queued
+wanted_with cs (Some (Sc ec cpu priority quantum)) (Some b) =
+    Some (record { cpu = cpu; priority = priority; quantum = quantum; is_runnable = leads cs ec; budget = b })
+wanted_with cs object budget = None
+
+abbrev pub wanted : KernelState → ℕ → Option Queued
+wanted k sc = wanted_with k.contexts (slice_get k.objects sc) (budget_at k sc)
+
+-- an execution context is of the processor that its object names, one of so many, and a scheduling context of that of its execution context
+abbrev pub IsAtHome : ℕ → Contexts → ℕ → Option Object → Type 0
+IsAtHome cpus cs number (Some (Ec pd cpu kind event)) = (cpu < cpus) × (cpu_in cs number ≡ Some cpu)
+IsAtHome cpus cs number (Some (Sc ec cpu priority quantum)) = (cpu < cpus) × (cpu_in cs ec ≡ Some cpu)
+IsAtHome cpus cs number other = Unit {0}
+
+-- a new object is to be so
+abbrev pub HasHome : ℕ → Contexts → NewObject → Type 0
+HasHome cpus cs (new.Ec pd cpu kind sp event) = cpu < cpus
+HasHome cpus cs (new.Sc ec cpu priority quantum) = (cpu < cpus) × (cpu_in cs ec ≡ Some cpu)
+HasHome cpus cs other = Unit {0}
+
+-- the processor of an execution context's object
+abbrev pub processor_at : Option Object → Option ℕ
+processor_at (Some (Ec pd cpu kind event)) = Some cpu
+processor_at other = None
+
+-- a new object is to be of a processor that is there, a scheduling context of that of its execution context
+abbrev pub IsPlacedIn : KernelState → NewObject → Type 0
+IsPlacedIn k (new.Ec pd cpu kind sp event) = cpu < k.cpus
+IsPlacedIn k (new.Sc ec cpu priority quantum) = processor_at (slice_get k.objects ec) ≡ Some cpu
+IsPlacedIn k other = Unit {0}
+
+-- without the marks of one processor, where it is to be marked anew
+abbrev pub but_for : Option ℕ → Option Queued → Option Queued
+but_for None o = o
+but_for (Some cpu) None = None
+but_for (Some cpu) (Some e) = Some (record e { is_runnable = not (e.cpu == cpu) && e.is_runnable })
+
+-- the queues hold each scheduling context as it is, but for the marks of that processor
+pub record AreQueuedBut (stale : Option ℕ) (k : KernelState) (s : Schedule) : Type 0 where
+  pub cpus : k.cpus ≤ s.cpus
+  pub numbers : length s.entries ≤ length k.objects
+  pub stamp : s.next_stamp ≡ k.next_stamp
+  pub entries : (sc : ℕ) → but_for stale (queued_at s sc) ≡ but_for stale (wanted k sc)
+  pub homes : (number : ℕ) → IsAtHome s.cpus k.contexts number (slice_get k.objects number)
+
+abbrev pub AreQueued : KernelState → Schedule → Type 0
+AreQueued k s = AreQueuedBut None k s
+
+-- WHAT CHANGES
+
+-- a scheduling context that is made has room in the queue of its processor
+abbrev pub HasQueue : NewObject → ℕ → QueuesState → Type 0
+HasQueue (new.Sc ec cpu priority quantum) number q = (cpu < q.all.cpus) × HasRoom q number cpu
+HasQueue other number q = Unit {0}
+
+-- a new scheduling context is of one of the processors that have a queue
+abbrev pub FitsQueues : Deed → Schedule → Type 0
+FitsQueues (Makes call target (new.Sc ec cpu priority quantum)) s = cpu < s.cpus
+FitsQueues other s = Unit {0}
+
+-- a new scheduling context of this number is added, and marked
+abbrev pub joined : Contexts → Schedule → ℕ → NewObject → Schedule
+joined cs s number (new.Sc ec cpu priority quantum) = marked (added s number cpu priority quantum) number (leads cs ec)
+joined cs s number other = s
+
+abbrev pub schedule_after : KernelState → ℕ → Schedule → Deed → Schedule
+schedule_after k ec s (Makes call target new) = joined (with_ec k.contexts ec (changed (context k ec) (Makes call target new))) s (length k.objects) new
+schedule_after k ec s other = s
+
+-- An execution context that does this may be in another state then, and another one with it, so that others may find turns or lose them: a
+-- hypercall may be made anew by one that helps. It stays as it is where it rests, goes on, gives a part of an item or one of several, or takes a
+-- leaf away; and it acts as before where it ups a semaphore, or lowers one.
+abbrev pub is_moving : Deed → Bool
+is_moving Rests = false
+is_moving Steps = false
+is_moving (Gives child cursor) = false
+is_moving (Skips reason place cursor) = false
+is_moving (Removes leaf) = false
+is_moving (Finishes item end words Item) = false
+is_moving (Ups sm whom) = false
+is_moving (Downs sm) = false
+is_moving other = true
+
+-- an up moves whom it wakes alone, who may be of another processor
+abbrev pub moved_by : ℕ → Deed → Option ℕ
+moved_by ec (Ups sm whom) = whom
+moved_by ec d = if is_moving d then Some ec else None
+
+-- so that the marks of that one's processor are old then
+abbrev pub stale_by : Contexts → ℕ → Deed → Option ℕ
+stale_by cs ec d = option_and_then (cpu_in cs) (moved_by ec d)
+
+-- scheduling contexts are marked one after another
+abbrev pub remarked : List Object → Contexts → List ℕ → Schedule → Schedule
+remarked objects cs [] s = s
+remarked objects cs (sc ∷ scs) s = remarked objects cs scs (marked s sc (is_some (actor_of cs (slice_get objects sc))))
+
+-- AT BOOT
+
+-- the root's scheduling context alone; a machine without processors has a queue for it too
+unfoldable pub root_schedule : ℕ → Root → Schedule
+root_schedule cpus root = marked (added (record { entries = []; next_stamp = 0; cpus = max cpus 1 }) 2 0 root.priority root.quantum) 2 true

@@ -1,0 +1,37 @@
+ghost use Rattle.std.specs.Prelude.{◌≡◌, slice_get, IsSome, IfSome};
+ghost use Rattle.nova_model.specs.State.{ec_in};
+ghost use Rattle.nova_choice.specs.Schedules.{actor_of, is_ready_at};
+
+use nova_ec::Ecs;
+use nova_model::{Object, State};
+use nova_objects::Objects;
+
+/// A scheduling context that has a turn, and the execution context that acts in it.
+#[derive(Clone, Copy)]
+pub struct Chosen {
+    pub sc: u32,
+    pub actor: u32,
+}
+
+/// Whether an execution context is ready, so that it acts in its own turns.
+fn is_ready(contexts: &Ecs, ec: u32) -> bool
+    ensures { result ≡ is_ready_at (ec_in contexts.now.items ec) }
+{
+    match contexts.get(ec) {
+        Some(context) => matches!(context.state, State::Ready),
+        None => false,
+    }
+}
+
+/// The execution context that acts in the turns of a scheduling context; none where none acts, and of
+/// another object.
+pub fn actor_of(objects: &Objects, contexts: &Ecs, sc: u32) -> Option<u32>
+    ensures actor { result ≡ actor_of contexts.now.items (slice_get objects.now.items sc) }
+    ensures there { IfSome result (λ actor. IsSome (ec_in contexts.now.items actor)) }
+{
+    match objects.get(sc) {
+        Some(Object::Sc { ec, .. }) if is_ready(contexts, *ec) => Some(*ec),
+        Some(Object::Sc { ec, .. }) => contexts.actor(*ec),
+        _ => None,
+    }
+}

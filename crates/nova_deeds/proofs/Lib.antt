@@ -1,0 +1,15 @@
+pub mod Served
+pub mod Moves
+pub mod Charges
+pub mod Steps
+pub mod Bounds
+pub mod Keeps
+pub mod Counts
+pub mod Taken
+pub mod Booted
+pub mod Added
+pub mod Calm
+pub mod Stirred
+pub mod Granted
+pub mod Told
+pub mod Bursts

@@ -1,0 +1,131 @@
+-- What the parts of a turn answer and leave.
+use Rattle.std.specs.Prelude.{ℕ, ◌≡◌, ◌<◌, ◌≤◌, ◌+◌, ◌^◌, ◌&&◌, Bool, true, false, not, if◌then◌else◌, length, Option, Some, None, Ok, IsSome, IfSome}
+use Rattle.rv_core.specs.declared.outcome.Outcome.{Outcome}
+use Rattle.rv_core.specs.declared.outcome.Outcome.TheVariants.{Next, Raise}
+use Rattle.rv_model.specs.Step.{Once, Raised, Went}
+use Rattle.nova_model.specs.Capabilities.{is_held}
+use Rattle.nova_utcb.specs.Messages.{has_counts, has_items}
+use Rattle.nova_model.specs.Calls.{admitted, exit_admitted}
+use Rattle.nova_model.specs.Exits.{raised_exit}
+use Rattle.nova_model.specs.Semaphores.{answer_of, semaphore, woken}
+use Rattle.nova_model.specs.Deeds.{done}
+use Rattle.nova_model.specs.Running.{is_busy}
+use Rattle.nova_model.specs.Edges.{caller_in}
+use Rattle.nova_model.specs.State.{KernelState, context, context_at, message, transfer}
+use Rattle.nova_model.specs.declared.admit.Admit.TheVariants.{Send, Help}
+use Rattle.nova_model.specs.declared.context.EcState.{EcState}
+use Rattle.nova_model.specs.declared.admit.ExitAdmit.TheVariants as exit
+use Rattle.nova_model.specs.declared.semaphore.Down.TheVariants.{Done, Blocked}
+use Rattle.nova_model.specs.declared.transfer.Delivery.{Delivery}
+use Rattle.nova_model.specs.declared.transfer.ItemWords.{ItemWords}
+use Rattle.nova_model.specs.declared.transfer.Sequel.{Sequel}
+use Rattle.nova_model.specs.declared.transfer.Sequel.TheVariants.{Item, Replied}
+use Rattle.nova_model.specs.Transfers.{Part, next_part, given}
+use Rattle.nova_range.specs.Ranges.{IsRange}
+use Rattle.nova_choice.specs.Schedules.{IsPlacedIn, is_ready}
+use Rattle.nova_model.specs.declared.transfer.Job.{Job}
+use Rattle.nova_model.specs.declared.transfer.Transfer.{Transfer}
+use Rattle.nova_model.specs.declared.deed.Deed.{Deed}
+use Rattle.nova_model.specs.declared.deed.Deed.TheVariants.{Rests, Steps, Waits, Sends, Makes, Recalls, Names, Opens, Gives, Skips, Finishes, Calls, Helps, Replies, Aborts, Revokes, Removes, Ups, Downs, Blocks}
+
+-- the outcome of an instruction
+abbrev pub outcome_of : Once → Outcome
+outcome_of (Raised reason q0 q1) = Raise reason q0 q1
+outcome_of (Went regs store) = Next
+
+-- an instruction is next of one that is ready, unless a recall is asked for
+abbrev pub is_executing : EcState → Bool
+is_executing x = is_ready x.state && not x.recall
+
+-- the words of an item that ended are written to one who is there
+abbrev pub IsToldThere : KernelState → Option ItemWords → Type 0
+IsToldThere k None = Unit {0}
+IsToldThere k (Some w) = IsSome (context_at k w.ec)
+
+-- a further item is one that a message may have; a reply completes to the caller that is kept
+abbrev pub IsSequel : KernelState → ℕ → ℕ → Sequel → Type 0
+IsSequel k ec item Item = item + 1 < 62
+IsSequel k ec item (Replied caller mark) = caller_in k.contexts ec ≡ Some (caller, mark)
+IsSequel k ec item other = Unit {0}
+
+-- what an execution context gives, of which this item is present: at most 62 items, to one who is there
+pub record IsGivenBy (k : KernelState) (ec item : ℕ) (v : Delivery) : Type 0 where
+  pub items : v.items ≤ 62
+  pub told : IfSome v.told (λ to. IsSome (context_at k to))
+  pub last : IsSequel k ec item v.last
+
+-- what a deed names is there, a selector is one, and what it makes is of a processor that is there; a call is sent or helps as it is admitted, and
+-- with a message that has its counts; a reply goes to the caller that is kept; an exit that is raised is sent or waits as it is admitted; an up and a down
+-- come to what the semaphore says; what is revoked is a range
+abbrev pub Fits : KernelState → ℕ → Deed → Type 0
+Fits k ec (Makes call target new) = (target < 2 ^ 20) × IsPlacedIn k new
+Fits k ec (Opens target domain) = (target < 2 ^ 20) × (domain ≡ length k.objects)
+Fits k ec (Recalls whose) = whose < length k.objects
+Fits k ec (Names pt identifier) = pt < length k.objects
+Fits k ec (Calls handler ip identifier items) =
+    (admitted k.contexts ec handler false ≡ Send) × ((has_counts (message k ec) ≡ true) × (items ≡ has_items (message k ec)))
+Fits k ec (Helps handler) = admitted k.contexts ec handler false ≡ Help
+Fits k ec (Replies caller mark items) = (caller_in k.contexts ec ≡ Some (caller, mark)) × (has_counts (message k ec) ≡ true)
+Fits k ec (Waits handler reason q0 q1) = exit_admitted k.contexts ec handler ≡ exit.Waits
+Fits k ec (Sends handler ip identifier mtd reason q0 q1) =
+    (exit_admitted k.contexts ec handler ≡ exit.Sends) × (raised_exit (context k ec).state ≡ Some (reason, q0, q1))
+Fits k ec (Revokes range own) = IsRange range
+Fits k ec (Ups sm whom) = woken (semaphore k.semaphores sm) ≡ Ok whom
+Fits k ec (Downs sm) = answer_of (semaphore k.semaphores sm) ≡ Done
+Fits k ec (Blocks sm) = answer_of (semaphore k.semaphores sm) ≡ Blocked
+Fits k ec (Finishes item end words after) = (item < 62) × (IsToldThere k words × IsSequel k ec item after)
+Fits k ec other = Unit {0}
+
+-- nothing is left of a deed when it is decided: it rests, or it is an instruction that goes on, a part of an item or one of a revoke, which are done at
+-- once
+abbrev pub is_over : Deed → Bool
+is_over Rests = true
+is_over Steps = true
+is_over (Gives child cursor) = true
+is_over (Skips reason place cursor) = true
+is_over (Removes leaf) = true
+is_over other = false
+
+-- an instruction went on
+abbrev pub is_step : Deed → Bool
+is_step Steps = true
+is_step other = false
+
+-- what a deed makes of its execution context is all that it does to contexts, message words and semaphores, but for a recall
+abbrev pub is_alone : Deed → Bool
+is_alone (Calls handler ip identifier items) = false
+is_alone (Helps handler) = false
+is_alone (Waits handler reason q0 q1) = false
+is_alone (Sends handler ip identifier mtd reason q0 q1) = false
+is_alone (Replies caller mark items) = false
+is_alone (Aborts handler mark) = false
+is_alone (Ups sm whom) = false
+is_alone (Downs sm) = false
+is_alone (Blocks sm) = false
+is_alone (Finishes item end words after) = false
+is_alone other = true
+
+-- what is done when a deed is decided: all of it or nothing
+abbrev pub begun : KernelState → ℕ → Deed → KernelState
+begun k ec d = if is_over d then done k ec d else k
+
+-- what a hypercall asks for fits, and is still to be done
+abbrev pub IsAsked : KernelState → ℕ → Deed → Type 0
+IsAsked k ec d = Fits k ec d × (is_over d ≡ false)
+
+-- how far an execution context is with its items
+abbrev pub now_at : KernelState → ℕ → Transfer
+now_at k ec = transfer k ec
+
+-- the part of an item that is next, and the state with what it makes
+abbrev pub part_now : KernelState → Job → Option Part
+part_now k j = next_part (is_busy k) k.delegations j
+
+abbrev pub with_part : KernelState → Option Part → KernelState
+with_part k p = record k { delegations = given k.delegations p }
+
+-- the selector that a deed takes is free
+abbrev pub TakesFree : KernelState → ℕ → Deed → Type 0
+TakesFree k domain (Makes call target new) = is_held k domain target ≡ false
+TakesFree k domain (Opens target number) = is_held k domain target ≡ false
+TakesFree k domain other = Unit {0}

@@ -1,0 +1,15 @@
+//! What deeds come to by themselves: what one makes of the execution context that does it, how it ends an item, whether it is an
+//! input for a virtual CPU, its sign in the trace, and what objects are at birth. And what deeds keep of the state.
+#![tactic(auto)]
+
+pub mod births;
+pub mod changes;
+pub mod inputs;
+pub mod items;
+mod roots;
+pub mod signs;
+
+pub use roots::{
+    first_stirs, no_entries, root_contexts, root_guests, root_objects, root_revokes,
+    root_semaphores, root_transfers,
+};

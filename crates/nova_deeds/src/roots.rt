@@ -1,0 +1,123 @@
+ghost use Rattle.std.specs.Prelude.{◌≡◌, ◌≤◌, [], ◌∷◌, replicate, IfOk, None, Some};
+ghost use Rattle.nova_model.specs.Boot.{root_objects, root_context, root_registers};
+ghost use Rattle.nova_model.specs.State.{no_transfer};
+
+use crate::births::NO_TRANSFER;
+use nova_ec::Ecs;
+use nova_model::{EcKind, EcState, Object, Root, State, Transfer};
+use nova_objects::Objects;
+use nova_running::{Guests, Revokes};
+use nova_sem::Sems;
+use rv_core::Regs;
+use std::alloc::{AllocError, Global};
+
+/// The first selector of the root thread's events.
+const ROOT_EVENTS: u32 = 16;
+
+/// The objects: the root's protection domain, its execution context, a thread, and its scheduling
+/// context.
+pub fn root_objects(alloc: Global, root: Root) -> Result<Objects, AllocError>
+    ensures { IfOk result (λ o. o.items ≡ root_objects root) }
+{
+    let mut objects = Objects::new(alloc);
+    objects.reserve(3)?;
+    objects.add(Object::Pd);
+    objects.add(Object::Ec {
+        pd: 0,
+        cpu: 0,
+        kind: EcKind::Global,
+        event: ROOT_EVENTS,
+    });
+    objects.add(Object::Sc {
+        ec: 1,
+        cpu: 0,
+        priority: root.priority,
+        quantum: root.quantum,
+    });
+    Ok(objects)
+}
+
+/// The root's execution context, with pc and the stack pointer.
+pub fn root_context(root: Root) -> EcState
+    ensures { result ≡ root_context root }
+{
+    EcState {
+        id: 1,
+        cpu: 0,
+        state: State::Ready,
+        regs: Regs::new(root.pc, root.sp),
+        caller: None,
+        recall: false,
+    }
+}
+
+/// The table of execution contexts.
+pub fn root_contexts(alloc: Global, root: Root) -> Result<Ecs, AllocError>
+    ensures { IfOk result (λ t. t.items ≡ None ∷ Some (root_context root) ∷ None ∷ []) }
+{
+    let mut contexts = Ecs::new(alloc);
+    contexts.reserve(3)?;
+    contexts.add(None);
+    contexts.add(Some(root_context(root)));
+    contexts.add(None);
+    Ok(contexts)
+}
+
+/// How far the root's execution context is with items: it gives none.
+pub fn root_transfers(alloc: Global) -> Result<Vec<Option<Transfer>>, AllocError>
+    ensures { IfOk result (λ v. v.items ≡ None ∷ Some no_transfer ∷ None ∷ []) }
+{
+    let mut transfers = Vec::with_capacity(alloc, 3)?;
+    transfers.push(None)?;
+    transfers.push(Some(NO_TRANSFER))?;
+    transfers.push(None)?;
+    Ok(transfers)
+}
+
+/// A table of what none of the root's objects has: portals' identifiers, or semaphores' counters.
+pub fn no_entries(alloc: Global) -> Result<Vec<Option<u32>>, AllocError>
+    ensures { IfOk result (λ v. v.items ≡ None ∷ None ∷ None ∷ []) }
+{
+    vec![in alloc; None; 3]
+}
+
+/// No revoke runs, and there is a place for each of the root's objects.
+pub fn root_revokes(alloc: Global) -> Result<Revokes, AllocError>
+    ensures { IfOk result (λ r. (r.list ≡ []) × (3 ≤ r.places)) }
+{
+    let mut revokes = Revokes::new(alloc);
+    revokes.reserve(3)?;
+    Ok(revokes)
+}
+
+/// No semaphores: an entry for each of the root's objects, which holds none.
+pub fn root_semaphores(alloc: Global) -> Result<Sems, AllocError>
+    ensures { IfOk result (λ s. s.all ≡ None ∷ None ∷ None ∷ []) }
+{
+    let mut semaphores = Sems::new(alloc);
+    semaphores.reserve(3)?;
+    for _object in 0..3u32 {
+        semaphores.room_for_ec()?;
+        semaphores.add(None);
+    }
+    Ok(semaphores)
+}
+
+/// No stir counts of virtual CPUs: an entry for each of the root's objects, which has none.
+pub fn root_guests(alloc: Global) -> Result<Guests, AllocError>
+    ensures { IfOk result (λ g. g.counts ≡ None ∷ None ∷ None ∷ []) }
+{
+    let mut guests = Guests::new(alloc);
+    guests.reserve(3)?;
+    guests.add(None);
+    guests.add(None);
+    guests.add(None);
+    Ok(guests)
+}
+
+/// A count of 0 for each processor.
+pub fn first_stirs(alloc: Global, cpus: u32) -> Result<Vec<u64>, AllocError>
+    ensures { IfOk result (λ v. v.items ≡ replicate cpus 0) }
+{
+    vec![in alloc; 0; cpus as usize]
+}

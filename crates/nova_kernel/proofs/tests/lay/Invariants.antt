@@ -1,7 +1,0 @@
-use Rattle.std.proofs.Common.{◌≡◌, length}
-use Rattle.nova_kernel.proofs.tests.lay.Given as goal
-
-abbrev pub invariant-loop-i : goal.invariant-loop-i
-invariant-loop-i l =
-    (length l.kernel.state.memory.ram ≡ 2) × (l.kernel.state.cpus ≡ l.fn.kernel.state.cpus) × (l.kernel.room ≡ l.fn.kernel.room)
-    × (l.kernel.state.turns ≡ l.fn.kernel.state.turns)

@@ -1,0 +1,5 @@
+pub mod Placed
+pub mod Rooted
+pub mod Laid
+pub mod Guarded
+pub mod Views

@@ -1,0 +1,11 @@
+use Rattle.std.proofs.Common.{◌+◌, length}
+use Rattle.nova_memory.proofs.Placed.{revoked_leads}
+use Rattle.nova_memory.proofs.reach.Reach.take_away.Goals as goal
+
+pub invariant_of-self : goal.invariant_of-self
+invariant_of-self c =
+    let r = c.self.inside in (
+      revoked_leads (length r.frames.memory.ram + r.frames.consoles) c.args.revoke.now r.nodes.delegations c.part.new.nodes.delegations c.part.ensures.revoked
+          c.self.invariant.0,
+      tt,
+    )

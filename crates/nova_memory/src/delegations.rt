@@ -1,0 +1,124 @@
+ghost use Rattle.std.specs.Prelude.{false, ◌≡◌, ◌≤◌, ◌-◌, ◌^◌, ◌<◌, ℕ, is_some, None, IfSome, OnOk, OnErr, IfOk};
+ghost use Rattle.std.specs.List.{find, list_any};
+ghost use Rattle.nova_range.specs.Rights.{IsRights};
+ghost use Rattle.nova_model.specs.Delegations.{added, covers, derived, from_id, with_id};
+ghost use Rattle.nova_model.specs.Forest.{IsForest};
+ghost use Rattle.nova_model.specs.Inputs.{leads_to};
+ghost use Rattle.nova_model.specs.Transfers.{next_part, given, moved};
+ghost use Rattle.nova_model.specs.Translations.{translated};
+ghost use Rattle.nova_nodes.specs.NodesStates.{IsPlaced, room};
+ghost use Rattle.nova_delegate.specs.Parts.{HasChild, IsUnderWay, MakesChild, done_of};
+ghost use Rattle.nova_memory.specs.Reach.{selector_range};
+ghost use Rattle.nova_running.specs.Runners.{busy_under};
+
+use crate::reach::Reach;
+use nova_delegate::{PartDone, part, translate};
+use nova_model::{Derivation, Job, Kind, Rights};
+use nova_range::Range;
+use nova_running::Running;
+use std::alloc::AllocError;
+
+impl Reach {
+    /// Makes room for one more derivation of a protection domain. It refuses for want of memory alone,
+    /// and then no derivation has changed.
+    pub fn reserve(&mut self, pd: u32) -> Result<(), AllocError>
+        ensures room { OnOk result (0 < room self.new.nodes pd) }
+        ensures delegations { self.new.nodes.delegations ≡ self.old.nodes.delegations }
+        ensures memory { self.new.memory ≡ self.old.memory }
+        ensures messages { self.new.messages ≡ self.old.messages }
+        ensures consoles { self.new.consoles ≡ self.old.consoles }
+        ensures log { self.new.room ≡ self.old.room }
+    {
+        self.nodes.reserve(pd, 1)
+    }
+
+    /// Makes the space of a new protection domain. It refuses for want of memory alone.
+    pub fn add_domain(&mut self, pd: u32) -> Result<(), AllocError>
+        ensures room { (other : ℕ) → room self.old.nodes other ≤ room self.new.nodes other }
+        ensures delegations { self.new.nodes.delegations ≡ self.old.nodes.delegations }
+        ensures memory { self.new.memory ≡ self.old.memory }
+        ensures messages { self.new.messages ≡ self.old.messages }
+        ensures consoles { self.new.consoles ≡ self.old.consoles }
+        ensures log { self.new.room ≡ self.old.room }
+    {
+        self.nodes.add_pd(pd)
+    }
+
+    /// Adds the capability of an object, at a selector that is free, in the room that was made.
+    pub fn add_capability(&mut self, pd: u32, selector: u32, rights: Rights, object: u32)
+        requires room { 0 < room self.old.nodes pd }
+        requires next { self.old.nodes.delegations.next < 2 ^ 32 - 1 }
+        requires selector { selector < 2 ^ 20 }
+        requires free { is_some (find (covers Kind.Obj pd selector) self.old.nodes.delegations.list) ≡ false }
+        requires rights { IsRights rights }
+        requires object { object < 2 ^ 32 - 1 }
+        ensures delegations { self.new.nodes.delegations ≡ added self.old.nodes.delegations (derived self.old.nodes.delegations.next None pd (selector_range selector) rights object) }
+        ensures memory { self.new.memory ≡ self.old.memory }
+        ensures messages { self.new.messages ≡ self.old.messages }
+        ensures consoles { self.new.consoles ≡ self.old.consoles }
+        ensures log { self.new.room ≡ self.old.room }
+    {
+        let place = Range {
+            kind: Kind::Obj,
+            base: selector,
+            order: 0,
+        };
+        self.nodes.root(pd, place, rights, object);
+    }
+
+    /// The derivation that covers a place of a protection domain, or nothing.
+    pub fn covering(&self, pd: u32, kind: Kind, place: u32) -> Option<Derivation>
+        ensures found { result ≡ find (covers kind pd place) self.now.nodes.delegations.list }
+        ensures placed { IfSome result IsPlaced }
+    {
+        self.nodes.covering(pd, kind, place)
+    }
+
+    /// The derivation of an id, or nothing.
+    pub fn get(&self, id: u32) -> Option<Derivation>
+        ensures { result ≡ with_id self.now.nodes.delegations.list id }
+    {
+        self.nodes.get(id)
+    }
+
+    /// The derivation of least id at or after a given one, or nothing.
+    pub fn from_id(&self, id: u32) -> Option<Derivation>
+        ensures { result ≡ from_id self.now.nodes.delegations.list id }
+    {
+        self.nodes.from_id(id)
+    }
+
+    /// Gives the next part of an item, while these revokes run. It refuses for want of memory alone, where a
+    /// child would be made, and then no derivation has changed.
+    pub fn give(&mut self, job: &mut Job, revokes: &[Running]) -> Result<PartDone, AllocError>
+        requires next { self.old.nodes.delegations.next < 2 ^ 32 - 1 }
+        requires forest { IsForest self.old.nodes.delegations }
+        requires job { IsUnderWay job.old }
+        ensures done { IfOk result (λ r. r ≡ done_of job.old (next_part (busy_under revokes.now self.old.nodes.delegations.list) self.old.nodes.delegations job.old)) }
+        ensures delegations { OnOk result (self.new.nodes.delegations ≡ given self.old.nodes.delegations (next_part (busy_under revokes.now self.old.nodes.delegations.list) self.old.nodes.delegations job.old)) }
+        ensures job { OnOk result (job.new ≡ moved job.old (next_part (busy_under revokes.now self.old.nodes.delegations.list) self.old.nodes.delegations job.old)) }
+        ensures there { OnOk result (HasChild self.new.nodes.delegations (next_part (busy_under revokes.now self.old.nodes.delegations.list) self.old.nodes.delegations job.old)) }
+        ensures refused { OnErr result (self.new.nodes.delegations ≡ self.old.nodes.delegations) }
+        ensures wanted { OnErr result (MakesChild (next_part (busy_under revokes.now self.old.nodes.delegations.list) self.old.nodes.delegations job.old)) }
+        ensures memory { self.new.memory ≡ self.old.memory }
+        ensures messages { self.new.messages ≡ self.old.messages }
+        ensures consoles { self.new.consoles ≡ self.old.consoles }
+        ensures log { self.new.room ≡ self.old.room }
+    {
+        part(&mut self.nodes, job, revokes)
+    }
+
+    /// The word that answers a range word of a giver's: the same memory or object as the receiver has it.
+    pub fn translate(&self, word: u32, window: u32, giver: u32, receiver: u32) -> u32
+        ensures { result ≡ translated self.now.nodes.delegations.list word window giver receiver }
+    {
+        translate(&self.nodes, word, window, giver, receiver)
+    }
+
+    /// Whether memory of a protection domain leads to a frame.
+    pub fn leads_to(&self, pd: u32, frame: u32) -> bool
+        ensures { result ≡ list_any (leads_to pd frame) self.now.nodes.delegations.list }
+    {
+        self.nodes.leads_to(pd, frame)
+    }
+}

@@ -1,0 +1,173 @@
+ghost use Rattle.std.specs.Prelude.{◌≡◌, ◌-◌, ◌<◌, ◌%◌, ◌*◌, ◌^◌, [], ◌∷◌, ◌++◌, length, max, slice_set, slice_get, is_some, IsSome, false, Some, IfOk, OnOk, OnErr};
+ghost use Rattle.nova_utcb.specs.Messages.{loaded, stored};
+ghost use Rattle.nova_utcb.specs.Pages.{IsWidth};
+ghost use Rattle.nova_model.specs.State.{entry, message_in, no_words};
+
+use nova_utcb::Utcb;
+use std::alloc::{AllocError, Global};
+use std::marker::Model;
+
+/// The message words of threads, by the number of the object: an entry for each object, which holds words
+/// where the object is a thread.
+#[derive(Drop)]
+pub struct Messages {
+    items: Vec<Option<Utcb>>,
+    spare: usize,
+}
+
+impl Model for Messages {
+    ghost use Rattle.std.specs.Prelude.{◌+◌, ◌≤◌, vec_len, vec_capacity};
+    ghost use Rattle.nova_memory.specs.Messages.{MessageTable};
+
+    ghost Value = { MessageTable };
+
+    ghost view = { λ t. record { items = t.items.items; spare = t.spare } };
+
+    ghost invariant = { λ t. vec_len t.items + t.spare ≤ vec_capacity t.items };
+}
+
+/// What a load finds in words at birth.
+fn load_at_birth(offset: u32, width: u32) -> u32
+    requires width { IsWidth width }
+    requires within { offset < 512 }
+    requires aligned { offset % width ≡ 0 }
+    ensures number { result ≡ loaded no_words offset width }
+    ensures fits { result < 2 ^ (8 * width) }
+{
+    Utcb::new().load(offset, width)
+}
+
+/// Words at birth after a store.
+fn stored_at_birth(offset: u32, width: u32, value: u32) -> Utcb
+    requires width { IsWidth width }
+    requires within { offset < 512 }
+    requires aligned { offset % width ≡ 0 }
+    ensures { result ≡ stored no_words offset width value }
+{
+    let mut words = Utcb::new();
+    words.store(offset, width, value);
+    words
+}
+
+impl Messages {
+    /// No entries, and room for none.
+    pub fn new(alloc: Global) -> Messages
+        ensures { result ≡ record { items = []; spare = 0 } }
+    {
+        Messages {
+            items: Vec::new(alloc),
+            spare: 0,
+        }
+    }
+
+    /// Makes room for `n` more entries, counted from those that are there. It refuses for want of
+    /// memory alone, and then nothing has changed.
+    pub fn reserve(&mut self, n: usize) -> Result<(), AllocError>
+        ensures ok { OnOk result (self.new ≡ record self.old { spare = max self.old.spare n }) }
+        ensures err { OnErr result (self.new ≡ self.old) }
+    {
+        self.items.reserve(n)?;
+        self.spare = self.spare.max(n);
+        Ok(())
+    }
+
+    /// The same entries in memory of their own, with no spare room. It refuses for want of memory
+    /// alone.
+    pub fn copy(&self) -> Result<Messages, AllocError>
+        ensures { IfOk result (λ copy. copy ≡ record { items = self.now.items; spare = 0 }) }
+    {
+        let items = Vec::from_slice(*self.items.allocator(), self.items.as_slice())?;
+        Ok(Messages { items, spare: 0 })
+    }
+
+    /// Adds the entry of the next number in reserved room: the words of a thread, or nothing.
+    pub fn add(&mut self, words: Option<Utcb>)
+        requires { 0 < self.old.spare }
+        ensures { self.new ≡ record { items = self.old.items ++ words ∷ []; spare = self.old.spare - 1 } }
+    {
+        self.items.push_reserved(words);
+        self.spare -= 1;
+    }
+
+    /// The words of a number; they are all 0 where it has none.
+    pub fn get(&self, ec: u32) -> Utcb
+        ensures { result ≡ message_in (entry (slice_get self.now.items ec)) }
+    {
+        match self.items.get(ec as usize) {
+            Some(Some(words)) => *words,
+            _ => Utcb::new(),
+        }
+    }
+
+    /// Puts words at a number that has an entry.
+    pub fn set(&mut self, ec: u32, words: &Utcb)
+        requires { ec < length self.old.items }
+        ensures { self.new ≡ record self.old { items = slice_set self.old.items ec (Some words.now) } }
+    {
+        self.items[ec as usize] = Some(*words);
+    }
+
+    /// What a load finds in the words of a number, which are all 0 where it has none. The width is 1, 2 or
+    /// 4, and the offset is below 512 and a multiple of it.
+    pub fn load(&self, ec: u32, offset: u32, width: u32) -> u32
+        requires width { IsWidth width }
+        requires within { offset < 512 }
+        requires aligned { offset % width ≡ 0 }
+        ensures number { result ≡ loaded (message_in (entry (slice_get self.now.items ec))) offset width }
+        ensures fits { result < 2 ^ (8 * width) }
+    {
+        match self.items.get(ec as usize) {
+            Some(Some(words)) => words.load(offset, width),
+            _ => load_at_birth(offset, width),
+        }
+    }
+
+    /// Stores the lowest `width` bytes of a value to the words of a number that has an entry, in their
+    /// place. The width is 1, 2 or 4, and the offset is below 512 and a multiple of it.
+    pub fn store(&mut self, ec: u32, offset: u32, width: u32, value: u32)
+        requires width { IsWidth width }
+        requires within { offset < 512 }
+        requires aligned { offset % width ≡ 0 }
+        ensures { self.new ≡ record self.old { items = slice_set self.old.items ec (Some (stored (message_in (entry (slice_get self.old.items ec))) offset width value)) } }
+    {
+        if self.has(ec) {
+            self.store_in(ec, offset, width, value);
+        } else {
+            self.store_first(ec, offset, width, value);
+        }
+    }
+
+    /// Whether a number has words.
+    fn has(&self, ec: u32) -> bool
+        ensures { result ≡ is_some (entry (slice_get self.now.items ec)) }
+    {
+        matches!(self.items.get(ec as usize), Some(Some(_)))
+    }
+
+    /// A store to the words of a number that has some.
+    fn store_in(&mut self, ec: u32, offset: u32, width: u32, value: u32)
+        requires there { IsSome (entry (slice_get self.old.items ec)) }
+        requires width { IsWidth width }
+        requires within { offset < 512 }
+        requires aligned { offset % width ≡ 0 }
+        ensures { self.new ≡ record self.old { items = slice_set self.old.items ec (Some (stored (message_in (entry (slice_get self.old.items ec))) offset width value)) } }
+    {
+        let Some(words) = &mut self.items[ec as usize] else {
+            unreachable!();
+        };
+        words.store(offset, width, value);
+    }
+
+    /// A store to words at birth, where a number has none but an entry.
+    fn store_first(&mut self, ec: u32, offset: u32, width: u32, value: u32)
+        requires none { is_some (entry (slice_get self.old.items ec)) ≡ false }
+        requires width { IsWidth width }
+        requires within { offset < 512 }
+        requires aligned { offset % width ≡ 0 }
+        ensures { self.new ≡ record self.old { items = slice_set self.old.items ec (Some (stored (message_in (entry (slice_get self.old.items ec))) offset width value)) } }
+    {
+        if (ec as usize) < self.items.len() {
+            self.items[ec as usize] = Some(stored_at_birth(offset, width, value));
+        }
+    }
+}

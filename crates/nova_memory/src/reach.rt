@@ -1,0 +1,273 @@
+ghost use Rattle.std.specs.Prelude.{true, false, ℕ, ◌≡◌, ◌≤◌, ◌+◌, ◌-◌, ◌*◌, ◌/◌, ◌%◌, ◌^◌, ◌<◌, length, is_some, None, Some, IfSome, IfOk};
+ghost use Rattle.std.specs.List.{find};
+ghost use Rattle.std.specs.Bool.{OnTrue, OnFalse};
+ghost use Rattle.nova_utcb.specs.Pages.{IsWidth};
+ghost use Rattle.nova_range.specs.Rights.{read_right, write_right};
+ghost use Rattle.nova_model.specs.AddressSpaces.{frame_for, words_at};
+ghost use Rattle.nova_model.specs.Delegations.{covers, page_in, reach};
+ghost use Rattle.nova_memory.specs.Reach.{loaded, reached, stored, takes};
+
+use crate::messages::Messages;
+use bitflags::Flags;
+use nova_frames::Frames;
+use nova_model::{Derivation, Kind, Page, Rights};
+use nova_nodes::Nodes;
+use nova_space::Space;
+use rv_core::bus::Bus;
+use std::alloc::AllocError;
+use std::marker::Model;
+
+/// The page of a thread that is its own, which begins with its message words: no delegation leads there.
+const OWN_PAGE: u32 = 0xfffff;
+
+/// How many bytes the message words of a thread have.
+const MESSAGE_SIZE: u32 = 512;
+
+/// What an instruction reaches: the frames, through the derivations of the protection domain of the
+/// execution context that acts, and the message words of one that is a thread. The derivation of the last
+/// page that was looked up is looked at first.
+#[derive(Drop)]
+pub struct Reach {
+    pub(crate) frames: Frames,
+    pub(crate) nodes: Nodes<Space>,
+    pub(crate) messages: Messages,
+    pub(crate) last: Option<Derivation>,
+    pub(crate) ec: u32,
+    pub(crate) pd: u32,
+    pub(crate) is_thread: bool,
+    /// The frame that the last store went to; none after one to message words.
+    pub(crate) written: Option<u32>,
+}
+
+impl Model for Reach {
+    ghost use Rattle.std.specs.Prelude.{◌+◌, length, IfSome};
+    ghost use Rattle.nova_memory.specs.Reach.{ReachState, IsFound, LeadToFrames};
+
+    ghost Value = { ReachState };
+
+    ghost view = { λ r. record {
+      nodes = r.nodes;
+      memory = r.frames.memory;
+      messages = r.messages;
+      ec = r.ec;
+      pd = r.pd;
+      is_thread = r.is_thread;
+      written = r.written;
+      consoles = r.frames.consoles;
+      room = r.frames.room;
+    } };
+
+    ghost invariant = { λ r. LeadToFrames (length r.frames.memory.ram + r.frames.consoles) r.nodes.delegations.list × IfSome r.last (IsFound r.nodes.delegations.list) };
+}
+
+/// Whether a derivation lies in the memory space of a protection domain and covers a page.
+fn covers(derivation: &Derivation, pd: u32, page: u32) -> bool
+    requires { derivation.now.order ≤ 20 }
+    ensures { result ≡ covers Kind.Mem pd page derivation.now }
+{
+    matches!(derivation.kind, Kind::Mem)
+        && derivation.pd == pd
+        && derivation.base <= page
+        && page - derivation.base < 1 << derivation.order
+}
+
+/// What a page leads to through a derivation that covers it.
+fn page_in(derivation: &Derivation, page: u32) -> Page
+    requires place { derivation.now.base ≤ page }
+    requires frame { derivation.now.target + (page - derivation.now.base) < 2 ^ 32 }
+    ensures { result ≡ page_in page derivation.now }
+{
+    Page {
+        frame: derivation.target + (page - derivation.base),
+        rights: derivation.rights,
+    }
+}
+
+impl Reach {
+    /// The execution context that acts changes, with its protection domain, and whether it is a thread. Nothing
+    /// is stored yet.
+    pub fn enter(&mut self, ec: u32, pd: u32, is_thread: bool)
+        ensures { self.new ≡ record self.old { ec = ec; pd = pd; is_thread = is_thread; written = None } }
+    {
+        self.ec = ec;
+        self.pd = pd;
+        self.is_thread = is_thread;
+        self.written = None;
+    }
+
+    /// Whether the present instruction stored to a frame.
+    pub fn has_stored(&self) -> bool
+        ensures { result ≡ is_some self.now.written }
+    {
+        self.written.is_some()
+    }
+
+    /// The same in memory of its own. The copy's log has no room for more bytes. It refuses for want of
+    /// memory alone.
+    pub fn copy(&self) -> Result<Reach, AllocError>
+        ensures delegations { IfOk result (λ r. r.nodes.delegations ≡ self.now.nodes.delegations) }
+        ensures memory { IfOk result (λ r. r.memory ≡ self.now.memory) }
+        ensures messages { IfOk result (λ r. r.messages.items ≡ self.now.messages.items) }
+        ensures consoles { IfOk result (λ r. r.consoles ≡ self.now.consoles) }
+        ensures log { IfOk result (λ r. r.room ≡ 0) }
+    {
+        Ok(Reach {
+            frames: self.frames.copy()?,
+            nodes: self.nodes.copy()?,
+            messages: self.messages.copy()?,
+            last: self.last,
+            ec: self.ec,
+            pd: self.pd,
+            is_thread: self.is_thread,
+            written: self.written,
+        })
+    }
+
+    /// The frame that the present instruction stored to.
+    pub fn stored_to(&self) -> Option<u32>
+        ensures { result ≡ self.now.written }
+    {
+        self.written
+    }
+
+    /// What a page leads to through the derivation of the last page, where that covers this one too.
+    fn last_page(&self, page: u32) -> Option<Page>
+        ensures page { IfSome result (λ p. reach self.now.nodes.delegations.list self.now.pd page ≡ Some p) }
+        ensures there { IfSome result (λ p. p.frame < length self.now.memory.ram + self.now.consoles) }
+    {
+        let last = self.last.as_ref()?;
+        if covers(last, self.pd, page) {
+            Some(page_in(last, page))
+        } else {
+            None
+        }
+    }
+
+    /// The derivation that covers a page of the protection domain, or nothing.
+    fn memory_at(&mut self, page: u32) -> Option<Derivation>
+        ensures found { result ≡ find (covers Kind.Mem self.old.pd page) self.old.nodes.delegations.list }
+        ensures leads { IfSome result (λ d. (d.base ≤ page) × (d.target + (page - d.base) < length self.old.memory.ram + self.old.consoles)) }
+        ensures few { length self.old.memory.ram + self.old.consoles ≤ 2 ^ 32 }
+        ensures kept { self.new ≡ self.old }
+    {
+        self.last = self.nodes.at(self.pd, Kind::Mem, page);
+        self.last
+    }
+
+    /// What a page leads to: the one derivation that covers it, or nothing.
+    fn page_at(&mut self, page: u32) -> Option<Page>
+        ensures page { result ≡ (reached self.old).page page }
+        ensures there { IfSome result (λ p. p.frame < length self.old.memory.ram + self.old.consoles) }
+        ensures kept { self.new ≡ self.old }
+    {
+        if self.is_thread && page == OWN_PAGE {
+            return None;
+        }
+        if let Some(found) = self.last_page(page) {
+            return Some(found);
+        }
+        let derivation = self.memory_at(page)?;
+        Some(page_in(&derivation, page))
+    }
+
+    /// What a page of a protection domain leads to, or nothing.
+    pub fn page_of(&mut self, pd: u32, page: u32) -> Option<Page>
+        ensures page { result ≡ reach self.old.nodes.delegations.list pd page }
+        ensures kept { self.new ≡ record self.old { ec = 0; pd = pd; is_thread = false; written = None } }
+    {
+        self.enter(0, pd, false);
+        self.page_at(page)
+    }
+
+    /// The frame that an address leads to, where the right is there.
+    fn frame_for(&mut self, right: Rights, address: u32) -> Option<u32>
+        ensures frame { result ≡ frame_for (reached self.old) right.0 address }
+        ensures there { IfSome result (λ frame. frame < length self.old.memory.ram + self.old.consoles) }
+        ensures kept { self.new ≡ self.old }
+    {
+        let page = self.page_at(address / 4096)?;
+        if page.rights.contains(right) {
+            Some(page.frame)
+        } else {
+            None
+        }
+    }
+
+    /// Whether an address is among the message words of the thread that acts.
+    fn is_own(&self, address: u32) -> bool
+        ensures { result ≡ is_some (words_at (reached self.now) address) }
+    {
+        self.is_thread && address / 4096 == OWN_PAGE && address % 4096 < MESSAGE_SIZE
+    }
+
+    /// A load that finds no frame: message words, or nothing.
+    fn load_own(&self, address: u32, width: u32) -> Option<u32>
+        requires frame { frame_for (reached self.now) read_right address ≡ None }
+        requires width { IsWidth width }
+        requires aligned { address % width ≡ 0 }
+        ensures number { result ≡ loaded self.now address width }
+        ensures fits { IfSome result (λ n. n < 2 ^ (8 * width)) }
+    {
+        if !self.is_own(address) {
+            return None;
+        }
+        Some(self.messages.load(self.ec, address % 4096, width))
+    }
+
+    /// A store that finds no frame: to message words, or refused.
+    fn store_own(&mut self, address: u32, width: u32, value: u32) -> bool
+        requires frame { frame_for (reached self.old) write_right address ≡ None }
+        requires width { IsWidth width }
+        requires aligned { address % width ≡ 0 }
+        ensures gives { result ≡ takes self.old address width }
+        ensures taken { OnTrue result (self.new ≡ stored (record { address = address; width = width; value = value }) self.old) }
+        ensures refused { OnFalse result (self.new ≡ self.old) }
+    {
+        if !self.is_own(address) {
+            return false;
+        }
+        self.messages.store(self.ec, address % 4096, width, value);
+        self.written = None;
+        true
+    }
+}
+
+impl Bus for Reach {
+    ghost use Rattle.std.specs.Prelude.{ℕ, ◌<◌};
+    ghost use Rattle.nova_memory.specs.Reach.{ReachState, fetched, loaded, takes, stored};
+
+    ghost State = { ReachState };
+
+    ghost state = { λ r. r };
+
+    ghost fetched = { fetched };
+
+    ghost loaded = { loaded };
+
+    ghost takes = { takes };
+
+    ghost stored = { stored };
+
+    ghost room = { λ s. 0 < s.room };
+
+    fn fetch(&mut self, addr: u32) -> Option<u32> {
+        let frame = self.frame_for(Rights::EXECUTE, addr)?;
+        Some(self.frames.load(frame, addr % 4096, 4))
+    }
+
+    fn load(&mut self, addr: u32, width: u32) -> Option<u32> {
+        let Some(frame) = self.frame_for(Rights::READ, addr) else {
+            return self.load_own(addr, width);
+        };
+        Some(self.frames.load(frame, addr % 4096, width))
+    }
+
+    fn store(&mut self, addr: u32, width: u32, value: u32) -> bool {
+        let Some(frame) = self.frame_for(Rights::WRITE, addr) else {
+            return self.store_own(addr, width, value);
+        };
+        self.frames.store(frame, addr % 4096, width, value);
+        self.written = Some(frame);
+        true
+    }
+}

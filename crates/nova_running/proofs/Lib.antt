@@ -1,0 +1,2 @@
+pub mod GuestTables
+pub mod Runners

@@ -1,0 +1,19 @@
+//! Tests of the kernel, of its boot from a scenario, of its runs by one thread and by several, and of its reports.
+#![tactic(auto)]
+
+#[cfg(test)]
+mod boots;
+#[cfg(test)]
+mod guests;
+#[cfg(test)]
+mod machines;
+#[cfg(test)]
+mod nested;
+#[cfg(test)]
+mod orders;
+#[cfg(test)]
+mod reports;
+#[cfg(test)]
+mod runs;
+#[cfg(test)]
+mod workers;

@@ -1,0 +1,18 @@
+// What tests lay into the RAM of a machine.
+ghost use Rattle.std.specs.Prelude.{◌≡◌, ◌+◌, ◌*◌, ◌≤◌, length};
+
+use nova_kernel::Kernel;
+
+/// Lays words into RAM one after another from an address on.
+pub fn lay(kernel: &mut Kernel, address: u32, words: &[u32])
+    requires ram { length kernel.old.state.memory.ram ≤ 2 }
+    requires place { address + 4 * length words.now ≤ 4096 * length kernel.old.state.memory.ram }
+    ensures ram { length kernel.new.state.memory.ram ≡ length kernel.old.state.memory.ram }
+    ensures cpus { kernel.new.state.cpus ≡ kernel.old.state.cpus }
+    ensures room { kernel.new.room ≡ kernel.old.room }
+    ensures turns { kernel.new.state.turns ≡ kernel.old.state.turns }
+{
+    for (i, word) in words.iter().enumerate() {
+        kernel.put(address + 4 * i as u32, &word.to_le_bytes());
+    }
+}

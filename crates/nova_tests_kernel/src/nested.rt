@@ -1,0 +1,96 @@
+// Two callers revoke at a time, one within what the other takes away, while a third domain gives on.
+ghost use Rattle.std.specs.Prelude.{◌≤◌, ◌^◌, ◌<◌};
+ghost use Rattle.nova_delegate.specs.Parts.{IsUnderWay};
+
+use nova_delegate::{Job, PartDone, Reason, job, part as give};
+use nova_nodes::Nodes;
+use nova_range::{Kind, Range, Rights};
+use nova_revoke::{Revoke, RevokeDone, part};
+use nova_space::Space;
+use std::alloc::Global;
+use std::process::Abort;
+
+/// The word of page 0 to read, and that of a window of 16 pages from page 16 on.
+const PAGE: u32 = 0x0005;
+
+const WINDOW: u32 = 0x1021d;
+
+/// Page 0.
+const PAGE_RANGE: Range = Range {
+    kind: Kind::Mem,
+    base: 0,
+    order: 0,
+};
+
+/// Page 0 goes from domain 0 to domain 1, to domain 2 and to domain 3, each time as the derivation of
+/// the domain's number.
+fn nodes(rt: &impl Abort, alloc: Global) -> Nodes<Space> {
+    let mut nodes = Nodes::new(alloc);
+    nodes.reserve(0, 1).expect(rt, "ample memory");
+    nodes.root(0, PAGE_RANGE, Rights::READ, 32);
+    nodes.reserve(1, 1).expect(rt, "ample memory");
+    nodes.child(0, 1, PAGE_RANGE, Rights::READ, 32);
+    nodes.reserve(2, 1).expect(rt, "ample memory");
+    nodes.child(1, 2, PAGE_RANGE, Rights::READ, 32);
+    nodes.reserve(3, 1).expect(rt, "ample memory");
+    nodes.child(2, 3, PAGE_RANGE, Rights::READ, 32);
+    nodes
+}
+
+/// A revoke of page 0 by a domain.
+fn of_page(pd: u32) -> Revoke {
+    Revoke {
+        pd,
+        range: PAGE_RANGE,
+        own: false,
+    }
+}
+
+/// What a part took, as a test compares it: id and domain, or nothing.
+fn told(done: RevokeDone) -> Option<(u32, u32)> {
+    match done {
+        RevokeDone::Removed(leaf) => Some((leaf.id, leaf.pd)),
+        RevokeDone::Ended => None,
+    }
+}
+
+/// Page 0 of domain 2, to be given to domain 3.
+fn item(rt: &impl Abort) -> Job
+    ensures { IsUnderWay result }
+{
+    match job(PAGE, 0, WINDOW, 2, 3) {
+        Ok(item) => item,
+        Err(_) => panic!(rt; "the item is skipped"),
+    }
+}
+
+/// Whether domain 2's page is busy for domain 3, while domains 0 and 1 revoke it.
+fn is_busy(rt: &impl Abort, nodes: &mut Nodes<Space>) -> bool {
+    assert!(rt; nodes.next() == 4);
+    let mut item = item(rt);
+    let done = give(nodes, &mut item, &[of_page(0), of_page(1)]).expect(rt, "ample memory");
+    matches!(done, PartDone::Skipped(Reason::Busy, 0))
+}
+
+/// The parts that follow: domains 0, 1, 0 and 0 revoke.
+fn parts(nodes: &mut Nodes<Space>) -> [Option<(u32, u32)>; 4] {
+    [
+        told(part(nodes, &of_page(0))),
+        told(part(nodes, &of_page(1))),
+        told(part(nodes, &of_page(0))),
+        told(part(nodes, &of_page(0))),
+    ]
+}
+
+/// What each of those takes.
+static TAKEN: [Option<(u32, u32)>; 4] = [Some((2, 2)), None, Some((1, 1)), None];
+
+#[test]
+fn nested_revokes_take_leaf_by_leaf_and_nothing_joins(rt: HostRuntime) {
+    let mut nodes = nodes(&rt, rt.alloc());
+    let first = told(part(&mut nodes, &of_page(1)));
+    let is_busy = is_busy(&rt, &mut nodes);
+    let rest = parts(&mut nodes);
+    let is_so = first == Some((3, 3)) && is_busy && rest == TAKEN;
+    assert!(rt; is_so);
+}

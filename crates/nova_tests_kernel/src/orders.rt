@@ -1,0 +1,110 @@
+// Runs by one thread, along an order of turns and by round robin.
+use crate::runs::{Told, tell};
+use nova_kernel::{Kernel, Root};
+use nova_run::{Order, RunFault, round_robin, run_order};
+use std::alloc::Global;
+use std::process::Abort;
+
+/// A run of at most so many turns, along an order or by round robin: what it shows, the order of the turns that it takes and whether it
+/// ends quiet, or why there is none.
+#[derive(Clone, Copy)]
+struct Row {
+    shows: &'static str,
+    order: Option<&'static str>,
+    limit: u64,
+    turns: &'static str,
+    is_quiet: bool,
+    fault: Option<RunFault>,
+}
+
+static ROWS: [Row; 6] = [
+    Row {
+        shows: "an order that ends quiet",
+        order: Some("0 2\n"),
+        limit: 8,
+        turns: "0 2\n",
+        is_quiet: true,
+        fault: None,
+    },
+    Row {
+        shows: "an order that ends before",
+        order: Some("0 1\n"),
+        limit: 1,
+        turns: "0 1\n",
+        is_quiet: false,
+        fault: None,
+    },
+    Row {
+        shows: "an idle turn between others",
+        order: Some("0 1\n1 1\n0 1\n"),
+        limit: 8,
+        turns: "",
+        is_quiet: false,
+        fault: Some(RunFault::OrderIdle(2)),
+    },
+    Row {
+        shows: "round robin that ends quiet",
+        order: None,
+        limit: 8,
+        turns: "0 2\n",
+        is_quiet: true,
+        fault: None,
+    },
+    Row {
+        shows: "round robin that ends at its limit",
+        order: None,
+        limit: 1,
+        turns: "0 1\n",
+        is_quiet: false,
+        fault: None,
+    },
+    Row {
+        shows: "round robin of no turns",
+        order: None,
+        limit: 0,
+        turns: "",
+        is_quiet: false,
+        fault: None,
+    },
+];
+
+/// The root runs zeros: in two turns it raises an exit and dies.
+const ROOT: Root = Root {
+    pc: 0,
+    sp: 0,
+    priority: 1,
+    quantum: 10,
+};
+
+/// What the run of a row comes to, on a machine of two processors.
+fn run_of(rt: &impl Abort, alloc: Global, row: &Row) -> Result<Told, RunFault> {
+    let limit = row.limit;
+    assert!(rt; limit <= 8);
+    let Some(text) = row.order else {
+        let kernel = Kernel::new(alloc, 2, 0, 0, ROOT, 8).expect(rt, "ample memory");
+        return Ok(tell(rt, round_robin(alloc, kernel, limit)?));
+    };
+    let order = Order::read(alloc, text.as_bytes(), 2, limit).expect(rt, "an order");
+    let kernel = Kernel::new(alloc, 2, 0, 0, ROOT, 8).expect(rt, "ample memory");
+    Ok(tell(rt, run_order(alloc, kernel, &order, limit)?))
+}
+
+/// Whether the run of a row is as the row says.
+fn is_so(rt: &impl Abort, alloc: Global, row: &Row) -> bool {
+    match run_of(rt, alloc, row) {
+        Ok(run) => {
+            run.order.as_slice() == row.turns.as_bytes()
+                && run.events == run.turns
+                && run.is_quiet == row.is_quiet
+                && row.fault == None
+        }
+        Err(fault) => row.fault == Some(fault),
+    }
+}
+
+#[test]
+fn runs_end_quiet_or_at_the_limit_or_at_an_idle_turn(rt: HostRuntime) {
+    for row in &ROWS {
+        assert!(rt; is_so(&rt, rt.alloc(), row), "{}", row.shows);
+    }
+}

@@ -1,0 +1,3 @@
+mod in_memory;
+mod of_the_runtime;
+mod to_standard_output;

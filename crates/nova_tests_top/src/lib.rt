@@ -1,0 +1,25 @@
+//! Tests of the top call over a depot and a sink in memory: whole texts, byte for byte.
+#![tactic(auto)]
+
+#[cfg(test)]
+mod calls;
+#[cfg(test)]
+mod commands;
+#[cfg(test)]
+mod exits;
+#[cfg(test)]
+mod objects;
+#[cfg(test)]
+mod orders;
+#[cfg(test)]
+mod revokes;
+#[cfg(test)]
+mod rows;
+#[cfg(test)]
+mod runs;
+#[cfg(test)]
+mod scheduling;
+#[cfg(test)]
+mod semaphores;
+#[cfg(test)]
+mod virtual_cpus;
