@@ -35,7 +35,7 @@ use Rattle.nova_laws.proofs.Ordered.{Stands, boot_run_stands, stands_at}
 use Rattle.nova_laws.proofs.Progress.{last_is}
 use Rattle.nova_laws.proofs.Referring.{Asks, deed_asks}
 use Rattle.nova_laws.proofs.Serving.{IsActor, actor_of}
-use Rattle.nova_laws.proofs.Setting.{entry_itself, entry_kept, entry_other, set_at}
+use Rattle.nova_laws.proofs.Setting.{entry_itself, entry_kept, set_at}
 use Rattle.nova_laws.proofs.States.{Moves, is_waiting, others_move}
 
 -- STATES OF OTHERS

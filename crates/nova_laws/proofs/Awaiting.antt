@@ -1,14 +1,13 @@
 -- Whom a handler serves waits for it, and who acts waits for none that lives.
-use Rattle.std.proofs.Common.{◌≡◌, ℕ, refl, ap, ◌∙◌, sym, subst, arith}
+use Rattle.std.proofs.Common.{◌≡◌, ℕ, refl, ap, ◌∙◌, sym, arith}
 use Rattle.std.specs.Prelude.{◌≢◌, ◌==◌, Bool, true, false, Option, Some, None, IsSome, option_map, option_and_then}
 use Rattle.nova_model.specs.Edges.{acts, acts_as, acts_by, caller_in, edge_of, is_dead, state_in}
-use Rattle.nova_model.specs.State.{KernelState, Contexts, context, context_in, ec_in, with_ec}
+use Rattle.nova_model.specs.State.{KernelState, Contexts, context, context_in, ec_in}
 use Rattle.nova_model.specs.declared.context.EcState.{EcState}
 use Rattle.nova_model.specs.declared.context.Mark.{Mark}
 use Rattle.nova_model.specs.declared.context.State.{State}
 use Rattle.nova_model.specs.declared.context.State.TheVariants.{Parked, Calling, Dead}
 use Rattle.nova_laws.specs.Links.{AreServed}
-use Rattle.nova_laws.proofs.Setting.{entry_itself, entry_other}
 
 -- ENTRIES
 

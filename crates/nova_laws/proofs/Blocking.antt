@@ -7,7 +7,7 @@ use Rattle.nova_model.specs.Boot.{root_context}
 use Rattle.nova_model.specs.Calls.{is_parked}
 use Rattle.nova_model.specs.Capabilities.{is_sm}
 use Rattle.nova_model.specs.Creation.{context_of, count_of, idle_semaphore}
-use Rattle.nova_model.specs.Deeds.{answered, deed, parked, resumed, told}
+use Rattle.nova_model.specs.Deeds.{answered, deed, parked, resumed}
 use Rattle.nova_model.specs.Edges.{state_in}
 use Rattle.nova_model.specs.Semaphores.{Semaphores, answer_of, downed, greatest, has, semaphore, semaphore_at, upped, waits, woken, woken_of}
 use Rattle.nova_model.specs.State.{Contexts, KernelState, context, ec_in, ec_of, entry, is_local_thread, with_ec, context_at, context_in}
@@ -22,7 +22,6 @@ use Rattle.nova_model.specs.declared.new_object.NewObject.TheVariants as new
 use Rattle.nova_model.specs.declared.root.Root.{Root}
 use Rattle.nova_model.specs.declared.semaphore.Down.TheVariants as down
 use Rattle.nova_model.specs.declared.semaphore.Overflow.{Overflow}
-use Rattle.nova_model.specs.declared.transfer.ItemWords.{ItemWords}
 use Rattle.nova_sem.specs.Sound.{AreSound, IsFree}
 use Rattle.nova_sem.specs.Waiting.{AllWaitAsBefore, OthersWaitAsBefore}
 use Rattle.nova_sem.proofs.Sound.{each_waits_alone}

@@ -1,13 +1,9 @@
 -- What the charge of a turn leaves, and what the end of an item leaves.
 use Rattle.std.proofs.Common.{◌≡◌, ℕ, ◌+◌, refl}
 use Rattle.std.specs.Prelude.{◌≢◌, slice_get, Option, Some, None}
-use Rattle.nova_model.specs.Deeds.{followed, told}
 use Rattle.nova_model.specs.State.{KernelState, budget_at}
 use Rattle.nova_model.specs.Turn.{budget_after, charged, counted, is_spent, paid_by, quantum_in}
 use Rattle.nova_model.specs.declared.budget.Budget.{Budget}
-use Rattle.nova_model.specs.declared.transfer.ItemWords.{ItemWords}
-use Rattle.nova_model.specs.declared.transfer.Sequel.{Sequel}
-use Rattle.nova_model.specs.declared.transfer.Sequel.TheVariants as sequel
 use Rattle.nova_laws.proofs.Setting.{entry_other, get_other}
 
 pub record IsCharged (old new : KernelState) (cpu sc : ℕ) : Type 0 where

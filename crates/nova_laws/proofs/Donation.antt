@@ -181,6 +181,17 @@ begins_kept cpus ram consoles root =
     let s : Scenario = record { cpus = cpus; ram = ram; consoles = consoles; root = root; images = [] } in
     let fits = boot_fits s in record { tables = fits.tables; served = fits.served; edges = boot_edges s; blocked = fits.blocked; guests = fits.guests }
 
+images_kept : (k : KernelState) (images : List Image) → IsKept k → IsKept (with_images k images)
+images_kept k [] kept = kept
+images_kept k (image ∷ images) kept = images_kept (with_image k image) images (keeps_in_memory k (with_image k image).memory kept)
+
+run_kept : (k : KernelState) (turns : List ℕ) → IsKept k → IsKept (run k turns)
+run_kept k [] kept = kept
+run_kept k (cpu ∷ turns) kept = run_kept (after k cpu) turns (keeps k cpu kept)
+
+pub reached_kept : (s : Scenario) (turns : List ℕ) → IsKept (run (boot s) turns)
+reached_kept s turns = run_kept (boot s) turns (images_kept (bare s.cpus s.ram s.consoles s.root) s.images (begins_kept s.cpus s.ram s.consoles s.root))
+
 -- semaphores
 
 pub blocked_waits : (s : Scenario) (turns : List ℕ) (sm ec : ℕ) →

@@ -9,7 +9,7 @@ use Rattle.nova_model.specs.Boot.{Image, Scenario, bare, boot, root_context, roo
 use Rattle.nova_model.specs.Calls.{is_parked}
 use Rattle.nova_model.specs.Choice.{Candidate, choice}
 use Rattle.nova_model.specs.Creation.{context_of, object_of}
-use Rattle.nova_model.specs.Deeds.{answered, deed, done, instruction}
+use Rattle.nova_model.specs.Deeds.{answered, deed, instruction}
 use Rattle.nova_model.specs.Edges.{acts, acts_as, state_in}
 use Rattle.nova_model.specs.Runs.{after, run}
 use Rattle.nova_model.specs.Semaphores.{semaphore, woken}
@@ -35,7 +35,6 @@ use Rattle.nova_model.specs.Capabilities.{is_pt}
 use Rattle.nova_model.specs.declared.event.Event.{Event}
 use Rattle.nova_forest.specs.Effects.{all_edited, joined, Answers, Becomes, Edit, Parks, edit_at, edited, edits_by, effect, follows_by, identifier_by, item_words, made_by, recalls_by, steps_by, store_words, transfer_by, wakes_by, words_by, words_stored, applied}
 use Rattle.nova_forest.specs.Turns.{Acts, IsTurning, Turning, acting, settled, turned}
-use Rattle.nova_forest.proofs.Doing.{done_is}
 use Rattle.nova_forest.proofs.Turning.{after_keeps, along}
 use Rattle.nova_laws.specs.Tables.{IsOf, Refers}
 use Rattle.nova_laws.specs.Links.{AreServed, IsLinked, is_giving, state_at}

@@ -52,3 +52,4 @@ pub mod Windows
 pub mod Stirring
 pub mod Revoking
 pub mod Courses
+pub mod Leaving

@@ -16,3 +16,4 @@ pub mod Waiting
 pub mod Windows
 pub mod Stirs
 pub mod Revoking
+pub mod Left

@@ -41,7 +41,8 @@ pub use tables::tables_go_with_objects;
 pub use transfers::{
     a_child_is_what_range_and_derivation_share, a_creator_gives_a_range_to_a_domain,
     an_item_counts_its_children, each_part_moves_on, items_are_given_in_order,
-    items_go_to_the_windows_of_the_receiver, words_tell_what_came_of_an_item,
+    items_go_to_the_windows_of_the_receiver, what_is_left_is_given_next,
+    words_tell_what_came_of_an_item,
 };
 pub use virtual_cpus::virtual_cpus_wait_for_their_exits_alone;
 pub use words::a_turn_writes_the_words_of_one;

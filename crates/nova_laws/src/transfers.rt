@@ -1,10 +1,11 @@
 // Laws of transfers.
-ghost use Rattle.std.specs.Prelude.{◌≡◌, ◌<◌, ℕ, List, IsSome, None, Option, Some, false, true};
+ghost use Rattle.std.specs.Prelude.{◌≡◌, ◌<◌, ◌↔◌, ℕ, List, IsSome, None, Option, Some, false, true};
 ghost use Rattle.nova_model.specs.Boot.{Scenario, boot};
 ghost use Rattle.nova_model.specs.Deeds.{deed, done};
 ghost use Rattle.nova_model.specs.Deliveries.{delivery};
 ghost use Rattle.nova_model.specs.Runs.{after, run, trace};
 ghost use Rattle.nova_model.specs.State.{KernelState, context, is_thread, message, no_transfer, transfer, transfer_at};
+ghost use Rattle.nova_model.specs.Transfers.{next_source};
 ghost use Rattle.nova_model.specs.Turn.{answer_of, turn};
 ghost use Rattle.nova_model.specs.declared.context.Mark.{Mark};
 ghost use Rattle.nova_model.specs.declared.context.Mark.TheVariants.{Call, Exit};
@@ -16,11 +17,14 @@ ghost use Rattle.nova_model.specs.declared.event.EventKind.TheVariants.{Ended, M
 ghost use Rattle.nova_model.specs.declared.event.Turn.TheVariants.{Stepped};
 ghost use Rattle.nova_model.specs.declared.transfer.Delivery.{Delivery};
 ghost use Rattle.nova_model.specs.declared.transfer.ItemEnd.{ItemEnd};
+ghost use Rattle.nova_model.specs.declared.transfer.ItemEnd.TheVariants.{Given};
 ghost use Rattle.nova_model.specs.declared.transfer.ItemWords.{ItemWords};
+ghost use Rattle.nova_model.specs.declared.transfer.Job.{Job};
 ghost use Rattle.nova_model.specs.declared.transfer.Reason.{Reason};
 ghost use Rattle.nova_model.specs.declared.transfer.Sequel.{Sequel};
 ghost use Rattle.nova_model.specs.declared.transfer.Sequel.TheVariants.{Replied, Taken};
 ghost use Rattle.nova_laws.specs.Giving.{GivesRange, GoesOn, HasMoved, IsAtItem, IsEndOfItem, IsShared, MovesCursor, MovesOn, counted_after, is_giving, source};
+ghost use Rattle.nova_laws.specs.Left.{HasGivenAll, IsFirstLeft, IsGivenOf, IsSkippedFor, NothingIsLeft};
 ghost use Rattle.nova_laws.specs.Windows.{EndsItem, GoesBetween, GoesToItself, TellsOfItem};
 
 /// Whatever list of turns is taken from whatever boot state, the word in a creator's x12 reads as a
@@ -53,6 +57,20 @@ pub fn an_item_counts_its_children()
 pub fn a_child_is_what_range_and_derivation_share()
     ensures { (scenario : Scenario) (turns : List ℕ) (ec cursor : ℕ) (child : Derivation)
         → deed (run (boot scenario) turns) ec ≡ Gives child cursor → IsShared (run (boot scenario) turns) ec child }
+{}
+
+/// A derivation is left to be given where it is the giver's, of the item's kind, begins at the cursor or
+/// after it, and has a place of what is given. The next part is that of the one of least base, and there is
+/// none exactly where nothing is left. A child that is given is of that one. A part is skipped only for a
+/// reason that holds: its child would have no right, or its receiver holds a place of it, or it is busy for
+/// a revoke that runs. And a delegation that isn't skipped as a whole ends only where nothing is left.
+pub fn what_is_left_is_given_next()
+    ensures first { (list : List Derivation) (j : Job) (d : Derivation) → next_source list j ≡ Some d → IsFirstLeft list j d }
+    ensures none { (list : List Derivation) (j : Job) → (next_source list j ≡ None) ↔ NothingIsLeft list j }
+    ensures gives { (k : KernelState) (ec cursor : ℕ) (child : Derivation) → deed k ec ≡ Gives child cursor → IsGivenOf k ec child }
+    ensures skips { (k : KernelState) (ec place cursor : ℕ) (reason : Reason) → deed k ec ≡ Skips reason place cursor → IsSkippedFor k ec reason }
+    ensures ends { (k : KernelState) (ec item children : ℕ) (words : Option ItemWords) (follows : Sequel)
+        → deed k ec ≡ Finishes item (Given children) words follows → HasGivenAll k ec }
 {}
 
 /// Each part that is given or skipped moves the cursor on, from a place below 2^20, so that an item has

@@ -75,10 +75,11 @@ pub fn a_commit_is_as_many_turns()
         → trace k (replicate l.steps.count l.cpu) ≡ replicate l.steps.count (step_of l.cpu d) }
 {}
 
-/// What these laws ask of a state always holds: a kernel begins so, and each turn keeps it. Beside what
-/// isolation stands on, edges lead to local threads alone, and so never to a virtual CPU, whose turns
-/// its own scheduling context pays.
+/// What these laws ask of a state always holds: a kernel begins so, and each turn keeps it, so that it holds
+/// of whatever a kernel comes to. Beside what isolation stands on, edges lead to local threads alone, and so
+/// never to a virtual CPU, whose turns its own scheduling context pays.
 pub fn what_bursts_stand_on_is_kept()
     ensures begins { (scenario : Scenario) → IsReached (boot scenario) }
     ensures turns { (k : KernelState) (cpu : ℕ) → IsReached k → IsReached (after k cpu) }
+    ensures reached { (scenario : Scenario) (turns : List ℕ) → IsReached (run (boot scenario) turns) }
 {}

@@ -1,20 +1,20 @@
 -- What is written is read back, and what is read was written.
-use Rattle.std.proofs.Common.{◌≡◌, ℕ, ◌+◌, ◌≤◌, ◌<◌, ◌^◌, ◌==◌, Bool, true, false, cond, List, [], ◌∷◌, ◌++◌, refl, ap, sym, subst, ◌∙◌, arith, nat_lt, nat_le, Option, Some, None, Result, Ok, Err, append_assoc}
-use Rattle.std.specs.Prelude.{flat_map, IsTrue}
+use Rattle.std.proofs.Common.{◌≡◌, ℕ, ◌+◌, ◌≤◌, ◌<◌, ◌^◌, ◌==◌, Bool, true, false, cond, List, [], ◌∷◌, ◌++◌, refl, ap, sym, subst, ◌∙◌, arith, nat_lt, nat_le, Option, Some, None, Result, Ok, Err, append_assoc, inl, inr, length}
+use Rattle.std.specs.Prelude.{flat_map, IsOk, IsTrue, ◌⊎◌}
 use Rattle.std.specs.Fmt.{decimal}
-use Rattle.std.specs.List.{last_or, list_all, slice_split, join_with_byte}
+use Rattle.std.specs.List.{after_first, before_first, last_or, list_all, position_or_len, slice_split, join_with_byte}
 use Rattle.std.proofs.lemmas.List.Sums.{sum_by-cons}
 use Rattle.std.proofs.lemmas.List.Folds.{list_all-append}
 use Rattle.std.proofs.lemmas.List.Concat.{flat_map-append}
 use Rattle.std.proofs.lemmas.List.Splits.{slice_split_at, join_with_byte-slice_split}
 use Rattle.nova_order.specs.Blocks.{total, is_of, is_merged_after, IsOrder, is_within}
 use Rattle.nova_order.specs.Text.{line_of, text_of, block_of, is_line_feed}
-use Rattle.nova_order.specs.Read.{judged, with_block, with_line, and_then, ended, read_lines, order_of, next_line}
+use Rattle.nova_order.specs.Read.{judged, with_block, with_line, and_then, ended, read_lines, order_of, next_line, BeginsWell}
 use Rattle.nova_order.specs.declared.block.Block.{Block}
 use Rattle.nova_order.specs.declared.fault.OrderFault.{OrderFault}
-use Rattle.nova_order.specs.declared.fault.OrderFault.TheVariants.{BadCpu, ZeroCount, NotMerged, TooMany}
+use Rattle.nova_order.specs.declared.fault.OrderFault.TheVariants.{BadCpu, ZeroCount, NotMerged, TooMany, Memory}
 use Rattle.nova_order.proofs.BlockLemmas.{merged_push, total_push, counted_push}
-use Rattle.nova_order.proofs.LineLemmas.{parts, read_line}
+use Rattle.nova_order.proofs.LineLemmas.{Parts, parts, read_line, split_line}
 use Rattle.nova_order.proofs.TextLemmas.{words_of, block_of_words, no_feed_in_words, words_of_line}
 
 append-nil : {X : Type 0} (xs : List X) → xs ++ [] ≡ xs
@@ -170,3 +170,59 @@ module _ (bytes : List ℕ) (cpus most : ℕ) (blocks : List Block) (is : order_
 
   pub read_is_within : IsTrue (is_within cpus most blocks)
   read_is_within = let are = read_whole.1 in let all = are.cpu in let few = are.within in grind arith
+
+-- WHEN MEMORY IS WANTED
+
+-- a line at fault wants none
+tests_known : (one two three four : Bool) (number : ℕ) (x : Block)
+    → cond one (Err (BadCpu number)) (cond two (Err (ZeroCount number)) (cond three (Err (NotMerged number)) (cond four (Err (TooMany number)) (Ok x)))) ≡ Err Memory → ⊥
+tests_known true two three four number x is = absurd cc
+tests_known false true three four number x is = absurd cc
+tests_known false false true four number x is = absurd cc
+tests_known false false false true number x is = absurd cc
+tests_known false false false false number x is = absurd cc
+
+pub judged_known : (cpus most : ℕ) (before : List Block) (o : Option Block) → judged cpus most before o ≡ Err Memory → ⊥
+judged_known cpus most before None is = absurd cc
+judged_known cpus most before (Some x) is =
+    tests_known (nat_le cpus x.cpu) (x.count == 0) (is_of (last_or None before) x.cpu) (nat_lt most (total before + x.count)) (next_line before) x is
+
+-- a first line that says a block
+module _ (cpus most : ℕ) (bytes line after : List ℕ) (within : position_or_len is_line_feed bytes < length bytes) (is_line : line ≡ before_first is_line_feed bytes) (is_after : after ≡ after_first is_line_feed bytes) where
+  joined : Parts (slice_split is_line_feed after) → join_with_byte 10 (line ∷ slice_split is_line_feed after) ≡ line ++ 10 ∷ join_with_byte 10 (slice_split is_line_feed after)
+  joined some = rw some.are refl
+
+  first_of_bytes : bytes ≡ line ++ 10 ∷ join_with_byte 10 (slice_split is_line_feed after)
+  first_of_bytes =
+      sym (join_with_byte-slice_split 10 bytes) ∙ ap (join_with_byte 10) (split_line bytes line after within is_line is_after) ∙ joined (parts after)
+
+  begins_by : (r : Result Block OrderFault) → judged cpus most [] (block_of line) ≡ r → IsOk r → BeginsWell bytes cpus most
+  begins_by (Err fault) is ok = absurd (cc)
+  begins_by (Ok b) is ok =
+      let said = (judged_ok cpus most [] (block_of line) b is).said in
+      let left = join_with_byte 10 (slice_split is_line_feed after) in
+      record {
+        block = b;
+        rest = left;
+        whole = first_of_bytes ∙ ap (λ words. words ++ 10 ∷ left) (words_of_line line b said) ∙ sym (words_first b left);
+        fits = ap (judged cpus most []) (sym said) ∙ is;
+      }
+
+-- no line was read yet, or the first was good
+abbrev pub HasBegun : List ℕ → ℕ → ℕ → List Block → List ℕ → Type 0
+HasBegun bytes cpus most blocks rest = ((blocks ≡ []) × (rest ≡ bytes)) ⊎ BeginsWell bytes cpus most
+
+pub begun : (bytes : List ℕ) (cpus most : ℕ) (blocks : List Block) (rest line after : List ℕ) → HasBegun bytes cpus most blocks rest
+    → position_or_len is_line_feed rest < length rest → line ≡ before_first is_line_feed rest → after ≡ after_first is_line_feed rest
+    → IsOk (judged cpus most blocks (block_of line)) → BeginsWell bytes cpus most
+begun bytes cpus most blocks rest line after (inl (none, same)) within is_line is_after ok =
+    subst (λ text. BeginsWell text cpus most) same
+    (begins_by cpus most rest line after within is_line is_after _ refl (subst (λ before. IsOk (judged cpus most before (block_of line))) none ok))
+begun bytes cpus most blocks rest line after (inr well) within is_line is_after ok = well
+
+pub line_read : (cpus most : ℕ) (before more : List Block) (line : List ℕ) → with_line cpus most before line ≡ Ok more → IsOk (judged cpus most before (block_of line))
+line_read cpus most before more line is = by_block (judged cpus most before (block_of line)) is
+  where
+    by_block : (r : Result Block OrderFault) → with_block before r ≡ Ok more → IsOk r
+    by_block (Err fault) e = absurd (cc)
+    by_block (Ok b) e = refl

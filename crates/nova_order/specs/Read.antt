@@ -2,7 +2,7 @@
 use Rattle.std.specs.Prelude.{◌≡◌, ℕ, ◌+◌, ◌==◌, if◌then◌else◌, List, [], ◌∷◌, ◌++◌, length, nat_lt, nat_le, Option, Some, None, Result, Ok, Err}
 use Rattle.std.specs.List.{last_or, slice_split}
 use Rattle.nova_order.specs.Blocks.{total, is_of, BlockList}
-use Rattle.nova_order.specs.Text.{block_of, is_line_feed}
+use Rattle.nova_order.specs.Text.{block_of, is_line_feed, line_of}
 use Rattle.nova_order.specs.declared.block.Block.{Block}
 use Rattle.nova_order.specs.declared.fault.OrderFault.{OrderFault}
 use Rattle.nova_order.specs.declared.fault.OrderFault.TheVariants.{BadLine, BadCpu, ZeroCount, NotMerged, TooMany, Memory}
@@ -68,3 +68,10 @@ Gives seen wanted (Err fault) = IsFault wanted fault
 -- the order that was read is the one that is wanted
 abbrev pub IsRead : Result (List Block) OrderFault → Result BlockList OrderFault → Type 0
 IsRead wanted result = Gives (λ list. list.blocks) wanted result
+
+-- the text begins with the line of a block that may stand first
+pub record BeginsWell (bytes : List ℕ) (cpus most : ℕ) : Type 0 where
+  pub block : Block
+  pub rest : List ℕ
+  pub whole : bytes ≡ line_of block ++ rest
+  pub fits : judged cpus most [] (Some block) ≡ Ok block

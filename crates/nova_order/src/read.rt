@@ -1,8 +1,9 @@
-ghost use Rattle.std.specs.Prelude.{◌≡◌, ◌+◌, ◌<◌, ◌^◌, IfOk, IsTrue, None, false};
+ghost use Rattle.std.specs.Prelude.{◌≡◌, ◌+◌, ◌<◌, ◌^◌, IfErr, IfOk, IsOk, IsTrue, None, false};
 ghost use Rattle.std.specs.List.{last_or};
 ghost use Rattle.nova_order.specs.Blocks.{IsOrder, is_of, is_within, total};
 ghost use Rattle.nova_order.specs.Text.{block_of};
-ghost use Rattle.nova_order.specs.Read.{judged, with_line, order_of, next_line, Gives, IsRead};
+ghost use Rattle.nova_order.specs.Read.{judged, with_line, order_of, next_line, BeginsWell, Gives, IsRead};
+ghost use Rattle.nova_order.specs.declared.fault.OrderFault.TheVariants.{Memory};
 
 use crate::block::Block;
 use crate::fault::OrderFault;
@@ -48,7 +49,8 @@ impl Order {
 
     /// Adds the block of the line after those of the blocks.
     fn add_line(&mut self, line: &[u8], cpus: u32, most: u64) -> Result<(), OrderFault>
-        ensures { Gives (λ done. self.new.blocks) (with_line cpus most self.old.blocks line.now) result }
+        ensures exact { Gives (λ done. self.new.blocks) (with_line cpus most self.old.blocks line.now) result }
+        ensures memory { IfErr result (λ fault. fault ≡ Memory → IsOk (judged cpus most self.old.blocks (block_of line.now))) }
     {
         let block = self.judge(line, cpus, most)?;
         self.reserve(1)?;
@@ -59,10 +61,11 @@ impl Order {
     /// Reads the text of an order of processors below `cpus` and of at most `most` turns.
     ///
     /// A fault other than `Memory` comes exactly where the text is none, and names the first line at fault with its first fault.
-    /// `Memory` comes where memory is refused.
+    /// `Memory` comes where memory is refused, and only of a text that begins with the line of a block.
     #[tactic(auto, unfolding(crate::specs::Read::order_of))]
     pub fn read(alloc: Global, bytes: &[u8], cpus: u32, most: u64) -> Result<Order, OrderFault>
         ensures exact { IsRead (order_of bytes.now cpus most) result }
+        ensures memory { IfErr result (λ fault. fault ≡ Memory → BeginsWell bytes.now cpus most) }
         ensures order { IfOk result (λ list. IsOrder list.blocks) }
         ensures within { IfOk result (λ list. IsTrue (is_within cpus most list.blocks)) }
     {

@@ -77,7 +77,7 @@ returned k cpu ec r sound (now, over) = by_part (part_of k cpu ec)
 one_event : (k : KernelState) (cpu : ℕ) (a b : Event) → answer_of (turn k cpu) ≡ Stepped a → answer_of (turn k cpu) ≡ Stepped b → a ≡ b
 one_event k cpu a b first second = cc
 
-none_some : (r : Revocation) → None ≡ Some r → ⊥
+pub none_some : (r : Revocation) → None ≡ Some r → ⊥
 none_some r h = absurd (cc)
 
 pub answered : (k : KernelState) (cpu ec : ℕ) (r : Revocation) → IsSound k → IsAnswered k cpu ec r → HasReturned k cpu ec r

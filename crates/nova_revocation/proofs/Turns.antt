@@ -1,5 +1,5 @@
 -- The turn of the one who acts, and what it is for a revoke.
-use Rattle.std.proofs.Common.{◌≡◌, ℕ, ap, sym, ◌∙◌, refl}
+use Rattle.std.proofs.Common.{◌≡◌, ℕ, ap, sym, ◌∙◌, subst, refl}
 use Rattle.std.specs.Prelude.{◌==◌, Bool, true, false, Option, Some, None, option_map}
 use Rattle.std.proofs.lemmas.Bool.{eqb-true, eqb-false, eq-eqb, ne_eqb}
 use Rattle.std.proofs.lemmas.Option.{same_Some}
@@ -27,7 +27,9 @@ use Rattle.nova_laws.specs.Revoking.{revoke_after, revoke_in_turn}
 use Rattle.nova_laws.proofs.Revoking.{turns_leave}
 use Rattle.nova_revocation.specs.Along.{Acts, HasEvent, acts_once}
 use Rattle.nova_revocation.specs.Sound.{IsSound}
+use Rattle.nova_revocation.specs.Taken.{IsClear}
 use Rattle.nova_revocation.specs.Whole.{HasReturned}
+use Rattle.nova_revocation.proofs.Taking.{cleared}
 
 -- WHO ACTS
 
@@ -145,10 +147,12 @@ goes_on k cpu ec r sound runs acts = by_leaf (next_leaf r k.delegations) refl
         let does : deed k ec ≡ Returns = revoking_deed k ec r runs ∙ ap removes next in
         let same : (after k cpu).delegations ≡ k.delegations = (turn_same k cpu ec Returns acts does).delegations in
         let none : revoke_after k ec Returns ec ≡ None = rw (eq-eqb ec ec refl) refl in
+        let empty = (leaf_or_none r k.delegations sound.forest).0 next in
         IsOver (record {
           acts = acts;
           event = turn_event k cpu ec Returns acts does;
           over = its_revoke k cpu ec Returns sound.kept acts does ∙ none;
           delegations = same;
-          nothing = ap (λ (f : Delegations). scope r f.list) same ∙ (leaf_or_none r k.delegations sound.forest).0 next;
+          nothing = ap (λ (f : Delegations). scope r f.list) same ∙ empty;
+          clear = subst (λ (f : Delegations). IsClear r f.list) (sym same) ((cleared r k.delegations sound.forest).0 empty);
         })

@@ -12,6 +12,7 @@ use Rattle.nova_model.specs.State.{KernelState, context, pd_of}
 use Rattle.nova_model.specs.declared.delegation.Derivation.{Derivation}
 use Rattle.nova_model.specs.declared.event.EventKind.TheVariants.{Answer, Begin}
 use Rattle.nova_revocation.specs.Along.{Acts, HasEvent, acts_in}
+use Rattle.nova_revocation.specs.Taken.{IsClear}
 
 -- what the revoke takes away and is still there
 abbrev pub left : Revocation → KernelState → List Derivation
@@ -42,13 +43,15 @@ pub record HasShrunk (k : KernelState) (turns : List ℕ) (ec : ℕ) (r : Revoca
   pub among : (d : Derivation) → Contains (left r (run k turns)) d → Contains (left r k) d
   pub fewer : acts_in k ec turns + length (left r (run k turns)) ≤ length (left r k)
 
--- it acts in the turn, is answered SUCCESS, and runs no revoke any more; delegations stay, and nothing of what it takes away is there
+-- it acts in the turn, is answered SUCCESS, and runs no revoke any more; delegations stay, and nothing of what it takes away is there, neither
+-- in its scope nor by places and targets
 pub record HasReturned (k : KernelState) (cpu ec : ℕ) (r : Revocation) : Type 0 where
   pub acts : Acts k cpu ec
   pub event : HasEvent k cpu ec Answer REVOKE (status_code Success)
   pub over : revoke_of (after k cpu) ec ≡ None
   pub delegations : (after k cpu).delegations ≡ k.delegations
   pub nothing : left r (after k cpu) ≡ []
+  pub clear : IsClear r (after k cpu).delegations.list
 
 -- it ran a revoke, and the turn ended that one, with nothing left
 pub record HasEnded (k : KernelState) (cpu ec : ℕ) : Type 0 where

@@ -4,7 +4,7 @@ use Rattle.std.specs.Prelude.{Bool, true, false, not, ◌&&◌, ◌||◌, Option
 use Rattle.std.specs.List.{list_any}
 use Rattle.std.proofs.lemmas.List.{drop_more}
 use Rattle.nova_model.specs.State.{entry}
-use Rattle.nova_running.specs.Guests.{GuestTable, count_in, risen, risen_from}
+use Rattle.nova_running.specs.Guests.{count_in, risen, risen_from}
 use Rattle.nova_running.specs.Guests.{numbers_from, risen_at}
 
 -- NUMBERS

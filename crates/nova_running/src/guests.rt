@@ -1,4 +1,4 @@
-ghost use Rattle.std.specs.Prelude.{◌≡◌, ◌-◌, ◌+◌, ◌<◌, ◌^◌, [], ◌∷◌, ◌++◌, length, max, slice_get, IfOk, OnOk, OnErr};
+ghost use Rattle.std.specs.Prelude.{◌≡◌, ◌-◌, ◌+◌, ◌<◌, ◌≤◌, ◌^◌, [], ◌∷◌, ◌++◌, length, max, slice_get, IfOk, IsOk, OnOk, OnErr};
 ghost use Rattle.nova_model.specs.State.{entry};
 ghost use Rattle.nova_running.specs.Guests.{count_in};
 ghost use Rattle.nova_running.specs.Guests.{numbers_from, raised_at, risen_at};
@@ -40,10 +40,12 @@ impl Guests {
         }
     }
 
-    /// Makes room for `n` more entries, counted from those that are there. It refuses for want of
-    /// memory alone, and then nothing has changed.
+    /// Makes room for `n` more entries, counted from those that are there. Room that was made before
+    /// stays, and where it is enough, this succeeds. It refuses for want of memory alone, and then
+    /// nothing has changed.
     pub fn reserve(&mut self, n: usize) -> Result<(), AllocError>
         ensures ok { OnOk result (self.new ≡ record self.old { spare = max self.old.spare n }) }
+        ensures enough { n ≤ self.old.spare → IsOk result }
         ensures err { OnErr result (self.new ≡ self.old) }
     {
         self.counts.reserve(n)?;

@@ -1,4 +1,4 @@
-ghost use Rattle.std.specs.Prelude.{◌≡◌, ◌<◌, ◌≤◌, [], length, OnOk, OnErr, IfOk};
+ghost use Rattle.std.specs.Prelude.{◌≡◌, ◌<◌, ◌≤◌, [], length, IsOk, OnOk, OnErr, IfOk};
 ghost use Rattle.std.specs.List.{list_any};
 ghost use Rattle.nova_model.specs.Running.{is_of_objects};
 ghost use Rattle.nova_running.specs.Runners.{begun_in, ended_in, index_of, place_of, revoke_in};
@@ -86,12 +86,14 @@ impl Revokes {
         }
     }
 
-    /// Makes places for the revokes of so many execution contexts. It refuses for want of memory alone,
-    /// and then nothing has changed.
+    /// Makes places for the revokes of so many execution contexts. Places that were made before stay, and
+    /// where they are enough, this succeeds. It refuses for want of memory alone, and then nothing has
+    /// changed.
     pub fn reserve(&mut self, contexts: usize) -> Result<(), AllocError>
         ensures list { self.new.list ≡ self.old.list }
         ensures places { self.old.places ≤ self.new.places }
         ensures ok { OnOk result (contexts ≤ self.new.places) }
+        ensures enough { contexts ≤ self.old.places → IsOk result }
         ensures err { OnErr result (self.new ≡ self.old) }
     {
         self.list.reserve(contexts.saturating_sub(self.list.len()))

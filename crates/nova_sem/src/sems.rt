@@ -1,4 +1,4 @@
-ghost use Rattle.std.specs.Prelude.{◌≡◌, ◌+◌, ◌-◌, ◌^◌, ◌<◌, ◌≤◌, [], ◌∷◌, ◌++◌, length, max, is_some, option_map, slice_index, slice_set, IfOk, IfSome, OnOk, OnErr, if◌then◌else◌, ◌==◌};
+ghost use Rattle.std.specs.Prelude.{◌≡◌, ◌+◌, ◌-◌, ◌^◌, ◌<◌, ◌≤◌, [], ◌∷◌, ◌++◌, length, max, is_some, option_map, slice_index, slice_set, IfOk, IfSome, IsOk, OnOk, OnErr, if◌then◌else◌, ◌==◌};
 ghost use Rattle.nova_model.specs.Creation.{idle_semaphore};
 ghost use Rattle.nova_model.specs.Semaphores.{semaphore_at, semaphore, woken, upped, answer_of, downed};
 ghost use Rattle.nova_sem.specs.Sound.{IsFree};
@@ -106,10 +106,11 @@ impl Sems {
         }
     }
 
-    /// Makes room for `n` more entries, counted from those that are there. It refuses for want of memory alone, and then nothing has
-    /// changed.
+    /// Makes room for `n` more entries, counted from those that are there. Room that was made before stays, and where it is enough,
+    /// this succeeds. It refuses for want of memory alone, and then nothing has changed.
     pub fn reserve(&mut self, n: usize) -> Result<(), AllocError>
         ensures ok { OnOk result (self.new ≡ record self.old { spare = max self.old.spare n }) }
+        ensures enough { n ≤ self.old.spare → IsOk result }
         ensures err { OnErr result (self.new ≡ self.old) }
     {
         self.counters.reserve(n)?;
@@ -117,14 +118,15 @@ impl Sems {
         Ok(())
     }
 
-    /// Makes room for the execution context of the next number to wait. It refuses for want of memory alone, and then nothing has
-    /// changed.
+    /// Makes room for the execution context of the next number to wait. Where there is room, this succeeds. It refuses for want of
+    /// memory alone, and then nothing has changed.
     pub fn room_for_ec(&mut self) -> Result<(), AllocError>
         requires few { length self.old.all < 2 ^ 32 - 1 }
         ensures kept { self.new.all ≡ self.old.all }
         ensures spare { self.new.spare ≡ self.old.spare }
         ensures room { OnOk result (length self.new.all < self.new.contexts) }
         ensures keeps { self.old.contexts ≤ self.new.contexts }
+        ensures enough { length self.old.all < self.old.contexts → IsOk result }
         ensures err { OnErr result (self.new ≡ self.old) }
     {
         let contexts = self.links.len().max(self.counters.len() + 1);

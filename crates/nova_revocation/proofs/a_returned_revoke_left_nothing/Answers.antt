@@ -1,3 +1,4 @@
+use Rattle.nova_revocation.proofs.Calling.{ended_called}
 use Rattle.nova_revocation.proofs.Ending.{answered, reached_told, returned, told}
 use Rattle.nova_revocation.proofs.a_returned_revoke_left_nothing.Goals as goal
 
@@ -12,3 +13,6 @@ returns-clause-events c = told
 
 pub returns-clause-reached : goal.returns-clause-reached
 returns-clause-reached c = reached_told
+
+pub returns-clause-called : goal.returns-clause-called
+returns-clause-called c = ended_called

@@ -1,4 +1,4 @@
-use Rattle.nova_laws.proofs.Donation.{begins_kept, keeps, keeps_in_memory}
+use Rattle.nova_laws.proofs.Donation.{begins_kept, keeps, keeps_in_memory, reached_kept}
 use Rattle.nova_laws.proofs.keeping.turns_keep_what_they_find.Goals as goal
 
 pub returns-clause-begins : goal.returns-clause-begins
@@ -9,3 +9,6 @@ returns-clause-memory c = keeps_in_memory
 
 pub returns-clause-turns : goal.returns-clause-turns
 returns-clause-turns c = keeps
+
+pub returns-clause-reached : goal.returns-clause-reached
+returns-clause-reached c = reached_kept
