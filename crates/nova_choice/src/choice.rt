@@ -1,5 +1,6 @@
 ghost use Rattle.std.specs.Prelude.{◌≡◌, slice_get, IsSome, IfSome};
 ghost use Rattle.nova_model.specs.State.{ec_in};
+ghost use Rattle.nova_ec.specs.Tables.{actor_in};
 ghost use Rattle.nova_choice.specs.Schedules.{actor_of, is_ready_at};
 
 use nova_ec::Ecs;
@@ -23,15 +24,26 @@ fn is_ready(contexts: &Ecs, ec: u32) -> bool
     }
 }
 
+/// The execution context that acts in the turns of one that is not ready: the end of its chase, where that one acts. Few turns
+/// need it, so that it stays out of the code of each choice.
+#[inline(never)]
+fn chased_actor(contexts: &Ecs, ec: u32) -> Option<u32>
+    ensures actor { result ≡ actor_in contexts.now.items ec }
+    ensures there { IfSome result (λ actor. IsSome (ec_in contexts.now.items actor)) }
+{
+    contexts.actor(ec)
+}
+
 /// The execution context that acts in the turns of a scheduling context; none where none acts, and of
 /// another object.
+#[inline(always)]
 pub fn actor_of(objects: &Objects, contexts: &Ecs, sc: u32) -> Option<u32>
     ensures actor { result ≡ actor_of contexts.now.items (slice_get objects.now.items sc) }
     ensures there { IfSome result (λ actor. IsSome (ec_in contexts.now.items actor)) }
 {
     match objects.get(sc) {
         Some(Object::Sc { ec, .. }) if is_ready(contexts, *ec) => Some(*ec),
-        Some(Object::Sc { ec, .. }) => contexts.actor(*ec),
+        Some(Object::Sc { ec, .. }) => chased_actor(contexts, *ec),
         _ => None,
     }
 }

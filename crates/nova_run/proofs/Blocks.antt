@@ -1,5 +1,5 @@
 -- Runs along an order, block by block.
-use Rattle.std.proofs.Common.{◌≡◌, ℕ, suc, ◌+◌, ◌-◌, ◌≤◌, ◌<◌, List, [], ◌∷◌, ◌++◌, length, take, drop, replicate, ap, sym, ◌∙◌, subst, arith, append_assoc, slice_index_or}
+use Rattle.std.proofs.Common.{◌≡◌, ℕ, suc, ◌+◌, ◌-◌, ◌≤◌, ◌<◌, List, [], ◌∷◌, ◌++◌, length, take, drop, replicate, ap, sym, ◌∙◌, subst, arith, append_assoc, slice_index_or, refl}
 use Rattle.std.specs.Prelude.{Bool, true, false, is_some, IsSome, IsTrue, nat_lt, if◌then◌else◌}
 use Rattle.std.proofs.lemmas.List.{append-nil, take_more, take-append-drop, length-take, replicate-append-replicate}
 use Rattle.std.proofs.lemmas.List.Folds.{list_all-append}
@@ -12,7 +12,7 @@ use Rattle.nova_order.specs.Blocks.{turns, total, is_within}
 use Rattle.nova_order.specs.declared.block.Block.{Block}
 use Rattle.nova_order.proofs.BlockLemmas.{turns_push, length_turns}
 use Rattle.nova_run.specs.Finished.{IsFinished, IsIdleLine, IsFreeOfIdle}
-use Rattle.nova_run.specs.UnderWay.{IsReady, Passed, IsAlong, IsBlockTaken, taken}
+use Rattle.nova_run.specs.UnderWay.{IsReady, Passed, IsAlong, IsBegun, IsBlockTaken, taken}
 use Rattle.nova_shared.specs.declared.finished.Finished.{Finished}
 use Rattle.nova_shared.proofs.Passing.{Passed-through, Finished-on}
 
@@ -87,6 +87,16 @@ block_idle k most b c before block rest blocks line along idle whole number = re
 pub along_first : (k : KernelState) (most : ℕ) (f : Finished) → IsFinished k [] most f → IsReady f → IsAlong k most f []
 unfolding turns
 along_first k most f begun ready = record { finished = begun; ready = ready; free = tt }
+
+-- a run that begins, told by the state in which it is
+pub begun_here : (k : KernelState) (most : ℕ) (f : Finished) → IsFinished k [] most f → IsReady f → IsBegun f
+begun_here k most f begun ready = record {
+  finished = record { opening = begun.opening ∙ sym begun.kernel; kernel = refl; order = begun.order; trace = begun.trace; limit = refl };
+  ready = ready;
+}
+
+pub idle_here : (k : KernelState) (most : ℕ) (f : Finished) (blocks : List Block) (line : ℕ) → IsFinished k [] most f → IsIdleLine f.kernel.state blocks line → IsIdleLine k blocks line
+idle_here k most f blocks line begun idle = subst (λ (s : KernelState). IsIdleLine s blocks line) begun.kernel idle
 
 -- what is left of an order within its bounds
 module _ (cpus most : ℕ) (before : List Block) (block : Block) (after : List Block) (within : IsTrue (is_within cpus most (before ++ block ∷ after))) where

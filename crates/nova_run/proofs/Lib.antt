@@ -1,3 +1,4 @@
+pub mod Kept
 pub mod Passes
 pub mod Blocks
 pub mod Seated

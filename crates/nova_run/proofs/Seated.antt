@@ -1,6 +1,6 @@
 -- The seats of processors, as workers use them.
 use Rattle.std.proofs.Common.{◌≡◌, ℕ, ◌<◌, List, [], ◌∷◌, ◌++◌, take, refl, length, ap, sym, ◌∙◌, subst, arith, All, slice_index_or}
-use Rattle.nova_lock.specs.Seats.{LockView, SeatView, IsSeat, AreSeats}
+use Rattle.nova_lock.specs.Seats.{LockView, SeatView, IsSeat}
 use Rattle.nova_shared.specs.Ran.{Ran, IsCpuSeat, AreCpuSeats}
 
 -- each is one of this lock, of a processor that is there

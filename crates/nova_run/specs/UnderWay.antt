@@ -25,3 +25,8 @@ pub record IsAlong (k : KernelState) (most : ℕ) (f : Finished) (blocks : List 
   pub finished : IsFinished k (turns blocks) most f
   pub ready : IsReady f
   pub free : IsFreeOfIdle k (turns blocks)
+
+-- a run that has taken no turn, from the state in which it is
+pub record IsBegun (f : Finished) : Type 0 where
+  pub finished : IsFinished f.kernel.state [] f.limit f
+  pub ready : IsReady f

@@ -2,10 +2,10 @@ ghost use Rattle.std.specs.Prelude.{ℕ, ◌≡◌, ◌+◌, ◌^◌, ◌<◌, �
 ghost use Rattle.nova_order.specs.Blocks.{turns, is_within};
 ghost use Rattle.nova_run.specs.declared.fault.RunFault.TheVariants.{OrderIdle};
 ghost use Rattle.nova_run.specs.Finished.{IsFinished, IsIdleLine, IsFreeOfIdle};
-ghost use Rattle.nova_run.specs.UnderWay.{IsReady, Passed, IsBlockTaken};
+ghost use Rattle.nova_run.specs.UnderWay.{IsReady, Passed, IsAlong, IsBegun, IsBlockTaken};
 
 use crate::fault::RunFault;
-use crate::turns::{begin, turn};
+use crate::turns::{begin, kept, turn};
 use nova_kernel::Kernel;
 use nova_order::Order;
 use nova_shared::Finished;
@@ -24,6 +24,21 @@ fn take(run: &mut Finished, cpu: u32, count: u64) -> Result<bool, AllocError>
         }
     }
     Ok(true)
+}
+
+/// The turns of an order, until one meets an idle processor, by a run that has taken none.
+fn take_all(run: &mut Finished, order: &Order) -> Result<(), RunFault>
+    requires begun { IsBegun run.old }
+    requires within { IsTrue (is_within run.old.kernel.state.cpus run.old.limit order.now.blocks) }
+    ensures along { OnOk result (IsAlong run.old.kernel.state run.old.limit run.new order.now.blocks) }
+    ensures idle { (line : ℕ) → result ≡ Err (OrderIdle line) → IsIdleLine run.old.kernel.state order.now.blocks line }
+{
+    for (index, block) in order.blocks().iter().enumerate() {
+        if !take(run, block.cpu, block.count)? {
+            return Err(RunFault::OrderIdle(index as u64 + 1));
+        }
+    }
+    Ok(())
 }
 
 /// Runs a kernel along an order of turns. The order is of processors that are there, and of at most
@@ -46,10 +61,6 @@ pub fn run_order(
     ensures idle { (line : ℕ) → result ≡ Err (OrderIdle line) → IsIdleLine kernel.state order.now.blocks line }
 {
     let mut run = begin(alloc, kernel, limit, order.sum())?;
-    for (index, block) in order.blocks().iter().enumerate() {
-        if !take(&mut run, block.cpu, block.count)? {
-            return Err(RunFault::OrderIdle(index as u64 + 1));
-        }
-    }
-    Ok(run)
+    let went = take_all(&mut run, order);
+    kept(run, went)
 }

@@ -5,7 +5,7 @@ ghost use Rattle.nova_run.specs.Finished.{IsFinished};
 ghost use Rattle.nova_run.specs.UnderWay.{IsReady, Passed, left};
 
 use crate::fault::RunFault;
-use crate::turns::{begin, turn};
+use crate::turns::{begin, kept, turn};
 use nova_kernel::Kernel;
 use nova_shared::Finished;
 use std::alloc::{AllocError, Global};
@@ -35,7 +35,7 @@ fn pass(run: &mut Finished) -> Result<(), AllocError>
 }
 
 /// Passes until one takes no turn or there are as many turns as there may be.
-pub(crate) fn run_out(run: &mut Finished) -> Result<(), AllocError>
+fn run_out(run: &mut Finished) -> Result<(), AllocError>
     requires ready { IsReady run.old }
     ensures { OnOk result (Passed run.old (rounds run.old.kernel.state (left run.old)) run.new) }
 {
@@ -49,6 +49,15 @@ pub(crate) fn run_out(run: &mut Finished) -> Result<(), AllocError>
     Ok(())
 }
 
+/// Passes until one takes no turn or there are as many turns as there may be. The only error is `Memory`.
+pub(crate) fn run_all(run: &mut Finished) -> Result<(), RunFault>
+    requires ready { IsReady run.old }
+    ensures passed { OnOk result (Passed run.old (rounds run.old.kernel.state (left run.old)) run.new) }
+    ensures memory { IfErr result (λ fault. fault ≡ Memory) }
+{
+    Ok(run_out(run)?)
+}
+
 /// Runs a kernel by passes over its processors in rising number, one turn each where it is not idle,
 /// until a pass takes no turn or `limit` turns were taken. The kernel has room in its log for as many.
 /// The only error is `Memory`, where memory is refused.
@@ -59,6 +68,6 @@ pub fn round_robin(alloc: Global, kernel: Kernel, limit: u64) -> Result<Finished
     ensures memory { IfErr result (λ fault. fault ≡ Memory) }
 {
     let mut run = begin(alloc, kernel, limit, limit)?;
-    run_out(&mut run)?;
-    Ok(run)
+    let went = run_all(&mut run);
+    kept(run, went)
 }

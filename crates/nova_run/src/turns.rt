@@ -1,14 +1,35 @@
-ghost use Rattle.std.specs.Prelude.{[], ◌≡◌, ◌+◌, ◌^◌, ◌<◌, ◌≤◌, length, is_some, IfOk, OnOk};
+ghost use Rattle.std.specs.Prelude.{[], ◌≡◌, ◌+◌, ◌^◌, ◌<◌, ◌≤◌, length, is_some, IsOk, IfOk, IfErr, OnOk, Err};
 ghost use Rattle.nova_model.specs.Turn.{turn};
 ghost use Rattle.nova_run.specs.Finished.{IsFinished};
 ghost use Rattle.nova_run.specs.UnderWay.{IsReady, Passed, taken};
 
+use crate::fault::RunFault;
 use nova_kernel::{Event, Kernel, Turn};
 use nova_order::Order;
 use nova_shared::Finished;
 use std::alloc::{AllocError, Global};
 
-/// A run of at most `limit` turns that has taken none, with room for the events of `room` turns.
+/// What a run begins with beside its kernel: the kernel once more, and room for events.
+struct Prepared {
+    opening: Kernel,
+    trace: Vec<Event>,
+}
+
+/// A kernel once more, and room for the events of `room` turns. It refuses for want of memory alone.
+fn prepare(alloc: Global, kernel: &Kernel, room: u64) -> Result<Prepared, AllocError>
+    ensures opening { IfOk result (λ made. made.opening.state ≡ kernel.now.state) }
+    ensures trace { IfOk result (λ made. made.trace.items ≡ []) }
+{
+    let trace = Vec::with_capacity(alloc, room as usize)?;
+    let opening = kernel.copy()?;
+    Ok(Prepared { opening, trace })
+}
+
+/// Lets a value go. A kernel has many fields to drop, which stand here apart from what is promised of others.
+pub(crate) fn let_go<T: Drop>(_value: T) {}
+
+/// A run of at most `limit` turns that has taken none, with room for the events of `room` turns. It refuses for want of memory
+/// alone.
 pub(crate) fn begin(
     alloc: Global,
     kernel: Kernel,
@@ -20,15 +41,37 @@ pub(crate) fn begin(
     ensures finished { IfOk result (IsFinished kernel.state [] limit) }
     ensures ready { IfOk result (λ run. IsReady run) }
 {
-    let opening = kernel.copy()?;
-    let trace = Vec::with_capacity(alloc, room as usize)?;
-    Ok(Finished {
-        opening,
-        kernel,
-        order: Order::new(alloc),
-        trace,
-        limit,
-    })
+    match prepare(alloc, &kernel, room) {
+        Ok(made) => {
+            let Prepared { opening, trace } = made;
+            Ok(Finished {
+                opening,
+                kernel,
+                order: Order::new(alloc),
+                trace,
+                limit,
+            })
+        }
+        Err(failed) => {
+            let_go(kernel);
+            Err(failed)
+        }
+    }
+}
+
+/// A run that went on, unless it failed: then it is let go.
+pub(crate) fn kept(run: Finished, went: Result<(), RunFault>) -> Result<Finished, RunFault>
+    ensures run { IfOk result (λ kept. kept ≡ run) }
+    ensures went { OnOk result (IsOk went) }
+    ensures fault { IfErr result (λ fault. went ≡ Err fault) }
+{
+    match went {
+        Ok(()) => Ok(run),
+        Err(fault) => {
+            let_go(run);
+            Err(fault)
+        }
+    }
 }
 
 /// One turn of a processor, and whether it was taken: it is not where the processor is idle.

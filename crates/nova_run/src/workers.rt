@@ -1,14 +1,17 @@
 ghost use Rattle.std.specs.Prelude.{◌≡◌, ◌+◌, ◌^◌, ◌<◌, ◌≤◌, ℕ, length, slice_index_or, All, IfOk, IfErr};
+ghost use Rattle.std.specs.List.{AllByRecursion};
 ghost use Rattle.nova_laws.specs.Orders.{IsRunOut};
 ghost use Rattle.nova_lock.specs.Seats.{SeatView};
 ghost use Rattle.nova_order.specs.Blocks.{turns};
 ghost use Rattle.nova_run.specs.declared.fault.RunFault.TheVariants.{Memory};
-ghost use Rattle.nova_run.specs.Finished.{IsFinished};
+ghost use Rattle.nova_run.specs.Finished.{IsFinished, IsFreeOfIdle};
+ghost use Rattle.nova_run.specs.UnderWay.{IsReady};
 ghost use Rattle.nova_shared.specs.Ran.{Ran, IsCpuSeat, AreCpuSeats};
 
 use crate::fault::RunFault;
 use crate::gate::Gate;
-use crate::rounds::run_out;
+use crate::rounds::run_all;
+use crate::turns::{kept, let_go};
 use nova_kernel::Kernel;
 use nova_shared::{CpuSeat, Finished, Shared, SharedTurn};
 use std::alloc::Global;
@@ -110,6 +113,34 @@ fn work_together<R: Threads + Wait + Sync, G: Gate + Sync>(
     }
 }
 
+/// What the workers make of a kernel. The only error is `Memory`, where memory is refused. It may wait.
+fn share<R: Threads + Wait + Sync, G: Gate + Sync>(
+    rt: &R,
+    alloc: Global,
+    kernel: Kernel,
+    limit: u64,
+    gate: &G,
+) -> Result<Finished, RunFault>
+    requires cpus { 0 < kernel.state.cpus }
+    requires room { limit ≤ kernel.room }
+    requires turns { kernel.state.turns + limit ≤ 2 ^ 31 }
+    ensures finished { IfOk result (λ run. IsFinished kernel.state (turns run.order.blocks) limit run) }
+    ensures no_idle { IfOk result (λ run. IsFreeOfIdle kernel.state (turns run.order.blocks)) }
+    ensures ready { IfOk result (λ run. IsReady run) }
+    ensures processors { IfOk result (λ run. AllByRecursion (λ cpu. cpu < kernel.state.cpus) (turns run.order.blocks)) }
+    ensures memory { IfErr result (λ fault. fault ≡ Memory) }
+{
+    let (shared, mut seats) = match Shared::new(alloc, kernel, limit) {
+        Ok(made) => made,
+        Err(refused) => {
+            let_go(refused);
+            return Err(RunFault::Memory);
+        }
+    };
+    work_together(rt, &shared, gate, limit, seats.as_mut_slice());
+    Ok(shared.finish(seats))
+}
+
 /// Runs a kernel with a thread for each of its processors, of which there is one or more, for at most `limit` turns; the kernel has room in its
 /// log for as many. In turn come sweeps, in which each processor has a turn that is not idle, and rounds, in which each has up to 4,096, until a
 /// sweep takes no turn or there are `limit` turns. Before each step in a round its worker calls the gate, with the processor and how many turns
@@ -131,12 +162,7 @@ pub fn run_workers<R: Threads + Wait + Sync, G: Gate + Sync>(
     ensures out { IfOk result (λ run. IsRunOut kernel.state limit (turns run.order.blocks)) }
     ensures memory { IfErr result (λ fault. fault ≡ Memory) }
 {
-    let (shared, mut seats) = match Shared::new(alloc, kernel, limit) {
-        Ok(made) => made,
-        Err(_) => return Err(RunFault::Memory),
-    };
-    work_together(rt, &shared, gate, limit, seats.as_mut_slice());
-    let mut run = shared.finish(seats);
-    run_out(&mut run)?;
-    Ok(run)
+    let mut run = share(rt, alloc, kernel, limit, gate)?;
+    let went = run_all(&mut run);
+    kept(run, went)
 }

@@ -1,5 +1,5 @@
 -- Who of a processor may run, in the order in which they run.
-use Rattle.std.specs.Prelude.{◌≡◌, ◌≤◌, ◌<◌, ◌+◌, ◌⊎◌, ℕ, Bool, true, false, length, List, [], ◌∷◌, slice_get, if◌then◌else◌, Option, Some, None}
+use Rattle.std.specs.Prelude.{◌≡◌, ◌≤◌, ◌<◌, ◌+◌, ◌⊎◌, ℕ, Bool, true, false, length, List, [], ◌∷◌, slice_get, slice_set, if◌then◌else◌, Option, Some, None}
 use Rattle.std.specs.List.{AllByRecursion}
 use Rattle.nova_model.specs.Forest.{ArePairs}
 use Rattle.nova_sched.specs.Queues.{Schedule, runnable_of, runnables_from, runs_before}
@@ -25,6 +25,11 @@ placed r (q ∷ qs) = if runs_before q r then q ∷ placed r qs else r ∷ q ∷
 abbrev pub dropped : Runnable → List Runnable → List Runnable
 dropped r [] = []
 dropped r (q ∷ qs) = if runs_before q r then q ∷ dropped r qs else qs
+
+-- one that runs first does so with a new stamp too
+pub record StaysFirst (before after : Runnable) (rs : List Runnable) : Type 0 where
+  pub there : 0 < length rs
+  pub place : placed after (dropped before rs) ≡ slice_set rs 0 after
 
 -- a scheduling context as it waits for its turn
 abbrev pub as_runnable : ℕ → Queued → Runnable

@@ -1,4 +1,4 @@
-ghost use Rattle.std.specs.Prelude.{◌≡◌, ◌+◌, ◌-◌, ◌<◌, [], ◌∷◌, ◌++◌, max, IfOk, OnOk, OnErr};
+ghost use Rattle.std.specs.Prelude.{◌≡◌, ◌+◌, ◌-◌, ◌<◌, [], ◌∷◌, ◌++◌, max, IfOk, IsOk, OnOk, OnErr};
 
 use std::alloc::{AllocError, Global};
 use std::marker::Model;
@@ -32,10 +32,11 @@ impl Queue {
         }
     }
 
-    /// Makes room for one more, counted from those that are there. It refuses for want of memory
-    /// alone, and then nothing has changed.
+    /// Makes room for one more, counted from those that are there. Where there is room, this succeeds.
+    /// It refuses for want of memory alone, and then nothing has changed.
     pub(crate) fn reserve(&mut self) -> Result<(), AllocError>
         ensures ok { OnOk result (self.new ≡ record self.old { spare = max self.old.spare 1 }) }
+        ensures enough { 0 < self.old.spare → IsOk result }
         ensures err { OnErr result (self.new ≡ self.old) }
     {
         self.members.reserve(1)?;

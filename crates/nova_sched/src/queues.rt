@@ -1,4 +1,4 @@
-ghost use Rattle.std.specs.Prelude.{◌≡◌, ℕ, true, false, ◌+◌, ◌^◌, ◌<◌, ◌≤◌, ◌-◌, [], length, max, is_some, replicate, vec_len, vec_capacity, IsSome, IfSome, IfOk, OnOk, OnErr, Some, slice_get};
+ghost use Rattle.std.specs.Prelude.{◌≡◌, ℕ, true, false, ◌+◌, ◌^◌, ◌<◌, ◌≤◌, ◌-◌, [], length, max, is_some, replicate, vec_len, vec_capacity, IsSome, IfSome, IfOk, IsOk, OnOk, OnErr, Some, slice_get};
 ghost use Rattle.nova_sched.specs.Queues.{HasRoom, queued_at, choose, members, padded, added, marked, charged};
 ghost use Rattle.nova_model.specs.Forest.{ArePairs};
 ghost use Rattle.nova_sched.specs.Lists.{unroomed};
@@ -88,12 +88,14 @@ fn dismiss(readies: &mut Vec<Ready>, cpu: u32, r: Runnable)
     readies[cpu as usize].remove(r);
 }
 
-/// Makes room for so many of a processor in all. It refuses for want of memory alone.
+/// Makes room for so many of a processor in all. Where it is there, this succeeds. It refuses for want of
+/// memory alone.
 fn make_room(readies: &mut Vec<Ready>, cpu: u32, n: usize) -> Result<(), AllocError>
     requires { cpu < length readies.old.items }
     ensures items { (other : ℕ) → items_at readies.new.items other ≡ items_at readies.old.items other }
     ensures others { (other : ℕ) → ¬ (other ≡ cpu) → room_at readies.new.items other ≡ room_at readies.old.items other }
     ensures ok { OnOk result (room_at readies.new.items cpu ≡ max (room_at readies.old.items cpu) n) }
+    ensures enough { n ≤ room_at readies.old.items cpu → IsOk result }
     ensures err { OnErr result (room_at readies.new.items cpu ≡ room_at readies.old.items cpu) }
     ensures cpus { length readies.new.items ≡ length readies.old.items }
 {
@@ -161,8 +163,7 @@ fn renew(readies: &mut Vec<Ready>, sc: u32, before: &Queued, after: &Queued)
     ensures cpus { length readies.new.items ≡ length readies.old.items }
 {
     if before.is_runnable {
-        dismiss(readies, before.cpu, runner(sc, before));
-        admit(readies, before.cpu, runner(sc, after));
+        readies[before.cpu as usize].renew(runner(sc, before), runner(sc, after));
     }
 }
 
@@ -204,12 +205,13 @@ impl Queues {
         })
     }
 
-    /// Makes room for a scheduling context of a number and of a processor that is there. Room that was made before stays. It refuses
-    /// for want of memory alone, and then nothing has changed but room.
+    /// Makes room for a scheduling context of a number and of a processor that is there. Room that was made before stays, and where
+    /// there is room, this succeeds. It refuses for want of memory alone, and then nothing has changed but room.
     pub fn reserve(&mut self, sc: u32, cpu: u32) -> Result<(), AllocError>
         requires cpu { cpu < self.old.all.cpus }
         ensures kept { self.new.all ≡ self.old.all }
         ensures room { OnOk result (HasRoom self.new sc cpu) }
+        ensures enough { HasRoom self.old sc cpu → IsOk result }
         ensures keeps { (number processor : ℕ) → HasRoom self.old number processor → HasRoom self.new number processor }
     {
         let numbers = sc as usize + 1;

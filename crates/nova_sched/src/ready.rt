@@ -1,7 +1,8 @@
-ghost use Rattle.std.specs.Prelude.{◌≡◌, ◌<◌, [], length, max, slice_get, IfOk, OnOk, OnErr};
+ghost use Rattle.std.specs.Prelude.{◌≡◌, ◌<◌, ◌≤◌, [], length, max, slice_get, IfOk, IsOk, OnOk, OnErr};
+ghost use Rattle.std.specs.Bool.{OnTrue};
 ghost use Rattle.std.specs.List.{insert, remove};
 ghost use Rattle.nova_model.specs.Forest.{ArePairs};
-ghost use Rattle.nova_sched.specs.Ready.{IsBehind, placed, dropped};
+ghost use Rattle.nova_sched.specs.Ready.{IsBehind, StaysFirst, placed, dropped};
 
 use crate::choice::precedes;
 use crate::queued::Runnable;
@@ -38,9 +39,11 @@ impl Ready {
         }
     }
 
-    /// Makes room for `n` in all. It refuses for want of memory alone, and then nothing has changed.
+    /// Makes room for `n` in all. Where it is there, this succeeds. It refuses for want of memory alone,
+    /// and then nothing has changed.
     pub(crate) fn reserve(&mut self, n: usize) -> Result<(), AllocError>
         ensures ok { OnOk result (self.new ≡ record self.old { room = max self.old.room n }) }
+        ensures enough { n ≤ self.old.room → IsOk result }
         ensures err { OnErr result (self.new ≡ self.old) }
     {
         let room = self.room.max(n);
@@ -76,6 +79,45 @@ impl Ready {
         let at = self.items.partition_point(|q| precedes(q, &r));
         if at < self.items.len() {
             self.items.remove(at);
+        }
+    }
+
+    /// Whether one that runs first does so with a new stamp too.
+    fn stays_first(&self, before: &Runnable, after: &Runnable) -> bool
+        ensures { OnTrue result (StaysFirst before.now after.now self.now.items) }
+    {
+        let is_first = match self.items.first() {
+            Some(first) => !precedes(first, before),
+            None => false,
+        };
+        let none_passes = match self.items.get(1) {
+            Some(second) => !precedes(second, after),
+            None => true,
+        };
+        is_first && none_passes
+    }
+
+    /// Moves one to another place.
+    #[inline(never)]
+    fn shift(&mut self, before: Runnable, after: Runnable)
+        requires room { length (dropped before self.old.items) < self.old.room }
+        requires order { ArePairs IsBehind self.old.items }
+        ensures { self.new ≡ record self.old { items = placed after (dropped before self.old.items) } }
+    {
+        self.remove(before);
+        self.insert(after);
+    }
+
+    /// Puts one with a new stamp in its new place. Mostly it is first and stays so, and nothing moves.
+    pub(crate) fn renew(&mut self, before: Runnable, after: Runnable)
+        requires room { length (dropped before self.old.items) < self.old.room }
+        requires order { ArePairs IsBehind self.old.items }
+        ensures { self.new ≡ record self.old { items = placed after (dropped before self.old.items) } }
+    {
+        if self.stays_first(&before, &after) {
+            self.items[0] = after;
+        } else {
+            self.shift(before, after);
         }
     }
 

@@ -1,36 +1,22 @@
-use Rattle.std.proofs.Common.{rules, ◌≡◌, ◌+◌, List, true, false, sym, subst, arith}
+use Rattle.std.proofs.Common.{ℕ, subst, sym}
 use Rattle.std.specs.Prelude.{IsTrue}
+use Rattle.nova_model.specs.State.{KernelState}
 use Rattle.nova_order.specs.Blocks.{is_within}
-use Rattle.nova_order.specs.declared.block.Block.{Block}
-use Rattle.nova_run.specs.Finished.{IsIdleLine}
-use Rattle.nova_run.proofs.Blocks.{along_first, next_there, next_fits, next_on, next_idle}
+use Rattle.nova_run.specs.declared.fault.RunFault.TheVariants.{OrderIdle}
+use Rattle.nova_run.proofs.Blocks.{begun_here, idle_here}
+use Rattle.nova_run.proofs.Kept.{kept_fault}
 use Rattle.nova_run.proofs.orders.run_order.Goals as goal
 
-pub loop-index-init : goal.loop-index-init
-loop-index-init c = along_first c.args.kernel.state c.args.limit c.in_ok-run.run' c.in_ok-run.ensures.finished c.in_ok-run.ensures.ready
+pub take_all-went-requires-clause-begun : goal.take_all-went-requires-clause-begun
+take_all-went-requires-clause-begun c = begun_here c.args.kernel.state c.args.limit c.in_ok-run.run' c.in_ok-run.ensures.finished c.in_ok-run.ensures.ready
 
-pub take-requires-clause-more : goal.take-requires-clause-more
-take-requires-clause-more c =
-    let same = sym c.blocks-block-items.ensures.blocks in
-    next_fits c.blocks-block-items.result.now c.loop-index.index _ (omega arith) c.args.kernel.state c.args.limit c.loop-index.run c.loop-index.run c.loop-index.invariant
-    (subst (λ (l : List Block). IsTrue (is_within c.args.kernel.state.cpus c.args.limit l)) same c.requires.within)
+pub take_all-went-requires-clause-within : goal.take_all-went-requires-clause-within
+take_all-went-requires-clause-within c =
+    let begun = c.in_ok-run.ensures.finished in
+    subst (λ (m : ℕ). IsTrue (is_within c.in_ok-run.run'.kernel.state.cpus m c.args.order.now.blocks)) (sym begun.limit)
+    (subst (λ (k : KernelState). IsTrue (is_within k.cpus c.args.limit c.args.order.now.blocks)) (sym begun.kernel) c.requires.within)
 
-pub take-requires-clause-cpu : goal.take-requires-clause-cpu
-take-requires-clause-cpu c =
-    let same = sym c.blocks-block-items.ensures.blocks in
-    next_there c.blocks-block-items.result.now c.loop-index.index _ (omega arith) c.args.kernel.state c.args.limit c.loop-index.run c.loop-index.run c.loop-index.invariant
-    (subst (λ (l : List Block). IsTrue (is_within c.args.kernel.state.cpus c.args.limit l)) same c.requires.within)
-
-pub returns-then-not-branch-clause-idle : goal.returns-then-not-branch-clause-idle
-returns-then-not-branch-clause-idle c line is =
-    let idle : c.in_ok-take.field-0 ≡ false = search rules in
-    let number : line ≡ c.loop-index.index + 1 = cc in
-    subst (λ (l : List Block). IsIdleLine c.args.kernel.state l line) c.blocks-block-items.ensures.blocks
-    (next_idle c.blocks-block-items.result.now c.loop-index.index _ (omega arith) c.args.kernel.state c.args.limit c.loop-index.run c.take.new.run c.loop-index.invariant
-    line c.in_ok-take.field-0 idle c.in_ok-take.ensures number)
-
-pub loop-index-preserved : goal.loop-index-preserved
-loop-index-preserved c =
-    let all : c.in_ok-take.field-0 ≡ true = search rules in
-    next_on c.blocks-block-items.result.now c.loop-index.index _ (omega arith) c.args.kernel.state c.args.limit c.loop-index.run c.take.new.run c.loop-index.invariant
-    c.in_ok-take.field-0 all c.in_ok-take.ensures
+pub returns-clause-idle : goal.returns-clause-idle
+returns-clause-idle c line is =
+    idle_here c.args.kernel.state c.args.limit c.in_ok-run.run' c.args.order.now.blocks line c.in_ok-run.ensures.finished
+    (c.take_all-went.ensures.idle line (kept_fault (OrderIdle line) c.kept.result c.take_all-went.result c.kept.ensures.fault is))

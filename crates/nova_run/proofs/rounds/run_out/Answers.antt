@@ -1,4 +1,4 @@
-use Rattle.std.proofs.Common.{rules, ◌≡◌, ◌-◌, length, arith, refl}
+use Rattle.std.proofs.Common.{◌≡◌, ◌-◌, length, arith, refl}
 use Rattle.nova_run.specs.UnderWay.{left}
 use Rattle.nova_run.proofs.Passes.{IsUnderWay-first, IsUnderWay-pass, Passed-ended, Passed-all}
 use Rattle.nova_run.proofs.rounds.run_out.Goals as goal

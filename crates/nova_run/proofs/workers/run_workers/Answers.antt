@@ -1,31 +1,24 @@
-use Rattle.std.proofs.Common.{rules, ◌≡◌, ◌<◌, ℕ, length, subst, sym, ◌∙◌}
-use Rattle.std.specs.List.{AllByRecursion}
-use Rattle.nova_model.specs.State.{KernelState}
+use Rattle.std.proofs.Common.{◌≡◌}
+use Rattle.nova_laws.specs.Orders.{IsRunOut}
 use Rattle.nova_order.specs.Blocks.{turns}
-use Rattle.nova_run.specs.Finished.{IsFinished, IsFreeOfIdle}
-use Rattle.nova_run.proofs.Seated.{still_written}
+use Rattle.nova_run.specs.declared.fault.RunFault.TheVariants.{Memory}
+use Rattle.nova_run.specs.Finished.{IsFinished}
 use Rattle.nova_run.proofs.Ends.{finished_out, all_out}
+use Rattle.nova_run.proofs.Kept.{kept_fails, kept_runs}
 use Rattle.nova_run.proofs.workers.run_workers.Goals as goal
 
 pub returns-clause-finished : goal.returns-clause-finished
 returns-clause-finished g c =
-    let f = c.finish-run.result in
-    let opened = c.in-Ok.ensures.opening in
-    let begun = subst (λ (z : KernelState × ℕ). IsFinished z.0 (turns f.order.blocks) z.1 f) (λ i. (opened.0 i, opened.1 i)) c.finish-run.ensures.finished in
-    finished_out c.args.kernel.state c.args.limit f c.run_out.new.run begun c.finish-run.ensures.ready c.in_ok-run_out.ensures
+    kept_runs c.run_all-went.new.run (λ f. IsFinished c.args.kernel.state (turns f.order.blocks) c.args.limit f) c.kept.result c.run_all-went.result
+    c.kept.ensures.run c.kept.ensures.went c.run_all-went.ensures.passed
+    (λ passed. finished_out c.args.kernel.state c.args.limit c.in_ok-run.run' c.run_all-went.new.run c.in_ok-run.ensures.finished c.in_ok-run.ensures.ready passed)
 
 pub returns-clause-out : goal.returns-clause-out
 returns-clause-out g c =
-    let f = c.finish-run.result in
-    let opened = c.in-Ok.ensures.opening in
-    let begun = subst (λ (z : KernelState × ℕ). IsFinished z.0 (turns f.order.blocks) z.1 f) (λ i. (opened.0 i, opened.1 i)) c.finish-run.ensures.finished in
-    let free = subst (λ (k : KernelState). IsFreeOfIdle k (turns f.order.blocks)) opened.0 c.finish-run.ensures.no_idle in
-    let there = subst (λ (k : KernelState). AllByRecursion (λ cpu. cpu < k.cpus) (turns f.order.blocks)) opened.0 c.finish-run.ensures.processors in
-    all_out c.args.kernel.state c.args.limit f c.run_out.new.run begun c.finish-run.ensures.ready c.in_ok-run_out.ensures free there
+    kept_runs c.run_all-went.new.run (λ f. IsRunOut c.args.kernel.state c.args.limit (turns f.order.blocks)) c.kept.result c.run_all-went.result
+    c.kept.ensures.run c.kept.ensures.went c.run_all-went.ensures.passed
+    (λ passed. all_out c.args.kernel.state c.args.limit c.in_ok-run.run' c.run_all-went.new.run c.in_ok-run.ensures.finished c.in_ok-run.ensures.ready passed
+    c.in_ok-run.ensures.no_idle c.in_ok-run.ensures.processors)
 
-pub finish-run-requires : goal.finish-run-requires
-finish-run-requires g c =
-    let given = c.in-Ok.ensures.seats in
-    let after = c.work_together.ensures.seats in
-    let long : c.in-Ok.made.1.len ≡ length c.in-Ok.made.1.items = search rules in
-    record { seats = still_written c.in-Ok.made.0 c.work_together.new.seats _ c.in-Ok.made.1.len (long ∙ given.all.len ∙ sym after.all.len) after }
+pub returns-clause-memory : goal.returns-clause-memory
+returns-clause-memory g c = kept_fails (λ fault. fault ≡ Memory) c.kept.result c.run_all-went.result c.kept.ensures.fault c.run_all-went.ensures.memory
