@@ -15,12 +15,12 @@ use rv_core::outcome::{ENVIRONMENT_CALL, Outcome};
 use std::alloc::AllocError;
 
 /// The reason of a startup exit.
-const STARTUP: u32 = 0;
+pub(crate) const STARTUP: u32 = 0;
 
 impl Parts {
     /// The deed of an instruction that raises: an ECALL of a thread is a hypercall, and any other is
     /// an exit.
-    fn signal(&self, ec: u32, reason: u32, q0: u32, q1: u32) -> Deed
+    pub(crate) fn signal(&self, ec: u32, reason: u32, q0: u32, q1: u32) -> Deed
         requires there { IsSome (context_at (shown self.now) ec) }
         requires counted { IsCounted (shown self.now) }
         requires running { AreRunning (shown self.now) self.now.revokes }
@@ -57,7 +57,7 @@ impl Parts {
     }
 
     /// Whether an instruction is next of an execution context: it is ready, and no recall is asked for.
-    fn is_executing(&self, ec: u32) -> bool
+    pub(crate) fn is_executing(&self, ec: u32) -> bool
         requires { IsSome (context_at (shown self.now) ec) }
         ensures { result ≡ is_executing (context (shown self.now) ec) }
     {

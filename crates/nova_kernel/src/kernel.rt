@@ -8,13 +8,15 @@ ghost use Rattle.nova_model.specs.Boot.{bare, laid};
 ghost use Rattle.nova_model.specs.Forest.{IsForest};
 ghost use Rattle.nova_laws.specs.Tables.{IsOf};
 ghost use Rattle.nova_model.specs.Capabilities.{is_vcpu};
+ghost use Rattle.nova_model.specs.Guests.{input};
 ghost use Rattle.nova_model.specs.Views.{view};
+ghost use Rattle.nova_inputs.specs.Given.{BringsBytes};
 ghost use Rattle.nova_deeds.specs.Stirs.{stir_of};
 ghost use Rattle.nova_kernel.specs.Views.{ticks_of, left_of, semaphore_at, derivation_from, turns_taken, IsMaking};
 
 use crate::parts::Parts;
 use nova_frames::{Frames, LogByte};
-use nova_guest::Guest;
+use nova_guest::{Guest, Input};
 use nova_laws::turns_keep_what_they_find;
 use nova_memory::Reach;
 use nova_model::{Derivation, EcKind, EcState, Kind, Object, Rights, Root, State, Turn};
@@ -76,10 +78,12 @@ impl Kernel {
         Ok(Kernel { parts })
     }
 
-    /// Lays bytes into RAM one after another from an address on. They lie in RAM.
+    /// Lays bytes into RAM one after another from an address on. They lie in RAM, and no turn was taken yet: what is laid is no
+    /// input of a virtual CPU, so it comes before there is one.
     #[tactic(auto, using(nova_memory::proofs::Laid::laid_length))]
     pub fn put(&mut self, address: u32, bytes: &[u8])
-        requires { address + length bytes.now ≤ 4096 * length self.old.state.memory.ram }
+        requires within { address + length bytes.now ≤ 4096 * length self.old.state.memory.ram }
+        requires turns { self.old.state.turns ≡ 0 }
         ensures laid { self.new ≡ record self.old { state = record self.old.state { memory = laid self.old.state.memory address bytes.now } } }
         ensures frames { length self.new.state.memory.ram ≡ length self.old.state.memory.ram }
     {
@@ -207,6 +211,21 @@ impl Kernel {
         ensures { IfOk result (λ guest. guest ≡ view self.now.state ec) }
     {
         self.parts.view(alloc, ec)
+    }
+
+    /// What the processor's next turn is for a virtual CPU; none where the processor is idle, or where the
+    /// turn is nothing for it. It refuses for want of memory alone, only where the turn gives its domain
+    /// memory with bytes, which are copied.
+    pub fn input(&self, alloc: Global, cpu: u32, ec: u32) -> Result<Option<Input>, AllocError>
+        requires cpu { cpu < self.now.state.cpus }
+        requires guest { IsOf self.now.state.objects is_vcpu ec }
+        ensures input { IfOk result (λ i. i ≡ input self.now.state cpu ec) }
+        ensures memory { OnErr result (BringsBytes (input self.now.state cpu ec)) }
+    {
+        match self.parts.choice(cpu) {
+            Some(chosen) => self.parts.input_of(alloc, chosen.actor, ec),
+            None => Ok(None),
+        }
     }
 
     /// The stir counts of a virtual CPU and of a processor: how many inputs from outside came to the one,

@@ -1,4 +1,4 @@
-ghost use Rattle.std.specs.Prelude.{◌≡◌, ◌≤◌, ◌<◌, ◌*◌, ◌+◌, ◌-◌, [], ◌∷◌, ◌++◌, length, max, slice_get, slice_set, Some, OnOk, OnErr};
+ghost use Rattle.std.specs.Prelude.{◌≡◌, ◌≤◌, ◌<◌, ◌*◌, ◌+◌, ◌-◌, [], ◌∷◌, ◌++◌, length, max, slice_get, slice_set, Some, IsOk, OnOk, OnErr};
 ghost use Rattle.nova_model.specs.Boot.{laid};
 ghost use Rattle.nova_model.specs.State.{entry, message_in};
 
@@ -55,10 +55,11 @@ impl Reach {
         self.frames.log()
     }
 
-    /// Makes room for the message words of one more object. It refuses for want of memory alone, and then
-    /// nothing has changed.
+    /// Makes room for the message words of one more object. Where there is room, this succeeds. It refuses
+    /// for want of memory alone, and then nothing has changed.
     pub fn reserve_message(&mut self) -> Result<(), AllocError>
         ensures room { OnOk result (self.new ≡ record self.old { messages = record self.old.messages { spare = max self.old.messages.spare 1 } }) }
+        ensures enough { 0 < self.old.messages.spare → IsOk result }
         ensures refused { OnErr result (self.new ≡ self.old) }
     {
         self.messages.reserve(1)

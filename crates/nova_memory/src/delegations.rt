@@ -1,4 +1,4 @@
-ghost use Rattle.std.specs.Prelude.{false, ◌≡◌, ◌≤◌, ◌-◌, ◌^◌, ◌<◌, ℕ, is_some, None, IfSome, OnOk, OnErr, IfOk};
+ghost use Rattle.std.specs.Prelude.{false, ◌≡◌, ◌≤◌, ◌-◌, ◌^◌, ◌<◌, ℕ, is_some, None, IfSome, IsOk, OnOk, OnErr, IfOk};
 ghost use Rattle.std.specs.List.{find, list_any};
 ghost use Rattle.nova_range.specs.Rights.{IsRights};
 ghost use Rattle.nova_model.specs.Delegations.{added, covers, derived, from_id, with_id};
@@ -19,10 +19,11 @@ use nova_running::Running;
 use std::alloc::AllocError;
 
 impl Reach {
-    /// Makes room for one more derivation of a protection domain. It refuses for want of memory alone,
-    /// and then no derivation has changed.
+    /// Makes room for one more derivation of a protection domain. Where there is room, this succeeds. It
+    /// refuses for want of memory alone, and then no derivation has changed.
     pub fn reserve(&mut self, pd: u32) -> Result<(), AllocError>
         ensures room { OnOk result (0 < room self.new.nodes pd) }
+        ensures enough { 0 < room self.old.nodes pd → IsOk result }
         ensures delegations { self.new.nodes.delegations ≡ self.old.nodes.delegations }
         ensures memory { self.new.memory ≡ self.old.memory }
         ensures messages { self.new.messages ≡ self.old.messages }

@@ -1,13 +1,16 @@
 //! What leads from an address to a frame or to a message word: delegations, frames, and the message words of threads.
 #![tactic(auto)]
 
+mod ahead;
 mod boot;
 mod contents;
 mod delegations;
 mod maps;
 pub mod messages;
+pub mod preview;
 pub mod reach;
 mod revoking;
 
 pub use messages::Messages;
+pub use preview::{Preview, Write};
 pub use reach::Reach;

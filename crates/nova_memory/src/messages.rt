@@ -1,4 +1,4 @@
-ghost use Rattle.std.specs.Prelude.{◌≡◌, ◌-◌, ◌<◌, ◌%◌, ◌*◌, ◌^◌, [], ◌∷◌, ◌++◌, length, max, slice_set, slice_get, is_some, IsSome, false, Some, IfOk, OnOk, OnErr};
+ghost use Rattle.std.specs.Prelude.{◌≡◌, ◌-◌, ◌<◌, ◌≤◌, ◌%◌, ◌*◌, ◌^◌, [], ◌∷◌, ◌++◌, length, max, slice_set, slice_get, is_some, IsSome, false, Some, IfOk, IsOk, OnOk, OnErr};
 ghost use Rattle.nova_utcb.specs.Messages.{loaded, stored};
 ghost use Rattle.nova_utcb.specs.Pages.{IsWidth};
 ghost use Rattle.nova_model.specs.State.{entry, message_in, no_words};
@@ -60,10 +60,12 @@ impl Messages {
         }
     }
 
-    /// Makes room for `n` more entries, counted from those that are there. It refuses for want of
-    /// memory alone, and then nothing has changed.
+    /// Makes room for `n` more entries, counted from those that are there. Room that was made before
+    /// stays, and where it is enough, this succeeds. It refuses for want of memory alone, and then
+    /// nothing has changed.
     pub fn reserve(&mut self, n: usize) -> Result<(), AllocError>
         ensures ok { OnOk result (self.new ≡ record self.old { spare = max self.old.spare n }) }
+        ensures enough { n ≤ self.old.spare → IsOk result }
         ensures err { OnErr result (self.new ≡ self.old) }
     {
         self.items.reserve(n)?;

@@ -18,10 +18,10 @@ use std::alloc::AllocError;
 use std::marker::Model;
 
 /// The page of a thread that is its own, which begins with its message words: no delegation leads there.
-const OWN_PAGE: u32 = 0xfffff;
+pub(crate) const OWN_PAGE: u32 = 0xfffff;
 
 /// How many bytes the message words of a thread have.
-const MESSAGE_SIZE: u32 = 512;
+pub(crate) const MESSAGE_SIZE: u32 = 512;
 
 /// What an instruction reaches: the frames, through the derivations of the protection domain of the
 /// execution context that acts, and the message words of one that is a thread. The derivation of the last
@@ -72,7 +72,7 @@ fn covers(derivation: &Derivation, pd: u32, page: u32) -> bool
 }
 
 /// What a page leads to through a derivation that covers it.
-fn page_in(derivation: &Derivation, page: u32) -> Page
+pub(crate) fn page_in(derivation: &Derivation, page: u32) -> Page
     requires place { derivation.now.base ≤ page }
     requires frame { derivation.now.target + (page - derivation.now.base) < 2 ^ 32 }
     ensures { result ≡ page_in page derivation.now }
@@ -143,7 +143,9 @@ impl Reach {
         }
     }
 
-    /// The derivation that covers a page of the protection domain, or nothing.
+    /// The derivation that covers a page of the protection domain, or nothing. Few accesses need the search, so that it stays
+    /// out of the code of each.
+    #[inline(never)]
     fn memory_at(&mut self, page: u32) -> Option<Derivation>
         ensures found { result ≡ find (covers Kind.Mem self.old.pd page) self.old.nodes.delegations.list }
         ensures leads { IfSome result (λ d. (d.base ≤ page) × (d.target + (page - d.base) < length self.old.memory.ram + self.old.consoles)) }
@@ -180,6 +182,7 @@ impl Reach {
     }
 
     /// The frame that an address leads to, where the right is there.
+    #[inline(always)]
     fn frame_for(&mut self, right: Rights, address: u32) -> Option<u32>
         ensures frame { result ≡ frame_for (reached self.old) right.0 address }
         ensures there { IfSome result (λ frame. frame < length self.old.memory.ram + self.old.consoles) }

@@ -22,7 +22,7 @@ pub enum RevokeDone {
 }
 
 /// The newest child in the scope of a derivation.
-fn newest_in<I: Index>(nodes: &Nodes<I>, revoke: &Revoke, id: u32) -> Option<Derivation>
+pub(crate) fn newest_in<I: Index>(nodes: &Nodes<I>, revoke: &Revoke, id: u32) -> Option<Derivation>
     requires sound { IsSound nodes.now.delegations }
     ensures { result ≡ newest_in revoke.now nodes.now.delegations.list id }
 {
@@ -60,7 +60,7 @@ fn next_held<I: Index>(nodes: &Nodes<I>, revoke: &Revoke, place: u32) -> Option<
 }
 
 /// Where the way to the next leaf begins.
-fn entry<I: Index>(nodes: &Nodes<I>, revoke: &Revoke) -> Option<Derivation>
+pub(crate) fn entry<I: Index>(nodes: &Nodes<I>, revoke: &Revoke) -> Option<Derivation>
     ensures found { result ≡ entry revoke.now nodes.now.delegations.list }
     ensures sound { IsSound nodes.now.delegations }
 {

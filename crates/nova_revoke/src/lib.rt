@@ -2,10 +2,12 @@
 //! it.
 #![tactic(auto)]
 
+pub mod ahead;
 pub mod leaves;
 pub mod revoke;
 pub mod scope;
 
+pub use ahead::next_leaf;
 pub use leaves::{RevokeDone, part};
 pub use revoke::Revoke;
 pub use scope::{in_scope, would_grow};

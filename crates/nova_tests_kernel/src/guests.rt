@@ -199,7 +199,7 @@ fn run(rt: &impl Abort, alloc: Global, kernel: &mut Kernel)
     requires ram { length kernel.old.state.memory.ram ≡ 2 }
     requires cpus { 0 < kernel.old.state.cpus }
     requires room { 42 ≤ kernel.old.room }
-    requires turns { kernel.old.state.turns + 42 ≤ 2 ^ 31 }
+    requires turns { kernel.old.state.turns ≡ 0 }
 {
     lay(kernel, 0, &ROOT_WORDS);
     lay(kernel, 256, &MONITOR_WORDS);

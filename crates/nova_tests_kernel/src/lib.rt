@@ -2,9 +2,15 @@
 #![tactic(auto)]
 
 #[cfg(test)]
+mod apart;
+#[cfg(test)]
 mod boots;
 #[cfg(test)]
+mod crowds;
+#[cfg(test)]
 mod guests;
+#[cfg(test)]
+mod inputs;
 #[cfg(test)]
 mod machines;
 #[cfg(test)]
@@ -15,5 +21,7 @@ mod orders;
 mod reports;
 #[cfg(test)]
 mod runs;
+#[cfg(test)]
+mod scenarios;
 #[cfg(test)]
 mod workers;

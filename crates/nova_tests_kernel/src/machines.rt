@@ -3,9 +3,10 @@ ghost use Rattle.std.specs.Prelude.{◌≡◌, ◌+◌, ◌*◌, ◌≤◌, leng
 
 use nova_kernel::Kernel;
 
-/// Lays words into RAM one after another from an address on.
+/// Lays words into RAM one after another from an address on, where no turn was taken.
 pub fn lay(kernel: &mut Kernel, address: u32, words: &[u32])
     requires ram { length kernel.old.state.memory.ram ≤ 2 }
+    requires turns { kernel.old.state.turns ≡ 0 }
     requires place { address + 4 * length words.now ≤ 4096 * length kernel.old.state.memory.ram }
     ensures ram { length kernel.new.state.memory.ram ≡ length kernel.old.state.memory.ram }
     ensures cpus { kernel.new.state.cpus ≡ kernel.old.state.cpus }

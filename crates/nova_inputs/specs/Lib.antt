@@ -1,0 +1,3 @@
+pub use Rattle.nova_model.specs.Inputs
+pub mod Ahead
+pub mod Given

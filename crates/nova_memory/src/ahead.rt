@@ -1,0 +1,79 @@
+ghost use Rattle.std.specs.Prelude.{◌≡◌, ◌<◌, ◌+◌, ◌*◌, ◌%◌, ◌^◌, length, option_map, slice_get, IfOk, IfSome};
+ghost use Rattle.nova_delegate.specs.Parts.{IsUnderWay, pair_of};
+ghost use Rattle.nova_model.specs.Delegations.{reach};
+ghost use Rattle.nova_model.specs.Forest.{IsForest};
+ghost use Rattle.nova_model.specs.Memory.{read};
+ghost use Rattle.nova_model.specs.Revokes.{next_leaf};
+ghost use Rattle.nova_model.specs.State.{entry, message_in};
+ghost use Rattle.nova_model.specs.Transfers.{next_part};
+ghost use Rattle.nova_nodes.specs.NodesStates.{IsPlaced};
+ghost use Rattle.nova_running.specs.Runners.{busy_under};
+ghost use Rattle.nova_utcb.specs.Messages.{loaded};
+ghost use Rattle.nova_utcb.specs.Pages.{IsWidth};
+
+use crate::reach::{Reach, page_in};
+use nova_delegate::next_part;
+use nova_model::{Derivation, Job, Kind, Page, Reason};
+use nova_revoke::{Revoke, next_leaf};
+use nova_running::Running;
+
+// What is only looked at.
+impl Reach {
+    /// What a page of a protection domain leads to, or nothing.
+    pub fn page(&self, pd: u32, page: u32) -> Option<Page>
+        ensures page { result ≡ reach self.now.nodes.delegations.list pd page }
+        ensures there { IfSome result (λ p. p.frame < length self.now.memory.ram + self.now.consoles) }
+    {
+        let derivation = self.nodes.covering(pd, Kind::Mem, page)?;
+        Some(page_in(&derivation, page))
+    }
+
+    /// The number in the 1, 2 or 4 bytes of a frame from an offset on, the lowest byte first. A console
+    /// gives 0. The frame exists, and the offset is a multiple of the width.
+    pub(crate) fn load_frame(&self, frame: u32, offset: u32, width: u32) -> u32
+        requires there { frame < length self.now.memory.ram + self.now.consoles }
+        requires width { IsWidth width }
+        requires within { offset < 4096 }
+        requires aligned { offset % width ≡ 0 }
+        ensures number { result ≡ read self.now.memory frame offset width }
+        ensures fits { result < 2 ^ (8 * width) }
+    {
+        self.frames.load(frame, offset, width)
+    }
+
+    /// What a load finds in the message words of an execution context, which are all 0 where it has none.
+    /// The width is 1, 2 or 4, and the offset is below 512 and a multiple of it.
+    pub(crate) fn load_word(&self, ec: u32, offset: u32, width: u32) -> u32
+        requires width { IsWidth width }
+        requires within { offset < 512 }
+        requires aligned { offset % width ≡ 0 }
+        ensures number { result ≡ loaded (message_in (entry (slice_get self.now.messages.items ec))) offset width }
+        ensures fits { result < 2 ^ (8 * width) }
+    {
+        self.messages.load(ec, offset, width)
+    }
+
+    /// The next part of an item, while these revokes run: the derivation of the giver that it is of, and
+    /// the child that would be made of it, or the first reason to skip it; nothing where none is left.
+    pub fn next_part(
+        &self,
+        job: &Job,
+        revokes: &[Running],
+    ) -> Option<(Derivation, Result<Derivation, Reason>)>
+        requires forest { IsForest self.now.nodes.delegations }
+        requires job { IsUnderWay job.now }
+        ensures part { result ≡ option_map pair_of (next_part (busy_under revokes.now self.now.nodes.delegations.list) self.now.nodes.delegations job.now) }
+        ensures source { IfSome result (λ p. IsPlaced p.0) }
+        ensures child { IfSome result (λ p. IfOk p.1 IsPlaced) }
+    {
+        next_part(&self.nodes, job, revokes)
+    }
+
+    /// The leaf that the next part of a revoke takes away; nothing where nothing is left of what it takes
+    /// away.
+    pub fn next_leaf(&self, revoke: &Revoke) -> Option<Derivation>
+        ensures { result ≡ next_leaf revoke.now self.now.nodes.delegations }
+    {
+        next_leaf(&self.nodes, revoke)
+    }
+}

@@ -1,0 +1,164 @@
+ghost use Rattle.std.specs.Prelude.{◌≡◌, ◌%◌, ◌*◌, ◌+◌, ◌^◌, ◌<◌, length, is_some, IfSome, None};
+ghost use Rattle.nova_model.specs.AddressSpaces.{frame_for, words_at};
+ghost use Rattle.nova_memory.specs.Previews.{entered, loaded};
+ghost use Rattle.nova_memory.specs.Reach.{reached};
+ghost use Rattle.std.specs.Bool.{OnTrue, OnFalse};
+ghost use Rattle.nova_range.specs.Rights.{read_right, write_right};
+ghost use Rattle.nova_utcb.specs.Pages.{IsWidth};
+
+use crate::reach::{MESSAGE_SIZE, OWN_PAGE, Reach};
+use bitflags::Flags;
+use nova_model::{Page, Rights};
+use rv_core::bus::Bus;
+use std::marker::Model;
+
+/// A store of the lowest `width` bytes of a value to a frame.
+#[derive(Clone, Copy)]
+pub struct Write {
+    pub frame: u32,
+    pub offset: u32,
+    pub width: u32,
+    pub value: u32,
+}
+
+/// What an instruction that is only looked at reaches. A store is noted and not made.
+#[derive(Drop)]
+pub struct Preview<'a> {
+    reach: &'a Reach,
+    ec: u32,
+    pd: u32,
+    is_thread: bool,
+    write: Option<Write>,
+}
+
+impl<'a> Model for Preview<'a> {
+    ghost use Rattle.nova_memory.specs.Previews.{PreviewState, entered};
+
+    ghost Value = { PreviewState };
+
+    ghost view = { λ p. record { reach = entered p.reach.now p.ec p.pd p.is_thread; write = p.write } };
+}
+
+impl<'a> Preview<'a> {
+    /// What an execution context of a protection domain reaches.
+    pub fn new(reach: &'a Reach, ec: u32, pd: u32, is_thread: bool) -> Preview<'a>
+        ensures { result ≡ record { reach = entered reach.now ec pd is_thread; write = None } }
+    {
+        Preview {
+            reach,
+            ec,
+            pd,
+            is_thread,
+            write: None,
+        }
+    }
+
+    /// The last store to a frame that was noted.
+    pub fn write(&self) -> Option<Write>
+        ensures { result ≡ self.now.write }
+    {
+        self.write
+    }
+
+    /// What a page leads to: the one derivation that covers it, or nothing.
+    fn page_at(&self, page: u32) -> Option<Page>
+        ensures page { result ≡ (reached self.now.reach).page page }
+        ensures there { IfSome result (λ p. p.frame < length self.now.reach.memory.ram + self.now.reach.consoles) }
+    {
+        if self.is_thread && page == OWN_PAGE {
+            return None;
+        }
+        self.reach.page(self.pd, page)
+    }
+
+    /// The frame that an address leads to, where the right is there.
+    fn frame_for(&self, right: Rights, address: u32) -> Option<u32>
+        ensures frame { result ≡ frame_for (reached self.now.reach) right.0 address }
+        ensures there { IfSome result (λ frame. frame < length self.now.reach.memory.ram + self.now.reach.consoles) }
+    {
+        let page = self.page_at(address / 4096)?;
+        if page.rights.contains(right) {
+            Some(page.frame)
+        } else {
+            None
+        }
+    }
+
+    /// Whether an address is among the message words of the thread that acts.
+    fn is_own(&self, address: u32) -> bool
+        ensures { result ≡ is_some (words_at (reached self.now.reach) address) }
+    {
+        self.is_thread && address / 4096 == OWN_PAGE && address % 4096 < MESSAGE_SIZE
+    }
+
+    /// A load that finds no frame: message words, or nothing.
+    fn load_own(&self, address: u32, width: u32) -> Option<u32>
+        requires frame { frame_for (reached self.now.reach) read_right address ≡ None }
+        requires width { IsWidth width }
+        requires aligned { address % width ≡ 0 }
+        ensures number { result ≡ loaded self.now address width }
+        ensures fits { IfSome result (λ n. n < 2 ^ (8 * width)) }
+    {
+        if !self.is_own(address) {
+            return None;
+        }
+        Some(self.reach.load_word(self.ec, address % 4096, width))
+    }
+
+    /// A store that finds no frame: to message words, or refused.
+    fn store_own(&mut self, address: u32) -> bool
+        requires { frame_for (reached self.old.reach) write_right address ≡ None }
+        ensures gives { result ≡ is_some (words_at (reached self.old.reach) address) }
+        ensures taken { OnTrue result (self.new ≡ record self.old { write = None }) }
+        ensures refused { OnFalse result (self.new ≡ self.old) }
+    {
+        if !self.is_own(address) {
+            return false;
+        }
+        self.write = None;
+        true
+    }
+}
+
+impl<'a> Bus for Preview<'a> {
+    ghost use Rattle.nova_memory.specs.Previews.{PreviewState, fetched, loaded, noted, takes};
+
+    ghost State = { PreviewState };
+
+    ghost state = { λ p. p };
+
+    ghost fetched = { fetched };
+
+    ghost loaded = { loaded };
+
+    ghost takes = { takes };
+
+    ghost stored = { noted };
+
+    ghost room = { λ _. Unit {0} };
+
+    fn fetch(&mut self, addr: u32) -> Option<u32> {
+        let frame = self.frame_for(Rights::EXECUTE, addr)?;
+        Some(self.reach.load_frame(frame, addr % 4096, 4))
+    }
+
+    fn load(&mut self, addr: u32, width: u32) -> Option<u32> {
+        let Some(frame) = self.frame_for(Rights::READ, addr) else {
+            return self.load_own(addr, width);
+        };
+        Some(self.reach.load_frame(frame, addr % 4096, width))
+    }
+
+    fn store(&mut self, addr: u32, width: u32, value: u32) -> bool {
+        let Some(frame) = self.frame_for(Rights::WRITE, addr) else {
+            return self.store_own(addr);
+        };
+        self.write = Some(Write {
+            frame,
+            offset: addr % 4096,
+            width,
+            value,
+        });
+        true
+    }
+}
