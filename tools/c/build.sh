@@ -1,17 +1,22 @@
 #!/bin/sh
-# build.sh SOURCE.c SCENARIO.nova [RAM_ORDER]
-# build.sh --guest SOURCE.c SCENARIO.nova
+# build.sh [--elf] SOURCE.c SCENARIO.nova [RAM_ORDER]
+# build.sh [--elf] --guest SOURCE.c SCENARIO.nova
 #
-# Compiles a C program for RV32I and writes a scenario that runs it: its code and its data as two images of words. RAM has
-# 2^RAM_ORDER pages of 4,096 bytes, 4 pages where no order is given. With --guest the program runs as a guest with 4 pages,
-# under the monitor of monitor.nova. See README.md beside this script.
+# Compiles a C program for RV32I and writes a scenario that runs it: its code and its data as two images of words, or with --elf the
+# executable itself as one image. RAM has 2^RAM_ORDER pages of 4,096 bytes, 4 pages where no order is given. With --guest the program
+# runs as a guest with 4 pages, under the monitor of monitor.nova. With --elf and COMPILER=clang in the environment, clang compiles and
+# lld links. See README.md beside this script.
 set -eu
 export LC_ALL=C
 usage() {
-    echo "usage: build.sh SOURCE.c SCENARIO.nova [RAM_ORDER] | build.sh --guest SOURCE.c SCENARIO.nova" >&2
+    echo "usage: build.sh [--elf] SOURCE.c SCENARIO.nova [RAM_ORDER] | build.sh [--elf] --guest SOURCE.c SCENARIO.nova" >&2
     exit 2
 }
-guest=no
+elf=no guest=no
+if [ "${1-}" = --elf ]; then
+    elf=yes
+    shift
+fi
 if [ "${1-}" = --guest ]; then
     guest=yes
     shift
@@ -20,12 +25,16 @@ fi
 if [ $# -lt 2 ] || [ $# -gt 3 ]; then
     usage
 fi
-source=$1 scenario=$2 ram_order=${3:-2}
+source=$1 scenario=$2 ram_order=${3:-2} compiler=${COMPILER:-gcc}
 ram_bytes=$((4096 << ram_order))
 # Where the program's memory begins in RAM: a guest has pages 4 to 7.
 begins=0 options=
 if [ $guest = yes ]; then
     begins=0x4000 options="-DGUEST -Wl,--defsym=data_address=0x1000"
+fi
+# An executable without symbols, and without gaps up to multiples of a page.
+if [ $elf = yes ]; then
+    options="$options -Wl,-z,max-page-size=16 -Wl,--strip-all"
 fi
 here=$(cd "$(dirname "$0")" && pwd)
 tool=riscv64-unknown-elf
@@ -33,11 +42,20 @@ scratch=$(mktemp -d)
 trap 'rm -rf "$scratch"' EXIT
 program=$scratch/program
 
+# The compiler with its words, and the library of what RV32I can't do by itself. Of clang's Debian has none, so that of gcc is taken, if
+# it is there.
+if [ "$compiler" = clang ]; then
+    compile="clang --target=riscv32 -march=rv32i -mabi=ilp32 -mno-relax -fuse-ld=lld"
+    library=$($tool-gcc -march=rv32i -mabi=ilp32 -print-libgcc-file-name 2>/dev/null) || library=
+else
+    compile="$tool-gcc -march=rv32i -mabi=ilp32 -mstrict-align -Wl,--no-warn-rwx-segments"
+    library=-lgcc
+fi
+
 compile() {
-    # shellcheck disable=SC2086 # the options are several words
-    $tool-gcc -march=rv32i -mabi=ilp32 -mstrict-align -O2 -ffreestanding -nostdlib -Wall -Wextra -I"$here" $options \
-        -Wl,-T,"$here/program.ld" -Wl,--defsym=ram_bytes="$ram_bytes" -Wl,--no-warn-rwx-segments \
-        -o "$program" "$here/start.s" "$source" -lgcc
+    # shellcheck disable=SC2086 # the compiler, the options and the library are several words, or none
+    $compile -O2 -ffreestanding -nostdlib -Wall -Wextra -I"$here" -isystem /usr/include/stb $options \
+        -Wl,-T,"$here/program.ld" -Wl,--defsym=ram_bytes="$ram_bytes" -o "$program" "$here/start.s" "$source" $library
 }
 
 # The code, a word a line with its address and its meaning.
@@ -55,26 +73,39 @@ data() {
 
 # The settings, and for a guest its monitor.
 head_of_scenario() {
+    written="as words" option= start=0
+    if [ $elf = yes ]; then
+        written="as an executable" option=" --elf" start=entry
+    fi
     if [ $guest = yes ]; then
-        echo "# ${source##*/} as a guest under tools/c/monitor.nova, compiled and written as words by tools/c/build.sh --guest."
+        echo "# ${source##*/} as a guest under tools/c/monitor.nova, compiled and written $written by tools/c/build.sh$option --guest."
         cat "$here/monitor.nova"
         return
     fi
-    echo "# ${source##*/}, compiled and written as words by tools/c/build.sh."
+    echo "# ${source##*/}, compiled and written $written by tools/c/build.sh$option."
     echo "cpus 1"
     echo "ram $ram_order"
     echo "consoles 1"
-    printf 'root 0 0x%x 1 10\n' "$ram_bytes"
+    printf 'root %s 0x%x 1 10\n' $start "$ram_bytes"
 }
 
-write() {
-    head_of_scenario
-    printf '\nimage %s hex\n' "$begins"
+words() {
+    printf 'image %s hex\n' "$begins"
     code
     echo "end"
     printf '\nimage 0x%08x hex\n' $((begins + 0x$($tool-objdump -h -j .data "$program" | awk '$2 == ".data" { print $4 }')))
     data
     echo "end"
+}
+
+write() {
+    head_of_scenario
+    echo
+    if [ $elf = yes ]; then
+        "$here/elf" "$program" "$begins"
+    else
+        words
+    fi
 }
 
 compile

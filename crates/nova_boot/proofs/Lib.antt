@@ -1,3 +1,4 @@
 pub mod Laid
 pub mod Lying
 pub mod Among
+pub mod Started

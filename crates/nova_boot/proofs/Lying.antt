@@ -127,8 +127,11 @@ module _ (address : ℕ) (file : List ℕ) (s : Segment) (fits : Fits (length fi
       ∙ get_or-append-add front back (j - s.file) 0
       ∙ get_or-replicate (s.memory - s.file) (j - s.file) 0 0 (omega arith)
 
-  pub segment_held : (m : Memory) → LiesThere m (segment_image address file s) → HoldsSegment m address file s
-  segment_held m there = record {
-    bytes = λ j below. there j (let n = image_size in let r = fits.room in omega arith) ∙ ap (λ b. b % 256) (image_byte j below);
+  pub segment_held : (m : Memory) → ((i : ℕ) → slice_index file i < 256) → LiesThere m (segment_image address file s) → HoldsSegment m address file s
+  segment_held m small there = record {
+    bytes = λ j below.
+        there j (let n = image_size in let r = fits.room in omega arith)
+        ∙ ap (λ b. b % 256) (image_byte j below)
+        ∙ (let b = small (s.offset + j) in omega arith);
     zeros = λ j from below. there j (let n = image_size in omega arith) ∙ ap (λ b. b % 256) (image_zero j from below);
   }

@@ -10,7 +10,7 @@ ghost use Rattle.nova_scenario.specs.Sound.{AreApart};
 ghost use Rattle.nova_scenario.specs.declared.scenario.Scenario.{Scenario};
 ghost use Rattle.nova_boot.specs.Boot.{scenario_of, LieInRam};
 ghost use Rattle.nova_boot.specs.Laid.{IsLaid};
-ghost use Rattle.nova_boot.specs.Lying.{HoldsImages, HoldsItem};
+ghost use Rattle.nova_boot.specs.Lying.{HoldsImages, HoldsText, HoldsItem};
 
 use nova_frames::laws::loads_give_what_was_stored;
 
@@ -29,6 +29,15 @@ pub fn images_lie_in_memory()
         → HoldsImages s.images (boot (scenario_of s)).memory }
 {
     loads_give_what_was_stored();
+}
+
+/// After boot each byte of RAM is that of the block of words, or of the segment of an executable, that has it there by the scenario's
+/// text, and 0 where none has.
+pub fn texts_lie_in_memory()
+    ensures { (bytes : List ℕ) (s : Scenario) → scenario bytes ≡ Ok s
+        → HoldsText bytes s.images (boot (scenario_of s)).memory }
+{
+    images_lie_in_memory();
 }
 
 /// After boot, of each executable of a scenario's text each segment's bytes lie in memory, and zeros after them.

@@ -1,20 +1,18 @@
 -- The segments of each executable are among the images.
-use Rattle.std.proofs.Common.{◌≡◌, ℕ, ◌+◌, ◌⊎◌, Bool, true, false, List, [], ◌∷◌, ◌++◌, map, length, Option, Some, None, Result, Ok, Err, refl, ap, sym, ◌∙◌, subst, inl, inr, append_assoc, append-nil}
+use Rattle.std.proofs.Common.{◌≡◌, ℕ, ◌+◌, Bool, true, false, List, [], ◌∷◌, ◌++◌, map, Option, Some, None, Ok, Err, refl, ap, sym, ◌∙◌, subst, inl, inr, append_assoc, append-nil}
 use Rattle.std.specs.Prelude.{nat_lt}
 use Rattle.std.specs.List.{AllByRecursion, list_any}
 use Rattle.nova_elf.specs.Executable.{program}
 use Rattle.nova_elf.specs.declared.program.Program.{Program}
 use Rattle.nova_elf.specs.declared.program.Segment.{Segment}
-use Rattle.nova_text.specs.Line.{Row, lines}
-use Rattle.nova_scenario.specs.Digits.{elf_bytes}
+use Rattle.nova_text.specs.Line.{lines}
 use Rattle.nova_scenario.specs.Executables.{IsAmong, AreLaidIn, IsLaidBlock, IsLaidItem}
-use Rattle.nova_scenario.specs.Fault.{At, on_line, and_then}
+use Rattle.nova_scenario.specs.Fault.{on_line, and_then}
 use Rattle.nova_scenario.specs.Images.{Draft, empty, end_of, shares, is_word_address, address_in, begun, with_apart, with_image}
 use Rattle.nova_scenario.specs.Items.{Block, Item, FaultyLine, SettingLine, ImageBlock, items}
-use Rattle.nova_scenario.specs.Scenario.{block_bytes, with_bytes, ended, with_block, with_item, with_pc, whole, finished, or_missing, read_items, scenario}
+use Rattle.nova_scenario.specs.Scenario.{block_bytes, with_bytes, ended, with_block, with_item, with_pc, whole, finished, read_items, scenario}
 use Rattle.nova_scenario.specs.Segments.{with_images, with_segments, with_settings, with_program, executable, with_executable, segment_image, reaches_past}
 use Rattle.nova_scenario.specs.Settings.{entered, with_setting, is_whole, ram_size}
-use Rattle.nova_scenario.specs.declared.fault.Why.{Why}
 use Rattle.nova_scenario.specs.declared.fault.Why.TheVariants.{Missing, Range, Overlap}
 use Rattle.nova_scenario.specs.declared.image.Image.{Image}
 use Rattle.nova_scenario.specs.declared.scenario.Scenario.{Scenario}
@@ -31,7 +29,7 @@ among_more image [] more among = absurd among
 among_more image (first ∷ images) more (inl is) = inl is
 among_more image (first ∷ images) more (inr later) = inr (among_more image images more later)
 
-among_last : (image : Image) (front rest : List Image) → IsAmong image (front ++ image ∷ rest)
+pub among_last : (image : Image) (front rest : List Image) → IsAmong image (front ++ image ∷ rest)
 among_last image [] rest = inl refl
 among_last image (first ∷ front) rest = inr (among_last image front rest)
 
@@ -64,7 +62,7 @@ apart_adds d e image is = go (list_any (shares image) d.images) refl where
   go true m = let same : Err Overlap ≡ Ok e = rw m at is in cc
   go false m = let same : Ok (record d { images = d.images ++ image ∷ [] }) ≡ Ok e = rw m at is in let e_is : e ≡ record d { images = d.images ++ image ∷ [] } = cc in ap (λ (x : Draft). x.images) e_is
 
-image_adds : (d e : Draft) (image : Image) → with_image d image ≡ Ok e → e.images ≡ d.images ++ image ∷ []
+pub image_adds : (d e : Draft) (image : Image) → with_image d image ≡ Ok e → e.images ≡ d.images ++ image ∷ []
 image_adds d e image is = go (nat_lt (ram_size d.settings) (end_of image)) refl where
   go : (past : Bool) → nat_lt (ram_size d.settings) (end_of image) ≡ past → e.images ≡ d.images ++ image ∷ []
   go true p = let same : Err Range ≡ Ok e = rw p at is in cc
@@ -83,28 +81,31 @@ segments_add d e address file segments is = go (list_any (reaches_past (ram_size
   go false p = images_add d e (map (segment_image address file) segments) (rw p at is)
 
 -- an executable adds its segments
-executable_adds : (d e : Draft) (address : ℕ) (file : List ℕ) → with_executable d address file ≡ Ok e → (p : Program) × IsLaidBlock e.images address file p × Grows d.images e.images
+pub executable_adds : (d e : Draft) (address : ℕ) (file : List ℕ) → with_executable d address file ≡ Ok e → (p : Program) × (program file ≡ Ok p) × (e.images ≡ d.images ++ map (segment_image address file) p.segments)
 executable_adds d e address file is =
     let a = and_then-ok (executable (program file)) (λ p. with_program d address file p) e is in
     let entry = entered d.settings d.settings.root (address + a.0.entry) in
     let b = and_then-ok (with_settings d entry) (with_segments address file a.0.segments) e a.2 in
     let s = settings-ok d b.0 entry b.1 in
-    let images = map (segment_image address file) a.0.segments in
-    let adds : e.images ≡ d.images ++ images = segments_add b.0 e address file a.0.segments b.2 ∙ ap (λ (x : Draft). x.images ++ images) s.2 in (
+    let images = map (segment_image address file) a.0.segments in (
       a.0,
-      record {
-        is_program = executable-ok (program file) a.0 a.1;
-        laid = subst (λ i. AreLaidIn i address file a.0.segments) (sym adds) (all_laid d.images address file a.0.segments);
-      },
-      (images, adds),
+      executable-ok (program file) a.0 a.1,
+      segments_add b.0 e address file a.0.segments b.2 ∙ ap (λ (x : Draft). x.images ++ images) s.2,
+    )
+
+executable_laid : (d e : Draft) (address : ℕ) (file : List ℕ) → with_executable d address file ≡ Ok e → (p : Program) × IsLaidBlock e.images address file p
+executable_laid d e address file is =
+    let a = executable_adds d e address file is in (
+      a.0,
+      record { is_program = a.1; laid = subst (λ i. AreLaidIn i address file a.0.segments) (sym a.2) (all_laid d.images address file a.0.segments) },
     )
 
 bytes_grow : (d e : Draft) (f : Form) (address : ℕ) (bytes : List ℕ) → with_bytes f d address bytes ≡ Ok e → Grows d.images e.images
 bytes_grow d e form.Hex address bytes is = (_, image_adds d e _ is)
 bytes_grow d e form.Asm address bytes is = (_, image_adds d e _ is)
-bytes_grow d e form.Elf address bytes is = (executable_adds d e address bytes is).2
+bytes_grow d e form.Elf address bytes is = let a = executable_adds d e address bytes is in (map (segment_image address bytes) a.0.segments, a.2)
 
-address-is : (s : Settings) (o : Option ℕ) (address : ℕ) → begun s o ≡ Ok address → o ≡ Some address
+pub address-is : (s : Settings) (o : Option ℕ) (address : ℕ) → begun s o ≡ Ok address → o ≡ Some address
 address-is s o address is = go (is_whole s) refl o refl where
   within : (n : ℕ) (b : Bool) → is_word_address (ram_size s) n ≡ b → address_in (ram_size s) (Some n) ≡ Ok address → Some n ≡ Some address
   within n true t there = let same : Ok n ≡ Ok address = rw t at there in cc
@@ -122,7 +123,7 @@ block_laid bytes d e head block is =
     let laid = ended-ok bytes e block.end (with_bytes head.form d a.0 b.0) b.2 in
     let address = address-is d.settings head.address a.0 (on_line-ok block.first.number (begun d.settings head.address) a.0 a.1) in (
       λ of_form.
-          let x = executable_adds d e a.0 b.0 (subst (λ f. with_bytes f d a.0 b.0 ≡ Ok e) of_form laid) in
+          let x = executable_laid d e a.0 b.0 (subst (λ f. with_bytes f d a.0 b.0 ≡ Ok e) of_form laid) in
           (a.0, b.0, x.0, address, subst (λ f. block_bytes bytes block f ≡ Ok b.0) of_form b.1, x.1),
       bytes_grow d e head.form a.0 b.0 laid,
     )
@@ -151,7 +152,7 @@ item_stays old new (ImageBlock head block) grows laid = λ of_form.
       },
     )
 
-whole-images : (cpus ram consoles : Option ℕ) (root : Option Root) (images : List Image) (s : Scenario) → whole cpus ram consoles root images ≡ Some s → s.images ≡ images
+pub whole-images : (cpus ram consoles : Option ℕ) (root : Option Root) (images : List Image) (s : Scenario) → whole cpus ram consoles root images ≡ Some s → s.images ≡ images
 whole-images (Some cpus) (Some ram) (Some consoles) (Some root) images s is = go root.pc is where
   go : (pc : Option ℕ) → with_pc cpus ram consoles root pc images ≡ Some s → s.images ≡ images
   go None there = cc

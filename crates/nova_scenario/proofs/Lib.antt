@@ -9,4 +9,6 @@ pub mod BlockLemmas
 pub mod SoundSettings
 pub mod SoundLemmas
 pub mod LaidLemmas
+pub mod OriginLemmas
+pub mod ByteLemmas
 pub mod MemoryApart

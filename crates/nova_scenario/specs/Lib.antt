@@ -13,3 +13,4 @@ pub mod Read
 pub mod Blocks
 pub mod Sound
 pub mod Executables
+pub mod Origins

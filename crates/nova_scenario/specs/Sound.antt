@@ -9,6 +9,10 @@ use Rattle.nova_scenario.specs.declared.scenario.Scenario.{Scenario}
 pub record IsIn (ram : ℕ) (image : Image) : Type 0 where
   pub within : end_of image ≤ ram
 
+-- an image begins at a multiple of 4
+abbrev pub IsAligned : Image → Type 0
+IsAligned image = image.address % 4 ≡ 0
+
 -- a byte of an image lies at an address
 abbrev pub LiesAt : Image → ℕ → Type 0
 LiesAt image address = (image.address ≤ address) × (address < end_of image)

@@ -4,10 +4,11 @@ ghost use Rattle.nova_text.specs.Line.{row_of, lines};
 ghost use Rattle.nova_scenario.specs.Fault.{on_line};
 ghost use Rattle.nova_scenario.specs.Images.{begun};
 ghost use Rattle.nova_scenario.specs.Executables.{IsLaidItem};
+ghost use Rattle.nova_scenario.specs.Origins.{IsOfSome, HaveWordsAlone};
 ghost use Rattle.nova_scenario.specs.Items.{is_end, block, items};
 ghost use Rattle.nova_scenario.specs.Read.{IsRead, BecomesAt, IsReadOn, KeepsMemoryApart, IsMemoryOnlyIf, TakesIf, TakesOn};
 ghost use Rattle.nova_scenario.specs.Scenario.{with_bytes, with_block, scenario, takes_memory};
-ghost use Rattle.nova_scenario.specs.Sound.{IsSound};
+ghost use Rattle.nova_scenario.specs.Sound.{IsSound, IsAligned};
 ghost use Rattle.nova_scenario.specs.declared.fault.Why.TheVariants.{Missing};
 
 use crate::asm::asm_block;
@@ -110,6 +111,8 @@ pub fn read(alloc: Global, bytes: &[u8]) -> Result<Scenario, ScenarioFault>
     ensures exact { IsRead (scenario bytes.now) result }
     ensures sound { IfOk result IsSound }
     ensures executables { IfOk result (λ s. AllByRecursion (IsLaidItem s.images) (items false (lines bytes.now))) }
+    ensures origins { IfOk result (λ s. AllByRecursion (IsOfSome bytes.now (items false (lines bytes.now))) s.images) }
+    ensures aligned { IfOk result (λ s. HaveWordsAlone (items false (lines bytes.now)) → AllByRecursion IsAligned s.images) }
     ensures apart { IfErr result KeepsMemoryApart }
     ensures memory { IfErr result (IsMemoryOnlyIf (takes_memory bytes.now)) }
 {

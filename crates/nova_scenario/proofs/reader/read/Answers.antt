@@ -4,6 +4,7 @@ use Rattle.nova_scenario.specs.Read.{IsFault}
 use Rattle.nova_scenario.specs.Scenario.{scenario}
 use Rattle.nova_scenario.proofs.LaidLemmas.{executables_laid}
 use Rattle.nova_scenario.proofs.MemoryApart.{memory_apart}
+use Rattle.nova_scenario.proofs.OriginLemmas.{images_are_of_items, images_are_aligned}
 use Rattle.nova_scenario.proofs.SoundLemmas.{scenario_sound}
 use Rattle.nova_scenario.proofs.reader.read.Goals as goal
 
@@ -19,3 +20,9 @@ returns-in-Some-finish-clause-sound c = scenario_sound c.args.bytes.now c.in-Som
 
 pub returns-in-Some-finish-clause-executables : goal.returns-in-Some-finish-clause-executables
 returns-in-Some-finish-clause-executables c = executables_laid c.args.bytes.now c.in-Some-finish.scenario (search rules)
+
+pub returns-in-Some-finish-clause-origins : goal.returns-in-Some-finish-clause-origins
+returns-in-Some-finish-clause-origins c = images_are_of_items c.args.bytes.now c.in-Some-finish.scenario (search rules)
+
+pub returns-in-Some-finish-clause-aligned : goal.returns-in-Some-finish-clause-aligned
+returns-in-Some-finish-clause-aligned c = images_are_aligned c.args.bytes.now c.in-Some-finish.scenario (search rules)
