@@ -1,3 +1,4 @@
 pub mod Passing
 pub mod Shares
 pub mod Seats
+pub mod Learning

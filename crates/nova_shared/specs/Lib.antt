@@ -6,3 +6,4 @@ pub mod UnderWay
 pub mod Runs
 pub mod Ran
 pub mod Told
+pub mod Seen

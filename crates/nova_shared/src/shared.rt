@@ -1,11 +1,13 @@
 ghost use Rattle.std.specs.Prelude.{◌≡◌, ◌≢◌, ◌+◌, ◌^◌, ◌<◌, ◌≤◌, ◌++◌, List, [], ◌∷◌, ℕ, length, drop, vec_len, vec_capacity, slice_index_or, All, IfOk, IfErr, OnErr};
 ghost use Rattle.std.specs.List.{AllByRecursion};
-ghost use Rattle.nova_lock.specs.History.{entries, IsFrontOf};
+ghost use mathlib.Core.List.{IsPrefix};
+ghost use Rattle.nova_lock.specs.History.{Adds, entries, IsFrontOf};
 ghost use Rattle.nova_lock.specs.Seats.{SeatView};
 ghost use Rattle.nova_model.specs.Runs.{IsFreeOfIdle};
 ghost use Rattle.nova_order.specs.Blocks.{turns};
 ghost use Rattle.nova_shared.specs.Finished.{IsFinished};
 ghost use Rattle.nova_shared.specs.Ran.{Ran, IsCpuSeat, AreCpuSeats};
+ghost use Rattle.nova_shared.specs.Seen.{Learns, LearnsOfOthers, mine};
 ghost use Rattle.nova_shared.specs.Told.{IsTold, IsRefused};
 ghost use Rattle.nova_shared.specs.UnderWay.{IsReady, HasRoom};
 
@@ -202,6 +204,9 @@ impl Shared {
         ensures told { (found : List ℕ) × IsFrontOf seat.old.number seat.old.front found
             × IfOk result (IsTold self.now.opened.opening.kernel.state self.now.opened.opening.limit seat.old.number found seat.new.front)
             × IfErr result (λ taken. (taken ≡ length found) × IsRefused self.now.opened.opening.kernel.state self.now.opened.opening.limit seat.old.number found seat.new.front) }
+        ensures added { (found : List ℕ) × IsPrefix seat.old.front found × Adds seat.old.number found seat.new.front }
+        ensures learned { IfOk result (Learns seat.old seat.new) }
+        ensures refused { OnErr result (LearnsOfOthers seat.old seat.new) }
     {
         let mut call = OneTurn { cpu: seat.number() };
         self.lock.with(rt, seat, &mut call)
@@ -219,6 +224,9 @@ impl Shared {
         ensures told { (found : List ℕ) × IsFrontOf seat.old.number seat.old.front found
             × IfOk result (IsTold self.now.opened.opening.kernel.state self.now.opened.opening.limit seat.old.number found seat.new.front)
             × OnErr result (IsRefused self.now.opened.opening.kernel.state self.now.opened.opening.limit seat.old.number found seat.new.front) }
+        ensures added { (found : List ℕ) × IsPrefix seat.old.front found × Adds seat.old.number found seat.new.front }
+        ensures learned { IfOk result (Learns seat.old seat.new) }
+        ensures refused { OnErr result (LearnsOfOthers seat.old seat.new) }
     {
         let told = match self.take(rt, &mut seat.seat) {
             Ok(told) => told,
@@ -247,6 +255,7 @@ impl Shared {
         ensures ready { IsReady result }
         ensures room { HasRoom result }
         ensures fronts { (i : ℕ) (d : SeatView Ran) → i < self.seats → IsFrontOf i (slice_index_or seats.items i d).front (turns result.order.blocks) }
+        ensures counts { (i : ℕ) (d : SeatView Ran) → i < self.seats → entries i (turns result.order.blocks) ≡ mine (slice_index_or seats.items i d) }
         ensures processors { AllByRecursion (λ cpu. cpu < self.opened.opening.kernel.state.cpus) (turns result.order.blocks) }
     {
         let Shared { lock } = self;

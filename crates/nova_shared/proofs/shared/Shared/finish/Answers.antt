@@ -15,3 +15,8 @@ pub returns-clause-processors : goal.returns-clause-processors
 returns-clause-processors c =
     all_below c.args.self.opened.opening.kernel.state.cpus (turns c.into_run.result.order.blocks)
     (λ n le. ap (entries n) c.into_run.ensures.order ∙ c.close-value.ensures.others n (subst (λ (m : ℕ). m ≤ n) (sym (ap (λ l. l.seats) c.self.view_is ∙ c.requires.seats.cpus)) le))
+
+pub returns-clause-counts : goal.returns-clause-counts
+returns-clause-counts c = λ i d less.
+    let number : (slice_index_or c.args.seats.items i d).number ≡ i = (c.requires.seats.all.each i d (search rules)).number in
+    sym (returns-clause-fronts c i d less).whole ∙ ap (λ (n : ℕ). entries n (slice_index_or c.args.seats.items i d).front) (sym number)

@@ -1,0 +1,72 @@
+"""Runs a scenario by threads, and takes the turns of its order again by one."""
+
+from __future__ import annotations
+
+import subprocess
+from dataclasses import dataclass
+from enum import Enum
+from pathlib import Path
+
+# How long a command may take, in seconds.
+PATIENCE = 120
+
+# The statuses with which a report is out.
+REPORTED = (0, 7)
+
+
+@dataclass(frozen=True, slots=True)
+class Ending:
+    """How a command ended: its status, and what it wrote to standard output and standard error."""
+
+    status: int | None
+    report: bytes
+    line: bytes
+
+
+class Verdict(Enum):
+    """What came of a scenario."""
+
+    SAME = "same"
+    DIFFERENT = "different"
+    REFUSED = "refused"
+
+
+@dataclass(frozen=True, slots=True)
+class Replay:
+    """A scenario that was run: what came of it, of how many blocks and turns its order is, and what is said of a difference."""
+
+    verdict: Verdict
+    blocks: int = 0
+    turns: int = 0
+    said: str = ""
+
+
+def ending(words: list[str]) -> Ending:
+    """How a command ends. One that takes too long is stopped, and has no status."""
+    try:
+        done = subprocess.run(words, stdin=subprocess.DEVNULL, capture_output=True, timeout=PATIENCE, check=False)
+    except subprocess.TimeoutExpired:
+        return Ending(None, b"", f"not done after {PATIENCE} s".encode())
+    return Ending(done.returncode, done.stdout, done.stderr)
+
+
+def difference(first: Ending, again: Ending) -> str:
+    """In what two endings differ; nothing where they are the same."""
+    if first.status != again.status or first.line != again.line:
+        return f"status {first.status} {first.line.decode().strip()!r}, and again {again.status} {again.line.decode().strip()!r}"
+    for number, (one, other) in enumerate(zip(first.report.splitlines(), again.report.splitlines()), 1):
+        if one != other:
+            return f"line {number} of the report: {one.decode()!r}, and again {other.decode()!r}"
+    return "" if first.report == again.report else "one report is longer"
+
+
+def replay(program: str, scenario: Path, order: Path, limit: int) -> Replay:
+    """Runs the scenario and takes its order again, into a file that is not there yet. A scenario with a fault is refused both times."""
+    bound = ["--limit", str(limit)]
+    first = ending([program, "run", str(scenario), str(order), *bound])
+    if first.status not in REPORTED:
+        said = difference(first, ending([program, "solo", str(scenario), *bound])) or ("an order of no run" if order.exists() else "")
+        return Replay(Verdict.DIFFERENT if said or first.status is None else Verdict.REFUSED, said=said or first.line.decode())
+    blocks = [line.split() for line in order.read_text("ascii").splitlines()] if order.exists() else []
+    said = difference(first, ending([program, "solo", str(scenario), str(order), *bound]))
+    return Replay(Verdict.DIFFERENT if said else Verdict.SAME, len(blocks), sum(int(count) for _, count in blocks), said)

@@ -1,0 +1,84 @@
+"""The tests of the replays: programs that go wrong are found out.
+
+python3 tools/replays/tests
+"""
+
+from __future__ import annotations
+
+import sys
+import tempfile
+import unittest
+from pathlib import Path
+
+TOP = Path(__file__).resolve().parents[1]
+sys.path.insert(0, str(TOP))
+
+from replay import Replay, Verdict, replay  # noqa: E402
+from scenarios import random_scenario  # noqa: E402
+
+# A program that reports the order that it takes: the host's, `0 2`, `1 1`, or the one of the file that is named, or else round robin. The first word
+# of `solo` with an order is `solo S O`. {run} is done in a run, after ORDER was written.
+PROGRAM = """#!/bin/sh
+if [ "$1" = run ]; then
+  printf '0 2\\n1 1\\n' >>"$3"
+  {run}
+elif [ "$3" != --limit ]; then
+  cat "$3"
+else
+  printf '0 1\\n1 1\\n0 1\\n'
+fi
+echo 'nova: not quiet' >&2
+exit 7
+"""
+
+# What a run does, and in what it then differs.
+CASES = (
+    ('cat "$3"', ""),
+    ("printf '0 1\\n1 1\\n0 1\\n'", "line 1 of the report: '0 1', and again '0 2'"),
+    ('cat "$3"; printf "0 2\\n" >"$3"', "one report is longer"),
+    ('cat "$3"; exit 0', "status 0 '', and again 7 'nova: not quiet'"),
+    ('rm "$3"; echo "nova: write fault" >&2; exit 6', "status 6 'nova: write fault', and again 7 'nova: not quiet'"),
+)
+
+# A program that finds a fault in each scenario, and one that has appended an order before.
+REFUSING = "#!/bin/sh\n{run}\necho 'nova: scenario line 1: Missing' >&2\nexit 4\n"
+
+
+class Replays(unittest.TestCase):
+    """What is said of programs."""
+
+    def replayed(self, text: str) -> Replay:
+        """What is said of a program with this text."""
+        with tempfile.TemporaryDirectory() as folder:
+            program, order = Path(folder, "program"), Path(folder, "order")
+            program.write_text(text, "ascii")
+            program.chmod(0o755)
+            return replay(str(program), Path(folder, "scenario"), order, 5)
+
+    def test_a_run_that_is_not_its_order_is_found(self) -> None:
+        for run, said in CASES:
+            with self.subTest(run):
+                one = self.replayed(PROGRAM.replace("{run}", run))
+                self.assertEqual((one.verdict, one.said), (Verdict.DIFFERENT if said else Verdict.SAME, said))
+
+    def test_blocks_and_turns_are_counted(self) -> None:
+        one = self.replayed(PROGRAM.replace("{run}", 'cat "$3"'))
+        self.assertEqual((one.blocks, one.turns), (2, 3))
+
+    def test_a_scenario_with_a_fault_has_no_order(self) -> None:
+        refused = self.replayed(REFUSING.replace("{run}", ""))
+        self.assertEqual(refused.verdict, Verdict.REFUSED)
+        appended = self.replayed(REFUSING.replace("{run}", '[ "$1" = solo ] || echo 0 1 >"$3"'))
+        self.assertEqual((appended.verdict, appended.said), (Verdict.DIFFERENT, "an order of no run"))
+
+
+class Scenarios(unittest.TestCase):
+    """The random scenarios."""
+
+    def test_a_seed_gives_one_scenario(self) -> None:
+        self.assertEqual(random_scenario(7), random_scenario(7))
+        self.assertNotEqual(random_scenario(7), random_scenario(8))
+
+
+if __name__ == "__main__":
+    unittest.main()
