@@ -1,0 +1,7 @@
+mod Lists
+mod Said
+mod Seen
+mod Done
+mod Alike
+mod Words
+mod Given
