@@ -6,7 +6,7 @@ use Rattle.nova_command.specs.Verb.{verb_of}
 use Rattle.nova_command.specs.declared.verb.Verb.{Verb}
 use Rattle.nova_command.specs.declared.verb.Verb.TheVariants as verb
 use Rattle.nova_command.specs.declared.command.Command.{Command}
-use Rattle.nova_command.specs.declared.command.Command.TheVariants.{Run, Solo, Check, Bench}
+use Rattle.nova_command.specs.declared.command.Command.TheVariants.{Run, Solo, Check, Bench, Twin}
 
 -- a bench of a number of domains
 abbrev pub benched : Option ℕ → ℕ → Option Command
@@ -19,6 +19,7 @@ asked (Some verb.Run) (Some scenario) (Some order) (Some limit) = Some (Run scen
 asked (Some verb.Solo) (Some scenario) order (Some limit) = Some (Solo scenario order limit)
 asked (Some verb.Check) (Some scenario) None (Some limit) = Some (Check scenario)
 asked (Some verb.Bench) (Some number) None (Some limit) = benched (size_of number) limit
+asked (Some verb.Twin) (Some subjects) None (Some limit) = Some (Twin subjects limit)
 asked _ _ _ _ = None
 
 -- the command that was given
@@ -36,3 +37,4 @@ HasBounds (Run scenario order limit) = IsLimit limit
 HasBounds (Solo scenario order limit) = IsLimit limit
 HasBounds (Check scenario) = Unit {0}
 HasBounds (Bench number limit) = IsSize number × IsLimit limit
+HasBounds (Twin subjects limit) = IsLimit limit

@@ -23,5 +23,5 @@ IsFaultOf error Memory = Unit {0}
 
 -- the text of a fault
 abbrev pub message_of : CommandFault → List ℕ
-message_of Usage = codes "usage: nova run|solo|check|bench NAME [ORDER] [--limit N]"
+message_of Usage = codes "usage: nova run|solo|check|bench|twin NAME [ORDER] [--limit N]"
 message_of Memory = codes "out of memory"

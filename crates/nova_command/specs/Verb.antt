@@ -2,7 +2,7 @@
 use Rattle.std.specs.Prelude.{ℕ, List, codes, Option, Some, None, if◌then◌else◌}
 use Rattle.std.specs.Str.{bytes_eq}
 use Rattle.nova_command.specs.declared.verb.Verb.{Verb}
-use Rattle.nova_command.specs.declared.verb.Verb.TheVariants.{Run, Solo, Check, Bench}
+use Rattle.nova_command.specs.declared.verb.Verb.TheVariants.{Run, Solo, Check, Bench, Twin}
 
 -- the verb that a word stands for
 abbrev pub verb_of : List ℕ → Option Verb
@@ -11,4 +11,5 @@ verb_of word =
     else if bytes_eq word (codes "solo") then Some Solo
     else if bytes_eq word (codes "check") then Some Check
     else if bytes_eq word (codes "bench") then Some Bench
+    else if bytes_eq word (codes "twin") then Some Twin
     else None

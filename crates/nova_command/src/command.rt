@@ -41,4 +41,13 @@ pub enum Command {
         /// The most turns, from 1 to 10,000,000.
         limit: u32,
     },
+
+    /// Compare two guests.
+    Twin {
+        /// The file that says which two.
+        subjects: Name,
+
+        /// The most turns of each, from 1 to 10,000,000.
+        limit: u32,
+    },
 }

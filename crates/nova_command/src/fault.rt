@@ -21,7 +21,7 @@ impl fmt::Display for CommandFault {
 
     fn fmt<W: fmt::Write>(&self, f: &mut fmt::Formatter<W>) -> fmt::Result {
         f.write_str(match self {
-            CommandFault::Usage => "usage: nova run|solo|check|bench NAME [ORDER] [--limit N]",
+            CommandFault::Usage => "usage: nova run|solo|check|bench|twin NAME [ORDER] [--limit N]",
             CommandFault::Memory => "out of memory",
         })
     }

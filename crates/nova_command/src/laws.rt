@@ -26,6 +26,8 @@ pub fn commands()
     ensures bench { command (typed "bench 7") ≡ Some (Command.Bench 7 1000000) }
     ensures bench_limit { command (typed "bench 0x10 --limit 9") ≡ Some (Command.Bench 16 9) }
     ensures bench_most { command (typed "bench 90000") ≡ Some (Command.Bench 90000 1000000) }
+    ensures twin { command (typed "twin a") ≡ Some (Command.Twin (codes "a") 1000000) }
+    ensures twin_limit { command (typed "twin a --limit 7") ≡ Some (Command.Twin (codes "a") 7) }
     ensures solo { command (typed "solo a") ≡ Some (Command.Solo (codes "a") None 1000000) }
     ensures order { command (typed "solo a b") ≡ Some (Command.Solo (codes "a") (Some (codes "b")) 1000000) }
     ensures check { command (typed "check a") ≡ Some (Command.Check (codes "a")) }
@@ -52,6 +54,8 @@ pub fn no_commands()
     ensures bench_zero { command (typed "bench 0") ≡ None }
     ensures bench_too_large { command (typed "bench 90001") ≡ None }
     ensures bench_name { command (typed "bench a") ≡ None }
+    ensures twin_no_name { command (typed "twin") ≡ None }
+    ensures twin_two_names { command (typed "twin a b") ≡ None }
     ensures unknown { command (typed "walk a") ≡ None }
     ensures zero { command (typed "check a --limit 0") ≡ None }
     ensures too_large { command (typed "solo a --limit 10000001") ≡ None }

@@ -1,10 +1,10 @@
 // Words to a command.
-ghost use Rattle.std.specs.Prelude.{◌≡◌, map, string_bytes, IfOk, option_map};
+ghost use Rattle.std.specs.Prelude.{◌≡◌, map, string_bytes, IfOk, Some, None};
 ghost use Rattle.clap.specs.Walk.{rows_of};
 ghost use Rattle.clap.specs.Matches.{found_of};
 ghost use Rattle.nova_command.specs.Form.{given_in};
 ghost use Rattle.nova_command.specs.Limit.{size_of, IsLimit};
-ghost use Rattle.nova_command.specs.Command.{command, command_of, benched, HasBounds};
+ghost use Rattle.nova_command.specs.Command.{command, command_of, asked, benched, HasBounds};
 ghost use Rattle.nova_command.specs.CommandFault.{Answers};
 
 use crate::command::Command;
@@ -17,7 +17,7 @@ use clap::ArgMatches;
 use std::alloc::{AllocError, Global};
 
 /// Reads the words after the program's own name as a command: `run SCENARIO ORDER`, `solo SCENARIO`, `solo SCENARIO ORDER`,
-/// `check SCENARIO` or `bench NUMBER`, with the option `--limit N` anywhere among them.
+/// `check SCENARIO`, `bench NUMBER` or `twin NAME`, with the option `--limit N` anywhere among them.
 ///
 /// N and NUMBER are decimal digits, or `0x` and hexadecimal digits. N is a number from 1 to 10,000,000, for `check` too, which
 /// has no use for it; where it is not given, the limit is 1,000,000. NUMBER is one from 1 to 90,000. `Usage` comes exactly where the words are no command, and
@@ -42,21 +42,62 @@ fn command_of(alloc: Global, matches: &ArgMatches) -> Result<Command, CommandFau
     let second = text_of(matches, "second");
     let limit = text_of(matches, "limit").and_then(read_limit);
     match (verb, first, second, limit) {
-        (Some(Verb::Run), Some(scenario), Some(order), Some(limit)) => Ok(Command::Run {
-            scenario: name_of(alloc, scenario)?,
-            order: name_of(alloc, order)?,
-            limit,
-        }),
-        (Some(Verb::Solo), Some(scenario), order, Some(limit)) => Ok(Command::Solo {
-            scenario: name_of(alloc, scenario)?,
-            order: optional_name_of(alloc, order)?,
-            limit,
-        }),
-        (Some(Verb::Check), Some(scenario), None, Some(_)) => Ok(Command::Check {
-            scenario: name_of(alloc, scenario)?,
-        }),
-        (Some(Verb::Bench), Some(number), None, Some(limit)) => bench_of(number, limit),
+        (Some(verb), Some(name), None, Some(limit)) => of_name(alloc, verb, name, limit),
+        (Some(verb), Some(first), Some(second), Some(limit)) => {
+            of_names(alloc, verb, first, second, limit)
+        }
         _ => Err(CommandFault::Usage),
+    }
+}
+
+/// The command of a verb and one name.
+fn of_name(alloc: Global, verb: Verb, name: &str, limit: u32) -> Result<Command, CommandFault>
+    requires { IsLimit limit }
+    ensures exact { Answers (asked (Some verb) (Some name.now) None (Some limit)) result }
+    ensures bounds { IfOk result HasBounds }
+{
+    match verb {
+        Verb::Run => Err(CommandFault::Usage),
+        Verb::Solo => Ok(Command::Solo {
+            scenario: name_of(alloc, name)?,
+            order: None,
+            limit,
+        }),
+        Verb::Check => Ok(Command::Check {
+            scenario: name_of(alloc, name)?,
+        }),
+        Verb::Bench => bench_of(name, limit),
+        Verb::Twin => Ok(Command::Twin {
+            subjects: name_of(alloc, name)?,
+            limit,
+        }),
+    }
+}
+
+/// The command of a verb and two names.
+fn of_names(
+    alloc: Global,
+    verb: Verb,
+    first: &str,
+    second: &str,
+    limit: u32,
+) -> Result<Command, CommandFault>
+    requires { IsLimit limit }
+    ensures exact { Answers (asked (Some verb) (Some first.now) (Some second.now) (Some limit)) result }
+    ensures bounds { IfOk result HasBounds }
+{
+    match verb {
+        Verb::Run => Ok(Command::Run {
+            scenario: name_of(alloc, first)?,
+            order: name_of(alloc, second)?,
+            limit,
+        }),
+        Verb::Solo => Ok(Command::Solo {
+            scenario: name_of(alloc, first)?,
+            order: Some(name_of(alloc, second)?),
+            limit,
+        }),
+        Verb::Check | Verb::Bench | Verb::Twin => Err(CommandFault::Usage),
     }
 }
 
@@ -77,14 +118,4 @@ fn name_of(alloc: Global, text: &str) -> Result<Name, AllocError>
     ensures { IfOk result (λ name. name ≡ text.now) }
 {
     Ok(Name::from(String::from_str(alloc, text)?))
-}
-
-/// A text that may be missing, as a name of its own.
-fn optional_name_of(alloc: Global, text: Option<&str>) -> Result<Option<Name>, AllocError>
-    ensures { IfOk result (λ name. name ≡ option_map (λ t. t.now) text.entry) }
-{
-    match text {
-        Some(text) => Ok(Some(name_of(alloc, text)?)),
-        None => Ok(None),
-    }
 }

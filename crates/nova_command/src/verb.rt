@@ -7,6 +7,7 @@ pub(crate) enum Verb {
     Solo,
     Check,
     Bench,
+    Twin,
 }
 
 impl Verb {
@@ -21,6 +22,7 @@ impl Verb {
             "solo" => Some(Verb::Solo),
             "check" => Some(Verb::Check),
             "bench" => Some(Verb::Bench),
+            "twin" => Some(Verb::Twin),
             _ => None,
         }
     }

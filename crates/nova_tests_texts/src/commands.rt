@@ -47,6 +47,10 @@ fn text_of(alloc: Global, command: &Command) -> Result<String, AllocError> {
             limit,
         } => run_text(alloc, scenario.as_str(), order.as_str(), *limit),
         Command::Bench { number, limit } => format!(in alloc; "bench {number} for {limit}"),
+        Command::Twin { subjects, limit } => {
+            let name = subjects.as_str();
+            format!(in alloc; "compare {name} for {limit}")
+        }
         Command::Check { scenario } => {
             let name = scenario.as_str();
             format!(in alloc; "check {name}")
@@ -70,7 +74,7 @@ fn assert_asked(rt: &impl Abort, alloc: Global, line: &str, meant: &str) {
 }
 
 /// Lines of words, and what they ask for.
-static COMMANDS: [(&str, &str); 24] = [
+static COMMANDS: [(&str, &str); 26] = [
     ("solo a", "run a for 1000000"),
     ("solo a b", "run a by b for 1000000"),
     ("solo b --limit 9 a", "run b by a for 9"),
@@ -81,6 +85,8 @@ static COMMANDS: [(&str, &str); 24] = [
     ("run --limit 3 b a", "run b together for 3 into a"),
     ("bench 7", "bench 7 for 1000000"),
     ("bench 0x15F90 --limit 7", "bench 90000 for 7"),
+    ("twin a", "compare a for 1000000"),
+    ("twin --limit 0x20 a", "compare a for 32"),
     ("solo a --limit 7", "run a for 7"),
     ("solo a b --limit 7", "run a by b for 7"),
     ("solo a --limit 007", "run a for 7"),
@@ -105,7 +111,7 @@ fn reads_commands(rt: HostRuntime) {
 }
 
 /// Lines of words that ask for nothing.
-static OTHERS: [&str; 32] = [
+static OTHERS: [&str; 35] = [
     "",
     "solo",
     "check",
@@ -118,6 +124,9 @@ static OTHERS: [&str; 32] = [
     "bench 0",
     "bench 90001",
     "bench 7 a",
+    "twin",
+    "twin a b",
+    "twin a --limit 0",
     "Solo a",
     "a solo",
     "check a --limit 0",
@@ -140,7 +149,7 @@ static OTHERS: [&str; 32] = [
     "-V",
 ];
 
-static USAGE: &str = "usage: nova run|solo|check|bench NAME [ORDER] [--limit N]";
+static USAGE: &str = "usage: nova run|solo|check|bench|twin NAME [ORDER] [--limit N]";
 
 #[test]
 fn refuses_other_words(rt: HostRuntime) {

@@ -40,14 +40,40 @@ static CHANGED: [(usize, u32, Option<ElfFault>); 27] = [
     (72, 4, None),
 ];
 
-/// The executable with another word at a place.
-fn changed(alloc: Global, place: usize, word: u32) -> Result<Vec<u8>, AllocError> {
-    let mut bytes = Vec::from_slice(alloc, EXECUTABLE)?;
+/// Two program headers, of which the first wants a dynamic linker and the second is longer than the file, behind a file header in
+/// which all is wrong.
+const WRONG: &[u8] =
+    b"\x7fELG\x02\x02\x02\0\0\0\0\0\0\0\0\0\x03\0\x3e\0\x02\0\0\0\0\0\0\0\x34\0\0\0\0\0\0\0\0\0\0\0\x34\0\x28\0\x02\0\0\0\0\0\0\0\x02\0\0\0\0\0\0\0\0\0\0\0\0\0\0\0\x75\0\0\0\x74\0\0\0\0\0\0\0\0\0\0\0\x01\0\0\0\0\0\0\0\0\0\0\0\0\0\0\0\x75\0\0\0\x75\0\0\0\0\0\0\0\0\0\0\0";
+
+/// Words of it that are mended one after another, each with the fault that is named then.
+static MENDED: [(usize, u32, Option<ElfFault>); 12] = [
+    (52, 2, Some(NotElf)),
+    (0, 0x464c_457f, Some(Class)),
+    (4, 0x0002_0201, Some(ByteOrder)),
+    (4, 0x0002_0101, Some(Version)),
+    (4, 0x0001_0101, Some(Version)),
+    (20, 1, Some(NotExec)),
+    (16, 0x003e_0002, Some(Machine)),
+    (16, 0x00f3_0002, Some(Table)),
+    (42, 0x0002_0020, Some(Dynamic(0))),
+    (52, 1, Some(BadSegment(0))),
+    (52, 6, Some(BadSegment(1))),
+    (100, 0x0000_0074, None),
+];
+
+/// Puts a word at a place.
+fn put(bytes: &mut Vec<u8>, place: usize, word: u32) {
     for (index, byte) in word.to_le_bytes().into_iter().enumerate() {
         if let Some(old) = bytes.get_mut(place.saturating_add(index)) {
             *old = byte;
         }
     }
+}
+
+/// The executable with another word at a place.
+fn changed(alloc: Global, place: usize, word: u32) -> Result<Vec<u8>, AllocError> {
+    let mut bytes = Vec::from_slice(alloc, EXECUTABLE)?;
+    put(&mut bytes, place, word);
     Ok(bytes)
 }
 
@@ -70,6 +96,17 @@ fn each_fault_is_named(rt: HostRuntime) -> Result<(), Fail> {
     let alloc = rt.alloc();
     for &(place, word, fault) in &CHANGED {
         let bytes = changed(alloc, place, word)?;
+        assert!(rt; read(alloc, &bytes).err() == fault, "{word:08x} at {place}");
+    }
+    Ok(())
+}
+
+#[test]
+fn the_first_fault_is_named(rt: HostRuntime) -> Result<(), Fail> {
+    let alloc = rt.alloc();
+    let mut bytes = Vec::from_slice(alloc, WRONG)?;
+    for &(place, word, fault) in &MENDED {
+        put(&mut bytes, place, word);
         assert!(rt; read(alloc, &bytes).err() == fault, "{word:08x} at {place}");
     }
     Ok(())

@@ -2,6 +2,8 @@
 #![tactic(auto)]
 
 #[cfg(test)]
+mod bytewise;
+#[cfg(test)]
 mod calls;
 #[cfg(test)]
 mod commands;
@@ -22,4 +24,8 @@ mod scheduling;
 #[cfg(test)]
 mod semaphores;
 #[cfg(test)]
+mod twins;
+#[cfg(test)]
 mod virtual_cpus;
+#[cfg(test)]
+mod writes;

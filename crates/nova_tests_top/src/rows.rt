@@ -1,5 +1,5 @@
 // Calls over files, each a row of a table.
-use nova_io::{MemDepot, MemFile, MemSink};
+use nova_io::{MemDepot, MemFile, MemSink, Sink};
 use nova_top::{Exit, Open, nova_main};
 use std::alloc::Global;
 use std::process::Abort;
@@ -26,7 +26,7 @@ pub type Run = [&'static str; 4];
 pub const ENDS: &str = "cpus 2\nram 0\nconsoles 0\nroot 0 0 1 10\nimage 0 hex\n00100073\nend\n";
 
 /// A file of a depot, with room for so many bytes more.
-fn file(rt: &impl Abort, alloc: Global, name: &str, text: &str, room: u64) -> MemFile {
+pub fn file(rt: &impl Abort, alloc: Global, name: &str, text: &str, room: u64) -> MemFile {
     MemFile {
         name: String::from_str(alloc, name).expect(rt, "ample memory"),
         bytes: Vec::from_slice(alloc, text.as_bytes()).expect(rt, "ample memory"),
@@ -64,12 +64,12 @@ pub fn depot_of(rt: &impl Abort, alloc: Global, row: &Row, room: u64, failing: u
 }
 
 /// Makes a call with these words.
-fn call<R: Abort + Threads + Wait + Sync>(
+pub fn call<R: Abort + Threads + Wait + Sync, O: Sink>(
     rt: &R,
     alloc: Global,
     line: &str,
     depot: &mut MemDepot,
-    out: &mut MemSink,
+    out: &mut O,
 ) -> Exit {
     let words = words_of(rt, alloc, line);
     nova_main(rt, alloc, &words, depot, out, &Open)

@@ -5,5 +5,7 @@ pub mod Made
 pub mod Complete
 pub mod Unread
 pub mod Answered
+pub mod TwoLines
+pub mod Twins
 pub mod Single
 pub mod Replays

@@ -19,11 +19,11 @@ use Rattle.nova_report.specs.Summary.{summary}
 use Rattle.nova_scenario.specs.Scenario.{scenario}
 use Rattle.nova_scenario.specs.declared.scenario.Scenario.{Scenario as ScenarioText}
 use Rattle.nova_top.specs.Causes.{OrderRefused, TextRefused}
-use Rattle.nova_top.specs.Made.{ScenarioCame}
+use Rattle.nova_top.specs.Came.{ScenarioCame}
 use Rattle.nova_top.specs.Orders.{OrderCame}
 use Rattle.nova_top.specs.Outside.{Depots}
 use Rattle.nova_origins.specs.Lives.{AreGuestsAlone}
-use Rattle.nova_revocation.specs.Whole.{HasEnded}
+use Rattle.nova_revocation.specs.Called.{HasEndedAsCalled}
 use Rattle.nova_top.specs.Runs.{IsReturned}
 use Rattle.nova_top.specs.Prepared.{IsOrderReadBy, IsReportOf, IsTogether, IsIdleFault, IsPrepared}
 use Rattle.nova_top.specs.declared.exit.Exit.{Exit}
@@ -37,7 +37,7 @@ use Rattle.nova_top.proofs.Reports.{boot_cpus, out_reported, spent_of}
 -- the laws that a run is told by
 pub record HasLaws : Type 0 where
   pub forests : (s : Scenario) (turns : List ℕ) → IsForest (run (boot s) turns).delegations
-  pub revokes : (s : Scenario) (before : List ℕ) (cpu ec : ℕ) → IsReturned (run (boot s) before) cpu ec → HasEnded (run (boot s) before) cpu ec
+  pub revokes : (s : Scenario) (before : List ℕ) (cpu ec : ℕ) → IsReturned (run (boot s) before) cpu ec → HasEndedAsCalled (boot s) before cpu ec
   pub guests : (s : Scenario) (turns : List ℕ) → AreGuestsAlone (boot s) turns
 
 module _ {D : Type 0} (d : Depots D) where
@@ -53,7 +53,7 @@ module _ {D : Type 0} (d : Depots D) where
   refused_text name k cpus most line cause.TooLong old new same h = h
   refused_text name k cpus most line cause.Idle old new same h = absurd h
 
-  unread_order : (name order : List ℕ) (from : ScenarioText) (most : ℕ) (old between new : D) (e : Exit) → ScenarioCame d name old from between →
+  pub unread_order : (name order : List ℕ) (from : ScenarioText) (most : ℕ) (old between new : D) (e : Exit) → ScenarioCame d name old from between →
       NeverFalls (d.fetch_faults old) (d.fetch_faults between) → NeverFalls (d.fetch_faults between) (d.fetch_faults new) →
       IsOrderReadBy d order from.cpus most between new (Err e) → IsPrepared d (Solo name (Some order) most) old new (Err e)
   unread_order name order from most old between new exit.ReadFault came kept kept_too h = inr (record {
@@ -75,12 +75,13 @@ module _ {D : Type 0} (d : Depots D) where
   unread_order name order from most old between new (exit.Scenario line w) came kept kept_too h = absurd h
   unread_order name order from most old between new exit.WriteFault came kept kept_too h = h
   unread_order name order from most old between new exit.Limit came kept kept_too h = h
+  unread_order name order from most old between new (exit.Twin line w) came kept kept_too h = absurd h
 
-  came_at : (name : List ℕ) (cpus most : ℕ) (k : KernelState) (old new : D) (list : BlockList) → k.cpus ≡ cpus →
+  pub came_at : (name : List ℕ) (cpus most : ℕ) (k : KernelState) (old new : D) (list : BlockList) → k.cpus ≡ cpus →
       OrderCame d name cpus most old list.blocks new → OrderCame d name k.cpus most old list.blocks new
   came_at name cpus most k old new list same came = subst (λ n. OrderCame d name n most old list.blocks new) (sym same) came
 
-  idle_order : (name order : List ℕ) (from : ScenarioText) (most : ℕ) (old between new : D) (list : BlockList) (e : Exit) → ScenarioCame d name old from between →
+  pub idle_order : (name order : List ℕ) (from : ScenarioText) (most : ℕ) (old between new : D) (list : BlockList) (e : Exit) → ScenarioCame d name old from between →
       OrderCame d order from.cpus most between list.blocks new → IsIdleFault (boot (scenario_of from)) list e →
       IsPrepared d (Solo name (Some order) most) old new (Err e)
   idle_order name order from most old between new list (exit.OrderFault line cause.Idle) came came_too h = record {
@@ -102,6 +103,7 @@ module _ {D : Type 0} (d : Depots D) where
   idle_order name order from most old between new list (exit.Scenario line w) came came_too h = absurd h
   idle_order name order from most old between new list exit.WriteFault came came_too h = absurd h
   idle_order name order from most old between new list exit.Limit came came_too h = absurd h
+  idle_order name order from most old between new list (exit.Twin line w) came came_too h = absurd h
 
   -- WHAT IS MADE
 

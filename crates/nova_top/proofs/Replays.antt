@@ -1,27 +1,24 @@
 -- An order that a run wrote is read back as it was.
 use Rattle.std.proofs.Common.{◌≡◌, ℕ, ◌<◌, ◌≤◌, ◌^◌, Bool, true, List, [], ◌∷◌, length, refl, ap, ap₂, sym, ◌∙◌, subst, arith}
-use Rattle.std.specs.Prelude.{◌&&◌, nat_lt, nat_le, IsTrue, Some, Result, Ok}
+use Rattle.std.specs.Prelude.{◌&&◌, nat_lt, nat_le, IsTrue, Result, Ok}
 use Rattle.std.specs.List.{AllByRecursion, list_all}
 use Rattle.nova_model.specs.State.{KernelState}
 use Rattle.nova_model.specs.Boot.{boot}
 use Rattle.nova_model.specs.Choice.{is_quiet}
 use Rattle.nova_model.specs.Runs.{IsFreeOfIdle, run, trace}
 use Rattle.nova_boot.specs.Boot.{scenario_of}
-use Rattle.nova_command.specs.Limit.{IsLimit}
-use Rattle.nova_command.specs.declared.command.Command.TheVariants.{Run, Solo}
+use Rattle.nova_command.specs.declared.command.Command.TheVariants.{Run}
 use Rattle.nova_order.specs.Blocks.{IsOrder, turns, is_within}
 use Rattle.nova_order.specs.Read.{order_of}
-use Rattle.nova_order.specs.Text.{text_of}
 use Rattle.nova_order.specs.declared.block.Block.{Block}
 use Rattle.nova_order.proofs.OrderLemmas.{written_is_read}
 use Rattle.nova_order.proofs.TurnLemmas.{within_turns}
 use Rattle.nova_report.specs.Report.{report}
 use Rattle.nova_scenario.specs.declared.scenario.Scenario.{Scenario}
 use Rattle.nova_scenario.proofs.SoundLemmas.{scenario_sound}
-use Rattle.nova_top.specs.Made.{IsMade}
 use Rattle.nova_top.specs.Outside.{Depots}
 use Rattle.nova_top.specs.Runs.{IsRun}
-use Rattle.nova_top.specs.Replayed.{AreTakenAgain, AreSameAgain, IsTakenAgain}
+use Rattle.nova_top.specs.Replayed.{AreTakenAgain, AreSameAgain}
 use Rattle.nova_top.proofs.Reports.{boot_cpus}
 
 all_below : (cpus : ℕ) (order : List ℕ) → AllByRecursion (λ cpu. cpu < cpus) order → list_all (λ cpu. nat_lt cpu cpus) order ≡ true

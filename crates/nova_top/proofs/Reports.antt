@@ -2,7 +2,7 @@
 use Rattle.std.proofs.Common.{◌≡◌, ⊎_elim, length, ℕ, List, [], ◌∷◌, refl, ap, ap₂, sym, ◌∙◌, subst}
 use Rattle.std.specs.Prelude.{IsTrue, IfOk, Result, Ok, Err, false}
 use Rattle.nova_model.specs.State.{KernelState}
-use Rattle.nova_model.specs.Boot.{Scenario, Image, boot, with_image, with_images}
+use Rattle.nova_model.specs.Boot.{Scenario, boot}
 use Rattle.nova_model.specs.Choice.{is_quiet}
 use Rattle.nova_model.specs.Runs.{run, trace, rounds}
 use Rattle.nova_model.specs.declared.event.Event.{Event}
@@ -13,6 +13,7 @@ use Rattle.nova_order.specs.Text.{text_of}
 use Rattle.nova_order.specs.declared.block.Block.{Block}
 use Rattle.nova_report.specs.Report.{report}
 use Rattle.nova_boot.specs.Boot.{scenario_of}
+pub use Rattle.nova_boot.proofs.Started.{boot_turns, boot_cpus}
 use Rattle.nova_scenario.specs.declared.scenario.Scenario.{Scenario as ScenarioText}
 use Rattle.nova_top.specs.Prepared.{IsReportOf, IsTogether, IsAlone}
 use Rattle.nova_run.specs.Finished.{IsFinished}
@@ -21,21 +22,6 @@ use Rattle.nova_top.specs.declared.outcome.Outcome.{Outcome}
 use Rattle.nova_shared.specs.declared.finished.Finished.{Finished}
 use Rattle.nova_top.proofs.Idle.{processors_of, turns_within}
 use Rattle.nova_top.proofs.Single.{one_order}
-
--- images leave the number of turns and of processors
-with_images_turns : (k : KernelState) (images : List Image) → (with_images k images).turns ≡ k.turns
-with_images_turns k [] = refl
-with_images_turns k (image ∷ images) = with_images_turns (with_image k image) images
-
-pub boot_turns : (s : Scenario) → (boot s).turns ≡ 0
-boot_turns s = with_images_turns _ s.images
-
-with_images_cpus : (k : KernelState) (images : List Image) → (with_images k images).cpus ≡ k.cpus
-with_images_cpus k [] = refl
-with_images_cpus k (image ∷ images) = with_images_cpus (with_image k image) images
-
-pub boot_cpus : (s : Scenario) → (boot s).cpus ≡ s.cpus
-boot_cpus s = with_images_cpus _ s.images
 
 -- what is said of a finished run
 says : (said : KernelState → List Event → List ℕ) (k : KernelState) (order : List ℕ) (most : ℕ) (f : Finished) (made : Outcome) → IsFinished k order most f →

@@ -1,12 +1,12 @@
 -- Over one processor there is one order that ends quiet or has all the turns that it may have.
-use Rattle.std.proofs.Common.{◌≡◌, ℕ, zero, suc, ◌+◌, ◌<◌, ◌≤◌, List, [], ◌∷◌, length, inl, inr, refl, ap, ap₂, sym, ◌∙◌, subst, arith}
-use Rattle.std.specs.Prelude.{◌⊎◌, Bool, true, false, ◌&&◌, Option, Some, None, IsSome, is_none}
+use Rattle.std.proofs.Common.{◌≡◌, ℕ, zero, suc, ◌<◌, ◌≤◌, List, [], ◌∷◌, length, inl, inr, refl, ap₂, sym, ◌∙◌, subst, arith}
+use Rattle.std.specs.Prelude.{◌⊎◌, true, ◌&&◌, Option, Some, None, IsSome, is_none}
 use Rattle.std.specs.List.{AllByRecursion, list_all, range_with_len}
 use Rattle.nova_model.specs.State.{KernelState}
 use Rattle.nova_model.specs.Choice.{Candidate, choice, is_quiet}
 use Rattle.nova_model.specs.Turn.{turn}
 use Rattle.nova_forest.proofs.Turning.{none_taken}
-use Rattle.nova_model.specs.Runs.{IsFreeOfIdle, after, run, rounds}
+use Rattle.nova_model.specs.Runs.{after, run, rounds}
 use Rattle.nova_laws.specs.Orders.{IsRunOut}
 use Rattle.nova_laws.proofs.Passes.{rounds_run_out}
 use Rattle.nova_laws.proofs.Processors.{run_cpus}

@@ -11,9 +11,14 @@ use Rattle.nova_order.specs.declared.fault.OrderFault.TheVariants as order
 use Rattle.nova_scenario.specs.declared.fault.ScenarioFault.{ScenarioFault}
 use Rattle.nova_scenario.specs.declared.fault.ScenarioFault.TheVariants as text
 use Rattle.nova_top.specs.declared.exit.Exit.{Exit}
-use Rattle.nova_top.specs.declared.exit.Exit.TheVariants.{Done, Usage, ReadFault, Scenario, OrderFault, WriteFault, Limit, Memory}
+use Rattle.nova_top.specs.declared.exit.Exit.TheVariants.{Done, Usage, ReadFault, Scenario, OrderFault, Twin, WriteFault, Limit, Memory}
 use Rattle.nova_top.specs.declared.exit.OrderWhy.TheVariants.{BadLine, BadCpu, ZeroCount, NotMerged, TooMany, Idle, TooLong as OrderTooLong}
 use Rattle.nova_top.specs.declared.exit.ScenarioWhy.TheVariants.{TooLong, Text}
+use Rattle.nova_top.specs.declared.exit.TwinWhy.TheVariants as twin
+use Rattle.nova_top.specs.declared.subjects.SubjectsFault.{SubjectsFault}
+use Rattle.nova_top.specs.declared.subjects.SubjectsFault.TheVariants as subjects
+use Rattle.nova_twin.specs.declared.fault.CollectFault.{CollectFault}
+use Rattle.nova_twin.specs.declared.fault.CollectFault.TheVariants as collect
 use Rattle.nova_run.specs.declared.fault.RunFault.{RunFault}
 use Rattle.nova_run.specs.declared.fault.RunFault.TheVariants as turn
 
@@ -26,6 +31,7 @@ status_of (OrderFault line why) = 5
 status_of WriteFault = 6
 status_of Limit = 7
 status_of Memory = 8
+status_of (Twin line why) = 10
 
 -- the words could not be read: one is no text, or memory was refused
 abbrev pub of_words : ErrorKind → Exit
@@ -64,6 +70,32 @@ abbrev pub of_run : RunFault → Exit
 of_run (turn.OrderIdle line) = OrderFault line Idle
 of_run turn.Memory = Memory
 
+-- the text of two guests did not come
+abbrev pub of_subjects_fetch : FetchFault → Exit
+of_subjects_fetch fetch.Failed = ReadFault
+of_subjects_fetch fetch.TooLong = Twin 0 twin.TooLong
+of_subjects_fetch fetch.Memory = Memory
+
+abbrev pub of_subjects : SubjectsFault → Exit
+of_subjects (subjects.Syntax line) = Twin line twin.Syntax
+of_subjects subjects.Memory = Memory
+
+abbrev pub of_collect : CollectFault → Exit
+of_collect (collect.OrderIdle line) = OrderFault line Idle
+of_collect collect.Memory = Memory
+
+-- the guest of a line is not followed
+abbrev pub at_line : ℕ → Exit → Exit
+at_line number (Scenario line why) = Twin number (twin.Scenario line why)
+at_line number (OrderFault line why) = Twin number (twin.Order line why)
+at_line number ReadFault = ReadFault
+at_line number Memory = Memory
+at_line number Done = Done
+at_line number Usage = Usage
+at_line number WriteFault = WriteFault
+at_line number Limit = Limit
+at_line number (Twin line why) = Twin line why
+
 -- nothing is appended and nothing is written
 abbrev pub IsUnwritten : Exit → Type 0
 IsUnwritten Usage = Unit {0}
@@ -71,6 +103,7 @@ IsUnwritten ReadFault = Unit {0}
 IsUnwritten (Scenario line why) = Unit {0}
 IsUnwritten (OrderFault line why) = Unit {0}
 IsUnwritten Memory = Unit {0}
+IsUnwritten (Twin line why) = Unit {0}
 IsUnwritten Done = ⊥
 IsUnwritten WriteFault = ⊥
 IsUnwritten Limit = ⊥

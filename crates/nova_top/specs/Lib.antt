@@ -1,8 +1,11 @@
 pub mod Exit
 pub mod Outside
+pub mod Subjects
 pub mod Names
 pub mod Orders
 pub mod Runs
+pub mod Came
+pub mod Compared
 pub mod Made
 pub mod Causes
 pub mod Fetches

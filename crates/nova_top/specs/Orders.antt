@@ -3,7 +3,7 @@ use Rattle.std.specs.Prelude.{◌≡◌, ℕ, List, [], length, Some, None, Ok}
 use Rattle.nova_model.specs.State.{KernelState}
 use Rattle.nova_model.specs.Runs.{rounds}
 use Rattle.nova_command.specs.declared.command.Command.{Command}
-use Rattle.nova_command.specs.declared.command.Command.TheVariants.{Run, Solo, Check, Bench}
+use Rattle.nova_command.specs.declared.command.Command.TheVariants.{Run, Solo, Check, Bench, Twin}
 use Rattle.nova_order.specs.Blocks.{IsOrder, turns}
 use Rattle.nova_order.specs.Read.{order_of}
 use Rattle.nova_order.specs.Text.{text_of}
@@ -37,6 +37,7 @@ IsOrderOf d (Run scenario name most) k old new order bytes = IsTextOf order byte
 IsOrderOf d (Solo scenario None most) k old new order bytes = (order ≡ rounds k most) × (new ≡ old) × (bytes ≡ [])
 IsOrderOf d (Solo scenario (Some name) most) k old new order bytes = IsOrderRead d name k.cpus most old new order × (bytes ≡ [])
 IsOrderOf d (Check scenario) k old new order bytes = ⊥
+IsOrderOf d (Twin name most) k old new order bytes = ⊥
 IsOrderOf d (Bench number most) k old new order bytes = (order ≡ rounds k most) × (new ≡ old) × (bytes ≡ [])
 
 -- how many turns it may have at most
@@ -44,6 +45,7 @@ abbrev pub most_turns : Command → ℕ
 most_turns (Run scenario order most) = most
 most_turns (Solo scenario order most) = most
 most_turns (Check scenario) = 0
+most_turns (Twin name most) = 0
 most_turns (Bench number most) = most
 
 -- where the run does not end quiet: an order that no file gave has all the turns that it may have
@@ -52,4 +54,5 @@ IsSpent (Run scenario name most) order = length order ≡ most
 IsSpent (Solo scenario None most) order = length order ≡ most
 IsSpent (Solo scenario (Some name) most) order = Unit {0}
 IsSpent (Check scenario) order = Unit {0}
+IsSpent (Twin name most) order = Unit {0}
 IsSpent (Bench number most) order = length order ≡ most

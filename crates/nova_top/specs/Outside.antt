@@ -4,7 +4,7 @@ use Rattle.std.specs.FinMap.{get}
 use Rattle.nova_io.specs.Faults.{Rose}
 use Rattle.nova_io.specs.Fetched.{Gave, FetchFailed, Came, CameWhole}
 use Rattle.nova_io.specs.Files.{Files, bytes_of, with_appended}
-use Rattle.nova_io.specs.Taken.{TookFor, TakeFailedFor, WentWhole, WentInPart}
+use Rattle.nova_io.specs.Taken.{Took, TakeFailed, TookFor, TakeFailedFor, WentWhole, WentInPart}
 
 -- of a depot: its files; what a fetch gave, that one failed, and how many fetches of each name failed; and the same of appends
 pub record Depots (D : Type 0) : Type 1 where
@@ -27,13 +27,15 @@ depots files gave fetch_failed fetch_faults took append_failed append_faults = r
   append_faults = append_faults;
 }
 
--- of a sink: the bytes that it took, and how many writes failed
-pub record Sinks (O : Type 0) : Type 0 where
+-- of a sink: the bytes that it took; how much a write took, that one failed, and how many failed
+pub record Sinks (O : Type 0) : Type 1 where
   pub written : O → Option (List ℕ)
+  pub took : Took O
+  pub write_failed : TakeFailed O
   pub faults : O → ℕ
 
-abbrev pub sinks : {O : Type 0} → (O → Option (List ℕ)) → (O → ℕ) → Sinks O
-sinks written faults = record { written = written; faults = faults }
+abbrev pub sinks : {O : Type 0} → (O → Option (List ℕ)) → Took O → TakeFailed O → (O → ℕ) → Sinks O
+sinks written took write_failed faults = record { written = written; took = took; write_failed = write_failed; faults = faults }
 
 -- fetches of a name failed: their count rose
 abbrev pub HasFailed : {D : Type 0} → Depots D → List ℕ → D → D → Type 0

@@ -1,5 +1,5 @@
 -- What is made before the first byte goes out.
-use Rattle.std.specs.Prelude.{◌≡◌, ℕ, ◌<◌, ◌≤◌, false, List, length, Result, Ok, Err}
+use Rattle.std.specs.Prelude.{◌≡◌, ℕ, ◌<◌, ◌≤◌, true, false, List, [], length, Option, Some, Result, Ok, Err}
 use Rattle.std.specs.List.{AllByRecursion}
 use Rattle.nova_command.specs.declared.command.Command.{Command}
 use Rattle.nova_model.specs.State.{KernelState}
@@ -12,15 +12,21 @@ use Rattle.nova_order.specs.declared.block.Block.{Block}
 use Rattle.nova_model.specs.declared.event.Event.{Event}
 use Rattle.nova_report.specs.Report.{report}
 use Rattle.nova_scenario.specs.declared.scenario.Scenario.{Scenario as ScenarioText}
-use Rattle.nova_top.specs.Causes.{IsReadFault, IsScenarioFault, IsOrderFault, ScenarioRefused, TextRefused}
-use Rattle.nova_top.specs.Made.{IsMade, ScenarioCame}
+use Rattle.nova_top.specs.Came.{Followed, ScenarioCame, SubjectsCame}
+use Rattle.nova_top.specs.Causes.{IsReadFault, IsScenarioFault, IsOrderFault, IsTwinFault, IsUnread, IsUnfollowed, IsRefusedAfter, ScenarioRefused, SubjectsRefused, TextRefused}
+use Rattle.nova_top.specs.Compared.{line_of}
+use Rattle.nova_top.specs.Made.{IsMade}
 use Rattle.nova_top.specs.Orders.{OrderCame}
 use Rattle.nova_top.specs.Outside.{Depots, HasFailed}
 use Rattle.nova_run.specs.Finished.{IsIdleLine}
 use Rattle.nova_top.specs.declared.exit.Exit.{Exit}
-use Rattle.nova_top.specs.declared.exit.Exit.TheVariants.{Done, Usage, ReadFault, Scenario, OrderFault, WriteFault, Limit, Memory}
+use Rattle.nova_top.specs.declared.exit.Exit.TheVariants.{Done, Usage, ReadFault, Scenario, OrderFault, Twin, WriteFault, Limit, Memory}
 use Rattle.nova_top.specs.declared.exit.OrderWhy.TheVariants.{Idle}
 use Rattle.nova_top.specs.declared.outcome.Outcome.{Outcome}
+use Rattle.nova_top.specs.declared.subjects.Subject.{Subject}
+use Rattle.nova_top.specs.declared.subjects.Subjects.{Subjects}
+use Rattle.nova_twin.specs.declared.side.Side.{Side}
+use Rattle.nova_twin.specs.declared.verdict.Verdict.{Verdict}
 
 -- the end that an error makes, where any other is as good as Done
 abbrev pub exit_of : {T : Type 0} → Result T Exit → Exit
@@ -42,6 +48,7 @@ IsScenarioRead d name old new (Err Usage) = ⊥
 IsScenarioRead d name old new (Err (OrderFault line why)) = ⊥
 IsScenarioRead d name old new (Err WriteFault) = ⊥
 IsScenarioRead d name old new (Err Limit) = ⊥
+IsScenarioRead d name old new (Err (Twin line why)) = ⊥
 
 -- an order that was read, or why it wasn't
 abbrev pub IsOrderReadBy : {D : Type 0} → Depots D → List ℕ → ℕ → ℕ → D → D → Result BlockList Exit → Type 0
@@ -54,6 +61,54 @@ IsOrderReadBy d name cpus most old new (Err Usage) = ⊥
 IsOrderReadBy d name cpus most old new (Err (Scenario line why)) = ⊥
 IsOrderReadBy d name cpus most old new (Err WriteFault) = ⊥
 IsOrderReadBy d name cpus most old new (Err Limit) = ⊥
+IsOrderReadBy d name cpus most old new (Err (Twin line why)) = ⊥
+
+-- a text of two guests that was read, or why it wasn't
+abbrev pub AreSubjectsRead : {D : Type 0} → Depots D → List ℕ → D → D → Result Subjects Exit → Type 0
+AreSubjectsRead d name old new (Ok subjects) = SubjectsCame d name old subjects new
+AreSubjectsRead d name old new (Err ReadFault) = HasFailed d name old new
+AreSubjectsRead d name old new (Err (Twin line why)) = SubjectsRefused d name line why old new
+AreSubjectsRead d name old new (Err Memory) = Unit {0}
+AreSubjectsRead d name old new (Err (Scenario line why)) = ⊥
+AreSubjectsRead d name old new (Err (OrderFault line why)) = ⊥
+AreSubjectsRead d name old new (Err Done) = ⊥
+AreSubjectsRead d name old new (Err Usage) = ⊥
+AreSubjectsRead d name old new (Err WriteFault) = ⊥
+AreSubjectsRead d name old new (Err Limit) = ⊥
+
+-- what was found at the number of a guest, or why it could not be followed
+abbrev pub IsFollowed : {D : Type 0} → Depots D → Subject → ℕ → D → D → Result (Option Side) Exit → Type 0
+IsFollowed d subject most old new (Ok found) = Followed d subject most old found new
+IsFollowed d subject most old new (Err ReadFault) = IsUnread d subject.scenario subject.order old new
+IsFollowed d subject most old new (Err (Scenario line why)) = ScenarioRefused d subject.scenario line why old new
+IsFollowed d subject most old new (Err (OrderFault line why)) = IsRefusedAfter d subject.scenario subject.order most line why old new
+IsFollowed d subject most old new (Err Memory) = Unit {0}
+IsFollowed d subject most old new (Err (Twin line why)) = ⊥
+IsFollowed d subject most old new (Err Done) = ⊥
+IsFollowed d subject most old new (Err Usage) = ⊥
+IsFollowed d subject most old new (Err WriteFault) = ⊥
+IsFollowed d subject most old new (Err Limit) = ⊥
+
+-- the side of the guest of a line, or why there is none
+abbrev pub IsFollowedAt : {D : Type 0} → Depots D → ℕ → Subject → ℕ → D → D → Result Side Exit → Type 0
+IsFollowedAt d line subject most old new (Ok side) = Followed d subject most old (Some side) new
+IsFollowedAt d line subject most old new (Err ReadFault) = IsUnread d subject.scenario subject.order old new
+IsFollowedAt d line subject most old new (Err (Twin at why)) = (at ≡ line) × IsUnfollowed d subject most why old new
+IsFollowedAt d line subject most old new (Err Memory) = Unit {0}
+IsFollowedAt d line subject most old new (Err (Scenario at why)) = ⊥
+IsFollowedAt d line subject most old new (Err (OrderFault at why)) = ⊥
+IsFollowedAt d line subject most old new (Err Done) = ⊥
+IsFollowedAt d line subject most old new (Err Usage) = ⊥
+IsFollowedAt d line subject most old new (Err WriteFault) = ⊥
+IsFollowedAt d line subject most old new (Err Limit) = ⊥
+
+-- two sides compared: nothing is to be appended, and the text is the line of a verdict of which this holds
+pub record IsComparison (P : Verdict → Type 0) (made : Outcome) : Type 0 where
+  pub complete : made.is_complete ≡ true
+  pub none : made.order.items ≡ []
+  pub verdict : Verdict
+  pub holds : P verdict
+  pub line : made.text.items ≡ line_of verdict
 
 -- what is said of the run over an order of turns from a state, and whether it ends quiet
 pub record IsReportOf (said : KernelState → List Event → List ℕ) (k : KernelState) (order : List ℕ) (most : ℕ) (made : Outcome) : Type 0 where
@@ -89,3 +144,4 @@ IsPrepared d command old new (Err Done) = ⊥
 IsPrepared d command old new (Err Usage) = ⊥
 IsPrepared d command old new (Err WriteFault) = ⊥
 IsPrepared d command old new (Err Limit) = ⊥
+IsPrepared d command old new (Err (Twin line why)) = IsTwinFault d command line why old new

@@ -1,5 +1,5 @@
 -- What a run that wrote its order comes to when it is taken again by one thread.
-use Rattle.std.specs.Prelude.{◌≡◌, ℕ, ◌≤◌, Bool, List, length, Some, Ok}
+use Rattle.std.specs.Prelude.{◌≡◌, ℕ, Bool, List, Some, Ok}
 use Rattle.nova_model.specs.Boot.{boot}
 use Rattle.nova_model.specs.Runs.{IsFreeOfIdle}
 use Rattle.nova_boot.specs.Boot.{scenario_of}
@@ -10,7 +10,6 @@ use Rattle.nova_order.specs.Read.{order_of}
 use Rattle.nova_order.specs.declared.block.Block.{Block}
 use Rattle.nova_scenario.specs.declared.scenario.Scenario.{Scenario}
 use Rattle.nova_top.specs.Made.{IsMade}
-use Rattle.nova_top.specs.Names.{most_of_order}
 use Rattle.nova_top.specs.Outside.{Depots}
 
 -- bytes are read as an order of a scenario, and none of its turns is idle: an order that `solo` does not refuse

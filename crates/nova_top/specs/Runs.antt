@@ -11,9 +11,9 @@ use Rattle.nova_range.specs.Statuses.{status_code}
 use Rattle.nova_range.specs.declared.status.Status.TheVariants.{Success}
 use Rattle.nova_origins.specs.Lives.{AreGuestsAlone}
 use Rattle.nova_revocation.specs.Along.{HasEvent}
-use Rattle.nova_revocation.specs.Whole.{HasEnded}
+use Rattle.nova_revocation.specs.Called.{HasEndedAsCalled}
 use Rattle.nova_command.specs.declared.command.Command.{Command}
-use Rattle.nova_command.specs.declared.command.Command.TheVariants.{Run, Solo, Check, Bench}
+use Rattle.nova_command.specs.declared.command.Command.TheVariants.{Run, Solo, Check, Bench, Twin}
 use Rattle.nova_model.specs.declared.event.Event.{Event}
 use Rattle.nova_report.specs.Report.{report}
 use Rattle.nova_report.specs.Summary.{summary}
@@ -29,12 +29,14 @@ abbrev pub said_by : Command → KernelState → List Event → List ℕ
 said_by (Run scenario order most) = report
 said_by (Solo scenario order most) = report
 said_by (Check scenario) = report
+said_by (Twin name most) = report
 said_by (Bench number most) = summary number
 
 -- a run of a command from a state: there is an order of turns, which is the command's; none of its turns is idle; and the text is what
 -- the command says of the run over it with its trace. The run is complete exactly where it ends quiet. The order has no more turns than the command
 -- allows, and each is of a processor that is there. After each part of it, from the first turn on, delegations are a sound forest. And each of its turns
--- whose event answers SUCCESS to a revoke ends one that ran, with nothing left of its scope: no descendant of what was revoked. And each virtual CPU that
+-- whose event answers SUCCESS to a revoke ends the one that was called in an earlier turn, of the range and with the flag that the caller's registers had then,
+-- with nothing left of it: nobody reaches by what comes from the revoker what the range led to. And each virtual CPU that
 -- was made at one of its turns is a guest alone from then on: its view at the end, its exits and its bytes are what the guest alone makes of its inputs.
 pub record IsRun {D : Type 0} (d : Depots D) (command : Command) (k : KernelState) (old new : D) (complete : Bool) (bytes text : List ℕ) : Type 0 where
   pub order : List ℕ
@@ -46,12 +48,13 @@ pub record IsRun {D : Type 0} (d : Depots D) (command : Command) (k : KernelStat
   pub within : length order ≤ most_turns command
   pub processors : AllByRecursion (λ cpu. cpu < k.cpus) order
   pub forests : (before after : List ℕ) → before ++ after ≡ order → IsForest (run k before).delegations
-  pub revokes : (before after : List ℕ) (cpu ec : ℕ) → before ++ cpu ∷ after ≡ order → IsReturned (run k before) cpu ec → HasEnded (run k before) cpu ec
+  pub revokes : (before after : List ℕ) (cpu ec : ℕ) → before ++ cpu ∷ after ≡ order → IsReturned (run k before) cpu ec → HasEndedAsCalled k before cpu ec
   pub guests : AreGuestsAlone k order
 
--- what a command makes of the boot state: check says that the scenario is valid, and any other command runs it
+-- what a command of one scenario makes of the boot state: check says that the scenario is valid, and any other runs it
 abbrev pub IsDone : {D : Type 0} → Depots D → Command → KernelState → D → D → Bool → List ℕ → List ℕ → Type 0
 IsDone d (Run scenario order most) k old new complete bytes text = IsRun d (Run scenario order most) k old new complete bytes text
 IsDone d (Solo scenario order most) k old new complete bytes text = IsRun d (Solo scenario order most) k old new complete bytes text
 IsDone d (Check scenario) k old new complete bytes text = (complete ≡ true) × (text ≡ codes "ok\n") × (new ≡ old) × (bytes ≡ [])
 IsDone d (Bench number most) k old new complete bytes text = IsRun d (Bench number most) k old new complete bytes text
+IsDone d (Twin name most) k old new complete bytes text = ⊥

@@ -1,11 +1,13 @@
 ghost use Rattle.std.specs.Prelude.{◌≡◌};
-ghost use Rattle.nova_top.specs.Exit.{status_of, of_words, of_scenario_fetch, of_order_fetch};
+ghost use Rattle.nova_top.specs.Exit.{status_of, of_words, of_scenario_fetch, of_order_fetch, of_subjects_fetch, at_line};
 
+use crate::subjects::SubjectsFault;
 use nova_command::CommandFault;
 use nova_io::FetchFault;
 use nova_order::OrderFault;
 use nova_run::RunFault;
 use nova_scenario::{ScenarioFault, Why};
+use nova_twin::CollectFault;
 use std::alloc::AllocError;
 use std::io::ErrorKind;
 use thiserror::Error;
@@ -54,18 +56,42 @@ pub enum OrderWhy {
     TooLong,
 }
 
+/// Why two guests are not compared.
+#[derive(Clone, Copy, Debug, PartialEq, Eq, Error)]
+pub enum TwinWhy {
+    /// The text does not name two guests.
+    #[error("Syntax")]
+    Syntax,
+
+    /// No virtual CPU has the number at the end.
+    #[error("Guest")]
+    Guest,
+
+    /// The line's scenario is refused, at this line of its own.
+    #[error("{why}")]
+    Scenario { line: u64, why: ScenarioWhy },
+
+    /// The line's order is refused, at this line of its own.
+    #[error("{why}")]
+    Order { line: u64, why: OrderWhy },
+
+    /// The text is longer than 4,096 bytes.
+    #[error("TooLong")]
+    TooLong,
+}
+
 /// How a call of the program ends.
 #[derive(Clone, Copy, Debug, PartialEq, Eq, Error)]
 pub enum Exit {
-    /// The scenario is valid, and where it is run the run is quiet at its end. The text is written.
+    /// The scenario is valid, and where it is run the run is quiet at its end; or two guests were compared. The text is written.
     #[error("done")]
     Done,
 
     /// The words are no command. Nothing is written.
-    #[error("usage: nova run|solo|check|bench NAME [ORDER] [--limit N]")]
+    #[error("usage: nova run|solo|check|bench|twin NAME [ORDER] [--limit N]")]
     Usage,
 
-    /// The scenario could not be fetched, or the order. Nothing is written.
+    /// The scenario could not be fetched, or the order, or what names two guests. Nothing is written.
     #[error("read fault")]
     ReadFault,
 
@@ -76,6 +102,11 @@ pub enum Exit {
     /// The order is refused: the first line at fault, from 1, or 0 where it is too long. Nothing is written.
     #[error("order line {line}: {why}")]
     OrderFault { line: u64, why: OrderWhy },
+
+    /// Two guests are not compared: the line that names the one at fault, 3 where more than two lines are there, or 0 where the text is too
+    /// long. Nothing is written.
+    #[error("twin line {line}: {why}")]
+    Twin { line: u64, why: TwinWhy },
 
     /// The text could not be written whole. What is written is the beginning of it.
     #[error("write fault")]
@@ -129,6 +160,32 @@ impl Exit {
         }
     }
 
+    /// How a call ends whose text of two guests did not come.
+    pub(crate) fn of_subjects_fetch(fault: FetchFault) -> Exit
+        ensures { result ≡ of_subjects_fetch fault }
+    {
+        match fault {
+            FetchFault::Failed => Exit::ReadFault,
+            FetchFault::TooLong => Exit::Twin {
+                line: 0,
+                why: TwinWhy::TooLong,
+            },
+            FetchFault::Memory => Exit::Memory,
+        }
+    }
+
+    /// The end where the guest of a line is not followed.
+    pub(crate) fn at_line(self, twin: u64) -> Exit
+        ensures { result ≡ at_line twin self }
+    {
+        let why = match self {
+            Exit::Scenario { line, why } => TwinWhy::Scenario { line, why },
+            Exit::OrderFault { line, why } => TwinWhy::Order { line, why },
+            exit => return exit,
+        };
+        Exit::Twin { line: twin, why }
+    }
+
     /// The status that the program ends with.
     pub fn status(self) -> u8
         ensures { result ≡ status_of self }
@@ -142,6 +199,7 @@ impl Exit {
             Exit::WriteFault => 6,
             Exit::Limit => 7,
             Exit::Memory => 8,
+            Exit::Twin { .. } => 10,
         }
     }
 }
@@ -215,6 +273,38 @@ impl From<RunFault> for Exit {
                 why: OrderWhy::Idle,
             },
             RunFault::Memory => Exit::Memory,
+        }
+    }
+}
+
+impl From<SubjectsFault> for Exit {
+    ghost use Rattle.nova_top.specs.Exit.{of_subjects};
+
+    ghost from_gives = { λ fault exit. exit ≡ of_subjects fault };
+
+    fn from(fault: SubjectsFault) -> Exit {
+        match fault {
+            SubjectsFault::Syntax(line) => Exit::Twin {
+                line,
+                why: TwinWhy::Syntax,
+            },
+            SubjectsFault::Memory => Exit::Memory,
+        }
+    }
+}
+
+impl From<CollectFault> for Exit {
+    ghost use Rattle.nova_top.specs.Exit.{of_collect};
+
+    ghost from_gives = { λ fault exit. exit ≡ of_collect fault };
+
+    fn from(fault: CollectFault) -> Exit {
+        match fault {
+            CollectFault::OrderIdle(line) => Exit::OrderFault {
+                line,
+                why: OrderWhy::Idle,
+            },
+            CollectFault::Memory => Exit::Memory,
         }
     }
 }

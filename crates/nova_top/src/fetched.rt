@@ -3,11 +3,12 @@ ghost use Rattle.nova_io.specs.Faults.{NeverFalls, Stay};
 ghost use Rattle.nova_order.specs.Blocks.{is_within};
 ghost use Rattle.nova_scenario.specs.Sound.{IsSound};
 ghost use Rattle.nova_top.specs.Fetches.{FetchesOf};
-ghost use Rattle.nova_top.specs.Names.{most_of_scenario, most_of_order};
+ghost use Rattle.nova_top.specs.Names.{most_of_scenario, most_of_order, most_of_subjects};
 ghost use Rattle.nova_top.specs.Outside.{depots};
-ghost use Rattle.nova_top.specs.Prepared.{IsScenarioRead, IsOrderReadBy, exit_of};
+ghost use Rattle.nova_top.specs.Prepared.{IsScenarioRead, IsOrderReadBy, AreSubjectsRead, exit_of};
 
 use crate::exit::Exit;
+use crate::subjects::{Subjects, read_subjects};
 use nova_command::Name;
 use nova_io::{Depot, fetch_all};
 use nova_order::Order;
@@ -19,6 +20,9 @@ const MOST_OF_SCENARIO: u64 = 16 * 1024 * 1024;
 
 /// The most bytes of an order.
 const MOST_OF_ORDER: u64 = 64 * 1024 * 1024;
+
+/// The most bytes of a text that names two guests.
+const MOST_OF_SUBJECTS: u64 = 4096;
 
 /// Fetches a scenario and reads it.
 pub fn fetch_scenario<D: Depot>(alloc: Global, depot: &mut D, name: &Name) -> Result<Scenario, Exit>
@@ -56,4 +60,19 @@ pub fn fetch_order<D: Depot>(
         Err(fault) => return Err(Exit::of_order_fetch(fault)),
     };
     Ok(Order::read(alloc, &bytes, cpus, most)?)
+}
+
+/// Fetches a text that names two guests, and reads it.
+pub fn fetch_subjects<D: Depot>(alloc: Global, depot: &mut D, name: &Name) -> Result<Subjects, Exit>
+    ensures read { AreSubjectsRead (depots D.files D.gave D.fetch_failed D.fetch_faults D.took D.append_failed D.append_faults) name.now depot.old depot.new result }
+    ensures fetches { FetchesOf (depots D.files D.gave D.fetch_failed D.fetch_faults D.took D.append_failed D.append_faults) most_of_subjects name.now (exit_of result) depot.old depot.new }
+    ensures counts { NeverFalls (D.fetch_faults depot.old) (D.fetch_faults depot.new) }
+    ensures appends { Stay (D.append_faults depot.old) (D.append_faults depot.new) }
+    ensures files { D.files depot.new ≡ D.files depot.old }
+{
+    let bytes = match fetch_all(alloc, depot, name.as_str(), MOST_OF_SUBJECTS) {
+        Ok(bytes) => bytes,
+        Err(fault) => return Err(Exit::of_subjects_fetch(fault)),
+    };
+    Ok(read_subjects(alloc, &bytes)?)
 }

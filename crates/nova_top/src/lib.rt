@@ -5,13 +5,15 @@
 mod bench;
 mod exit;
 mod fetched;
+mod guests;
 mod main_call;
 mod outcome;
 mod prepared;
 mod replay;
 mod sending;
+mod subjects;
 
-pub use exit::{Exit, OrderWhy, ScenarioWhy};
+pub use exit::{Exit, OrderWhy, ScenarioWhy, TwinWhy};
 pub use main_call::nova_main;
 pub use nova_run::{Gate, Open};
 pub use replay::a_written_order_gives_the_same_report;

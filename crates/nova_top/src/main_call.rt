@@ -1,9 +1,8 @@
 ghost use Rattle.std.specs.Prelude.{◌≡◌, ◌⊎◌, map, string_bytes, None, IfSome};
 ghost use Rattle.nova_command.specs.Command.{command, HasBounds};
 ghost use Rattle.nova_top.specs.Exit.{IsUnwritten};
-ghost use Rattle.nova_top.specs.Fetches.{Calls, HasFiles, AllOthersStay, appended_before};
+ghost use Rattle.nova_top.specs.Fetches.{Calls, HasFiles, AllOthersStay, OtherFetchesStay, appended_before};
 ghost use Rattle.nova_top.specs.Main.{Answers};
-ghost use Rattle.nova_top.specs.Names.{names_of};
 ghost use Rattle.nova_top.specs.Outside.{depots, sinks};
 ghost use Rattle.nova_top.specs.Servable.{IsServable, IsDoneOrStopped};
 
@@ -27,12 +26,12 @@ fn serve<R: Threads + Wait + Sync, D: Depot, O: Sink, G: Gate + Sync>(
     gate: &G,
 ) -> Exit
     requires { HasBounds command.now }
-    ensures answer { Answers (depots D.files D.gave D.fetch_failed D.fetch_faults D.took D.append_failed D.append_faults) (sinks O.written O.faults) command.now result depot.old depot.new out.old out.new }
-    ensures complete { IsServable (depots D.files D.gave D.fetch_failed D.fetch_faults D.took D.append_failed D.append_faults) (sinks O.written O.faults) command.now depot.old depot.new out.old out.new
+    ensures answer { Answers (depots D.files D.gave D.fetch_failed D.fetch_faults D.took D.append_failed D.append_faults) (sinks O.written O.took O.write_failed O.faults) command.now result depot.old depot.new out.old out.new }
+    ensures complete { IsServable (depots D.files D.gave D.fetch_failed D.fetch_faults D.took D.append_failed D.append_faults) (sinks O.written O.took O.write_failed O.faults) command.now depot.old depot.new out.old out.new
         → IsDoneOrStopped result }
     ensures unwritten { IsUnwritten result → out.new ≡ out.old }
     ensures calls { Calls (depots D.files D.gave D.fetch_failed D.fetch_faults D.took D.append_failed D.append_faults) command.now result depot.old depot.new }
-    ensures others { AllOthersStay D.fetch_faults (names_of command.now) depot.old depot.new }
+    ensures others { OtherFetchesStay (depots D.files D.gave D.fetch_failed D.fetch_faults D.took D.append_failed D.append_faults) command.now depot.old depot.new }
     ensures appends { AllOthersStay D.append_faults (appended_before result command.now) depot.old depot.new }
     ensures files { HasFiles (depots D.files D.gave D.fetch_failed D.fetch_faults D.took D.append_failed D.append_faults) command.now result depot.old depot.new }
 {
@@ -44,7 +43,7 @@ fn serve<R: Threads + Wait + Sync, D: Depot, O: Sink, G: Gate + Sync>(
 
 /// The top call: does the command that the words ask for, over the depot's files, and writes its text
 /// to `out`. The words are those after the program's own name: `run SCENARIO ORDER`, `solo SCENARIO`, `solo SCENARIO ORDER`,
-/// `check SCENARIO` or `bench NUMBER`, with `--limit N` anywhere among them, from 1 to 10,000,000 turns, 1,000,000
+/// `check SCENARIO`, `bench NUMBER` or `twin NAME`, with `--limit N` anywhere among them, from 1 to 10,000,000 turns, 1,000,000
 /// where it isn't given. NUMBER is from 1 to 90,000.
 ///
 /// `run` runs the scenario from its boot state with a thread for each processor. Whatever the threads did, there is one order of turns:
@@ -57,17 +56,29 @@ fn serve<R: Threads + Wait + Sync, D: Depot, O: Sink, G: Gate + Sync>(
 /// exits and the bytes that it stores to consoles are what its view then and its inputs since come to. The answer is Done exactly where the run ends quiet, and Limit exactly where it
 /// doesn't; it has then taken N turns, unless the order was read. `check` writes `ok` and answers Done.
 ///
+/// `twin` fetches NAME, a text of two lines `SCENARIO ORDER GUEST`, runs the scenario of each over its order, of at most N turns, and follows
+/// the virtual CPU of that number from the turn that made it on. It writes one line, appends nothing, and answers Done: `equal I frames F`
+/// exactly where some renaming of frames, RAM for RAM and a console for a console, makes the two views at birth and all inputs agree, I on each
+/// side and F pairs of frames in all; `views` exactly where none makes the views agree; `differ I` exactly where one makes the views and the first I
+/// inputs agree, and none does so for one more, or one side has no more and the other has. Where they are equal, the two views at the end agree
+/// under those pairs of frames, the exits are equal, and the bytes that go to consoles are equal but for the consoles' frames.
+///
 /// Other answers, in this order: Usage exactly where the words are no command. ReadFault only where the
-/// count of failed fetches of SCENARIO rose in this call, or, after a valid scenario, that of the ORDER of `solo`.
+/// count of failed fetches of SCENARIO rose in this call, or, after a valid scenario, that of the ORDER of `solo`; or that of NAME, or of a name in it
+/// in its line's turn.
 /// Scenario exactly where the bytes that came are no scenario, with the first line at fault and why, or
 /// are more than 16 MiB, with line 0. OrderFault exactly where the order's bytes are no order of the
 /// scenario's processors and of at most N turns, with the first line at fault and why; or the first
-/// idle turn is one of that line; or they are more than 64 MiB, with line 0. WriteFault only where the
+/// idle turn is one of that line; or they are more than 64 MiB, with line 0. Twin exactly where the text that came does not name two guests, with the
+/// first line at fault; or is of more than 4,096 bytes, with line 0; or else a line's scenario is refused, or its order, or no virtual CPU has its number at the end of its
+/// run: the first line where one of these is so, and the first of them. WriteFault only where the
 /// sink's count of faults rose in this call, or that of failed appends to the ORDER of `run`. Memory may come in place of each.
 ///
 /// With Done or Limit order and text are out whole. With WriteFault the order is, and a part of the text from its first byte on; or a part of the
 /// order is, from its first byte on, and the sink is as before; both are those of one run. Else nothing is appended, and the sink is as before.
-/// SCENARIO is fetched first, and the ORDER of `solo` only after a valid scenario, each
+/// Writes of the text are all that is done to the sink, each of all that is left, and one that fails is the last.
+/// SCENARIO is fetched first, and the ORDER of `solo` only after a valid scenario; NAME before the scenario and the order of its first line, and these
+/// before those of the second, which are fetched only once the first guest is followed; each
 /// up to the fetch that failed where the answer is ReadFault; nothing else is fetched. Where the words
 /// are no command, the depot is as before. Its files stay but for what `run` appends to ORDER, and the counts of other names always stay.
 ///
@@ -85,14 +96,14 @@ pub fn nova_main<R: Threads + Wait + Sync, D: Depot, O: Sink, G: Gate + Sync>(
     ensures untouched { command (map string_bytes words.now) ≡ None → (depot.new ≡ depot.old) × (out.new ≡ out.old) }
     ensures unwritten { IsUnwritten result → out.new ≡ out.old }
     ensures answer { IfSome (command (map string_bytes words.now)) (λ command.
-        Answers (depots D.files D.gave D.fetch_failed D.fetch_faults D.took D.append_failed D.append_faults) (sinks O.written O.faults) command result depot.old depot.new out.old out.new) }
+        Answers (depots D.files D.gave D.fetch_failed D.fetch_faults D.took D.append_failed D.append_faults) (sinks O.written O.took O.write_failed O.faults) command result depot.old depot.new out.old out.new) }
     ensures complete { IfSome (command (map string_bytes words.now)) (λ command.
-        IsServable (depots D.files D.gave D.fetch_failed D.fetch_faults D.took D.append_failed D.append_faults) (sinks O.written O.faults) command depot.old depot.new out.old out.new
+        IsServable (depots D.files D.gave D.fetch_failed D.fetch_faults D.took D.append_failed D.append_faults) (sinks O.written O.took O.write_failed O.faults) command depot.old depot.new out.old out.new
         → IsDoneOrStopped result) }
     ensures calls { IfSome (command (map string_bytes words.now)) (λ command.
         Calls (depots D.files D.gave D.fetch_failed D.fetch_faults D.took D.append_failed D.append_faults) command result depot.old depot.new) }
     ensures others { IfSome (command (map string_bytes words.now)) (λ command.
-        AllOthersStay D.fetch_faults (names_of command) depot.old depot.new) }
+        OtherFetchesStay (depots D.files D.gave D.fetch_failed D.fetch_faults D.took D.append_failed D.append_faults) command depot.old depot.new) }
     ensures appends { IfSome (command (map string_bytes words.now)) (λ command.
         AllOthersStay D.append_faults (appended_before result command) depot.old depot.new) }
     ensures files { IfSome (command (map string_bytes words.now)) (λ command.

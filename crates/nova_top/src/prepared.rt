@@ -9,6 +9,7 @@ ghost use Rattle.nova_top.specs.Prepared.{IsPrepared, exit_of};
 use crate::bench::bench_scenario;
 use crate::exit::Exit;
 use crate::fetched::{fetch_order, fetch_scenario};
+use crate::guests::twin;
 use crate::outcome::{
     Outcome, run_alone, run_in_order, run_rounds, run_together, summed_up, valid,
 };
@@ -145,5 +146,6 @@ pub fn prepare<R: Threads + Wait + Sync, D: Depot, G: Gate + Sync>(
         } => solo_in_order(alloc, depot, scenario, order, *limit),
         Command::Check { scenario } => check(alloc, depot, scenario),
         Command::Bench { number, limit } => bench(rt, alloc, depot, *number, *limit, gate),
+        Command::Twin { subjects, limit } => twin(alloc, depot, subjects, *limit),
     }
 }

@@ -25,7 +25,10 @@ fn send_order<D: Depot>(command: &Command, depot: &mut D, order: &[u8]) -> Resul
             order: name,
             limit: _,
         } => append_all(depot, name.as_str(), order),
-        Command::Solo { .. } | Command::Check { .. } | Command::Bench { .. } => Ok(()),
+        Command::Solo { .. }
+        | Command::Check { .. }
+        | Command::Bench { .. }
+        | Command::Twin { .. } => Ok(()),
     }
 }
 
@@ -36,7 +39,7 @@ pub fn send<D: Depot, O: Sink>(
     depot: &mut D,
     out: &mut O,
 ) -> Exit
-    ensures sent { IsSent (depots D.files D.gave D.fetch_failed D.fetch_faults D.took D.append_failed D.append_faults) (sinks O.written O.faults) command.now outcome.now result depot.old depot.new out.old out.new }
+    ensures sent { IsSent (depots D.files D.gave D.fetch_failed D.fetch_faults D.took D.append_failed D.append_faults) (sinks O.written O.took O.write_failed O.faults) command.now outcome.now result depot.old depot.new out.old out.new }
     ensures fetches { Stay (D.fetch_faults depot.old) (D.fetch_faults depot.new) }
     ensures others { AllOthersStay D.append_faults (appended_names command.now) depot.old depot.new }
 {

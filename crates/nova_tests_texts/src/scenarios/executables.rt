@@ -41,6 +41,32 @@ static OTHERS: [(&[u8], u64, Why); 10] = [
     (b"image entry elf\nend", 5, Syntax),
 ];
 
+/// What stands after an executable at 0 that takes 8 bytes, of which 4 are zeros.
+static SHARING: [(&[u8], u64, Why); 6] = [
+    (b"image 0 hex\n00000000\nend", 10, Overlap),
+    (b"image 4 hex\n00000000\nend", 10, Overlap),
+    (
+        b"image 8 hex\n00000000\nend\nimage 8 asm\nnop\nend",
+        13,
+        Overlap,
+    ),
+    (
+        b"image 4 elf\n7f454c460101010000000000000000000200f3000100000000000000340000000000000000000000340020000100000000000000010000005400000000000000000000000400000008000000050000000400000073001000\nend",
+        10,
+        Overlap,
+    ),
+    (
+        b"image 4 elf\n7f454c460101010000000000000000000200f3000100000000000000340000000000000000000000340020000100000000000000010000005400000000000000000000000400000000100000050000000400000073001000\nend",
+        10,
+        Range,
+    ),
+    (
+        b"image 4 elf\n7f454c4601010100000000000000000002003e000100000000000000340000000000000000000000340020000100000000000000010000005400000000000000000000000400000000100000050000000400000073001000\nend",
+        10,
+        Elf(Machine),
+    ),
+];
+
 /// A scenario with such parts after its settings.
 fn text_of(alloc: Global, parts: &[&[u8]]) -> Result<Vec<u8>, AllocError> {
     let mut text = Vec::from_slice(alloc, ENTRY)?;
@@ -78,6 +104,39 @@ fn executables_have_faults(rt: HostRuntime) -> Result<(), Fail> {
 #[test]
 fn blocks_of_executables_have_faults(rt: HostRuntime) -> Result<(), AllocError> {
     assert_faults(&rt, rt.alloc(), ENTRY, &OTHERS)
+}
+
+/// The settings and the executable.
+fn before(alloc: Global) -> Result<Vec<u8>, AllocError> {
+    text_of(alloc, &[b"image 0 elf\n", EBREAK, b"\nend\n"])
+}
+
+#[test]
+fn zero_filled_bytes_are_shared_with_none(rt: HostRuntime) -> Result<(), AllocError> {
+    let text = before(rt.alloc())?;
+    assert_faults(&rt, rt.alloc(), &text, &SHARING)
+}
+
+#[test]
+fn digits_are_of_either_case_and_lines_of_any_length(rt: HostRuntime) -> Result<(), Fail> {
+    let text = text_of(
+        rt.alloc(),
+        &[
+            b"image 8 elf\n7F454c46 01 0101 # ELF\n\n",
+            b"0000000000000000000200F3000100000000000000\n34000000000000000000000034002000010000000000000001000000\r\n",
+            b"\t5400000001000000000000000400000008000000050000000400000073001000\nend",
+        ],
+    )?;
+    let scenario = read(rt.alloc(), &text)?;
+    let bytes = [0x73, 0, 0x10, 0, 0, 0, 0, 0];
+    assert!(rt; scenario.pc == 8);
+    assert_images(
+        &rt,
+        rt.alloc(),
+        scenario.images.as_slice(),
+        &[(9, bytes.as_slice())],
+    );
+    Ok(())
 }
 
 #[test]

@@ -8,4 +8,4 @@ use Rattle.nova_command.proofs.laws.commands.Goals as goal
 
 pub returns : goal.returns
 unfolding command given limit_of size_of number clap_on_literals
-returns c = record { run = refl; run_limit = refl; bench = refl; bench_limit = refl; bench_most = refl; solo = refl; order = refl; check = refl; limit = refl; order_limit = refl; limit_between = refl; zeros = refl; hexadecimal = refl; option_first = refl; most = refl; check_limit = refl; dashes = refl }
+returns c = record { run = refl; run_limit = refl; bench = refl; bench_limit = refl; bench_most = refl; twin = refl; twin_limit = refl; solo = refl; order = refl; check = refl; limit = refl; order_limit = refl; limit_between = refl; zeros = refl; hexadecimal = refl; option_first = refl; most = refl; check_limit = refl; dashes = refl }

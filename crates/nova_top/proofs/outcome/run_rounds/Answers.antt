@@ -1,7 +1,6 @@
 use Rattle.std.proofs.Common.{◌≡◌, ap, ◌∙◌, arith, rules}
 use Rattle.nova_kernel.specs.Views.{KernelView}
 use Rattle.nova_model.specs.Boot.{boot}
-use Rattle.nova_model.specs.State.{KernelState}
 use Rattle.nova_boot.specs.Boot.{scenario_of}
 use Rattle.nova_top.proofs.Reports.{boot_turns, rounds_from, rounds_spent}
 use Rattle.nova_top.proofs.outcome.run_rounds.Goals as goal

@@ -1,4 +1,4 @@
-use Rattle.std.proofs.Common.{◌≡◌, List, sym, subst, IfErr, Result, rules}
+use Rattle.std.proofs.Common.{◌≡◌, sym, subst, IfErr, Result, rules}
 use Rattle.nova_model.specs.Boot.{boot}
 use Rattle.nova_boot.specs.Boot.{scenario_of}
 use Rattle.nova_order.specs.Blocks.{IsOrder}

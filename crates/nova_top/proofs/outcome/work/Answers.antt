@@ -1,6 +1,5 @@
 use Rattle.std.proofs.Common.{◌≡◌, ap, ◌∙◌, arith, rules}
 use Rattle.nova_kernel.specs.Views.{KernelView}
-use Rattle.nova_model.specs.Boot.{boot}
 use Rattle.nova_boot.specs.Boot.{scenario_of}
 use Rattle.nova_top.proofs.Reports.{boot_turns, boot_cpus}
 use Rattle.nova_top.proofs.outcome.work.Goals as goal

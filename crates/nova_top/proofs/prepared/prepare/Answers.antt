@@ -1,4 +1,4 @@
-use Rattle.std.proofs.Common.{◌≡◌, [], sym, subst}
+use Rattle.std.proofs.Common.{[], sym, subst}
 use Rattle.nova_command.specs.declared.command.Command.{Command}
 use Rattle.nova_top.specs.Fetches.{Fetches}
 use Rattle.nova_top.specs.Outside.{depots}

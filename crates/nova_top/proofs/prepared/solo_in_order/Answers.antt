@@ -22,4 +22,4 @@ returns-clause-prepared g c =
     (subst (λ (n : ℕ). OrderCame (depots g.D.Depot.files g.D.Depot.gave g.D.Depot.fetch_failed g.D.Depot.fetch_faults g.D.Depot.took g.D.Depot.append_failed g.D.Depot.append_faults) c.args.order.now c.in_ok-scenario.scenario.cpus n c.fetch_scenario.new.depot c.in_ok-order.order.blocks c.fetch_order.new.depot)
     same c.in_ok-order.ensures.read)
     c.run_in_order.ensures.report c.run_in_order.ensures.idle c.run_in_order.ensures.order
-    (record { forests = c.delegations_stay_a_forest.ensures; revokes = c.a_returned_revoke_left_nothing.ensures.reached; guests = c.virtual_cpus_are_guests_alone_from_their_birth.ensures })
+    (record { forests = c.delegations_stay_a_forest.ensures; revokes = c.a_returned_revoke_left_nothing.ensures.called; guests = c.virtual_cpus_are_guests_alone_from_their_birth.ensures })

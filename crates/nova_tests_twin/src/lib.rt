@@ -1,0 +1,5 @@
+//! Tests of two guests compared.
+#![tactic(auto)]
+
+#[cfg(test)]
+mod twins;

@@ -1,0 +1,5 @@
+pub mod Sides
+pub mod Comparison
+pub mod Steps
+pub mod Follows
+pub mod Passes

@@ -1,0 +1,118 @@
+ghost use Rattle.std.specs.Prelude.{◌≡◌, ◌<◌, IfOk, OnOk};
+ghost use Rattle.nova_twin.specs.Follows.{IsClosed, IsTakable, is_virtual, met, noted, nothing, seen};
+
+use crate::side::Side;
+use nova_guest::{Guest, Input, alone};
+use nova_kernel::{EcKind, Kernel, Object};
+use std::alloc::{AllocError, Global};
+use std::marker::Model;
+
+/// What is known so far of a virtual CPU that is followed: its view at its birth, and its inputs since.
+#[derive(Drop)]
+pub(crate) struct Trail {
+    start: Option<Guest>,
+    inputs: Vec<Input>,
+}
+
+impl Model for Trail {
+    ghost use Rattle.nova_twin.specs.Follows.{Followed};
+
+    ghost Value = { Followed };
+
+    ghost view = { λ t. record { start = t.start; inputs = t.inputs.items } };
+}
+
+/// Whether a virtual CPU has the number.
+fn is_virtual(kernel: &Kernel, guest: u32) -> bool
+    ensures { result ≡ is_virtual kernel.now.state guest }
+{
+    match kernel.object(guest) {
+        Some(
+            Object::Ec {
+                kind: EcKind::Vcpu,
+                ..
+            },
+        ) => true,
+        _ => false,
+    }
+}
+
+/// The view of the virtual CPU of a number; none where there is none. It refuses for want of memory alone.
+fn view_of(alloc: Global, kernel: &Kernel, guest: u32) -> Result<Option<Guest>, AllocError>
+    ensures { IfOk result (λ v. v ≡ seen kernel.now.state guest) }
+{
+    if !is_virtual(kernel, guest) {
+        return Ok(None);
+    }
+    Ok(Some(kernel.view(alloc, guest)?))
+}
+
+/// What a processor's next turn is for the virtual CPU of a number; nothing where there is none. It refuses
+/// for want of memory alone.
+pub(crate) fn input_of(
+    alloc: Global,
+    kernel: &Kernel,
+    cpu: u32,
+    guest: u32,
+) -> Result<Option<Input>, AllocError>
+    requires { cpu < kernel.now.state.cpus }
+    ensures { IfOk result (λ i. i ≡ met kernel.now.state cpu guest) }
+{
+    if !is_virtual(kernel, guest) {
+        return Ok(None);
+    }
+    kernel.input(alloc, cpu, guest)
+}
+
+impl Trail {
+    /// Nothing is known.
+    pub(crate) fn new(alloc: Global) -> Trail
+        ensures { result ≡ nothing }
+    {
+        Trail {
+            start: None,
+            inputs: Vec::new(alloc),
+        }
+    }
+
+    /// Where its memory comes from.
+    pub(crate) fn alloc(&self) -> Global {
+        *self.inputs.allocator()
+    }
+
+    /// Notes a turn that was this for it and came to the kernel's state. It refuses for want of memory
+    /// alone.
+    pub(crate) fn note(
+        &mut self,
+        kernel: &Kernel,
+        guest: u32,
+        input: Option<Input>,
+    ) -> Result<(), AllocError>
+        ensures { OnOk result (self.new ≡ noted self.old kernel.now.state guest input) }
+    {
+        if self.start.is_none() {
+            self.start = view_of(self.alloc(), kernel, guest)?;
+        } else if let Some(input) = input {
+            self.inputs.push(input)?;
+        }
+        Ok(())
+    }
+
+    /// The side that comes of it; none where it was never there. It refuses for want of memory alone.
+    pub(crate) fn close(self) -> Result<Option<Side>, AllocError>
+        requires { IsTakable self }
+        ensures { IfOk result (IsClosed self) }
+    {
+        let Trail { start, inputs } = self;
+        let Some(start) = start else {
+            return Ok(None);
+        };
+        let (end, outs) = alone(*inputs.allocator(), start.copy()?, inputs.as_slice())?;
+        Ok(Some(Side {
+            start,
+            inputs,
+            end,
+            outs,
+        }))
+    }
+}
