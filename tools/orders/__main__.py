@@ -1,0 +1,202 @@
+"""Runs a scenario over many orders of turns.
+
+python3 tools/orders explore SCENARIO [--by WHAT].. [--output FOLDER]
+python3 tools/orders expect SCENARIO --never PATTERN | --always PATTERN ..
+python3 tools/orders shrink SCENARIO ORDER --keep PATTERN [--search N] [--output FILE]
+
+Which orders the first two try: [--switches K] [--random N] [--seed S] [--weights W,..] [--lengths A-B]
+All take [--turns N] [--jobs N] [--program FILE] [--progress].
+"""
+
+from __future__ import annotations
+
+import signal
+import sys
+import tempfile
+from pathlib import Path
+
+from asking import Ask, parser
+from choice import Choice, Wanted
+from longest import Scout
+from outcome import Outcome, outcome_of
+from pool import Pool
+from program import DONE, End, Program, Stopped, Trouble, find_program, processors_of
+from sample import Habits
+from shared import Fault, counted, read_order, read_report
+from shrinking import Shrinker, search_simpler
+from tally import Tally
+from telling import Progress, outcome_texts, size_of, write_orders
+from turns import Block, Blocks, text_of, turns_of
+
+BROKEN, REFUSED, INTERRUPTED = 1, 3, 130
+
+
+class Work:
+    """One command: the program, the threads that start it, and what is told meanwhile."""
+
+    def __init__(self, ask: Ask, folder: Path) -> None:
+        path = find_program(ask.program, ask.scenario)
+        self.ask = ask
+        self.program = Program(path, ask.scenario, folder, ask.jobs)
+        self.scout = Scout(self.program, processors_of(ask.scenario.read_text(errors="replace")))
+        self.pool = Pool(ask.jobs)
+        self.progress = Progress(sys.stderr, ask.progress)
+
+    def do(self) -> int:
+        """Does what was asked for, and gives the status."""
+        try:
+            match self.ask.command:
+                case "explore":
+                    return self.explore()
+                case "expect":
+                    return self.expect()
+                case _:
+                    return self.shrink()
+        finally:
+            self.program.stop()
+            self.pool.close()
+            self.progress.end()
+
+    def wanted(self) -> Wanted:
+        """Which orders are to be tried: all with at most three changes, where nothing is said."""
+        ask = self.ask
+        weights = ask.weights or (1.0,) * self.scout.cpus
+        if len(weights) != self.scout.cpus:
+            numbers, cpus = counted(len(weights), "number", "numbers"), counted(self.scout.cpus, "processor", "processors")
+            raise Trouble(f"--weights has {numbers}, the scenario {cpus}")
+        return Wanted(ask.turns, ask.changes, ask.random, ask.seed, Habits(weights, *ask.lengths))
+
+    def explore(self) -> int:
+        """Groups the orders by outcome. At an interrupt all is told that was found so far."""
+        tally: Tally[Outcome] = Tally()
+        choice = Choice(self.wanted(), self.scout, self.pool, lambda report: outcome_of(report, self.ask.aspects))
+        status = DONE
+        try:
+            for tried in choice.orders():
+                if tried is not None:
+                    tally.add(tried.blocks, tried.verdict)
+                self.tell(f"{counted(tally.orders, 'order', 'orders')}, {counted(tally.outcomes, 'outcome', 'outcomes')}")
+        except KeyboardInterrupt:
+            status = self.interrupted()
+        self.progress.end()
+        folder = self.ask.output or Path(f"{self.ask.scenario.stem}.orders")
+        names = write_orders(tally.groups(), folder)
+        orders, outcomes = counted(tally.orders, "different order", "different orders"), counted(tally.outcomes, "outcome", "outcomes")
+        print(f"{self.ask.scenario}: {orders}, {outcomes}")
+        print("\n".join([*(f"  {line}" for line in choice.account()), *outcome_texts(tally, names)]))
+        return status
+
+    def expect(self) -> int:
+        """Tries orders until one breaks what is expected, and writes that one."""
+        choice = Choice(self.wanted(), self.scout, self.pool, self.broken)
+        number = 0
+        status = DONE
+        try:
+            for tried in choice.orders():
+                number += tried is not None
+                if tried is not None and tried.verdict is not None:
+                    self.progress.end()
+                    size = size_of(tried.blocks)
+                    print(f"orders: {tried.verdict}, by this order of {size}, number {number:,} of those tried:", file=sys.stderr)
+                    sys.stdout.write(text_of(tried.blocks))
+                    return BROKEN
+                self.tell(counted(number, "order", "orders"))
+        except KeyboardInterrupt:
+            status = self.interrupted()
+        self.progress.end()
+        print("\n".join(choice.account()), file=sys.stderr)
+        return status
+
+    def broken(self, report: str) -> str | None:
+        """Which expectation the report breaks."""
+        for pattern in self.ask.never:
+            if pattern.search(report):
+                return f"{pattern.pattern!r} is there"
+        for pattern in self.ask.always:
+            if not pattern.search(report):
+                return f"{pattern.pattern!r} is not there"
+        return None
+
+    def shrink(self) -> int:
+        """Writes the simpler order. At an interrupt that is the simplest so far."""
+        order = self.read_order()
+        turns = max(self.ask.turns, turns_of(order))
+        shrinker = Shrinker(self.scout, turns, self.keeps, lambda best: self.tell(size_of(best)))
+        status = DONE
+        is_least = False
+        try:
+            shrinker.simplify(order)
+            is_least = search_simpler(shrinker, self.pool, self.ask.search)
+            shrinker.shorten()
+        except KeyboardInterrupt:
+            status = self.interrupted()
+        self.progress.end()
+        best = shrinker.best
+        self.write(text_of(best))
+        least = "; none of all orders to rest with fewer changes has it" if is_least else ""
+        print(f"orders: {size_of(order)} became {size_of(best)}{least}", file=sys.stderr)
+        return status
+
+    def keeps(self, report: str) -> bool:
+        """Whether a report has what is to be kept."""
+        return self.ask.keep.search(report) is not None
+
+    def read_order(self) -> Blocks:
+        """The order that is to be made simpler. The program says what is wrong with one that it doesn't take."""
+        try:
+            text = self.ask.order.read_text(errors="replace")
+        except OSError as error:
+            raise Trouble(f"{self.ask.order}: {error.strerror}") from error
+        run = self.program.run_text(text)
+        if run.end is End.IDLE:
+            raise Trouble(f"{self.ask.order}: in line {run.line} the processor is idle")
+        if not self.keeps(run.report):
+            raise Trouble(f"{self.ask.order}: the report has nothing that matches {self.ask.keep.pattern!r}")
+        report = read_report(run.report)
+        order = read_order(text, report.turns, [event.place for event in report.events], [event.cpu for event in report.events])
+        lasts = [0, *order.lasts]
+        return tuple(Block(cpu, last - before) for cpu, before, last in zip(order.cpus, lasts, order.lasts))
+
+    def write(self, text: str) -> None:
+        """Writes an order to where it was asked for."""
+        if self.ask.output is None:
+            sys.stdout.write(text)
+        else:
+            self.ask.output.write_text(text)
+
+    def tell(self, text: str) -> None:
+        """Tells how far the work is."""
+        self.progress.tell(f"orders: {text}, {self.program.starts:,} starts of the program")
+
+    def interrupted(self) -> int:
+        """Ends all that is under way. A second interrupt changes nothing."""
+        signal.signal(signal.SIGINT, signal.SIG_IGN)
+        self.program.stop()
+        self.progress.end()
+        print("orders: interrupted", file=sys.stderr)
+        return INTERRUPTED
+
+
+def main(arguments: list[str]) -> int:
+    """Does one command. The status is 1 where an expectation is broken, 2 for wrong words, 3 for what cannot be done, and 130 after an
+    interrupt."""
+    top = parser()
+    words = top.parse_args(arguments)
+    if words.command == "expect" and not (words.never or words.always):
+        top.error("expect: --never or --always is wanted")
+    ask = Ask.of(words)
+    try:
+        with tempfile.TemporaryDirectory() as folder:
+            return Work(ask, Path(folder)).do()
+    except Fault as fault:
+        print(f"orders: a report of the program: {fault}", file=sys.stderr)
+        return REFUSED
+    except (Trouble, OSError) as error:
+        print(f"orders: {error}", file=sys.stderr)
+        return REFUSED
+    except (KeyboardInterrupt, Stopped):
+        return INTERRUPTED
+
+
+if __name__ == "__main__":
+    sys.exit(main(sys.argv[1:]))

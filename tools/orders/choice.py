@@ -1,0 +1,84 @@
+"""Which orders are tried, and what is said of them."""
+
+from __future__ import annotations
+
+from collections.abc import Callable, Iterator
+from dataclasses import dataclass
+from typing import Generic, TypeVar
+
+from longest import Scout
+from pool import Pool
+from program import End
+from sample import Habits, Sampler, Stops
+from search import Coverage, Search, Tried
+from shared import counted
+
+Verdict = TypeVar("Verdict")
+
+# How many orders at random are drawn before anything is taken for likely.
+FIRST = 32
+
+
+@dataclass(frozen=True, slots=True)
+class Wanted:
+    """What was asked for: at most so many turns an order, all orders with at most so many changes, so many at random with this seed."""
+
+    turns: int
+    changes: int | None
+    random: int
+    seed: int
+    habits: Habits
+
+
+class Choice(Generic[Verdict]):
+    """The orders that were asked for, and the count of those that were tried."""
+
+    def __init__(self, wanted: Wanted, scout: Scout, pool: Pool, judge: Callable[[str], Verdict]) -> None:
+        self.wanted = wanted
+        self.scout = scout
+        self.pool = pool
+        self.judge = judge
+        self.search = None if wanted.changes is None else Search(scout, pool, wanted.turns, wanted.changes, judge)
+        self.drawn = 0
+
+    def orders(self) -> Iterator[Tried[Verdict] | None]:
+        """All of them, one after another, and always in the same order. None now and then says that the work goes on."""
+        if self.search is not None:
+            for step in self.search.steps():
+                yield from step
+                yield None
+        if self.wanted.random:
+            yield from self._drawn()
+
+    def _drawn(self) -> Iterator[Tried[Verdict]]:
+        """Orders at random. What the first ones show of where processors are idle makes the others cheaper."""
+        sampler = Sampler(self.scout, self.wanted.habits, self.wanted.turns, self.wanted.seed)
+        stops: Stops = {}
+        for numbers in (range(min(FIRST, self.wanted.random)), range(FIRST, self.wanted.random)):
+            for tried in self.pool.map(lambda number: self._draw(sampler, number, stops), numbers):
+                self.drawn += 1
+                yield tried
+            stops = self.scout.stops()
+
+    def _draw(self, sampler: Sampler, number: int, stops: Stops) -> Tried[Verdict]:
+        run = sampler.draw(number, stops)
+        return Tried(run.blocks, run.end is End.QUIET, self.judge(run.report))
+
+    def account(self) -> list[str]:
+        """What was tried so far, in sentences."""
+        turns = counted(self.wanted.turns, "turn", "turns")
+        said = [] if self.search is None else _search_account(self.search.coverage, self.search.changes, turns)
+        if self.wanted.random:
+            said.append(f"{self.drawn:,} of {counted(self.wanted.random, 'order', 'orders')} at random, seed {self.wanted.seed}")
+        return said
+
+
+def _search_account(coverage: Coverage, changes: int, turns: str) -> list[str]:
+    """What a search has covered."""
+    found = ", ".join(f"{orders:,} with {number}" for number, orders in enumerate(coverage.at_rest))
+    orders = counted(sum(coverage.at_rest), "order", "orders")
+    head = f"all {orders}" if coverage.is_all else f"{orders}, not all,"
+    said = [f"{head} with at most {counted(changes, 'change', 'changes')} of processor that come to rest within {turns} ({found})"]
+    if coverage.full:
+        said.append(f"{counted(coverage.full, 'order', 'orders')} of {turns} without rest; of such orders not all were tried")
+    return said

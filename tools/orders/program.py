@@ -1,0 +1,124 @@
+"""Starts the proved program, `solo` over an order, and reads how it ended."""
+
+from __future__ import annotations
+
+import subprocess
+import threading
+from dataclasses import dataclass
+from enum import Enum
+from pathlib import Path
+from queue import SimpleQueue
+
+from turns import Blocks, text_of
+
+TOP = Path(__file__).resolve().parents[2]
+DONE, SCENARIO, ORDER, LIMIT = 0, 4, 5, 7
+IDLE = ("nova: order line ", ": Idle")
+
+
+class Trouble(Exception):
+    """What was asked for cannot be done; the text says why."""
+
+
+class Stopped(Exception):
+    """A run was broken off, since all is to end."""
+
+
+class End(Enum):
+    """How a run over an order ended."""
+
+    QUIET = "it came to rest with the last turn"
+    OPEN = "it had not come to rest after all turns"
+    IDLE = "a processor was idle in one of its turns"
+
+
+@dataclass(frozen=True, slots=True)
+class Run:
+    """A run over an order. One that met an idle processor has no report, but the line of the order in which it did."""
+
+    blocks: Blocks
+    end: End
+    report: str = ""
+    line: int = 0
+
+
+class Program:
+    """The program and a scenario. Several threads may run it at a time; each start has a file of the folder for its order."""
+
+    def __init__(self, path: Path, scenario: Path, folder: Path, at_a_time: int) -> None:
+        self.path = path
+        self.scenario = scenario
+        self.starts = 0
+        self._names: SimpleQueue[Path] = SimpleQueue()
+        for number in range(at_a_time):
+            self._names.put(folder / f"{number}.order")
+        self._lock = threading.Lock()
+        self._children: set[subprocess.Popen[str]] = set()
+        self._stopped = False
+
+    def run(self, blocks: Blocks) -> Run:
+        """The run over an order. Raises Trouble where the program ends otherwise than by rest, after all turns, or at an idle processor."""
+        return self.run_text(text_of(blocks), blocks)
+
+    def run_text(self, order: str, blocks: Blocks = ()) -> Run:
+        """The run over the text of an order, which need not be one; the blocks are kept with the run."""
+        name = self._names.get()
+        try:
+            name.write_text(order)
+            status, report, said = self._start("solo", str(self.scenario), str(name))
+        finally:
+            self._names.put(name)
+        if status in (DONE, LIMIT):
+            return Run(blocks, End.QUIET if status == DONE else End.OPEN, report)
+        before, after = IDLE
+        if status == ORDER and said.startswith(before) and said.endswith(after):
+            return Run(blocks, End.IDLE, line=int(said[len(before) : -len(after)]))
+        raise Trouble(said or f"{self.path}: status {status}")
+
+    def stop(self) -> None:
+        """Ends the runs that are under way. No further one begins."""
+        with self._lock:
+            self._stopped = True
+            for child in self._children:
+                child.kill()
+
+    def _start(self, *words: str) -> tuple[int, str, str]:
+        """Status, output and line on standard error of one start. Children hear nothing of an interrupt from the keyboard."""
+        with self._lock:
+            if self._stopped:
+                raise Stopped
+            pipe = subprocess.PIPE
+            command = [str(self.path), *words]
+            child = subprocess.Popen(command, stdin=subprocess.DEVNULL, stdout=pipe, stderr=pipe, text=True, process_group=0)
+            self._children.add(child)
+            self.starts += 1
+        report, said = child.communicate()
+        with self._lock:
+            self._children.discard(child)
+            if self._stopped:
+                raise Stopped
+        return child.returncode, report, said.strip()
+
+
+def find_program(named: Path | None, scenario: Path) -> Path:
+    """The program to start: the one that is named, or that of the repository, built where it is not there or old.
+
+    What it says of that, or of a fault of the scenario, stands on standard error. Raises Trouble where the scenario cannot be run.
+    """
+    asked = named or TOP / "nova"
+    try:
+        checked = subprocess.run([str(asked), "check", str(scenario)], stdout=subprocess.DEVNULL, check=False)
+    except OSError as error:
+        raise Trouble(f"{asked}: {error.strerror}") from error
+    if checked.returncode != DONE:
+        raise Trouble(f"{scenario} was not run")
+    return named or TOP / "crates" / "nova" / "out" / "nova"
+
+
+def processors_of(scenario: str) -> int:
+    """How many processors a scenario without a fault has."""
+    for line in scenario.splitlines():
+        tokens = line.split("#")[0].split()
+        if tokens[:1] == ["cpus"]:
+            return int(tokens[1], 16 if tokens[1].startswith("0x") else 10)
+    raise Trouble("the scenario has no line `cpus`")
