@@ -1,7 +1,7 @@
 """Draws pictures of a run from its report.
 
-python3 tools/picture run REPORT [--order FILE] [--from TURN] [--to TURN] [--fold N] [--page] [--output FILE]
-python3 tools/picture delegations REPORT [--from TURN] [--to TURN] [--fold N] [--page] [--output FILE]
+python3 tools/picture run REPORT [--order FILE] [--from TURN] [--to TURN] [--all] [--fold N] [--page] [--output FILE]
+python3 tools/picture delegations REPORT [--from TURN] [--to TURN] [--all] [--fold N] [--page] [--output FILE]
 """
 
 from __future__ import annotations
@@ -17,10 +17,12 @@ from drawing import page, svg
 from order import read_order
 from report import Fault, Report, read_report
 from run_picture import draw_run
-from scene import Scene
+from skim import LARGE, Events, find_events, shorten, turns_of
 from timeline import Window
 from tree_picture import draw_delegations
 
+# The greatest picture that is drawn without being asked for, in bytes. With more events than SURE none is within it.
+GREATEST, SURE = 5_000_000, 20_000
 # What is drawn without being cut short: turns without an event, and ranges that nothing was given from.
 TURNS, RANGES = 12, 40
 
@@ -41,10 +43,12 @@ def parser() -> argparse.ArgumentParser:
     run.add_argument("--fold", type=int, default=TURNS, metavar="N", help=f"draw more than N turns without an event short ({TURNS})")
     trees = pictures.add_parser("delegations", help="which capability range was given from which")
     trees.add_argument("--fold", type=int, default=RANGES, metavar="N", help=f"cut lists of more than N ranges ({RANGES})")
+    trees.set_defaults(order=None)
     for picture in (run, trees):
         picture.add_argument("report", type=Path, metavar="REPORT", help="the report of the run")
         picture.add_argument("--from", dest="first", type=int, metavar="TURN", help="the first turn to draw (1)")
         picture.add_argument("--to", dest="last", type=int, metavar="TURN", help="the last turn to draw (that of the run)")
+        picture.add_argument("--all", action="store_true", help="draw all turns that are asked for, also where the picture passes 5 MB")
         picture.add_argument("--page", action="store_true", help="write a page of HTML that shows a mark's line, not an SVG")
         picture.add_argument("--output", type=Path, metavar="FILE", help="where to write (standard output)")
     return top
@@ -58,25 +62,53 @@ def read_text(path: Path) -> str:
         raise Refused(f"{path}: {error.strerror}") from error
 
 
-def window_of(report: Report, words: argparse.Namespace) -> Window:
+def window_of(turns: int, words: argparse.Namespace) -> Window:
     """The turns that were asked for. All those of the run may be none."""
     first = 1 if words.first is None else words.first
-    last = report.turns if words.last is None else min(words.last, report.turns)
+    last = turns if words.last is None else min(words.last, turns)
     if (words.first is not None or words.last is not None) and not 1 <= first <= last:
         raise Refused(f"there are no turns from {first} to {last}")
     return Window(first, last)
 
 
-def draw(words: argparse.Namespace) -> Scene:
-    """The picture that the words ask for."""
-    report = faultless(words.report, lambda: read_report(read_text(words.report)))
-    window = window_of(report, words)
+def draw(words: argparse.Namespace) -> bytes:
+    """The picture that the words ask for, cut where it would be too large."""
+    text = read_text(words.report)
+    turns, events = turns_of(text), find_events(text)
+    if turns is None or events is None:
+        faultless(words.report, lambda: read_report(text))
+        raise AssertionError("a report whose events are not of the form is not read")
+    window = window_of(turns, words)
+    if not words.all and words.picture == "run" and len(events.within(window)) > SURE:
+        window = events.cut(window)
+    picture = draw_window(words, text, events, window)
+    while len(picture) > GREATEST and window.first < window.last and not words.all:
+        window = events.cut(window)
+        picture = draw_window(words, text, events, window)
+    return picture
+
+
+def read_window(words: argparse.Namespace, text: str, events: Events, window: Window) -> Report:
+    """The report, or as much of it as the window is drawn from."""
+    if len(text) >= LARGE:
+        try:
+            return read_report(shorten(text, events, window, words.picture == "delegations"))
+        except Fault:
+            pass  # The line has another number in the whole report.
+    return faultless(words.report, lambda: read_report(text))
+
+
+def draw_window(words: argparse.Namespace, text: str, events: Events, window: Window) -> bytes:
+    """The picture of the window."""
+    report = read_window(words, text, events, window)
     if words.picture == "delegations":
-        return draw_delegations(words.report.stem, report, window, words.fold)
-    order = None
-    if words.order is not None:
-        order = faultless(words.order, lambda: read_order(read_text(words.order), report))
-    return draw_run(words.report.stem, report, order, window, words.fold)
+        scene = draw_delegations(words.report.stem, report, window, words.fold)
+    else:
+        order = None
+        if words.order is not None:
+            order = faultless(words.order, lambda: read_order(read_text(words.order), report.turns, events.turns, events.cpus()))
+        scene = draw_run(words.report.stem, report, order, window, words.fold)
+    return (page(scene) if words.page else svg(scene)).encode("utf-8", "replace")
 
 
 def faultless(path: Path, read: Callable[[], Read]) -> Read:
@@ -91,12 +123,11 @@ def main(arguments: list[str]) -> int:
     """Draws one picture. The status is 1, and nothing is written, where a file can't be read or is not of its form."""
     words = parser().parse_args(arguments)
     try:
-        scene = draw(words)
-        text = (page(scene) if words.page else svg(scene)).encode("utf-8", "replace")
+        picture = draw(words)
         if words.output is None:
-            sys.stdout.buffer.write(text)
+            sys.stdout.buffer.write(picture)
         else:
-            words.output.write_bytes(text)
+            words.output.write_bytes(picture)
     except (Refused, OSError) as error:
         print(f"picture: {error}", file=sys.stderr)
         return 1

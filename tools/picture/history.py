@@ -247,8 +247,10 @@ class Replay:
                 self.turn_to(event.context, Doing.RUNS, event.place)
 
     def send(self, at: int, event: Event, lead: Lead) -> None:
-        """A call or an exit gets to its handler."""
+        """A call or an exit gets to its handler, so that one has replied to who called before, also where no event tells it."""
         handler = event.b
+        self.replying.discard(handler)
+        self.end_wait(self.caller.pop(handler, None), handler, event.place)
         self.wait_for(event.context, handler, Doing.WAITS, event.place)
         self.caller[handler] = event.context
         self.turn_to(handler, Doing.GIVES if at in self.transfers.taken else Doing.RUNS, event.place)
@@ -268,9 +270,15 @@ class Replay:
         self.replying.discard(event.context)
         self.turn_to(event.context, Doing.PARKED, event.place)
         caller = self.caller.pop(event.context, None)
-        if caller is not None:
-            self.turn_to(caller, Doing.RUNS, event.place)
+        if caller is not None and self.end_wait(caller, event.context, event.place):
             self.lead(event, event.context, caller, Lead.REPLY)
+
+    def end_wait(self, caller: int | None, handler: int, place: int) -> bool:
+        """The caller goes on, if it still waits for the handler; in a shortened report it may wait for another by now."""
+        if caller is None or self.waits_for.get(caller) != handler or self.doing[caller][0] is not Doing.WAITS:
+            return False
+        self.turn_to(caller, Doing.RUNS, place)
+        return True
 
     def lead(self, event: Event, source: int, target: int, lead: Lead, sure: bool = True) -> None:
         """An arrow in the turn of the event."""

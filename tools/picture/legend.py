@@ -7,6 +7,7 @@ from dataclasses import dataclass
 
 from scene import Item, Label, text_width
 
+TITLE_BASE, LEGEND = 26.0, 40.0
 LINE_HEIGHT = 18.0
 SAMPLE = 40.0
 GAP = 22.0
@@ -21,6 +22,14 @@ class Entry:
 
     sample: Sample
     text: str
+
+
+def place_title(title: str, note: str, x: float) -> tuple[list[Item], float]:
+    """The title, the note under it if there is one, and where the legend begins."""
+    items: list[Item] = [Label(x, TITLE_BASE, title, "title")]
+    if not note:
+        return items, LEGEND
+    return [*items, Label(x, TITLE_BASE + LINE_HEIGHT, note, "soft")], LEGEND + LINE_HEIGHT
 
 
 def place_legend(entries: list[Entry], x: float, y: float, width: float) -> tuple[list[Item], float]:

@@ -6,11 +6,12 @@ import re
 from bisect import bisect_left
 from collections.abc import Iterator
 from dataclasses import dataclass
-from itertools import accumulate
-from operator import eq
+from functools import partial
+from itertools import accumulate, compress
+from operator import eq, ne
 from typing import NoReturn
 
-from report import NUMBER, Fault, Report, text_lines
+from report import NUMBER, Fault, text_lines
 
 LINE = re.compile(rf"{NUMBER} {NUMBER}")
 
@@ -32,19 +33,22 @@ class Order:
             at += 1
 
 
-def read_order(text: str, report: Report) -> Order:
-    """The order that the text writes. Raises Fault where a line is not of the form, or where the turns are not those of the report."""
+def read_order(text: str, whole: int, turns: list[int], cpus: list[int]) -> Order:
+    """The order that the text writes. Raises Fault where a line is not of the form, or where the turns are not those of the report.
+
+    The report has `whole` turns, and says that these `turns` were on these `cpus`.
+    """
     order = _parse(text)
     if order is None:
         _refuse(text)
     lines = len(order.lasts)
-    turns = order.lasts[-1] if lines else 0
-    if turns != report.turns:
-        raise Fault(max(1, lines), f"the order has {turns} turns, the report {report.turns}")
-    for event in report.events:
-        at = bisect_left(order.lasts, event.place)
-        if order.cpus[at] != event.cpu:
-            raise Fault(at + 1, f"turn {event.place} is of processor {event.cpu} in the report")
+    last = order.lasts[-1] if lines else 0
+    if last != whole:
+        raise Fault(max(1, lines), f"the order has {last} turns, the report {whole}")
+    blocks = list(map(partial(bisect_left, order.lasts), turns))
+    differs = map(ne, map(order.cpus.__getitem__, blocks), cpus)
+    for at, turn, cpu in compress(zip(blocks, turns, cpus), differs):
+        raise Fault(at + 1, f"turn {turn} is of processor {cpu} in the report")
     return order
 
 

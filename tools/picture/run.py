@@ -5,7 +5,7 @@ from __future__ import annotations
 from collections import defaultdict
 from dataclasses import dataclass
 
-from history import Arrow, History, Lead, Span, find_history
+from history import Arrow, Doing, History, Lead, Span, find_history
 from order import Order
 from report import CapRange, Event, Kind, Report, Space
 from signs import ranks_of
@@ -46,6 +46,7 @@ def gather(report: Report, order: Order | None, window: Window) -> Run:
         if window.has(arrow.place):
             arrows[arrow.place].append(arrow)
     spans = [span for span in history.spans if span.end >= window.first and span.start < window.last]
+    spans.sort(key=lambda span: (span.context, span.doing is Doing.HELPED) if span.end > window.last else (-1, False))
     held = {cap.number: cap for cap in report.ranges}
     return Run(report, order, window, history, events, arrows, spans, held, ranks_of(report))
 

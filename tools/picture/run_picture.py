@@ -8,7 +8,7 @@ from dataclasses import dataclass, field
 
 import scene
 from history import Arrow, Doing, Lead, Span
-from legend import place_legend
+from legend import place_legend, place_title
 from objects import ROOT
 from order import Order
 from report import Context, Event, Report
@@ -27,6 +27,8 @@ BETWEEN = 18.0
 HEAD = 62.0
 # With more execution contexts than this, only those that something happens to are drawn.
 MOST_LANES = 32
+# With at least so many lanes their heads are far from the rows, and the name of a lane stands beside each mark.
+WIDE = 20
 
 
 @dataclass(slots=True)
@@ -48,12 +50,14 @@ def draw_run(name: str, report: Report, order: Order | None, window: Window, fol
     text_x = lanes.right + BETWEEN
     widest = max(map(text_width, [*texts, _fold_text(report.turns)]))
     title = f"{name}: {title_of(run)}"
-    width = max(LEAST_WIDTH, text_x + widest + MARGIN, text_width(title, TITLE) + 2 * MARGIN)
+    note = window.note(report.turns)
+    width = max(LEAST_WIDTH, text_x + widest + MARGIN, max(text_width(title, TITLE), text_width(note)) + 2 * MARGIN)
     picture = Scene(title, width)
-    legend, below = place_legend(list(run_entries(run)), MARGIN, 40, width - 2 * MARGIN)
+    titles, above = place_title(title, note, MARGIN)
+    legend, below = place_legend(list(run_entries(run)), MARGIN, above, width - 2 * MARGIN)
     head = below + 12
     timeline = Timeline([event.place for event, _ in run.events], window, fold, head + HEAD)
-    picture.items += [Label(MARGIN, 26, title, "title"), *legend]
+    picture.items += [*titles, *legend]
     picture.items += _folds(timeline, width, text_x)
     if order is not None:
         picture.items += draw_strips(order, timeline, lanes.strips)
@@ -174,6 +178,7 @@ def _row(event: Event, payers: frozenset[int], text: str, run: Run, lanes: Lanes
         Line(max([x, *ends]) + 12, y, text_x - 6, y, "guide"),
         *(_arrow(arrow, lanes, y) for arrow in arrows),
         Mark(x, y, shape_of(event), colours_of(payers, run.ranks)),
+        *([Label(x + 12, y - 3, f"EC {event.context}", "small")] if len(lanes.lanes) >= WIDE else []),
         Label(text_x, y + 4, text),
     ]
     return Group(f"{event.line}\n{paid_by(payers)}", tuple(items))

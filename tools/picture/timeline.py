@@ -46,10 +46,18 @@ class Part:
 
 @dataclass(frozen=True, slots=True)
 class Window:
-    """The turns that are drawn, both ends included."""
+    """The turns that are drawn, both ends included. `asked` is the last turn that was asked for, where the picture is cut before it."""
 
     first: int
     last: int
+    asked: int | None = None
+
+    def note(self, turns: int) -> str:
+        """What is said of a picture that is cut; empty where it is not."""
+        if self.asked is None:
+            return ""
+        shown = f"Turns {self.first:,} to {self.last:,} of {turns:,} are drawn"
+        return f"{shown}: up to turn {self.asked:,} the picture would pass 5 MB, and --all draws it."
 
     def has(self, turn: int) -> bool:
         return self.first <= turn <= self.last

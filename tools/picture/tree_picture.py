@@ -8,7 +8,7 @@ from dataclasses import dataclass, field
 from functools import partial
 
 from drawing import colour
-from legend import Entry, place_legend
+from legend import Entry, place_legend, place_title
 from objects import Life, Objects, find_lives, find_objects
 from report import CapRange, Kind, Report, Space
 from scene import TITLE, Box, Group, Item, Label, Line, Scene, text_width
@@ -68,11 +68,13 @@ def draw_delegations(name: str, report: Report, window: Window, fold: int) -> Sc
     columns = [column for column in COLUMNS if any(column.text(forest, row.number) for row in rows)]
     xs = _column_places(forest, rows, columns)
     scene = Scene(f"{name}: {_title(report, window, forest)}")
-    scene.width = max(LEAST_WIDTH, xs[-1] - BETWEEN + MARGIN, text_width(scene.title, TITLE) + 2 * MARGIN)
+    note = window.note(report.turns)
+    titles_width = max(text_width(scene.title, TITLE), text_width(note))
+    scene.width = max(LEAST_WIDTH, xs[-1] - BETWEEN + MARGIN, titles_width + 2 * MARGIN)
     ranks = _ranks(forest)
-    scene.items.append(Label(MARGIN, 26, scene.title, "title"))
-    legend, below = place_legend(list(_entries(forest, ranks)), MARGIN, 40, scene.width - 2 * MARGIN)
-    scene.items += legend
+    titles, above = place_title(scene.title, note, MARGIN)
+    legend, below = place_legend(list(_entries(forest, ranks)), MARGIN, above, scene.width - 2 * MARGIN)
+    scene.items += [*titles, *legend]
     top = below + 14
     scene.items += [Label(x, top + 12, column.name, "soft") for x, column in zip(xs, columns)]
     scene.items += [Label(MARGIN, top + 12, "range", "soft"), Line(MARGIN, top + 18, scene.width - MARGIN, top + 18, "rule")]

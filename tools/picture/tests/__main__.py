@@ -6,6 +6,7 @@ python3 tools/picture/tests --write    writes those SVGs, to be looked at before
 
 from __future__ import annotations
 
+import re
 import subprocess
 import sys
 import tempfile
@@ -19,9 +20,13 @@ sys.path.insert(0, str(TOP))
 
 import history  # noqa: E402
 import objects  # noqa: E402
+from drawing import svg  # noqa: E402
 from order import Order, read_order  # noqa: E402
 from report import Fault, Kind, read_report  # noqa: E402
+from run_picture import draw_run  # noqa: E402
+from skim import find_events, shorten  # noqa: E402
 from timeline import Stretch, Timeline, Window  # noqa: E402
+from tree_picture import draw_delegations  # noqa: E402
 
 
 @dataclass(frozen=True)
@@ -46,6 +51,7 @@ CASES = (
     Case("turns", "run {}/turns.report --order {}/turns.order"),
     Case("turns-window", "run {}/turns.report --order {}/turns.order --from 7 --to 30 --fold 100"),
     Case("guest", "run {}/guest.report --order {}/guest.order"),
+    Case("wide", "run {}/wide.report"),
     Case("nothing", "run {}/nothing.report"),
     Case("nothing-delegations", "delegations {}/nothing.report"),
 )
@@ -97,6 +103,17 @@ ORDER_FAULTS = (
 GOOD = HEAD + EVENT + END
 
 
+REPORTS = (*sorted(HERE.glob("*.report")), *sorted(TOP.parents[1].glob("examples/*.report")))
+
+
+def calls(count: int) -> str:
+    """The report of a run that makes a handler, a portal and so many calls, of ten turns each."""
+    turns = 10 * count + 10
+    made = "at 4 0 1 answer 3 0\nat 9 0 1 answer 5 0\n"
+    pairs = "".join(f"at {turn} 0 1 begin 0 3\nat {turn + 5} 0 3 answer 1 0\n" for turn in range(12, turns, 10))
+    return f"run open {turns}\n{made}{pairs}ec 1 global ready 00000000\nec 3 local parked 00000000\nsc 2 0 {turns}\n"
+
+
 def picture(*words: str) -> subprocess.CompletedProcess[str]:
     """A run of the program."""
     return subprocess.run([sys.executable, str(TOP), *words], capture_output=True, text=True, encoding="utf-8", check=False)
@@ -140,6 +157,29 @@ class Pictures(unittest.TestCase):
                 self.assertEqual((answer.returncode, answer.stderr), (1, f"picture: {file}: {line}\n"))
                 self.assertFalse(output.exists())
 
+    def test_the_name_of_the_lane_stands_beside_each_mark_from_20_lanes_on(self) -> None:
+        for name, names in (("wide", True), ("calls", False)):
+            text = drawn(Case(name, f"run {{}}/{name}.report"))
+            rows = re.findall(r"<g><title>at \d+ \d+ (\d+) .*\n.*</title>((?:\n(?!</g>).*)*)", text)
+            self.assertGreater(len(rows), 0)
+            for context, row in rows:
+                self.assertEqual(bool(re.search(rf'<text class="small" .*>EC {context}</text>', row)), names)
+
+    def test_a_picture_above_5_mb_is_cut_and_says_so(self) -> None:
+        with tempfile.TemporaryDirectory() as folder:
+            report = Path(folder, "a.report")
+            for count, cut in ((2_000, False), (5_000, True), (11_000, True)):
+                report.write_text(calls(count))
+                turns = 10 * count + 10
+                note = f"Turns 1 to 4,997 of {turns:,} are drawn: up to turn {turns:,} the picture would pass 5 MB, and --all draws it."
+                text = picture("run", str(report)).stdout
+                self.assertEqual((note in text, "would pass" in text, len(text) < 1_000_000), (cut, cut, cut))
+                if count < 11_000:
+                    whole = picture("run", str(report), "--all").stdout
+                    self.assertEqual((whole == text, len(whole) > 5_000_000), (not cut, cut))
+            text = picture("run", str(report), "--from", "10001", "--to", "100000").stdout
+            self.assertIn("Turns 10,001 to 14,997 of 110,010 are drawn: up to turn 100,000 the picture", text)
+
     def test_other_refusals(self) -> None:
         for words, line in (
             (["run", "missing"], "picture: missing: No such file or directory\n"),
@@ -163,14 +203,58 @@ class Readers(unittest.TestCase):
             self.assertEqual(str(raised.exception), wanted)
 
     def test_faults_of_orders(self) -> None:
-        report = read_report(GOOD)
-        order = read_order("0 5\n1 4\n", report)
+        order = read_order("0 5\n1 4\n", 9, [4], [0])
         self.assertEqual(order, Order([0, 1], [5, 9]))
         self.assertEqual(list(order.within(2, 6)), [(0, 2, 5), (1, 6, 6)])
         for text, wanted in ORDER_FAULTS:
             with self.subTest(wanted), self.assertRaises(Fault) as raised:
-                read_order(text, report)
+                read_order(text, 9, [4], [0])
             self.assertEqual(str(raised.exception), wanted)
+
+
+class Windows(unittest.TestCase):
+    """Windows that are drawn from a part of the report."""
+
+    def test_a_window_is_drawn_from_a_part_as_from_the_whole(self) -> None:
+        for path in REPORTS:
+            text = path.read_text()
+            report, events = read_report(text), find_events(text)
+            if events is None:
+                self.fail(path)
+            acts = [(event.place, event.cpu) for event in report.events]
+            self.assertEqual(list(zip(events.turns, events.cpus())), acts)
+            for first in range(1, report.turns + 1, 1 + report.turns // 7):
+                for length in (1, 40):
+                    window = Window(first, min(first + length - 1, report.turns))
+                    runs, trees = (read_report(shorten(text, events, window, ranges)) for ranges in (False, True))
+                    with self.subTest(report=path.stem, window=window):
+                        self.assertEqual(svg(draw_run("", runs, None, window, 12)), svg(draw_run("", report, None, window, 12)))
+                        self.assertEqual(svg(draw_delegations("", trees, window, 40)), svg(draw_delegations("", report, window, 40)))
+
+    def test_what_is_not_drawn_is_not_built(self) -> None:
+        text = calls(20_000)
+        events, window = find_events(text), Window(100_000, 100_099)
+        if events is None:
+            self.fail(text)
+        self.assertEqual((len(events.turns), len(events.within(window))), (40_002, 20))
+        part = read_report(shorten(text, events, window, False))
+        self.assertLess(len(part.events), 20 + 3 * 4)
+
+    def test_a_fault_of_a_large_report_has_the_line_of_the_text(self) -> None:
+        text = calls(30_000)
+        lines = text.count("\n")
+        with tempfile.TemporaryDirectory() as folder:
+            report = Path(folder, "a.report")
+            for bad, line in (
+                (text + "sc 2 0 9\n", f"line {lines + 1}: number 2 does not come after 2"),
+                (text.replace("at 200002 0 ", "at 200002 1 "), "line 40002: execution context 1 was on processor 0 before"),
+                (text.replace("at 200002 0 ", "at 199997 0 "), "line 40002: turn 199997 is not after turn 199997 and"),
+                (text.replace("at 200002 0 ", "at 200002  0 "), "line 40002: not of the form of a line `at`"),
+            ):
+                report.write_text(bad)
+                answer = picture("run", str(report), "--from", "100", "--to", "199")
+                self.assertEqual((answer.returncode, answer.stdout), (1, ""))
+                self.assertIn(f"picture: {report}: {line}", answer.stderr)
 
 
 class Meaning(unittest.TestCase):
@@ -189,7 +273,7 @@ class Meaning(unittest.TestCase):
     }
 
     def test_each_context_ends_in_the_state_of_its_line(self) -> None:
-        for path in (*HERE.glob("*.report"), *TOP.parents[1].glob("examples/*.report")):
+        for path in REPORTS:
             report = read_report(path.read_text())
             replay = history.Replay(report)
             replay.follow()
