@@ -1,11 +1,10 @@
 -- Seats, and how many turns each saw.
-use Rattle.std.proofs.Common.{◌≡◌, ◌≢◌, ⊎_elim, ℕ, zero, suc, ◌+◌, ◌<◌, ◌≤◌, List, [], ◌∷◌, ◌++◌, length, drop, refl, ap, sym, ◌∙◌, arith, All, subst, slice_index_or}
+use Rattle.std.proofs.Common.{◌≡◌, ◌≢◌, ⊎_elim, ℕ, suc, ◌+◌, ◌<◌, ◌≤◌, List, [], ◌∷◌, ◌++◌, length, drop, ap, sym, ◌∙◌, arith, All, subst}
 use Rattle.std.proofs.lemmas.Bool.Decides.{nat_tests}
 use Rattle.std.proofs.lemmas.Bool.{cases_lt}
 use Rattle.std.specs.List.{AllByRecursion}
 use Rattle.nova_lock.specs.History.{entries, IsFrontOf}
-use Rattle.nova_lock.specs.Seats.{LockView, SeatView, IsSeat, AreSeats}
-use Rattle.nova_shared.specs.Ran.{Ran, IsCpuSeat, AreCpuSeats}
+use Rattle.nova_lock.specs.Seats.{LockView, SeatView, AreSeats}
 
 entries_snoc : (n : ℕ) (xs : List ℕ) → entries n (xs ++ n ∷ []) ≡ entries n xs + 1
 entries_snoc n [] = grind (arith, nat_tests)

@@ -1,6 +1,6 @@
 -- Turns of a run that is shared.
 use Rattle.std.proofs.Common.{◌≡◌, ◌≢◌, ℕ, ◌+◌, ◌<◌, ◌≤◌, ◌^◌, List, [], ◌∷◌, ◌++◌, length, refl, ap, ap₂, sym, ◌∙◌, subst, arith}
-use Rattle.std.specs.Prelude.{vec_capacity, Bool, true, false, is_some, IsSome, None, if◌then◌else◌, Option, Some}
+use Rattle.std.specs.Prelude.{vec_capacity, Bool, true, false, is_some, None, if◌then◌else◌, Option, Some}
 use Rattle.std.proofs.lemmas.List.{append-nil}
 use Rattle.nova_kernel.specs.Views.{KernelView, IsMaking}
 use Rattle.nova_model.specs.State.{KernelState}

@@ -39,14 +39,14 @@ impl Finished {
         ensures run { IfOk result IsSharedRun }
         ensures err { IfErr result (λ given. given ≡ kernel) }
     {
-        let Ok(opening) = kernel.copy() else {
-            return Err(kernel);
-        };
         let mut order = Order::new(alloc);
         let Ok(()) = order.reserve(limit as usize) else {
             return Err(kernel);
         };
         let Ok(trace) = Vec::with_capacity(alloc, limit as usize) else {
+            return Err(kernel);
+        };
+        let Ok(opening) = kernel.copy() else {
             return Err(kernel);
         };
         Ok(Finished {

@@ -1,4 +1,4 @@
-use Rattle.std.proofs.Common.{rules, ◌≡◌, ◌≢◌, ◌∷◌, ◌++◌, ◌∙◌, [], arith, ap, sym, append_assoc, length, length-append, vec_len}
+use Rattle.std.proofs.Common.{rules, ◌≡◌, ◌≢◌, ◌∷◌, ◌++◌, ◌∙◌, [], arith, ap, sym, append_assoc, length}
 use Rattle.nova_shared.proofs.Seats.{all_tail}
 use Rattle.nova_shared.proofs.shared.wrapped.Goals as goal
 

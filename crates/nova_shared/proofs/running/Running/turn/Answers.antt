@@ -1,4 +1,4 @@
-use Rattle.std.proofs.Common.{rules, ◌≡◌, ◌≢◌, ◌<◌, ◌+◌, length, true, false, ap, sym, ◌∙◌, subst}
+use Rattle.std.proofs.Common.{rules, ◌≡◌, ◌<◌, ◌+◌, length, true, false, sym, subst}
 use Rattle.std.specs.Prelude.{is_some}
 use Rattle.nova_model.specs.Turn.{turn}
 use Rattle.nova_order.specs.Blocks.{turns}

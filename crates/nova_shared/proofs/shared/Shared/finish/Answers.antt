@@ -1,4 +1,4 @@
-use Rattle.std.proofs.Common.{rules, ◌≡◌, ◌≤◌, ◌∙◌, sym, ap, ℕ, List, subst, slice_index_or, arith}
+use Rattle.std.proofs.Common.{rules, ◌≡◌, ◌≤◌, ◌∙◌, sym, ap, ℕ, List, subst, slice_index_or}
 use Rattle.nova_lock.specs.History.{entries, IsFrontOf}
 use Rattle.nova_lock.specs.Seats.{SeatView}
 use Rattle.nova_order.specs.Blocks.{turns}

@@ -1,4 +1,4 @@
-use Rattle.std.proofs.Common.{rules, ◌≡◌, ◌∙◌, sym, ap, ℕ, List, [], ◌∷◌, ◌++◌, ◌+◌, length, arith, length-append, subst}
+use Rattle.std.proofs.Common.{rules, ◌≡◌, ap, ℕ, [], ◌∷◌, length, arith, length-append, subst}
 use Rattle.nova_lock.specs.History.{entries}
 use Rattle.nova_shared.specs.Told.{IsTold}
 use Rattle.nova_shared.specs.declared.turn.SharedTurn.{SharedTurn}
