@@ -1,8 +1,9 @@
 -- What holds of a guest, and of an input to it, wherever one is applied.
-use Rattle.std.specs.Prelude.{◌≡◌, ◌<◌, ◌≤◌, ◌⊎◌, ℕ, ◌+◌, ◌*◌, ◌%◌, ◌^◌, false, List, length}
+use Rattle.std.specs.Prelude.{◌≡◌, ◌<◌, ◌≤◌, ◌⊎◌, ℕ, ◌+◌, ◌*◌, ◌%◌, ◌^◌, false, List, [], ◌∷◌, length, IsSome}
 use Rattle.std.specs.List.{All, AllPairs, list_any}
 use Rattle.nova_range.specs.Ranges.{IsRange}
 use Rattle.nova_range.specs.declared.range.Kind.TheVariants.{Mem}
+use Rattle.nova_guest.specs.Alone.{applied}
 use Rattle.nova_guest.specs.Maps.{overlaps}
 use Rattle.nova_guest.specs.declared.cell.Cell.{Cell}
 use Rattle.nova_guest.specs.declared.guest.Guest.{Guest}
@@ -62,3 +63,8 @@ IsInput other = Unit {0}
 abbrev pub WantsMemory : Guest → Input → Type 0
 WantsMemory v (Given base order rights frame contents) = list_any (overlaps base order) v.maps ≡ false
 WantsMemory v other = ⊥
+
+-- along inputs memory is wanted where one of them wants it, or where something is put out, which is kept in a list
+abbrev pub WantMemory : Guest → List Input → Type 0
+WantMemory v [] = ⊥
+WantMemory v (i ∷ is) = WantsMemory v i ⊎ (IsSome (applied v i).out ⊎ WantMemory (applied v i).guest is)

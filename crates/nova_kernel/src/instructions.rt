@@ -11,13 +11,13 @@ use nova_model::{EcKind, Object};
 use rv_core::outcome::Outcome;
 
 impl Parts {
-    /// The protection domain of an execution context.
+    /// The protection domain of an execution context; what is none has one that there never is.
     pub fn pd(&self, ec: u32) -> u32
         ensures { result ≡ pd_of (shown self.now) ec }
     {
         match self.objects.get(ec) {
             Some(Object::Ec { pd, .. }) => *pd,
-            _ => 0,
+            _ => u32::MAX,
         }
     }
 

@@ -157,6 +157,7 @@ impl Reach {
     }
 
     /// What a page leads to: the one derivation that covers it, or nothing.
+    #[inline(always)]
     fn page_at(&mut self, page: u32) -> Option<Page>
         ensures page { result ≡ (reached self.old).page page }
         ensures there { IfSome result (λ p. p.frame < length self.old.memory.ram + self.old.consoles) }

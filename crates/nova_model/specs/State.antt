@@ -103,10 +103,11 @@ with_message k ec m = record k { messages = slice_set k.messages ec (Some m) }
 abbrev pub budget_at : KernelState → ℕ → Option Budget
 budget_at k sc = entry (slice_get k.budgets sc)
 
--- the protection domain of an execution context, its processor, its event base, and whether it is a thread
+-- the protection domain of an execution context, its processor, its event base, and whether it is a thread;
+-- what is none has a domain that there never is
 abbrev pub pd_in : Option Object → ℕ
 pd_in (Some (Ec pd cpu kind event)) = pd
-pd_in other = 0
+pd_in other = 4294967295
 
 abbrev pub processor_in : Option Object → ℕ
 processor_in (Some (Ec pd cpu kind event)) = cpu

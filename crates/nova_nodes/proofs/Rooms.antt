@@ -1,6 +1,6 @@
 -- For how many more there is room: in the spaces of a domain, and in those of all.
 use Rattle.std.proofs.Common.{◌≡◌, ℕ, ◌≤◌, ◌+◌, List, [], ◌∷◌, refl, arith, subst, sym, ap, ◌∙◌}
-use Rattle.std.specs.Prelude.{◌==◌, Bool, true, false, slice_get, map, zero, suc, Option, Some, None}
+use Rattle.std.specs.Prelude.{◌==◌, Bool, true, false, slice_get, map, zero, suc, Option, Some, None, Result, Ok, Err, OnErr}
 use Rattle.std.proofs.lemmas.Bool.{eqb-true, eq-eqb}
 use Rattle.std.proofs.lemmas.List.Sums.{sum_by-cons}
 use Rattle.nova_nodes.specs.Spaces.{SpaceState, room_in, room_at, shown_room, total_room}
@@ -40,6 +40,19 @@ shown_all rooms spaces others pd seen h same other = shown_more rooms spaces oth
     by_test : (t : Bool) → (other == pd) ≡ t → room_at spaces other ≤ room_at others other
     by_test true is = let e = eqb-true other pd is in subst (λ k. room_at spaces k ≤ room_at others k) (sym e) h
     by_test false is = let e = same other (λ k. let is_it = eq-eqb other pd k in absurd (cc)) in omega arith
+
+pub on_err : {T E P : Type 0} (r : Result T E) → P → OnErr r P
+on_err (Ok x) p = tt
+on_err (Err e) p = p
+
+-- where no domain's room changes
+pub shown_same : (rooms : List (Option ℕ)) (spaces others : List (Option SpaceState)) (pd : ℕ) → rooms ≡ map shown_room spaces → room_at others pd ≡ room_at spaces pd →
+    ((other : ℕ) → ¬ (other ≡ pd) → room_at others other ≡ room_at spaces other) → (other : ℕ) → or_none (slice_get (map shown_room others) other) ≡ or_none (slice_get rooms other)
+shown_same rooms spaces others pd seen here same other = shown_is others other ∙ (by_test (other == pd) refl ∙ sym (shown_at rooms spaces other seen))
+  where
+    by_test : (t : Bool) → (other == pd) ≡ t → room_at others other ≡ room_at spaces other
+    by_test true is = subst (λ k. room_at others k ≡ room_at spaces k) (sym (eqb-true other pd is)) here
+    by_test false is = same other (λ k. let is_it = eq-eqb other pd k in absurd (cc))
 
 -- the room of a domain is part of the room of all
 

@@ -140,12 +140,13 @@ impl<I: Index> Nodes<I> {
     /// Makes room for `n` more derivations of a protection domain, counted from those that are there,
     /// and its spaces where they are wanted for that. Room that was made before stays, for each domain
     /// its own, and where it is enough, this succeeds. It refuses for want of memory alone, and then no
-    /// derivation has changed.
+    /// derivation and no room has changed; the spaces may have been made.
     pub fn reserve(&mut self, pd: u32, n: usize) -> Result<(), AllocError>
         ensures kept { self.new.delegations ≡ self.old.delegations }
         ensures ok { OnOk result (n ≤ room self.new pd) }
         ensures enough { n ≤ room self.old pd → IsOk result }
         ensures rooms { (other : ℕ) → room self.old other ≤ room self.new other }
+        ensures err { OnErr result ((other : ℕ) → room self.new other ≡ room self.old other) }
     {
         let room = self.spaces.room(pd);
         if n <= room {
@@ -159,11 +160,12 @@ impl<I: Index> Nodes<I> {
     }
 
     /// Makes room for `n` more derivations of a protection domain than there was room for. It refuses
-    /// for want of memory alone, and then no derivation has changed.
+    /// for want of memory alone, and then no derivation and no room has changed; the spaces may have been made.
     pub fn reserve_more(&mut self, pd: u32, n: usize) -> Result<(), AllocError>
         ensures kept { self.new.delegations ≡ self.old.delegations }
         ensures ok { OnOk result (room self.old pd + n ≤ room self.new pd) }
         ensures rooms { (other : ℕ) → room self.old other ≤ room self.new other }
+        ensures err { OnErr result ((other : ℕ) → room self.new other ≡ room self.old other) }
     {
         let room = self.spaces.room(pd).checked_add(n).ok_or(AllocError)?;
         self.reserve(pd, room)

@@ -189,6 +189,7 @@ fn system(word: u32) -> Option<Mnemonic>
 }
 
 /// The name and the operands of the instruction that a word is, or nothing where it is none.
+#[inline(always)]
 #[tactic(auto, unfolding(rv_model::specs::Codes::instr_of))]
 pub(crate) fn parts(word: u32) -> Option<(Mnemonic, Operands)>
     ensures table { option_map (λ p. instr_from p.0 p.1) result ≡ instr_of word }

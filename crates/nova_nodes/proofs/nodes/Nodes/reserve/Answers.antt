@@ -4,7 +4,7 @@ use Rattle.nova_model.specs.declared.delegation.Derivation.{Derivation}
 use Rattle.nova_nodes.specs.Spaces.{IsIndexed, shown_room, room_at}
 use Rattle.nova_nodes.specs.NodesStates.{IsSound}
 use Rattle.nova_nodes.proofs.Indexed.{indexed_same}
-use Rattle.nova_nodes.proofs.Rooms.{shown_at, shown_is, shown_all, total_changed}
+use Rattle.nova_nodes.proofs.Rooms.{on_err, shown_at, shown_is, shown_all, shown_same, total_changed}
 use Rattle.nova_nodes.specs.Trails.{IsTrail}
 use Rattle.nova_nodes.proofs.nodes.Nodes.reserve.Goals as goal
 
@@ -34,6 +34,12 @@ returns-in_err-reserve-2-clause-rooms g c =
     let seen : c.args.self.now.rooms ≡ map shown_room c.self.inside.spaces = search rules in
     let same : room_at c.reserve-2.new.self c.args.pd ≡ room_at c.self.inside.spaces c.args.pd = search rules in
     shown_all c.args.self.now.rooms c.self.inside.spaces c.reserve-2.new.self c.args.pd seen (omega arith) c.reserve-2.ensures.others
+
+pub returns-in_err-reserve-2-clause-err : goal.returns-in_err-reserve-2-clause-err
+returns-in_err-reserve-2-clause-err g c =
+    let seen : c.args.self.now.rooms ≡ map shown_room c.self.inside.spaces = search rules in
+    let same : room_at c.reserve-2.new.self c.args.pd ≡ room_at c.self.inside.spaces c.args.pd = search rules in
+    on_err c.from_residual-in_err-reserve-2.result (shown_same c.args.self.now.rooms c.self.inside.spaces c.reserve-2.new.self c.args.pd seen same c.reserve-2.ensures.others)
 
 pub invariant_of-self-2 : goal.invariant_of-self-2
 invariant_of-self-2 g c =
