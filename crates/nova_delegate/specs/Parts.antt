@@ -2,6 +2,7 @@
 use Rattle.std.specs.Prelude.{ℕ, ◌==◌, ◌&&◌, Bool, nat_lt, nat_le, List, filter, ◌≡◌, Option, Some, None, IfSome, Result, Ok, Err, IsOk, IfOk}
 use Rattle.std.specs.List.{list_any}
 use Rattle.nova_model.specs.Delegations.{Delegations, is_same_kind, range_of, base_of, least_by, with_id}
+use Rattle.nova_model.specs.Revokes.{Revocation, busy}
 use Rattle.nova_model.specs.Transfers.{Part, source_of, dest_of, overlap_base, next_part}
 use Rattle.nova_model.specs.declared.delegation.Derivation.{Derivation}
 use Rattle.nova_model.specs.Forest.{IsFitting}
@@ -11,7 +12,6 @@ use Rattle.nova_delegate.specs.declared.parts.PartDone.{PartDone}
 use Rattle.nova_delegate.specs.declared.parts.PartDone.TheVariants.{Made, Skipped, Ended}
 use Rattle.nova_nodes.specs.NodesStates.{IsPlaced}
 use Rattle.nova_range.specs.Ranges.{IsRange, end_of}
-use Rattle.nova_range.specs.declared.range.Range.{Range}
 
 -- source and destination are ranges
 pub record IsUnderWay (j : Job) : Type 0 where
@@ -25,13 +25,13 @@ is_ahead j d = is_same_kind j.kind d.kind && (d.pd == j.giver && (nat_le j.curso
 abbrev pub first_ahead : List Derivation → Job → Option Derivation
 first_ahead list j = least_by base_of (filter (is_ahead j) list)
 
--- some revoke forbids the derivation, by this test of revokes
-abbrev pub busy_by : {G : Type 0} → (G → Delegations → Option ℕ → ℕ → Range → ℕ → Bool) → List G → Delegations → Derivation → Bool
-busy_by test revokes f x = list_any (λ g. test g f x.parent x.pd (range_of x) x.target) revokes
+-- a new derivation is busy for one of those that tell which revoke each is
+abbrev pub busy_by : {G : Type 0} → (G → Revocation) → List G → List Derivation → Derivation → Bool
+busy_by revoke guards list x = list_any (λ g. busy (revoke g) list x) guards
 
 -- the next part, while these revokes run
-abbrev pub next_under : {G : Type 0} → (G → Delegations → Option ℕ → ℕ → Range → ℕ → Bool) → List G → Delegations → Job → Option Part
-next_under test revokes f j = next_part (busy_by test revokes f) f j
+abbrev pub next_under : {G : Type 0} → (G → Revocation) → List G → Delegations → Job → Option Part
+next_under revoke guards f j = next_part (busy_by revoke guards f.list) f j
 
 -- the derivation of a part, and its child or the reason to skip it
 abbrev pub pair_of : Part → Derivation × Result Derivation Reason

@@ -82,11 +82,12 @@ fn is_held_in<I: Index>(nodes: &Nodes<I>, pd: u32, range: Range) -> bool
     }
 }
 
-/// Whether a revoke forbids a child.
+/// Whether a child, which would be next, is busy for a revoke.
 fn is_busy<I: Index, G: Guarded>(nodes: &Nodes<I>, revokes: &[G], child: &Derivation) -> bool
     requires placed { IsPlaced child.now }
+    requires id { child.now.id ≡ nodes.now.delegations.next }
     requires parent { IfSome child.now.parent (λ id. IsSome (with_id nodes.now.delegations.list id)) }
-    ensures { result ≡ busy_by G.busy revokes.now nodes.now.delegations child.now }
+    ensures { result ≡ busy_by G.revoke revokes.now nodes.now.delegations.list child.now }
 {
     for revoke in revokes {
         if revoke.would_grow(nodes, child.parent, child.pd, child.range(), child.target) {
@@ -123,8 +124,9 @@ fn judged<I: Index, G: Guarded>(
     child: Derivation,
 ) -> Result<Derivation, Reason>
     requires placed { IsPlaced child }
+    requires id { child.id ≡ nodes.now.delegations.next }
     requires parent { IfSome child.parent (λ id. IsSome (with_id nodes.now.delegations.list id)) }
-    ensures { result ≡ judged (busy_by G.busy revokes.now nodes.now.delegations) nodes.now.delegations.list child }
+    ensures { result ≡ judged (busy_by G.revoke revokes.now nodes.now.delegations.list) nodes.now.delegations.list child }
 {
     if child.rights.bits() == 0 {
         Err(Reason::Rights)
@@ -146,7 +148,7 @@ pub fn next_part<I: Index, G: Guarded>(
     revokes: &[G],
 ) -> Option<(Derivation, Result<Derivation, Reason>)>
     requires job { IsUnderWay job.now }
-    ensures part { result ≡ option_map pair_of (next_under G.busy revokes.now nodes.now.delegations job.now) }
+    ensures part { result ≡ option_map pair_of (next_under G.revoke revokes.now nodes.now.delegations job.now) }
     ensures source { IfSome result (λ p. IsPlaced p.0) }
     ensures child { IfSome result (λ p. IfOk p.1 (IsReady nodes.now.delegations p.0)) }
 {
@@ -228,16 +230,16 @@ pub fn part<I: Index, G: Guarded>(
 ) -> Result<PartDone, AllocError>
     requires numbered { nodes.old.delegations.next < 2 ^ 32 - 1 }
     requires job { IsUnderWay job.old }
-    ensures done { IfOk result (λ r. r ≡ done_of job.old (next_under G.busy revokes.now nodes.old.delegations job.old)) }
-    ensures delegations { OnOk result (nodes.new.delegations ≡ given nodes.old.delegations (next_under G.busy revokes.now nodes.old.delegations job.old)) }
-    ensures there { OnOk result (HasChild nodes.new.delegations (next_under G.busy revokes.now nodes.old.delegations job.old)) }
-    ensures job { OnOk result (job.new ≡ moved job.old (next_under G.busy revokes.now nodes.old.delegations job.old)) }
+    ensures done { IfOk result (λ r. r ≡ done_of job.old (next_under G.revoke revokes.now nodes.old.delegations job.old)) }
+    ensures delegations { OnOk result (nodes.new.delegations ≡ given nodes.old.delegations (next_under G.revoke revokes.now nodes.old.delegations job.old)) }
+    ensures there { OnOk result (HasChild nodes.new.delegations (next_under G.revoke revokes.now nodes.old.delegations job.old)) }
+    ensures job { OnOk result (job.new ≡ moved job.old (next_under G.revoke revokes.now nodes.old.delegations job.old)) }
     ensures under_way { IsUnderWay job.new }
     ensures memory { OnErr result ((nodes.new.delegations ≡ nodes.old.delegations) × (job.new ≡ job.old)) }
-    ensures making { OnErr result (MakesChild (next_under G.busy revokes.now nodes.old.delegations job.old)) }
+    ensures making { OnErr result (MakesChild (next_under G.revoke revokes.now nodes.old.delegations job.old)) }
     ensures numbered { nodes.new.delegations.next ≤ nodes.old.delegations.next + 1 }
     ensures rooms { (other : ℕ) → room nodes.old other ≤ room nodes.new other }
-    ensures kept { (MakesChild (next_under G.busy revokes.now nodes.old.delegations job.old)) ⊎ (nodes.new ≡ nodes.old) }
+    ensures kept { (MakesChild (next_under G.revoke revokes.now nodes.old.delegations job.old)) ⊎ (nodes.new ≡ nodes.old) }
 {
     match next_part(nodes, job, revokes) {
         None => Ok(PartDone::Ended),

@@ -1,5 +1,5 @@
 -- What a virtual CPU puts out in a turn of its own, as the kernel has it.
-use Rattle.std.proofs.Common.{◌≡◌, ℕ, ◌-◌, ◌%◌, List, [], ◌∷◌, ◌++◌, length, ap, sym, ◌∙◌, refl}
+use Rattle.std.proofs.Common.{◌≡◌, ℕ, zero, suc, ◌+◌, ◌-◌, ◌%◌, ◌≤◌, List, [], ◌∷◌, ◌++◌, length, ap, sym, ◌∙◌, refl, arith}
 use Rattle.std.specs.Prelude.{Bool, true, false, ◌==◌, slice_get, Option, Some, None, if◌then◌else◌}
 use Rattle.std.proofs.lemmas.List.{append-nil}
 use Rattle.rv_model.specs.Step.{Once, Raised, Went, Store}
@@ -17,7 +17,7 @@ use Rattle.nova_model.specs.Views.{view}
 use Rattle.nova_model.specs.declared.deed.Deed.{Deed}
 use Rattle.nova_model.specs.declared.deed.Deed.TheVariants.{Rests, Steps, Raises, Dies, Waits, Sends, Aborts}
 use Rattle.nova_model.specs.declared.log.LogByte.{LogByte}
-use Rattle.nova_isolation.specs.Law.{bytes_in, exit_in, IsPutOut}
+use Rattle.nova_isolation.specs.Law.{bytes_in, exit_in, IsLogged, IsPutOut}
 use Rattle.nova_laws.proofs.Virtual.{virtual_alone}
 use Rattle.nova_isolation.proofs.Premises.{HasPremises, IsGuest}
 use Rattle.nova_isolation.proofs.Seen.{view_is}
@@ -83,23 +83,34 @@ step_no_exit a m (Went regs (Some s)) = put_no_exit m s (frame_from a.page write
 nothing_more : (log : List LogByte) → log ≡ log ++ []
 nothing_more log = sym (append-nil log)
 
-byte_logged : (frames frame offset value : ℕ) (t : Bool) →
-    (if t then record { console = frame - frames; value = value } ∷ [] else []) ≡ bytes_in frames (if t then Some (out.Byte frame value) else None)
-byte_logged frames frame offset value true = refl
-byte_logged frames frame offset value false = refl
+nothing_logged : (frames : ℕ) (log : List LogByte) (o : Option Out) → bytes_in o ≡ [] → IsLogged frames log log o
+nothing_logged frames log o none = record { gained = []; log = nothing_more log; bytes = sym none }
 
-console_logged : (m : Memory) (f o w v : ℕ) (b : Option (List ℕ)) → (written_in m b f o w v).log ≡ m.log ++ bytes_in (length m.ram) (console_output f o v b)
-console_logged m f o w v (Some b) = nothing_more m.log
-console_logged m f o w v None = ap (λ (more : List LogByte). m.log ++ more) (byte_logged (length m.ram) f o (v % 256) (o == 0))
+-- a frame that is no RAM is past it
+none_past : (ram : List (List ℕ)) (f : ℕ) → slice_get ram f ≡ None → length ram ≤ f
+none_past [] f h = omega arith
+none_past (x ∷ xs) zero h = absurd (cc)
+none_past (x ∷ xs) (suc f) h = let r = none_past xs f h in omega (arith, r)
 
-put_logged : (m : Memory) (s : Store) (f : Option ℕ) → (stored_at m s f).log ≡ m.log ++ bytes_in (length m.ram) (put_output m s f)
-put_logged m s None = nothing_more m.log
-put_logged m s (Some f) = console_logged m f (s.address % 4096) s.width s.value (slice_get m.ram f)
+byte_logged : (frames frame value : ℕ) (log : List LogByte) (t : Bool) → frames ≤ frame →
+    IsLogged frames log (log ++ (if t then record { console = frame - frames; value = value } ∷ [] else [])) (if t then Some (out.Byte frame value) else None)
+byte_logged frames frame value log true past =
+    let is : frames + (frame - frames) ≡ frame = omega (arith, past) in
+    record { gained = record { console = frame - frames; value = value } ∷ []; log = refl; bytes = ap (λ (f : ℕ). out.Byte f value ∷ []) is }
+byte_logged frames frame value log false past = record { gained = []; log = refl; bytes = refl }
+
+console_logged : (m : Memory) (f o w v : ℕ) (b : Option (List ℕ)) → slice_get m.ram f ≡ b → IsLogged (length m.ram) m.log (written_in m b f o w v).log (console_output f o v b)
+console_logged m f o w v (Some b) is = nothing_logged (length m.ram) m.log None refl
+console_logged m f o w v None is = byte_logged (length m.ram) f (v % 256) m.log (o == 0) (none_past m.ram f is)
+
+put_logged : (m : Memory) (s : Store) (f : Option ℕ) → IsLogged (length m.ram) m.log (stored_at m s f).log (put_output m s f)
+put_logged m s None = nothing_logged (length m.ram) m.log None refl
+put_logged m s (Some f) = console_logged m f (s.address % 4096) s.width s.value (slice_get m.ram f) refl
 
 step_logged : (k : KernelState) (g : ℕ) (o : Once) →
-    (stepped k g o).memory.log ≡ k.memory.log ++ bytes_in (length k.memory.ram) (step_output (address_space k g) k.memory o)
-step_logged k g (Raised reason q0 q1) = nothing_more k.memory.log
-step_logged k g (Went regs None) = nothing_more k.memory.log
+    IsLogged (length k.memory.ram) k.memory.log (stepped k g o).memory.log (step_output (address_space k g) k.memory o)
+step_logged k g (Raised reason q0 q1) = nothing_logged (length k.memory.ram) k.memory.log None refl
+step_logged k g (Went regs None) = nothing_logged (length k.memory.ram) k.memory.log None refl
 step_logged k g (Went regs (Some s)) = put_logged k.memory s (frame_from (address_space k g).page write_right s.address)
 
 -- deeds of a virtual CPU
@@ -114,11 +125,11 @@ IsOwn (Aborts handler mark) = Unit {0}
 IsOwn other = ⊥
 
 pub put_out : (k : KernelState) (g : ℕ) (d : Deed) → IsOwn d → IsPutOut k (done k g d) (sign_of d) (own_output k g d)
-put_out k g Rests own = record { event = refl; log = nothing_more k.memory.log }
+put_out k g Rests own = record { event = refl; log = nothing_logged (length k.memory.ram) k.memory.log None refl }
 put_out k g Steps own = record { event = sym (step_no_exit (address_space k g) k.memory (instruction k g)); log = step_logged k g (instruction k g) }
-put_out k g (Raises reason q0 q1) own = record { event = refl; log = nothing_more k.memory.log }
-put_out k g (Dies reason q0) own = record { event = refl; log = nothing_more k.memory.log }
-put_out k g (Waits handler reason q0 q1) own = record { event = refl; log = nothing_more k.memory.log }
-put_out k g (Sends handler ip identifier mtd reason q0 q1) own = record { event = refl; log = nothing_more k.memory.log }
-put_out k g (Aborts handler mark) own = record { event = refl; log = nothing_more k.memory.log }
+put_out k g (Raises reason q0 q1) own = record { event = refl; log = nothing_logged (length k.memory.ram) k.memory.log (Some (out.Exit reason q0 q1)) refl }
+put_out k g (Dies reason q0) own = record { event = refl; log = nothing_logged (length k.memory.ram) k.memory.log None refl }
+put_out k g (Waits handler reason q0 q1) own = record { event = refl; log = nothing_logged (length k.memory.ram) k.memory.log None refl }
+put_out k g (Sends handler ip identifier mtd reason q0 q1) own = record { event = refl; log = nothing_logged (length k.memory.ram) k.memory.log None refl }
+put_out k g (Aborts handler mark) own = record { event = refl; log = nothing_logged (length k.memory.ram) k.memory.log None refl }
 put_out k g other own = absurd own

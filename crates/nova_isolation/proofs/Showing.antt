@@ -23,8 +23,8 @@ use Rattle.nova_model.specs.declared.log.LogByte.{LogByte}
 use Rattle.nova_model.specs.AddressSpaces.{AddressSpace}
 use Rattle.nova_forest.specs.Effects.{memory_with}
 use Rattle.nova_forest.proofs.Turning.{after_keeps}
-use Rattle.nova_isolation.specs.Law.{PutsOut, PutsOutIn, answered, bytes_in, exit_in, raised_by}
-use Rattle.nova_isolation.specs.Shown.{acts_in, exits_in, gained, logged_in, raise_of, raises_in}
+use Rattle.nova_isolation.specs.Law.{PutsOut, PutsOutIn, answered, bytes_in, bytes_of, exit_in, raised_by}
+use Rattle.nova_isolation.specs.Shown.{acts_in, exits_in, raise_of, raises_in}
 use Rattle.nova_isolation.specs.Sound.{IsSound, IsVirtual}
 use Rattle.nova_isolation.proofs.Runs.{turn_is_one, turn_sound, turn_virtual}
 
@@ -98,26 +98,14 @@ turn_frames k cpu =
 
 -- BYTES
 
-logged_front : (frames : ℕ) (o : Option Out) (outs : List Out) → logged_in frames (out_before o outs) ≡ bytes_in frames o ++ logged_in frames outs
-logged_front frames None outs = refl
-logged_front frames (Some o) outs = refl
-
 pub bytes_shown : (k new : KernelState) (g : ℕ) (s : Option Step) (o : Option Out) → PutsOutIn k new g s o →
-    bytes_in (length k.memory.ram) o ≡ (if acts_in s g then drop (length k.memory.log) new.memory.log else [])
-bytes_shown k new g None o puts = ap (bytes_in (length k.memory.ram)) puts
+    bytes_in o ≡ bytes_of (length k.memory.ram) (if acts_in s g then drop (length k.memory.log) new.memory.log else [])
+bytes_shown k new g None o puts = ap bytes_in puts
 bytes_shown k new g (Some s) o puts = by_actor (s.event.ec == g) puts
   where
     by_actor : (t : Bool) → PutsOut t k new (s.event.kind, s.event.a, s.event.b) o →
-        bytes_in (length k.memory.ram) o ≡ (if t then drop (length k.memory.log) new.memory.log else [])
-    by_actor true h = sym (ap (drop (length k.memory.log)) h.log ∙ drop_at k.memory.log (bytes_in (length k.memory.ram) o) (length k.memory.log) refl)
-    by_actor false h = ap (bytes_in (length k.memory.ram)) h
-
-pub bytes_logged : (k : KernelState) (turns : List ℕ) (g : ℕ) → IsSound k → IsVirtual k g → logged_in (length k.memory.ram) (outputs (view k g) (inputs k turns g)) ≡ gained k turns g
-bytes_logged k [] g sound is = refl
-bytes_logged k (cpu ∷ turns) g sound is =
-    let o : Option Out = (answered (view k g) (input k cpu g)).out in
-    let rest : List Out = outputs (view (after k cpu) g) (inputs (after k cpu) turns g) in
-    ap (logged_in (length k.memory.ram)) (outputs_next k cpu turns g sound is)
-    ∙ (logged_front (length k.memory.ram) o rest
-    ∙ ap₂ (λ (x y : List LogByte). x ++ y) (bytes_shown k (after k cpu) g (turn k cpu) o (turn_is_one k cpu g sound is).output)
-    (ap (λ (n : ℕ). logged_in n rest) (sym (turn_frames k cpu)) ∙ bytes_logged (after k cpu) turns g (turn_sound k cpu sound) (turn_virtual k cpu g is)))
+        bytes_in o ≡ bytes_of (length k.memory.ram) (if t then drop (length k.memory.log) new.memory.log else [])
+    by_actor true h =
+        let gained : drop (length k.memory.log) new.memory.log ≡ h.log.gained = ap (drop (length k.memory.log)) h.log.log ∙ drop_at k.memory.log h.log.gained (length k.memory.log) refl in
+        sym (ap (bytes_of (length k.memory.ram)) gained ∙ h.log.bytes)
+    by_actor false h = ap bytes_in h

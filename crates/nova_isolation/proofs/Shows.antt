@@ -23,8 +23,8 @@ use Rattle.nova_model.specs.State.{KernelState}
 use Rattle.nova_model.specs.Turn.{turn}
 use Rattle.nova_model.specs.Views.{view}
 use Rattle.nova_model.specs.declared.log.LogByte.{LogByte}
-use Rattle.nova_isolation.specs.Law.{answered, bytes_in, exit_in}
-use Rattle.nova_isolation.specs.Shown.{byte_of, bytes, bytes_of, exit_by, exit_with, exits, gained, gained_in, is_byte, is_exit, second_of, shown}
+use Rattle.nova_isolation.specs.Law.{answered, byte_of, bytes_in, bytes_of, exit_in}
+use Rattle.nova_isolation.specs.Shown.{bytes, exit_by, exit_with, exits, gained, gained_in, is_byte, is_exit, second_of, shown}
 use Rattle.nova_isolation.specs.Sound.{IsSound, IsVirtual}
 use Rattle.nova_isolation.specs.Stretches.{BeginEqual, EndEqual, Stretch, begun, outputs_in}
 use Rattle.nova_isolation.proofs.OtherTurns.{view_cells}
@@ -35,50 +35,47 @@ use Rattle.nova_isolation.proofs.Spaces.{cell_of, frame_covered}
 
 -- AN OUTPUT AND THE GUEST
 
--- an exit that is put out is the state that the guest comes to; a byte goes to a frame that a map covers and that has no cell
-abbrev IsFrom : Guest → Guest → Option Out → Type 0
-IsFrom v new None = Unit {0}
-IsFrom v new (Some (out.Exit reason q0 q1)) = new.state ≡ guest.Exit reason q0 q1
-IsFrom v new (Some (out.Byte frame value)) = (is_covered v.maps frame ≡ true) × (cell_at v.cells frame ≡ None)
+-- an exit that is put out is the state that the guest comes to
+abbrev IsFrom : Guest → Option Out → Type 0
+IsFrom new None = Unit {0}
+IsFrom new (Some (out.Exit reason q0 q1)) = new.state ≡ guest.Exit reason q0 q1
+IsFrom new (Some (out.Byte frame value)) = Unit {0}
 
-byte_from : (v new : Guest) (frame value : ℕ) (t : Bool) → is_covered v.maps frame ≡ true → cell_at v.cells frame ≡ None →
-    IsFrom v new (if t then Some (out.Byte frame value) else None)
-byte_from v new frame value true covered none = (covered, none)
-byte_from v new frame value false covered none = tt
+byte_from : (new : Guest) (frame value : ℕ) (t : Bool) → IsFrom new (if t then Some (out.Byte frame value) else None)
+byte_from new frame value true = tt
+byte_from new frame value false = tt
 
-written_from : (v w : Guest) (frame offset width value : ℕ) (c : Option (List ℕ)) → is_covered v.maps frame ≡ true → cell_at v.cells frame ≡ c →
-    IsFrom v (written w frame offset width value c).guest (written w frame offset width value c).out
-written_from v w frame offset width value (Some b) covered is = tt
-written_from v w frame offset width value None covered is = byte_from v w frame (value % 256) (offset == 0) covered is
+written_from : (w : Guest) (frame offset width value : ℕ) (c : Option (List ℕ)) → IsFrom (written w frame offset width value c).guest (written w frame offset width value c).out
+written_from w frame offset width value (Some b) = tt
+written_from w frame offset width value None = byte_from w frame (value % 256) (offset == 0)
 
-store_from : (v w : Guest) (store : Option Store) → w.maps ≡ v.maps → w.cells ≡ v.cells → IsFrom v (stored w store).guest (stored w store).out
-store_from v w None maps cells = tt
-store_from v w (Some s) maps cells = by_frame (frame_from (page_in w.maps) write_right s.address) refl
+store_from : (w : Guest) (store : Option Store) → IsFrom (stored w store).guest (stored w store).out
+store_from w None = tt
+store_from w (Some s) = by_frame (frame_from (page_in w.maps) write_right s.address)
   where
-    by_frame : (f : Option ℕ) → frame_from (page_in w.maps) write_right s.address ≡ f → IsFrom v (stored_at w s f).guest (stored_at w s f).out
-    by_frame None is = tt
-    by_frame (Some frame) is = written_from v w frame (s.address % 4096) s.width s.value (cell_at w.cells frame)
-        (ap (λ (ms : _). is_covered ms frame) (sym maps) ∙ frame_covered write_right s.address frame w.maps is) (ap (λ (cs : _). cell_at cs frame) (sym cells))
+    by_frame : (f : Option ℕ) → IsFrom (stored_at w s f).guest (stored_at w s f).out
+    by_frame None = tt
+    by_frame (Some frame) = written_from w frame (s.address % 4096) s.width s.value (cell_at w.cells frame)
 
-step_from : (v : Guest) (o : Once) → IsFrom v (stepped v o).guest (stepped v o).out
+step_from : (v : Guest) (o : Once) → IsFrom (stepped v o).guest (stepped v o).out
 step_from v (Raised reason q0 q1) = refl
-step_from v (Went regs store) = store_from v (record v { regs = regs }) store refl refl
+step_from v (Went regs store) = store_from (record v { regs = regs }) store
 
-run_from : (v : Guest) (t : Bool) → IsFrom v (ran v t).guest (ran v t).out
+run_from : (v : Guest) (t : Bool) → IsFrom (ran v t).guest (ran v t).out
 run_from v true = refl
 run_from v false = step_from v (one v.regs (guest_space v.maps v.cells))
 
-own_from : (v : Guest) (s : GuestState) → IsFrom v (acted v s).guest (acted v s).out
+own_from : (v : Guest) (s : GuestState) → IsFrom (acted v s).guest (acted v s).out
 own_from v guest.Fresh = refl
 own_from v guest.Ready = run_from v v.recall
 own_from v other = tt
 
-applied_from : (v : Guest) (i : Input) → IsFrom v (applied v i).guest (applied v i).out
+applied_from : (v : Guest) (i : Input) → IsFrom (applied v i).guest (applied v i).out
 unfolding applied
 applied_from v Own = own_from v v.state
 applied_from v other = tt
 
-answer_from : (v : Guest) (i : Option Input) → IsFrom v (answered v i).guest (answered v i).out
+answer_from : (v : Guest) (i : Option Input) → IsFrom (answered v i).guest (answered v i).out
 answer_from v None = tt
 answer_from v (Some i) = applied_from v i
 
@@ -93,40 +90,18 @@ out_listed : (o : Option Out) (outs : List Out) → out_before o outs ≡ listed
 out_listed None outs = refl
 out_listed (Some o) outs = refl
 
-pub none_past : (ram : List (List ℕ)) (f : ℕ) → slice_get ram f ≡ None → length ram ≤ f
-none_past [] f h = omega arith
-none_past (x ∷ xs) zero h = absurd (cc)
-none_past (x ∷ xs) (suc f) h = let r = none_past xs f h in omega (arith, r)
-
--- a frame of the view without a cell is past RAM
-past_ram : (k : KernelState) (g frame : ℕ) → is_covered (view k g).maps frame ≡ true → cell_at (view k g).cells frame ≡ None → length k.memory.ram ≤ frame
-past_ram k g frame covered none = none_past k.memory.ram frame (by_cover (is_covered (maps_at k g) frame) covers is)
-  where
-    covers : is_covered (maps_at k g) frame ≡ true
-    covers = ap (λ (v : Guest). is_covered v.maps frame) (sym (view_is k g)) ∙ covered
-
-    is : (if is_covered (maps_at k g) frame then slice_get k.memory.ram frame else None) ≡ None
-    is = sym (cell_of (maps_at k g) k.memory.ram frame) ∙ (ap (λ (cs : _). cell_at cs frame) (sym (view_cells k g)) ∙ none)
-
-    by_cover : (t : Bool) → t ≡ true → (if t then slice_get k.memory.ram frame else None) ≡ None → slice_get k.memory.ram frame ≡ None
-    by_cover true h e = e
-    by_cover false h e = absurd (cc)
-
-output_shown : (k : KernelState) (g : ℕ) (new : Guest) (o : Option Out) → IsFrom (view k g) new o →
-    listed o ≡ exit_with (second_of new.state) (exit_in o) ++ bytes_of (length k.memory.ram) (bytes_in (length k.memory.ram) o)
-output_shown k g new None is = refl
-output_shown k g new (Some (out.Exit reason q0 q1)) is = ap (λ (s : GuestState). out.Exit reason q0 (second_of s) ∷ []) (sym is)
-output_shown k g new (Some (out.Byte frame value)) is =
-    let past : length k.memory.ram ≤ frame = past_ram k g frame is.0 is.1 in
-    let back : frame ≡ length k.memory.ram + (frame - length k.memory.ram) = omega (arith, past) in ap (λ (f : ℕ). out.Byte f value ∷ []) back
+output_shown : (new : Guest) (o : Option Out) → IsFrom new o → listed o ≡ exit_with (second_of new.state) (exit_in o) ++ bytes_in o
+output_shown new None is = refl
+output_shown new (Some (out.Exit reason q0 q1)) is = ap (λ (s : GuestState). out.Exit reason q0 (second_of s) ∷ []) (sym is)
+output_shown new (Some (out.Byte frame value)) is = refl
 
 turn_shown : (k : KernelState) (cpu g : ℕ) → IsSound k → IsVirtual k g →
     listed (answered (view k g) (input k cpu g)).out ≡ exit_by k cpu g ++ bytes_of (length k.memory.ram) (gained_in k cpu g)
 turn_shown k cpu g sound is =
     let o : Option Out = (answered (view k g) (input k cpu g)).out in
     let law = turn_is_one k cpu g sound is in
-    output_shown k g (view (after k cpu) g) o (subst (λ (v : Guest). IsFrom (view k g) v o) (sym law.guest) (answer_from (view k g) (input k cpu g)))
-    ∙ ap₂ (λ (e : Option (ℕ × ℕ)) (b : List LogByte). exit_with (second_of (view (after k cpu) g).state) e ++ bytes_of (length k.memory.ram) b)
+    output_shown (view (after k cpu) g) o (subst (λ (v : Guest). IsFrom v o) (sym law.guest) (answer_from (view k g) (input k cpu g)))
+    ∙ ap₂ (λ (e : Option (ℕ × ℕ)) (bs : List Out). exit_with (second_of (view (after k cpu) g).state) e ++ bs)
     (exit_shown k (after k cpu) g (turn k cpu) o law.output) (bytes_shown k (after k cpu) g (turn k cpu) o law.output)
 
 -- A RUN

@@ -1,5 +1,5 @@
 -- One turn, one input.
-use Rattle.std.proofs.Common.{◌≡◌, ℕ, ◌%◌, ◌≢◌, List, ap, sym, ◌∙◌, subst, refl, inl, inr}
+use Rattle.std.proofs.Common.{◌≡◌, ℕ, ◌%◌, ◌≢◌, List, length, ap, sym, ◌∙◌, subst, refl, inl, inr}
 use Rattle.std.specs.Prelude.{Bool, true, false, ◌==◌, Option, Some, None, option_and_then, option_map, if◌then◌else◌}
 use Rattle.std.proofs.lemmas.Bool.{cases_eq, ne_eqb}
 use Rattle.rv_model.specs.Step.{Store}
@@ -27,7 +27,7 @@ use Rattle.nova_model.specs.declared.event.EventKind.{EventKind}
 use Rattle.nova_forest.specs.Turns.{Acts, IsTurning, Turning, acting, turned}
 use Rattle.nova_forest.proofs.Turning.{acting_is, outcome}
 use Rattle.nova_model.specs.declared.transfer.Sequel.TheVariants as sequel
-use Rattle.nova_isolation.specs.Law.{answered, IsOneInput, IsOneTurn, PutsOut, PutsOutIn}
+use Rattle.nova_isolation.specs.Law.{answered, IsLogged, IsOneInput, IsOneTurn, PutsOut, PutsOutIn}
 use Rattle.nova_isolation.proofs.Premises.{HasPremises, IsGuest}
 use Rattle.nova_isolation.proofs.Facts.{deed_facts}
 use Rattle.nova_isolation.proofs.OtherTurns.{other_law}
@@ -113,7 +113,7 @@ one_input k ec g sound is = elim (cases_eq ec g) [
 
 -- what is stirred and charged is not seen
 puts_out : (t : Bool) (k s new : KernelState) (sign : EventKind × ℕ × ℕ) (o : _) → new.memory ≡ s.memory → PutsOut t k s sign o → PutsOut t k new sign o
-puts_out true k s new sign o same out = record { event = out.event; log = ap (λ (m : Memory). m.log) same ∙ out.log }
+puts_out true k s new sign o same out = record { event = out.event; log = subst (λ (m : Memory). IsLogged (length k.memory.ram) k.memory.log m.log o) (sym same) out.log }
 puts_out false k s new sign o same out = out
 
 -- by its event

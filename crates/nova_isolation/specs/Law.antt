@@ -1,5 +1,5 @@
 -- The law of one turn: what it leaves of the view of a virtual CPU, and what it puts out for it, is what the guest alone makes of its input.
-use Rattle.std.specs.Prelude.{◌≡◌, ℕ, ◌-◌, ◌==◌, Bool, true, false, List, [], ◌∷◌, ◌++◌, length, Option, Some, None}
+use Rattle.std.specs.Prelude.{◌≡◌, ℕ, ◌+◌, ◌==◌, Bool, true, false, List, [], ◌∷◌, ◌++◌, length, map, Option, Some, None}
 use Rattle.std.specs.List.{list_any}
 use Rattle.nova_guest.specs.Alone.{Told, told, applied}
 use Rattle.nova_guest.specs.Cells.{cell_at, cells_given}
@@ -36,15 +36,28 @@ abbrev pub raised_by : EventKind × ℕ × ℕ → Option (ℕ × ℕ)
 raised_by (Raise, a, b) = Some (a, b)
 raised_by other = None
 
--- a byte that is put out, as the log of the consoles has it; consoles are numbered from the first frame that is no RAM
-abbrev pub bytes_in : ℕ → Option Out → List LogByte
-bytes_in frames (Some (out.Byte frame value)) = record { console = frame - frames; value = value } ∷ []
-bytes_in frames other = []
+-- a byte that is put out
+abbrev pub bytes_in : Option Out → List Out
+bytes_in (Some (out.Byte frame value)) = out.Byte frame value ∷ []
+bytes_in other = []
+
+-- the bytes of a log, as they are put out: a console's frame is the number of RAM frames, and the console's
+abbrev pub byte_of : ℕ → LogByte → Out
+byte_of frames b = out.Byte (frames + b.console) b.value
+
+abbrev pub bytes_of : ℕ → List LogByte → List Out
+bytes_of frames log = map (byte_of frames) log
+
+-- the log gains what is put out, where so many frames are RAM
+pub record IsLogged (frames : ℕ) (old new : List LogByte) (o : Option Out) : Type 0 where
+  pub gained : List LogByte
+  pub log : new ≡ old ++ gained
+  pub bytes : bytes_of frames gained ≡ bytes_in o
 
 -- what a guest puts out in a turn of its own: its exits are its events, and its bytes are what the log gains
 pub record IsPutOut (k new : KernelState) (sign : EventKind × ℕ × ℕ) (o : Option Out) : Type 0 where
   pub event : raised_by sign ≡ exit_in o
-  pub log : new.memory.log ≡ k.memory.log ++ bytes_in (length k.memory.ram) o
+  pub log : IsLogged (length k.memory.ram) k.memory.log new.memory.log o
 
 -- in a turn of another it puts out nothing
 abbrev pub PutsOut : Bool → KernelState → KernelState → EventKind × ℕ × ℕ → Option Out → Type 0

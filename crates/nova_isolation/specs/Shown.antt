@@ -1,5 +1,5 @@
 -- What turns show of a virtual CPU: its exits in the trace, and its bytes in the log of the consoles.
-use Rattle.std.specs.Prelude.{ℕ, ◌+◌, ◌==◌, Bool, true, false, List, [], ◌∷◌, ◌++◌, length, drop, map, Option, Some, None, option_map, option_and_then, if◌then◌else◌}
+use Rattle.std.specs.Prelude.{ℕ, ◌==◌, Bool, true, false, List, [], ◌∷◌, ◌++◌, length, drop, Option, Some, None, option_map, option_and_then, if◌then◌else◌}
 use Rattle.std.specs.List.{filter_map}
 use Rattle.nova_guest.specs.declared.guest.GuestState.{GuestState}
 use Rattle.nova_guest.specs.declared.guest.GuestState.TheVariants.{Exit}
@@ -11,7 +11,7 @@ use Rattle.nova_model.specs.Turn.{Step, turn}
 use Rattle.nova_model.specs.Views.{view}
 use Rattle.nova_model.specs.declared.event.Event.{Event}
 use Rattle.nova_model.specs.declared.log.LogByte.{LogByte}
-use Rattle.nova_isolation.specs.Law.{bytes_in, exit_in, raised_by}
+use Rattle.nova_isolation.specs.Law.{bytes_of, exit_in, raised_by}
 
 -- the exits that are put out, and those that a virtual CPU raises in a trace, by reason and first qualification
 abbrev pub exits_in : List Out → List (ℕ × ℕ)
@@ -23,11 +23,7 @@ raise_of g e = if e.ec == g then raised_by (e.kind, e.a, e.b) else None
 abbrev pub raises_in : ℕ → List Event → List (ℕ × ℕ)
 raises_in g events = filter_map (raise_of g) events
 
--- the bytes that are put out, where so many frames are RAM, and those that the log gains in turns in which a virtual CPU acts
-abbrev pub logged_in : ℕ → List Out → List LogByte
-logged_in frames [] = []
-logged_in frames (o ∷ outs) = bytes_in frames (Some o) ++ logged_in frames outs
-
+-- the bytes that the log gains in turns in which a virtual CPU acts
 abbrev pub acts_in : Option Step → ℕ → Bool
 acts_in None g = false
 acts_in (Some s) g = s.event.ec == g
@@ -52,13 +48,6 @@ exit_with q1 (Some (reason, q0)) = out.Exit reason q0 q1 ∷ []
 
 abbrev pub exit_by : KernelState → ℕ → ℕ → List Out
 exit_by k cpu g = exit_with (second_of (view (after k cpu) g).state) (option_and_then (raise_of g) (option_map (λ s. s.event) (turn k cpu)))
-
--- the bytes that it stores in a turn: a console's frame is the number of RAM frames, and the console's
-abbrev pub byte_of : ℕ → LogByte → Out
-byte_of frames b = out.Byte (frames + b.console) b.value
-
-abbrev pub bytes_of : ℕ → List LogByte → List Out
-bytes_of frames log = map (byte_of frames) log
 
 -- turns one after another: its exits, and all that it shows
 abbrev pub exits : KernelState → List ℕ → ℕ → List Out

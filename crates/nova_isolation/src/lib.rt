@@ -16,10 +16,10 @@ ghost use Rattle.nova_model.specs.Inputs.{reply_groups, reply_words};
 ghost use Rattle.nova_model.specs.Runs.{after, run, trace};
 ghost use Rattle.nova_model.specs.State.{KernelState};
 ghost use Rattle.nova_model.specs.Views.{view};
-ghost use Rattle.nova_isolation.specs.Law.{IsGivenAsSeen, IsOneInput, IsOneTurn, IsTakenAsSeen};
+ghost use Rattle.nova_isolation.specs.Law.{bytes_of, IsGivenAsSeen, IsOneInput, IsOneTurn, IsTakenAsSeen};
 ghost use Rattle.std.specs.List.{All, filter};
 ghost use Rattle.nova_isolation.specs.Masked.{IsMasked, IsMaskedIn};
-ghost use Rattle.nova_isolation.specs.Shown.{bytes, exits, exits_in, gained, is_byte, is_exit, logged_in, raises_in, shown};
+ghost use Rattle.nova_isolation.specs.Shown.{bytes, exits, exits_in, gained, is_byte, is_exit, raises_in, shown};
 ghost use Rattle.nova_isolation.specs.Stretches.{BeginEqual, EndEqual, Stretch};
 ghost use Rattle.nova_isolation.specs.Sound.{AreRanges, IsSound, IsVirtual};
 
@@ -113,12 +113,13 @@ pub fn a_run_is_a_guest_alone_over_its_inputs()
 {}
 
 /// What the guest alone puts out over its inputs is what the turns show: its exits are the exits that the
-/// virtual CPU raises in the trace, and its bytes are those that the log gains in its turns, in order.
+/// virtual CPU raises in the trace, and its bytes are those that the log gains in its turns, in order; the
+/// number of RAM frames and the console's are the frame of each.
 pub fn what_a_guest_puts_out_is_shown()
     ensures exits { (k : KernelState) (turns : List ℕ) (g : ℕ) → IsSound k → IsVirtual k g
         → exits_in (outputs (view k g) (inputs k turns g)) ≡ raises_in g (trace k turns) }
     ensures bytes { (k : KernelState) (turns : List ℕ) (g : ℕ) → IsSound k → IsVirtual k g
-        → logged_in (length k.memory.ram) (outputs (view k g) (inputs k turns g)) ≡ gained k turns g }
+        → filter is_byte (outputs (view k g) (inputs k turns g)) ≡ bytes_of (length k.memory.ram) (gained k turns g) }
 {}
 
 /// Two virtual CPUs, of whatever kernels and in whatever turns, with equal views and equal inputs end with

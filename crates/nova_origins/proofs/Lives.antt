@@ -6,7 +6,8 @@ use Rattle.std.proofs.lemmas.Bool.{ne_eqb}
 use Rattle.std.proofs.lemmas.List.{append_assoc}
 use Rattle.nova_guest.specs.Alone.{outputs}
 use Rattle.nova_guest.specs.declared.input.Out.{Out}
-use Rattle.nova_isolation.specs.Shown.{bytes_of, exit_by, exit_with, gained_in, is_byte, is_exit, raise_of, second_of, shown}
+use Rattle.nova_isolation.specs.Law.{bytes_of}
+use Rattle.nova_isolation.specs.Shown.{exit_by, exit_with, gained_in, is_byte, is_exit, raise_of, second_of, shown}
 use Rattle.nova_isolation.specs.Sound.{IsSound}
 use Rattle.nova_isolation.proofs.Runs.{reached_sound, run_alone, turn_sound}
 use Rattle.nova_isolation.proofs.Shows.{bytes_of_shown, exits_of_shown, outputs_shown}

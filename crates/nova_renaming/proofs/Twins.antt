@@ -1,6 +1,7 @@
 -- Two runs whose inputs agree but for the frames.
-use Rattle.std.proofs.Common.{◌≡◌, ℕ, zero, suc, List, [], ◌∷◌, length, ap, sym, ◌∙◌, subst, subst₂, refl, arith}
+use Rattle.std.proofs.Common.{◌≡◌, ◌+◌, ℕ, zero, suc, List, [], ◌∷◌, length, ap, sym, ◌∙◌, subst, subst₂, refl, arith}
 use Rattle.std.specs.Prelude.{Bool, true, false, nat_lt, slice_get, Option, Some, None}
+use Rattle.std.specs.List.{filter}
 use Rattle.nova_guest.specs.Alone.{outputs}
 use Rattle.nova_guest.specs.Cells.{cell_at}
 use Rattle.nova_guest.specs.Maps.{is_covered}
@@ -12,12 +13,15 @@ use Rattle.nova_model.specs.Guests.{inputs}
 use Rattle.nova_model.specs.Runs.{after, run}
 use Rattle.nova_model.specs.State.{KernelState, pd_of}
 use Rattle.nova_model.specs.Views.{cells_of, maps_of, view}
-use Rattle.nova_isolation.specs.Shown.{exits_in, logged_in}
+use Rattle.nova_model.specs.declared.log.LogByte.{LogByte}
+use Rattle.nova_isolation.specs.Law.{bytes_of}
+use Rattle.nova_isolation.specs.Shown.{exits_in, gained, is_byte}
 use Rattle.nova_isolation.specs.Sound.{IsSound, IsVirtual}
 use Rattle.nova_isolation.proofs.Runs.{reached_sound, run_alone, space_is_own, turn_sound, turn_virtual}
-use Rattle.nova_isolation.proofs.Showing.{bytes_logged, exits_shown}
+use Rattle.nova_isolation.proofs.Showing.{exits_shown}
+use Rattle.nova_isolation.proofs.Shows.{bytes_put}
 use Rattle.nova_isolation.proofs.Spaces.{cell_of}
-use Rattle.nova_renaming.specs.Renamings.{CellsAgree, GuestsAgree, MapsAgree, OutsAgree}
+use Rattle.nova_renaming.specs.Renamings.{CellsAgree, GuestsAgree, MapsAgree, OutsAgree, Renames}
 use Rattle.nova_renaming.specs.Twins.{AreCellsFound, AreTwins, EndAsTwins, IsRenaming, LogsAgree, ViewsAgree}
 use Rattle.nova_renaming.proofs.Runs.{EndsAgree, alone_agrees, inputs_fit}
 use Rattle.nova_renaming.proofs.Spaces.{covered_agrees, space_agrees}
@@ -31,15 +35,30 @@ exits_same r (out.Exit reason q0 q1 ∷ os) (p ∷ ps) same = rw same.0 (ap (λ 
 exits_same r (out.Byte frame value ∷ os) (p ∷ ps) same = rw same.0.1 (exits_same r os ps same.1)
 
 -- bytes
-logs_same : (r : ℕ → ℕ → Bool) (m n : ℕ) (os ps : List Out) → OutsAgree r os ps → LogsAgree r m n (logged_in m os) (logged_in n ps)
+bytes_same : (r : ℕ → ℕ → Bool) (os ps : List Out) → OutsAgree r os ps → OutsAgree r (filter is_byte os) (filter is_byte ps)
+bytes_same r [] [] same = tt
+bytes_same r [] (p ∷ ps) same = absurd same
+bytes_same r (o ∷ os) [] same = absurd same
+bytes_same r (out.Exit reason q0 q1 ∷ os) (p ∷ ps) same =
+    subst (λ (x : Out). OutsAgree r (filter is_byte os) (filter is_byte (x ∷ ps))) (sym same.0) (bytes_same r os ps same.1)
+bytes_same r (out.Byte frame value ∷ os) (p ∷ ps) same =
+    subst (λ (x : Out). OutsAgree r (filter is_byte (out.Byte frame value ∷ os)) (filter is_byte (x ∷ ps))) (sym same.0.1)
+    ((same.0.0, refl, same.0.2), bytes_same r os ps same.1)
+
+abbrev frame_of : Out → ℕ
+frame_of (out.Byte frame value) = frame
+frame_of (out.Exit reason q0 q1) = 0
+
+abbrev value_of : Out → ℕ
+value_of (out.Byte frame value) = value
+value_of (out.Exit reason q0 q1) = 0
+
+logs_same : (r : ℕ → ℕ → Bool) (m n : ℕ) (xs ys : List LogByte) → OutsAgree r (bytes_of m xs) (bytes_of n ys) → LogsAgree r m n xs ys
 logs_same r m n [] [] same = tt
-logs_same r m n [] (p ∷ ps) same = absurd same
-logs_same r m n (o ∷ os) [] same = absurd same
-logs_same r m n (out.Exit reason q0 q1 ∷ os) (p ∷ ps) same =
-    subst (λ (x : Out). LogsAgree r m n (logged_in m os) (logged_in n (x ∷ ps))) (sym same.0) (logs_same r m n os ps same.1)
-logs_same r m n (out.Byte frame value ∷ os) (p ∷ ps) same =
-    subst (λ (x : Out). LogsAgree r m n (logged_in m (out.Byte frame value ∷ os)) (logged_in n (x ∷ ps))) (sym same.0.1)
-    (record { value = refl; frame = frame; new = same.0.0; console = refl; console_new = refl; stands = same.0.2 }, logs_same r m n os ps same.1)
+logs_same r m n [] (y ∷ ys) same = absurd same
+logs_same r m n (x ∷ xs) [] same = absurd same
+logs_same r m n (x ∷ xs) (y ∷ ys) same =
+    (record { value = ap value_of same.0.1; stands = subst (Renames r (m + x.console)) (sym (ap frame_of same.0.1)) same.0.2 }, logs_same r m n xs ys same.1)
 
 -- what holds along a run
 run_sound : (k : KernelState) (turns : List ℕ) → IsSound k → IsSound (run k turns)
@@ -66,8 +85,8 @@ twins_end r k l turns others g h sound sound_ twins = record {
   views = views_end r k l turns others g h sound sound_ twins;
   outs = outs;
   exits = sym (exits_shown k turns g sound twins.first) ∙ (exits_same r here there outs ∙ exits_shown l others h sound_ twins.second);
-  bytes = subst₂ (LogsAgree r (length k.memory.ram) (length l.memory.ram)) (bytes_logged k turns g sound twins.first) (bytes_logged l others h sound_ twins.second)
-      (logs_same r (length k.memory.ram) (length l.memory.ram) here there outs);
+  bytes = logs_same r (length k.memory.ram) (length l.memory.ram) (gained k turns g) (gained l others h)
+      (subst₂ (OutsAgree r) (bytes_put k turns g sound twins.first) (bytes_put l others h sound_ twins.second) (bytes_same r here there outs));
   spaces = space_is_own (run k turns) g (run_sound k turns sound) (run_virtual k turns g twins.first)
       ∙ (space_agrees r (view (run k turns) g) (view (run l others) h) (views_end r k l turns others g h sound sound_ twins)
       ∙ sym (space_is_own (run l others) h (run_sound l others sound_) (run_virtual l others h twins.second)));

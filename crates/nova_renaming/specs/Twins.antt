@@ -1,5 +1,5 @@
 -- Virtual CPUs of two kernels that are the same guest but for the frames, and what their runs show of them then.
-use Rattle.std.specs.Prelude.{◌≡◌, ℕ, ◌-◌, Bool, nat_lt, List, [], ◌∷◌, length, Some}
+use Rattle.std.specs.Prelude.{◌≡◌, ℕ, ◌+◌, Bool, nat_lt, List, [], ◌∷◌, length, Some}
 use Rattle.nova_guest.specs.Alone.{outputs}
 use Rattle.nova_guest.specs.Cells.{cell_at}
 use Rattle.nova_guest.specs.declared.cell.Cell.{Cell}
@@ -31,14 +31,10 @@ pub record ViewsAgree (r : ℕ → ℕ → Bool) (u v : Guest) : Type 0 where
   pub maps : MapsAgree r u.maps v.maps
   pub cells : AreCellsFound r u.cells v.cells
 
--- THE LOG: equal bytes, stored to consoles that stand for each other; consoles are numbered from the first frame that is no RAM
+-- THE LOG: equal bytes, stored to consoles that stand for each other; a console's frame is the number of RAM frames, and the console's
 pub record LogAgrees (r : ℕ → ℕ → Bool) (ram others : ℕ) (a b : LogByte) : Type 0 where
   pub value : b.value ≡ a.value
-  pub frame : ℕ
-  pub new : ℕ
-  pub console : a.console ≡ frame - ram
-  pub console_new : b.console ≡ new - others
-  pub stands : Renames r frame new
+  pub stands : Renames r (ram + a.console) (others + b.console)
 
 abbrev pub LogsAgree : (ℕ → ℕ → Bool) → ℕ → ℕ → List LogByte → List LogByte → Type 0
 LogsAgree r ram others [] [] = Unit {0}

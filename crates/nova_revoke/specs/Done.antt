@@ -1,8 +1,7 @@
--- What a part of a revoke did, and what it forbids.
-use Rattle.std.specs.Prelude.{◌≡◌, ◌+◌, ℕ, Bool, [], length, Option, Some, None}
-use Rattle.nova_range.specs.declared.range.Range.{Range}
-use Rattle.nova_model.specs.Delegations.{Delegations, without, derived}
-use Rattle.nova_model.specs.Revokes.{Revocation, scope, busy}
+-- What a part of a revoke did.
+use Rattle.std.specs.Prelude.{◌≡◌, ◌+◌, [], length, Option, Some, None}
+use Rattle.nova_model.specs.Delegations.{Delegations, without}
+use Rattle.nova_model.specs.Revokes.{Revocation, scope}
 use Rattle.nova_model.specs.declared.delegation.Derivation.{Derivation}
 use Rattle.nova_forest.specs.Courses.{IsLeaf}
 use Rattle.nova_revoke.specs.declared.leaves.RevokeDone.{RevokeDone}
@@ -17,7 +16,3 @@ done_of (Some d) = Removed d
 pub data IsPart (r : Revocation) (old new : Delegations) : RevokeDone → Type 0 where
   Takes : (d : Derivation) → IsLeaf r old d → new ≡ without old d.id → length old.list ≡ length new.list + 1 → IsPart r old new (Removed d)
   Leaves : scope r old.list ≡ [] → new ≡ old → IsPart r old new Ended
-
--- a new derivation of this parent, domain, range and target is busy, whatever its rights
-abbrev pub would_grow : Revocation → Delegations → Option ℕ → ℕ → Range → ℕ → Bool
-would_grow r f parent pd range target = busy r f.list (derived f.next parent pd range (record { 0 = 0 }) target)

@@ -158,9 +158,7 @@ pub fn would_grow<I: Index>(
 }
 
 impl Guarded for Revoke {
-    ghost use Rattle.nova_revoke.specs.Done.{would_grow};
-
-    ghost busy = { would_grow };
+    ghost revoke = { λ r. r };
 
     fn would_grow<I: Index>(
         &self,

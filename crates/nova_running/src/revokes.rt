@@ -30,9 +30,7 @@ impl Model for Running {
 }
 
 impl Guarded for Running {
-    ghost use Rattle.nova_revoke.specs.Done.{would_grow};
-
-    ghost busy = { λ w. would_grow w.revoke };
+    ghost revoke = { λ w. w.revoke };
 
     fn would_grow<I: Index>(
         &self,

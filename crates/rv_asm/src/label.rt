@@ -3,7 +3,7 @@ ghost use Rattle.rv_asm.specs.Program.{added, no_labels};
 ghost use Rattle.rv_asm.specs.Places.{places_of};
 
 use std::alloc::{AllocError, Global};
-use std::collections::BTreeMap;
+use std::collections::HashMap;
 
 /// Where a label stands.
 #[derive(Clone, Copy)]
@@ -18,7 +18,7 @@ pub struct Label {
 /// The labels of a text. Contracts see where each name stands, or nothing.
 #[derive(Drop)]
 pub struct Labels<'a> {
-    places: BTreeMap<&'a [u8], Label>,
+    places: HashMap<&'a [u8], Label>,
 }
 
 impl<'a> Labels<'a> {
@@ -26,7 +26,7 @@ impl<'a> Labels<'a> {
         ensures { places_of result ≡ no_labels }
     {
         Labels {
-            places: BTreeMap::new(alloc),
+            places: HashMap::new(alloc),
         }
     }
 

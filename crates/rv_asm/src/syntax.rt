@@ -142,13 +142,13 @@ pub fn labelled(line: Line) -> (Option<Token>, Line)
 }
 
 /// Where the last token of a line ends, or `end` where none is left.
-fn last_end(mut line: Line, end: u64) -> u64
+fn last_end(mut line: Line, mut end: u64) -> u64
     ensures { result ≡ last_end end (tokens_left line.entry) }
 {
-    match line.next_token() {
-        Some(token) => last_end(line, token.span.end),
-        None => end,
+    while let Some(token) = line.next_token() {
+        end = token.span.end;
     }
+    end
 }
 
 /// The operand that stands between two commas.

@@ -20,8 +20,8 @@ judged-requires-clause-parent g c =
 
 pub returns-in-Some-clause-child : goal.returns-in-Some-clause-child
 returns-in-Some-clause-child g c =
-    judged_ready (busy_by g.G.Guarded.busy c.args.revokes.now c.args.nodes.now.delegations) c.args.nodes.now.delegations c.args.job.now c.in-Some.source
+    judged_ready (busy_by g.G.Guarded.revoke c.args.revokes.now c.args.nodes.now.delegations.list) c.args.nodes.now.delegations c.args.job.now c.in-Some.source
     c.next_source.ensures.sound c.requires.job c.in-Some.ensures.placed (sym c.next_source.ensures.found ∙ c.in-Some.is) c.judged.result
     (c.judged.ensures ∙
-    ap (judged (busy_by g.G.Guarded.busy c.args.revokes.now c.args.nodes.now.delegations) c.args.nodes.now.delegations.list)
+    ap (judged (busy_by g.G.Guarded.revoke c.args.revokes.now c.args.nodes.now.delegations.list) c.args.nodes.now.delegations.list)
     (c.child_of-child.ensures ∙ ap (λ (n : ℕ). child_of c.args.job.now n c.in-Some.source) c.next.ensures.next))

@@ -2,7 +2,7 @@ use Rattle.std.proofs.Common.{◌≡◌, ℕ, List, Option, Some, None, refl, sy
 use mathlib.Core.Path.{fun_ext}
 use Rattle.std.specs.Map.{update}
 use Rattle.std.specs.Str.{bytes_eq}
-use Rattle.std.proofs.lemmas.Map.Text.{btree_map_updates_str}
+use Rattle.std.proofs.lemmas.Map.Text.{hash_map_updates_str}
 use Rattle.rv_asm.specs.Program.{added}
 use Rattle.rv_asm.specs.Operand.{Labels}
 use Rattle.rv_asm.specs.Places.{places_of}
@@ -16,4 +16,4 @@ new_name labels after name label old e none each = fun_ext each ∙ sym (ap (add
 pub returns-in_ok-insert-clause-added : goal.returns-in_ok-insert-clause-added
 returns-in_ok-insert-clause-added c =
     new_name (places_of c.args.self.now) _ c.args.name.now c.args.label _ refl (search rules)
-    (btree_map_updates_str c.args.name.now c.args.self.now.places c.insert.new.self _ c.in_ok-insert.ensures.updates)
+    (hash_map_updates_str c.args.name.now c.args.self.now.places c.insert.new.self _ c.in_ok-insert.ensures.updates)
