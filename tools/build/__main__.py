@@ -4,7 +4,8 @@
 
 proves each crate that CRATE (nova, if none is named) stands on, those below first, and then makes CRATE and runs it with the words.
 A line tells of each crate that is proved, and how many there are. What `rt` kept in the out/ folders is used again. One crate is
-proved after another: a check takes all processors, and holds the crates below it.
+proved after another: a proof takes all processors, and holds the crates below it. `rt lib` proves a crate and writes its library at
+once; after `rt check` the next crate would load it once more for that.
 """
 
 import pathlib
@@ -50,7 +51,7 @@ def main(words):
     for count, crate in enumerate(wanted, 1):
         print(f"nova: {count} of {len(wanted) + 1}: {crate}", end="", file=sys.stderr, flush=True)
         began = time.monotonic()
-        status = rt(["check"], crate)
+        status = rt(["lib"], crate)
         print(f", {time.monotonic() - began:.0f} s", file=sys.stderr)
         if status != 0:
             return status

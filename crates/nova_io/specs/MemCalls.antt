@@ -1,5 +1,5 @@
 -- The calls of depots and sinks in memory: what each gives or takes, and what it leaves.
-use Rattle.std.specs.Prelude.{◌≡◌, ℕ, ◌-◌, ◌<◌, ◌≤◌, ◌⊎◌, ◌++◌, true, false, List, length, take, drop, None, IsSome, Contains}
+use Rattle.std.specs.Prelude.{◌≡◌, ℕ, ◌-◌, ◌<◌, ◌≤◌, ◌⊎◌, ◌++◌, min, true, false, List, length, take, drop, None, IsSome, Contains}
 use Rattle.std.specs.FinMap.{get}
 use Rattle.nova_io.specs.Faults.{raised}
 use Rattle.nova_io.specs.Files.{bytes_of, appended}
@@ -9,11 +9,12 @@ use Rattle.nova_io.specs.Memory.{CallCounts, DepotState, SinkState, after_call, 
 abbrev pub IsToFail : CallCounts → Type 0
 IsToFail calls = Contains calls.failing (raised calls.made)
 
--- a fetch that gave a piece: the bytes from the place on, as many as there are of those that were asked for
+-- a fetch that gave a piece: the bytes from the place on, as many as there are of those that were asked for, and at most
+-- so many as one call gives
 pub record MemGave (before : DepotState) (name : List ℕ) (at asked : ℕ) (piece : List ℕ) (after : DepotState) : Type 0 where
   pub goes_well : IsToFail before.fetches → ⊥
   pub there : IsSome (get before.files name)
-  pub bytes : piece ≡ take asked (drop at (bytes_of before.files name))
+  pub bytes : piece ≡ take (min before.most asked) (drop at (bytes_of before.files name))
   pub left : after ≡ record before { fetches = after_call before.fetches false }
 
 -- a fetch that failed
@@ -21,14 +22,14 @@ pub record MemFetchFailed (before : DepotState) (name : List ℕ) (at asked : �
   pub cause : IsToFail before.fetches ⊎ (get before.files name ≡ None)
   pub left : after ≡ record before { fetches = after_call before.fetches true }
 
--- an append, which takes the whole piece
+-- an append, which takes the piece, or as much of it as one call takes
 pub record MemTook (before : DepotState) (name piece : List ℕ) (count : ℕ) (after : DepotState) : Type 0 where
   pub goes_well : IsToFail before.appends → ⊥
   pub fits : length piece ≤ room_of before.rooms name
-  pub whole : count ≡ length piece
+  pub much : count ≡ min before.most (length piece)
   pub left : after ≡ record before {
-    files = appended before.files name piece;
-    rooms = lowered before.rooms name (length piece);
+    files = appended before.files name (take count piece);
+    rooms = lowered before.rooms name count;
     appends = after_call before.appends false;
   }
 
@@ -37,12 +38,12 @@ pub record MemAppendFailed (before : DepotState) (name piece : List ℕ) (after 
   pub cause : IsToFail before.appends ⊎ (room_of before.rooms name < length piece)
   pub left : after ≡ record before { appends = after_call before.appends true }
 
--- a write, which takes the whole piece
+-- a write, which takes the piece, or as much of it as one call takes
 pub record SinkTook (before : SinkState) (piece : List ℕ) (count : ℕ) (after : SinkState) : Type 0 where
   pub goes_well : IsToFail before.writes → ⊥
   pub fits : length piece ≤ before.room
-  pub whole : count ≡ length piece
-  pub left : after ≡ record { bytes = before.bytes ++ piece; room = before.room - length piece; writes = after_call before.writes false }
+  pub much : count ≡ min before.most (length piece)
+  pub left : after ≡ record before { bytes = before.bytes ++ take count piece; room = before.room - count; writes = after_call before.writes false }
 
 -- a write that failed
 pub record SinkWriteFailed (before : SinkState) (piece : List ℕ) (after : SinkState) : Type 0 where

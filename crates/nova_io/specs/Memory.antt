@@ -28,11 +28,12 @@ pub record Stored : Type 0 where
   pub bytes : List ℕ
   pub room : ℕ
 
--- what a sink in memory holds: its bytes, the room that is left, and its calls
+-- what a sink in memory holds: its bytes, the room that is left, its calls, and the most bytes that one of them takes
 pub record SinkState : Type 0 where
   pub bytes : List ℕ
   pub room : ℕ
   pub writes : CallCounts
+  pub most : ℕ
 
 -- the room that is left, by name
 abbrev pub Rooms : Type 0
@@ -47,17 +48,19 @@ abbrev pub lowered : Rooms → List ℕ → ℕ → Rooms
 lowered rooms name zero = rooms
 lowered rooms name (suc n) = insert rooms name (room_of rooms name - suc n)
 
--- what a depot in memory holds: its files' bytes and the room that is left to them, and its calls of each kind
+-- what a depot in memory holds: its files' bytes and the room that is left to them, its calls of each kind, and the most
+-- bytes that one of them takes or gives
 pub record DepotState : Type 0 where
   pub files : Files
   pub rooms : Rooms
   pub fetches : CallCounts
   pub appends : CallCounts
+  pub most : ℕ
 
 -- a depot's state is stored as a tuple
 abbrev pub depot_code : Coded DepotState
 depot_code =
-    code_by ((Files × Rooms) × (CallCounts × CallCounts))
-    (coded× (coded× (code (coded_list coded_ℕ) (coded_list coded_ℕ)) (code (coded_list coded_ℕ) coded_ℕ)) (coded× counts_code counts_code))
-    (λ d. ((d.files, d.rooms), (d.fetches, d.appends)))
-    (λ p. record { files = p.0.0; rooms = p.0.1; fetches = p.1.0; appends = p.1.1 }) (λ _. refl)
+    code_by ((Files × Rooms) × ((CallCounts × CallCounts) × ℕ))
+    (coded× (coded× (code (coded_list coded_ℕ) (coded_list coded_ℕ)) (code (coded_list coded_ℕ) coded_ℕ)) (coded× (coded× counts_code counts_code) coded_ℕ))
+    (λ d. ((d.files, d.rooms), ((d.fetches, d.appends), d.most)))
+    (λ p. record { files = p.0.0; rooms = p.0.1; fetches = p.1.0.0; appends = p.1.0.1; most = p.1.1 }) (λ _. refl)

@@ -1,5 +1,5 @@
 // A depot over the runtime's files.
-ghost use Rattle.std.specs.Prelude.{◌≡◌, ◌^◌, ◌<◌, ◌≤◌, None, true, false, length, IfOk, OnOk, OnErr};
+ghost use Rattle.std.specs.Prelude.{◌≡◌, ◌+◌, ◌^◌, ◌<◌, ◌≤◌, None, Some, true, false, length, IsTrue, IfOk, OnOk, OnErr};
 ghost use Rattle.nova_io.specs.Faults.{Rose, raised};
 
 use crate::depots::Depot;
@@ -14,14 +14,20 @@ use std::rt::Files;
 ///
 /// It tells no bytes. It counts its failed fetches and its failed appends, each of them for every name, up to the
 /// last value. An append makes the file if it isn't there.
+///
+/// A fetch opens the file anew. One that can't be moved, as a pipe, stays open for the next fetch and is read on from
+/// where it stands, until it has ended or another fetch comes. A fetch of its bytes from any other place fails, and so
+/// does one after which there is no memory for its name.
 #[derive(Drop)]
-pub struct FileDepot<R> {
+pub struct FileDepot<R: Files + Alloc> {
     rt: R,
     fetch_faults: u64,
     append_faults: u64,
+    stream: Option<Opened<R::File>>,
+    name: String<R::A>,
 }
 
-impl<R> Model for FileDepot<R> {
+impl<R: Files + Alloc> Model for FileDepot<R> {
     ghost use Rattle.nova_io.specs.Faults.{FaultCounts};
 
     ghost Value = { FaultCounts };
@@ -29,23 +35,98 @@ impl<R> Model for FileDepot<R> {
     ghost view = { λ d. record { fetches = d.fetch_faults; appends = d.append_faults } };
 }
 
-impl<R: Files> FileDepot<R> {
+impl<R: Files + Alloc> FileDepot<R> {
     /// The files of this runtime, with no fault yet.
     pub fn new(rt: R) -> FileDepot<R>
         ensures { result ≡ record { fetches = 0; appends = 0 } }
     {
+        let name = String::new(rt.alloc());
         FileDepot {
             rt,
             fetch_faults: 0,
             append_faults: 0,
+            stream: None,
+            name,
         }
+    }
+
+    /// The open file that a place of a name is read from: the one that stayed open, where it is this name's and stands
+    /// there, else one that is opened.
+    fn take(&mut self, name: &str, at: u64) -> io::Result<Opened<R::File>>
+        ensures { self.new ≡ self.old }
+    {
+        match self.stream.take() {
+            Some(stream) if stream.place == at && self.name.as_str() == name => Ok(stream),
+            _ => Ok(Opened {
+                file: fs::open(&self.rt, name)?,
+                place: 0,
+                is_stream: false,
+            }),
+        }
+    }
+
+    /// Lets a file stay open for the next fetch of its name. Want of memory for the name is a fault.
+    fn keep(&mut self, name: &str, stream: Opened<R::File>) -> Result<(), Failed>
+        ensures given { OnOk result (self.new ≡ self.old) }
+        ensures refused { OnErr result (self.new ≡ record self.old { fetches = raised self.old.fetches }) }
+        ensures failed { OnErr result (Rose self.old.fetches self.new.fetches) }
+    {
+        if self.name.as_str() != name {
+            match String::from_str(self.rt.alloc(), name) {
+                Ok(text) => self.name = text,
+                Err(_) => return Err(raise(&mut self.fetch_faults)),
+            }
+        }
+        self.stream = Some(stream);
+        Ok(())
+    }
+
+    /// Fetches bytes of an open file from a place on. If it can't be moved and hasn't ended, it stays open.
+    fn fetch_on(
+        &mut self,
+        mut opened: Opened<R::File>,
+        name: &str,
+        at: u64,
+        buf: &mut [u8],
+    ) -> Result<usize, Failed>
+        requires { at < 2 ^ 62 }
+        ensures within { IfOk result (λ count. count ≤ length buf.new) }
+        ensures given { OnOk result (self.new ≡ self.old) }
+        ensures refused { OnErr result (self.new ≡ record self.old { fetches = raised self.old.fetches }) }
+        ensures failed { OnErr result (Rose self.old.fetches self.new.fetches) }
+    {
+        let count = opened.fetch(&mut self.fetch_faults, at, buf)?;
+        let has_ended = count == 0 && !buf.is_empty();
+        if opened.is_stream && !has_ended {
+            self.keep(name, opened)?;
+        }
+        Ok(count)
     }
 }
 
-/// An open file. Of its bytes it tells what the file does, but not which stand at which place.
+/// An open file: the place of its next byte, and whether it can't be moved. Of its bytes it tells what the file does,
+/// but not which stand at which place.
 #[derive(Drop)]
 struct Opened<F> {
     file: F,
+    place: u64,
+    is_stream: bool,
+}
+
+impl<F: Read + Seek> Opened<F> {
+    /// Fetches bytes from a place on, and stands after those that came.
+    fn fetch(&mut self, faults: &mut u64, at: u64, buf: &mut [u8]) -> Result<usize, Failed>
+        requires { at < 2 ^ 62 }
+        ensures within { IfOk result (λ count. count ≤ length buf.new) }
+        ensures place { IfOk result (λ count. self.new.place ≡ at + count) }
+        ensures given { OnOk result (faults.new ≡ faults.old) }
+        ensures refused { OnErr result (faults.new ≡ raised faults.old) }
+        ensures failed { OnErr result (Rose faults.old faults.new) }
+    {
+        let count = fetch_from(self, faults, at, buf)?;
+        self.place = at + count as u64;
+        Ok(count)
+    }
 }
 
 impl<F: Read> Read for Opened<F> {
@@ -59,15 +140,26 @@ impl<F: Read> Read for Opened<F> {
 impl<F: Read + Seek> ReadFrom for Opened<F> {
     ghost bytes = { λ _. None };
 
-    ghost place = { λ o. F.stream_position o.file };
+    ghost place = { λ o. Some o.place };
 
-    fn move_to(&mut self, at: u64) -> io::Result<()> {
-        self.file.seek(SeekFrom::Start(at))?;
+    /// A file that can't be moved is read only from where it stands.
+    fn move_to(&mut self, at: u64) -> io::Result<()>
+        ensures place { OnOk result (self.new.place ≡ at) }
+        ensures stream { OnOk result (IsTrue self.new.is_stream → self.old.place ≡ at) }
+    {
+        match self.file.seek(SeekFrom::Start(at)) {
+            Ok(_) => {
+                self.place = at;
+                self.is_stream = false;
+            }
+            Err(_) if self.place == at => self.is_stream = true,
+            Err(error) => return Err(error),
+        }
         Ok(())
     }
 }
 
-impl<R: Files> Depot for FileDepot<R> {
+impl<R: Files + Alloc> Depot for FileDepot<R> {
     ghost files = { λ _. None };
 
     ghost fetch_faults = { λ d _. d.fetches };
@@ -89,8 +181,8 @@ impl<R: Files> Depot for FileDepot<R> {
         ensures refused { OnErr result (self.new ≡ record self.old { fetches = raised self.old.fetches }) }
         ensures failed { OnErr result (Rose self.old.fetches self.new.fetches) }
     {
-        match fs::open(&self.rt, name) {
-            Ok(file) => fetch_from(&mut Opened { file }, &mut self.fetch_faults, at, buf),
+        match self.take(name, at) {
+            Ok(opened) => self.fetch_on(opened, name, at, buf),
             Err(_) => Err(raise(&mut self.fetch_faults)),
         }
     }

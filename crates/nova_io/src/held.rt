@@ -1,5 +1,5 @@
 // The files of a depot in memory.
-ghost use Rattle.std.specs.Prelude.{◌≡◌, ◌≤◌, ◌↔◌, length, IsTrue, IfOk, bytes_eq, string_bytes};
+ghost use Rattle.std.specs.Prelude.{◌≡◌, ◌≤◌, ◌↔◌, length, take, IsTrue, IfOk, bytes_eq, string_bytes};
 ghost use Rattle.std.specs.Bool.{OnTrue, OnFalse};
 ghost use Rattle.std.specs.List.{position};
 ghost use Rattle.std.specs.Option.{option_map};
@@ -56,18 +56,19 @@ pub(crate) fn store_of<'a>(files: &'a [Held], name: &str) -> Option<&'a Store>
     Some(&files[place].store)
 }
 
-/// Appends a piece whole to a file if there is room for it, and else changes nothing.
-pub(crate) fn put(files: &mut [Held], name: &str, piece: &[u8]) -> bool
+/// Appends so many bytes of a piece, from the first on, to a file if there is room for all of it, and else changes nothing.
+pub(crate) fn put(files: &mut [Held], name: &str, piece: &[u8], count: usize) -> bool
+    requires { count ≤ length piece.now }
     ensures fits { IsTrue result ↔ (length piece.now ≤ room_of (rooms_held files.old) name.now) }
-    ensures bytes { OnTrue result (files_held files.new ≡ appended (files_held files.old) name.now piece.now) }
-    ensures rooms { OnTrue result (rooms_held files.new ≡ lowered (rooms_held files.old) name.now (length piece.now)) }
+    ensures bytes { OnTrue result (files_held files.new ≡ appended (files_held files.old) name.now (take count piece.now)) }
+    ensures rooms { OnTrue result (rooms_held files.new ≡ lowered (rooms_held files.old) name.now count) }
     ensures bytes_stay { OnFalse result (files_held files.new ≡ files_held files.old) }
     ensures rooms_stay { OnFalse result (rooms_held files.new ≡ rooms_held files.old) }
 {
     match place_of(files, name) {
         Some(place) => {
             let file = &mut files[place];
-            file.store.put(piece)
+            file.store.put(piece, count)
         }
         None => piece.is_empty(),
     }

@@ -1,5 +1,5 @@
 // A sink in memory.
-ghost use Rattle.std.specs.Prelude.{◌≡◌, ◌+◌, ◌-◌, ◌<◌, ◌≤◌, ◌⊎◌, ◌↔◌, ◌++◌, [], Some, length, take, true, false, is_err, IsErr, IfOk, OnOk, OnErr, Contains};
+ghost use Rattle.std.specs.Prelude.{◌≡◌, ◌+◌, ◌-◌, ◌^◌, ◌<◌, ◌≤◌, ◌⊎◌, ◌↔◌, ◌++◌, [], Some, length, take, min, true, false, is_err, IsErr, IfOk, OnOk, OnErr, Contains};
 ghost use Rattle.std.specs.Io.KnownBytes.{append_known};
 ghost use Rattle.nova_io.specs.Faults.{Rose, raised};
 ghost use Rattle.nova_io.specs.MemCalls.{SinkTook, SinkWriteFailed, IsToFail};
@@ -14,12 +14,14 @@ use std::marker::Model;
 
 /// A sink that keeps what is written in memory.
 ///
-/// A write takes the whole piece. It is a fault if its number is among those that are to fail, or if the piece is
-/// longer than the room that is left. Writes are numbered from 1.
+/// A write takes the whole piece, but never more than `most` bytes, which is 2^64 - 1 at first. It is a fault if its
+/// number is among those that are to fail, or if the piece, all of it, is longer than the room that is left. Writes are
+/// numbered from 1.
 #[derive(Drop)]
 pub struct MemSink {
     store: Store,
     writes: Calls,
+    most: u64,
 }
 
 impl Model for MemSink {
@@ -27,22 +29,37 @@ impl Model for MemSink {
 
     ghost Value = { SinkState };
 
-    ghost view = { λ s. record { bytes = s.store.bytes; room = s.store.room; writes = s.writes } };
+    ghost view = { λ s. record { bytes = s.store.bytes; room = s.store.room; writes = s.writes; most = s.most } };
+
+    ghost use Rattle.std.specs.Prelude.{◌≤◌};
+
+    ghost invariant = { λ s. 1 ≤ s.most };
 }
 
 impl MemSink {
-    /// An empty sink with room for so many bytes, of whose writes those with these numbers are to fail.
+    /// An empty sink with room for so many bytes, of whose writes those with these numbers are to fail. A write takes as
+    /// many bytes as there are.
     pub fn new(alloc: Global, room: u64, writes: Vec<u64>) -> Result<MemSink, AllocError>
         ensures { IfOk result (λ sink. sink ≡ record {
           bytes = [];
           room = room;
           writes = record { made = 0; faults = 0; failing = writes.items };
+          most = 2 ^ 64 - 1;
         }) }
     {
         Ok(MemSink {
             store: Store::new(Vec::new(alloc), room)?,
             writes: Calls::new(writes),
+            most: u64::MAX,
         })
+    }
+
+    /// Bounds the bytes that one write takes from now on, to 1 at least.
+    pub fn set_most(&mut self, most: u64)
+        requires { 1 ≤ most }
+        ensures { self.new ≡ record self.old { most = most } }
+    {
+        self.most = most;
     }
 
     /// The bytes that were taken.
@@ -64,18 +81,20 @@ impl Sink for MemSink {
 
     fn write(&mut self, bytes: &[u8]) -> Result<usize, Failed>
         ensures fails { IsErr result ↔ (IsToFail self.old.writes ⊎ (self.old.room < length bytes.now)) }
-        ensures count { IfOk result (λ count. count ≡ length bytes.now) }
-        ensures taken { OnOk result (self.new ≡ record {
-          bytes = self.old.bytes ++ bytes.now;
-          room = self.old.room - length bytes.now;
+        ensures count { IfOk result (λ count. count ≡ min self.old.most (length bytes.now)) }
+        ensures progress { IfOk result (λ count. count ≡ 0 → length bytes.now ≡ 0) }
+        ensures taken { IfOk result (λ count. self.new ≡ record self.old {
+          bytes = self.old.bytes ++ take count bytes.now;
+          room = self.old.room - count;
           writes = after_call self.old.writes false;
         }) }
         ensures refused { OnErr result (self.new ≡ record self.old { writes = after_call self.old.writes true }) }
         ensures failed { OnErr result (Rose self.old.writes.faults self.new.writes.faults) }
     {
-        if self.writes.begin() || !self.store.put(bytes) {
+        let count = bytes.len().min(self.most as usize);
+        if self.writes.begin() || !self.store.put(bytes, count) {
             return Err(self.writes.fault());
         }
-        Ok(bytes.len())
+        Ok(count)
     }
 }

@@ -39,29 +39,30 @@ impl Store {
         self.bytes.as_slice()
     }
 
-    /// Takes a piece whole if there is room for it, and else nothing.
-    pub(crate) fn put(&mut self, piece: &[u8]) -> bool
+    /// Takes so many bytes of a piece, from the first on, if there is room for all of it, and else nothing.
+    pub(crate) fn put(&mut self, piece: &[u8], count: usize) -> bool
+        requires { count ≤ length piece.now }
         ensures fits { IsTrue result ↔ (length piece.now ≤ self.old.room) }
-        ensures taken { OnTrue result (self.new ≡ record { bytes = self.old.bytes ++ piece.now; room = self.old.room - length piece.now }) }
+        ensures taken { OnTrue result (self.new ≡ record { bytes = self.old.bytes ++ take count piece.now; room = self.old.room - count }) }
         ensures refused { OnFalse result (self.new ≡ self.old) }
     {
         let fits = piece.len() as u64 <= self.room;
         if fits {
-            self.bytes.extend_from_slice(piece).unwrap();
-            self.room -= piece.len() as u64;
+            self.bytes.extend_from_slice(&piece[..count]).unwrap();
+            self.room -= count as u64;
         }
         fits
     }
 
-    /// Copies the bytes from a place on to the front of a buffer, as many as there are and fit.
-    pub(crate) fn copy_to(&self, at: u64, buf: &mut [u8]) -> usize
-        ensures count { result ≡ min (length self.now.bytes - at) (length buf.new) }
+    /// Copies the bytes from a place on to the front of a buffer, as many as there are and fit, and at most so many.
+    pub(crate) fn copy_to(&self, at: u64, buf: &mut [u8], most: u64) -> usize
+        ensures count { result ≡ min (length self.now.bytes - at) (min most (length buf.new)) }
         ensures front { take result buf.new ≡ take result (drop at self.now.bytes) }
         ensures rest { drop result buf.new ≡ drop result buf.old }
     {
         let start = self.bytes.len().min(at as usize);
         let rest = &self.bytes[start..];
-        let count = rest.len().min(buf.len());
+        let count = rest.len().min(buf.len().min(most as usize));
         buf[..count].copy_from_slice(&rest[..count]);
         count
     }

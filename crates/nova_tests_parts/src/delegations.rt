@@ -3,8 +3,9 @@ ghost use Rattle.nova_delegate.specs.Parts.{IsUnderWay};
 
 use bitflags::Flags;
 use nova_delegate::{Job, PartDone, Reason, Skip, job, part};
-use nova_nodes::{Guarded, Nodes};
-use nova_range::{Index, Kind, Range, Rights};
+use nova_nodes::Nodes;
+use nova_range::{Kind, Range, Rights};
+use nova_revoke::Revoke;
 use nova_space::Space;
 use std::alloc::Global;
 use std::process::Abort;
@@ -33,45 +34,20 @@ fn item(rt: &impl Abort, sent: Pages, window: Pages) -> Job
     }
 }
 
-/// A revoke that forbids no child.
-#[derive(Clone, Copy)]
-pub struct ForbidsNone;
+/// A protection domain that has nothing.
+pub const STRANGER: u32 = 7;
 
-impl Guarded for ForbidsNone {
-    ghost use Rattle.std.specs.Prelude.{false};
-
-    ghost busy = { λ g delegations parent pd range target. false };
-
-    fn would_grow<I: Index>(
-        &self,
-        _nodes: &Nodes<I>,
-        _parent: Option<u32>,
-        _pd: u32,
-        _range: Range,
-        _target: u32,
-    ) -> bool {
-        false
-    }
-}
-
-/// A revoke that forbids each child.
-#[derive(Clone, Copy)]
-struct ForbidsAll;
-
-impl Guarded for ForbidsAll {
-    ghost use Rattle.std.specs.Prelude.{true};
-
-    ghost busy = { λ g delegations parent pd range target. true };
-
-    fn would_grow<I: Index>(
-        &self,
-        _nodes: &Nodes<I>,
-        _parent: Option<u32>,
-        _pd: u32,
-        _range: Range,
-        _target: u32,
-    ) -> bool {
-        true
+/// The revoke of all pages of a protection domain.
+pub fn revoke_of(pd: u32) -> Revoke {
+    let range = Range {
+        kind: Kind::Mem,
+        base: 0,
+        order: 20,
+    };
+    Revoke {
+        pd,
+        range,
+        own: false,
     }
 }
 
@@ -89,7 +65,7 @@ fn nodes(rt: &impl Abort, alloc: Global) -> Nodes<Space>
     };
     nodes.root(GIVER, range, Rights::from_bits_retain(3), 0);
     let mut item = item(rt, (3, 0, 1), (8, 0, 1));
-    part(&mut nodes, &mut item, &[ForbidsNone]).expect(rt, "ample memory");
+    part(&mut nodes, &mut item, &[revoke_of(STRANGER)]).expect(rt, "ample memory");
     nodes
 }
 
@@ -118,8 +94,11 @@ fn a_part_is_made_or_skipped_for_the_first_reason(rt: HostRuntime) {
     for &(sent, window, wanted) in &PARTS {
         let mut nodes = nodes(&rt, rt.alloc());
         let mut item = item(&rt, sent, window);
-        let first = part(&mut nodes, &mut item, &[ForbidsNone]).expect(&rt, "ample memory");
-        let second = part(&mut nodes, &mut item, &[ForbidsNone]).expect(&rt, "ample memory");
+        let first = part(&mut nodes, &mut item, &[revoke_of(STRANGER)]).expect(&rt, "ample memory");
+        let second = part(&mut nodes, &mut item, &[revoke_of(STRANGER)]).expect(
+            &rt,
+            "ample memory",
+        );
         assert!(rt;
             [told(first), told(second)] == [wanted, ("ended", 0)],
             "{sent:?}"
@@ -129,17 +108,20 @@ fn a_part_is_made_or_skipped_for_the_first_reason(rt: HostRuntime) {
 
 #[test]
 fn a_revoke_forbids_a_child(rt: HostRuntime) {
-    let mut nodes = nodes(&rt, rt.alloc());
-    let mut item = item(&rt, (0, 2, 1), (16, 2, 7));
-    let done = part(&mut nodes, &mut item, &[ForbidsAll]).expect(&rt, "ample memory");
-    assert!(rt; told(done) == ("busy", 0));
+    for revoker in [GIVER, RECEIVER] {
+        let mut nodes = nodes(&rt, rt.alloc());
+        let mut item = item(&rt, (0, 2, 1), (16, 2, 7));
+        let revokes = [revoke_of(STRANGER), revoke_of(revoker)];
+        let done = part(&mut nodes, &mut item, &revokes).expect(&rt, "ample memory");
+        assert!(rt; told(done) == ("busy", 0), "{revoker}");
+    }
 }
 
 #[test]
 fn a_child_lies_where_the_window_says(rt: HostRuntime) {
     let mut nodes = nodes(&rt, rt.alloc());
     let mut item = item(&rt, (0, 2, 1), (16, 2, 7));
-    part(&mut nodes, &mut item, &[ForbidsNone]).expect(&rt, "ample memory");
+    part(&mut nodes, &mut item, &[revoke_of(STRANGER)]).expect(&rt, "ample memory");
     let child = nodes.get(2).expect(&rt, "the child");
     let place = (child.pd, child.base, child.order);
     let way = (child.parent, child.rights.bits(), child.target);

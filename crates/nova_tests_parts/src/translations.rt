@@ -1,6 +1,6 @@
 ghost use Rattle.std.specs.Prelude.{◌≤◌, ◌<◌, ◌+◌, ◌^◌, ◌-◌};
 
-use crate::delegations::ForbidsNone;
+use crate::delegations::{STRANGER, revoke_of};
 use bitflags::Flags;
 use nova_delegate::{job, part, translate};
 use nova_nodes::Nodes;
@@ -16,7 +16,7 @@ fn give(rt: &impl Abort, nodes: &mut Nodes<Space>, from: u32, to: u32, sent: u32
 {
     match job(sent, 0, window, from, to) {
         Ok(mut item) => {
-            part(nodes, &mut item, &[ForbidsNone]).expect(rt, "ample memory");
+            part(nodes, &mut item, &[revoke_of(STRANGER)]).expect(rt, "ample memory");
         }
         Err(_) => panic!(rt; "{sent:08x} is skipped"),
     }

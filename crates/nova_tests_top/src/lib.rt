@@ -2,7 +2,9 @@
 #![tactic(auto)]
 
 #[cfg(test)]
-mod bytewise;
+mod bursts;
+#[cfg(test)]
+mod bytes;
 #[cfg(test)]
 mod calls;
 #[cfg(test)]
@@ -13,6 +15,8 @@ mod exits;
 mod objects;
 #[cfg(test)]
 mod orders;
+#[cfg(test)]
+mod refusals;
 #[cfg(test)]
 mod revokes;
 #[cfg(test)]

@@ -1,6 +1,6 @@
 // Calls over files, each a row of a table.
 use nova_io::{MemDepot, MemFile, MemSink, Sink};
-use nova_top::{Exit, Open, nova_main};
+use nova_top::{Exit, Gate, Open, nova_main};
 use std::alloc::Global;
 use std::process::Abort;
 use std::sync::Wait;
@@ -63,6 +63,19 @@ pub fn depot_of(rt: &impl Abort, alloc: Global, row: &Row, room: u64, failing: u
     MemDepot::new(alloc, files, Vec::new(alloc), failing).expect(rt, "ample memory")
 }
 
+/// Makes a call with these words, in which workers pass this gate.
+pub fn call_through<R: Abort + Threads + Wait + Sync, O: Sink, G: Gate + Sync>(
+    rt: &R,
+    alloc: Global,
+    line: &str,
+    depot: &mut MemDepot,
+    out: &mut O,
+    gate: &G,
+) -> Exit {
+    let words = words_of(rt, alloc, line);
+    nova_main(rt, alloc, &words, depot, out, gate)
+}
+
 /// Makes a call with these words.
 pub fn call<R: Abort + Threads + Wait + Sync, O: Sink>(
     rt: &R,
@@ -71,8 +84,7 @@ pub fn call<R: Abort + Threads + Wait + Sync, O: Sink>(
     depot: &mut MemDepot,
     out: &mut O,
 ) -> Exit {
-    let words = words_of(rt, alloc, line);
-    nova_main(rt, alloc, &words, depot, out, &Open)
+    call_through(rt, alloc, line, depot, out, &Open)
 }
 
 /// Makes the call of a row, and tells whether its end and its text are the row's.

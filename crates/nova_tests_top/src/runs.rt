@@ -19,10 +19,10 @@ struct Appending {
 }
 
 /// One processor, and a root that dies in its second turn.
-const ONE: &str = "cpus 1\nram 0\nconsoles 0\nroot 0 0 1 10\nimage 0 hex\n00100073\nend\n";
+pub const ONE: &str = "cpus 1\nram 0\nconsoles 0\nroot 0 0 1 10\nimage 0 hex\n00100073\nend\n";
 
 /// Its report.
-const ONE_REPORT: &str =
+pub const ONE_REPORT: &str =
     "run quiet 2\nat 1 0 1 raise 7 0\nat 2 0 1 died 7 0\nec 1 global dead 00000000\nsc 2 0 2\ncap 0 - 0 mem 0 0 7 0\ncap 1 - 0 obj 0 0 1 0\ncap 2 - 0 obj 1 0 7 1\ncap 3 - 0 obj 2 0 1 2\n";
 
 /// One processor, and a root that loops.

@@ -1,5 +1,4 @@
 // Writes that fail, one by its number.
-use crate::bytewise::Bytewise;
 use crate::rows::{ENDS, Row, call, depot_of};
 use nova_io::MemSink;
 use nova_top::Exit;
@@ -38,14 +37,11 @@ const CALL: Row = Row {
 fn write<R: Abort + Threads + Wait + Sync>(rt: &R, alloc: Global, row: &Writing) {
     let &(shows, failing, wanted, text) = row;
     let failing = Vec::from_slice(alloc, &[failing]).expect(rt, "ample memory");
-    let sink = MemSink::new(alloc, CALL.room, failing).expect(rt, "ample memory");
-    let mut out = Bytewise { sink };
+    let mut out = MemSink::new(alloc, CALL.room, failing).expect(rt, "ample memory");
+    out.set_most(1);
     let mut depot = depot_of(rt, alloc, &CALL, 0, 0);
     let exit = call(rt, alloc, CALL.words, &mut depot, &mut out);
-    assert!(rt;
-        exit == wanted && out.sink.bytes() == text.as_bytes(),
-        "{shows}"
-    );
+    assert!(rt; exit == wanted && out.bytes() == text.as_bytes(), "{shows}");
 }
 
 #[test]

@@ -272,7 +272,9 @@ class Commands(unittest.TestCase):
         with tempfile.TemporaryDirectory() as folder:
             race = str(HERE / "long_race.nova")
             words = [sys.executable, str(TOOL), "explore", race, "--switches", "5", "--output", folder, "--progress", *MEANS]
-            with subprocess.Popen(words, stdout=subprocess.PIPE, stderr=subprocess.PIPE, text=True) as child:
+            # Where the tests run in the background, interrupts may be ignored, and so by what they start.
+            heed = lambda: signal.signal(signal.SIGINT, signal.SIG_DFL)
+            with subprocess.Popen(words, stdout=subprocess.PIPE, stderr=subprocess.PIPE, text=True, preexec_fn=heed) as child:
                 assert child.stderr is not None
                 self.assertIn("starts of the program", child.stderr.readline())
                 child.send_signal(signal.SIGINT)

@@ -1,5 +1,5 @@
 // Depots and sinks in memory.
-use nova_io::{MemDepot, MemFile, MemSink, append_all, fetch_all, write_all};
+use nova_io::{Depot, MemDepot, MemFile, MemSink, Sink, append_all, fetch_all, write_all};
 use std::alloc::{AllocError, Global};
 use std::process::Abort;
 
@@ -24,6 +24,25 @@ fn a_sink_keeps_what_fits(rt: HostRuntime) {
         assert_written(&rt, &mut sink, piece, is_taken);
     }
     assert!(rt; sink.bytes() == b"abcde".as_slice());
+}
+
+/// Pieces for a sink that takes two bytes at most, and how many it takes; a piece must fit, all of it.
+static BOUNDED: [(&[u8], Option<usize>); 5] = [
+    (b"abcdef", None),
+    (b"abcde", Some(2)),
+    (b"", Some(0)),
+    (b"c", Some(1)),
+    (b"def", None),
+];
+
+#[test]
+fn a_sink_takes_no_more_than_its_bound(rt: HostRuntime) {
+    let mut sink = MemSink::new(rt.alloc(), 5, Vec::new(rt.alloc())).expect(&rt, "memory");
+    sink.set_most(2);
+    for &(piece, count) in &BOUNDED {
+        assert!(rt; sink.write(piece).ok() == count);
+    }
+    assert!(rt; sink.bytes() == b"abc".as_slice());
 }
 
 /// A depot of one file.
@@ -73,4 +92,25 @@ fn a_depot_takes_what_fits(rt: HostRuntime) {
         assert_appended(&rt, &mut depot, piece, is_taken);
     }
     assert!(rt; depot.bytes("log") == Some(b"abcdefg".as_slice()));
+}
+
+/// What a depot gives from the beginning of its file, and takes, where a call has one byte at most.
+fn counts(depot: &mut MemDepot) -> [Option<usize>; 2] {
+    let mut buf = [0; 4];
+    [
+        depot.fetch("log", 0, &mut buf).ok(),
+        depot.append("log", b"cd").ok(),
+    ]
+}
+
+#[test]
+fn a_depot_gives_and_takes_no_more_than_its_bound(rt: HostRuntime) {
+    let mut depot = depot(rt.alloc(), 2, &[], &[]).expect(&rt, "memory");
+    depot.set_most(1);
+    let counts = counts(&mut depot);
+    let whole = fetch_all(rt.alloc(), &mut depot, "log", 3);
+    assert!(rt;
+        counts == [Some(1), Some(1)]
+            && whole.is_ok_and(|bytes| bytes.as_slice() == b"abc".as_slice())
+    );
 }

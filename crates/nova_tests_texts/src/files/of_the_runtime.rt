@@ -51,7 +51,7 @@ fn a_file_is_made_and_lengthened(rt: HostRuntime) {
 }
 
 /// Three bytes at most from a place of a file on, and how many they are; 4 where they can't be fetched.
-fn fetched<R: Files>(depot: &mut FileDepot<R>, name: &str, at: u32) -> ([u8; 3], usize) {
+fn fetched<R: Files + Alloc>(depot: &mut FileDepot<R>, name: &str, at: u32) -> ([u8; 3], usize) {
     let mut buf = [0; 3];
     let count = depot.fetch(name, u64::from(at), &mut buf).unwrap_or(4);
     (buf, count)
@@ -73,7 +73,7 @@ fn fetches_are_from_a_place_on(rt: HostRuntime) {
 }
 
 /// A fetch and an append of a file. Where both fail, each is counted in its own kind.
-fn fetched_and_appended<R: Files>(
+fn fetched_and_appended<R: Files + Alloc>(
     depot: &mut FileDepot<R>,
     name: &str,
 ) -> (Result<usize, Failed>, Result<usize, Failed>)

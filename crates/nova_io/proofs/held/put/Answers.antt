@@ -1,4 +1,4 @@
-use Rattle.std.proofs.Common.{Bool, true, false, refl, sym, ap, arith}
+use Rattle.std.proofs.Common.{Bool, true, false, take, refl, sym, ap, arith}
 use Rattle.std.specs.Bool.{OnTrue}
 use Rattle.nova_io.proofs.Puts.{room-at, files-put, rooms-put, room-none}
 use Rattle.nova_io.proofs.held.put.Goals as goal
@@ -14,7 +14,7 @@ returns-in-Some-clause-fits c =
 pub returns-in-Some-clause-bytes : goal.returns-in-Some-clause-bytes
 returns-in-Some-clause-bytes c =
     OnTrue-weaker c.put.result c.put.ensures.taken (λ taken.
-    files-put c.args.files.now c.args.name.now c.in-Some.place c.index-files-place.result (sym c.in-Some.ensures) _ c.args.piece.now refl (ap (λ s. s.bytes) taken))
+    files-put c.args.files.now c.args.name.now c.in-Some.place c.index-files-place.result (sym c.in-Some.ensures) _ (take c.args.count c.args.piece.now) refl (ap (λ s. s.bytes) taken))
 
 pub returns-in-Some-clause-rooms : goal.returns-in-Some-clause-rooms
 returns-in-Some-clause-rooms c =
