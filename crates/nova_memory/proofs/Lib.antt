@@ -1,5 +1,6 @@
 pub mod Placed
 pub mod Rooted
 pub mod Laid
-pub mod Guarded
 pub mod Views
+pub mod Rising
+pub mod Seen

@@ -4,3 +4,4 @@ pub use Rattle.nova_model.specs.AddressSpaces
 pub mod Messages
 pub mod Previews
 pub mod Reach
+pub mod Sights

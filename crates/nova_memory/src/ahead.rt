@@ -60,7 +60,6 @@ impl Reach {
         job: &Job,
         revokes: &[Running],
     ) -> Option<(Derivation, Result<Derivation, Reason>)>
-        requires forest { IsForest self.now.nodes.delegations }
         requires job { IsUnderWay job.now }
         ensures part { result ≡ option_map pair_of (next_part (busy_under revokes.now self.now.nodes.delegations.list) self.now.nodes.delegations job.now) }
         ensures source { IfSome result (λ p. IsPlaced p.0) }

@@ -7,6 +7,7 @@ ghost use Rattle.nova_memory.specs.Reach.{page_range, selector_range};
 
 use crate::messages::Messages;
 use crate::reach::Reach;
+use crate::sights::Sights;
 use bitflags::Flags;
 use nova_frames::Frames;
 use nova_model::{Kind, Rights};
@@ -134,11 +135,13 @@ impl Reach {
         let frames = Frames::new(alloc, ram, consoles, log_room)?;
         let nodes = root_nodes(alloc, ram, consoles)?;
         let messages = root_messages(alloc)?;
+        let sights = Sights::new(alloc, frames.ram_frames())?;
         Ok(Reach {
             frames,
             nodes,
             messages,
             last: None,
+            sights,
             ec: 1,
             pd: 0,
             is_thread: true,

@@ -1,9 +1,8 @@
 ghost use Rattle.std.specs.Prelude.{false, ◌≡◌, ◌≤◌, ◌-◌, ◌^◌, ◌<◌, ℕ, is_some, None, IfSome, IsOk, OnOk, OnErr, IfOk};
-ghost use Rattle.std.specs.List.{find, list_any};
+ghost use Rattle.std.specs.List.{find};
 ghost use Rattle.nova_range.specs.Rights.{IsRights};
 ghost use Rattle.nova_model.specs.Delegations.{added, covers, derived, from_id, with_id};
 ghost use Rattle.nova_model.specs.Forest.{IsForest};
-ghost use Rattle.nova_model.specs.Inputs.{leads_to};
 ghost use Rattle.nova_model.specs.Transfers.{next_part, given, moved};
 ghost use Rattle.nova_model.specs.Translations.{translated};
 ghost use Rattle.nova_nodes.specs.NodesStates.{IsPlaced, room};
@@ -64,6 +63,7 @@ impl Reach {
             base: selector,
             order: 0,
         };
+        self.sights.forget();
         self.nodes.root(pd, place, rights, object);
     }
 
@@ -106,6 +106,7 @@ impl Reach {
         ensures consoles { self.new.consoles ≡ self.old.consoles }
         ensures log { self.new.room ≡ self.old.room }
     {
+        self.sights.forget();
         part(&mut self.nodes, job, revokes)
     }
 
@@ -114,12 +115,5 @@ impl Reach {
         ensures { result ≡ translated self.now.nodes.delegations.list word window giver receiver }
     {
         translate(&self.nodes, word, window, giver, receiver)
-    }
-
-    /// Whether memory of a protection domain leads to a frame.
-    pub fn leads_to(&self, pd: u32, frame: u32) -> bool
-        ensures { result ≡ list_any (leads_to pd frame) self.now.nodes.delegations.list }
-    {
-        self.nodes.leads_to(pd, frame)
     }
 }

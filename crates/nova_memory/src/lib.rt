@@ -10,7 +10,11 @@ pub mod messages;
 pub mod preview;
 pub mod reach;
 mod revoking;
+mod seeing;
+pub mod sights;
+pub mod viewers;
 
 pub use messages::Messages;
 pub use preview::{Preview, Write};
 pub use reach::Reach;
+pub use viewers::Viewers;

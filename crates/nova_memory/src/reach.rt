@@ -8,6 +8,7 @@ ghost use Rattle.nova_model.specs.Delegations.{covers, page_in, reach};
 ghost use Rattle.nova_memory.specs.Reach.{loaded, reached, stored, takes};
 
 use crate::messages::Messages;
+use crate::sights::Sights;
 use bitflags::Flags;
 use nova_frames::Frames;
 use nova_model::{Derivation, Kind, Page, Rights};
@@ -25,13 +26,14 @@ pub(crate) const MESSAGE_SIZE: u32 = 512;
 
 /// What an instruction reaches: the frames, through the derivations of the protection domain of the
 /// execution context that acts, and the message words of one that is a thread. The derivation of the last
-/// page that was looked up is looked at first.
+/// page that was looked up is looked at first, and who sees a frame that was stored to is remembered.
 #[derive(Drop)]
 pub struct Reach {
     pub(crate) frames: Frames,
     pub(crate) nodes: Nodes<Space>,
     pub(crate) messages: Messages,
     pub(crate) last: Option<Derivation>,
+    pub(crate) sights: Sights,
     pub(crate) ec: u32,
     pub(crate) pd: u32,
     pub(crate) is_thread: bool,
@@ -42,6 +44,7 @@ pub struct Reach {
 impl Model for Reach {
     ghost use Rattle.std.specs.Prelude.{◌+◌, length, IfSome};
     ghost use Rattle.nova_memory.specs.Reach.{ReachState, IsFound, LeadToFrames};
+    ghost use Rattle.nova_memory.specs.Sights.{AreSeen};
 
     ghost Value = { ReachState };
 
@@ -57,7 +60,7 @@ impl Model for Reach {
       room = r.frames.room;
     } };
 
-    ghost invariant = { λ r. LeadToFrames (length r.frames.memory.ram + r.frames.consoles) r.nodes.delegations.list × IfSome r.last (IsFound r.nodes.delegations.list) };
+    ghost invariant = { λ r. LeadToFrames (length r.frames.memory.ram + r.frames.consoles) r.nodes.delegations.list × (IfSome r.last (IsFound r.nodes.delegations.list) × AreSeen r.nodes.delegations.list r.sights) };
 }
 
 /// Whether a derivation lies in the memory space of a protection domain and covers a page.
@@ -116,6 +119,7 @@ impl Reach {
             nodes: self.nodes.copy()?,
             messages: self.messages.copy()?,
             last: self.last,
+            sights: self.sights.copy()?,
             ec: self.ec,
             pd: self.pd,
             is_thread: self.is_thread,

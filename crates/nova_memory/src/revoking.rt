@@ -16,6 +16,7 @@ impl Reach {
         ensures log { self.new.room ≡ self.old.room }
     {
         self.last = None;
+        self.sights.forget();
         part(&mut self.nodes, revoke)
     }
 }

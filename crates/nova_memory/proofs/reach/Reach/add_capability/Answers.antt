@@ -7,6 +7,7 @@ use Rattle.nova_forest.proofs.Boots.{capability_fits}
 use Rattle.nova_forest.proofs.Members.{all_more, none_found}
 use Rattle.nova_memory.specs.Reach.{IsFound, LeadToFrames, LeadsToFrames, ReachState, selector_range}
 use Rattle.nova_memory.proofs.Placed.{last_more}
+use Rattle.nova_memory.proofs.Seen.{blank_seen}
 use Rattle.nova_memory.proofs.reach.Reach.add_capability.Goals as goal
 
 pub root-requires-clause-fits : goal.root-requires-clause-fits
@@ -24,5 +25,8 @@ invariant_of-self c =
     let x = derived f.next None c.args.pd (selector_range c.args.selector) c.args.rights c.args.object in (
       subst (λ (g : Delegations). LeadToFrames (length r.frames.memory.ram + r.frames.consoles) g.list) (sym c.root.ensures.added)
           (record { few = c.self.invariant.0.few; each = all_more (LeadsToFrames (length r.frames.memory.ram + r.frames.consoles)) f.list x c.self.invariant.0.each (λ is. cc) }),
-      subst (λ (g : Delegations). IfSome r.last (IsFound g.list)) (sym c.root.ensures.added) (last_more f.list x r.last c.self.invariant.1),
+      (
+        subst (λ (g : Delegations). IfSome r.last (IsFound g.list)) (sym c.root.ensures.added) (last_more f.list x r.last c.self.invariant.1.0),
+        blank_seen c.root.new.self.delegations.list c.forget.new.self c.forget.ensures,
+      ),
     )

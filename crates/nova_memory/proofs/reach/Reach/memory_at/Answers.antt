@@ -4,6 +4,7 @@ use Rattle.std.specs.List.{find}
 use Rattle.nova_range.specs.declared.range.Kind.TheVariants.{Mem}
 use Rattle.nova_model.specs.Delegations.{covers}
 use Rattle.nova_memory.specs.Reach.{LeadToFrames, ReachState}
+use Rattle.nova_memory.specs.Sights.{AreSeen}
 use Rattle.nova_nodes.specs.NodesStates.{NodesState}
 use Rattle.nova_memory.proofs.Placed.{at_found, page_found}
 use Rattle.nova_memory.proofs.reach.Reach.memory_at.Goals as goal
@@ -13,8 +14,11 @@ invariant_of-self c =
     let r = c.self.inside in
     let same : c.at-self-inside.new.self ≡ r.nodes = c.at-self-inside.ensures.kept in (
       subst (λ (n : NodesState). LeadToFrames (length r.frames.memory.ram + r.frames.consoles) n.delegations.list) (sym same) c.self.invariant.0,
-      at_found c.at-self-inside.new.self.delegations r.pd c.args.page c.at-self-inside.result c.at-self-inside.ensures.sound c.at-self-inside.ensures.found
-          c.at-self-inside.ensures.placed,
+      (
+        at_found c.at-self-inside.new.self.delegations r.pd c.args.page c.at-self-inside.result c.at-self-inside.ensures.sound c.at-self-inside.ensures.found
+            c.at-self-inside.ensures.placed,
+        subst (λ (n : NodesState). AreSeen n.delegations.list r.sights) (sym same) c.self.invariant.1.1,
+      ),
     )
 
 pub returns-clause-leads : goal.returns-clause-leads

@@ -1,5 +1,6 @@
 use Rattle.std.proofs.Common.{◌+◌, length}
 use Rattle.nova_memory.proofs.Placed.{revoked_leads}
+use Rattle.nova_memory.proofs.Seen.{blank_seen}
 use Rattle.nova_memory.proofs.reach.Reach.take_away.Goals as goal
 
 pub invariant_of-self : goal.invariant_of-self
@@ -7,5 +8,8 @@ invariant_of-self c =
     let r = c.self.inside in (
       revoked_leads (length r.frames.memory.ram + r.frames.consoles) c.args.revoke.now r.nodes.delegations c.part.new.nodes.delegations c.part.ensures.revoked
           c.self.invariant.0,
-      tt,
+      (
+        tt,
+        blank_seen c.part.new.nodes.delegations.list c.forget.new.self c.forget.ensures,
+      ),
     )
