@@ -1,8 +1,11 @@
 pub mod Reached
 pub mod Making
 pub mod Quiet
+pub mod Known
 pub mod Alone
 pub mod Below
 pub mod Foreseen
 pub mod Ongoing
 pub mod Views
+pub mod Stores
+pub mod Advancing

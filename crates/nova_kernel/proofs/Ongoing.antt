@@ -1,25 +1,21 @@
 -- The list of the revokes that run stays that of the state, along deeds and charges; and what it says of the next part of an item.
 use Rattle.std.proofs.Common.{◌≡◌, ℕ, ◌<◌, ◌≤◌, List, [], ◌∷◌, ap, ap₂, sym, ◌∙◌, subst, refl, arith}
-use Rattle.std.specs.Prelude.{Bool, true, false, ◌==◌, ◌||◌, if◌then◌else◌, length, slice_get, IsSome, IfSome, Option, Some, None, option_map, Result, Ok, Err, OnOk}
-use Rattle.std.specs.List.{list_any}
+use Rattle.std.specs.Prelude.{Bool, true, false, length, slice_get, IsSome, Option, Some, None, Result, Ok, Err, OnOk}
 use Rattle.std.proofs.lemmas.Bool.{eq-eqb}
 use Rattle.std.proofs.lemmas.List.{length-append}
 use Rattle.rv_model.specs.Step.{Once, Raised, Went}
 use Rattle.nova_objects.specs.declared.object.Object.{Object}
 use Rattle.nova_objects.specs.declared.object.Object.TheVariants.{Pd}
 use Rattle.nova_range.specs.declared.range.Range.{Range}
-use Rattle.nova_delegate.specs.Parts.{busy_by, next_under}
 use Rattle.nova_model.specs.Boot.{bare}
 use Rattle.nova_model.specs.Creation.{object_of}
 use Rattle.nova_model.specs.Deeds.{brought, changed, deed, done, followed, instruction, recalled, replied_to, stepped, told, with_context, woken_in}
-use Rattle.nova_model.specs.Delegations.{Delegations, is_held_in, range_of, with_id}
-use Rattle.nova_model.specs.Forest.{IsForest}
+use Rattle.nova_model.specs.Delegations.{Delegations}
 use Rattle.nova_model.specs.Memory.{Memory}
-use Rattle.nova_model.specs.Revokes.{busy}
 use Rattle.nova_model.specs.Running.{Running, revoke_of, running}
 use Rattle.nova_model.specs.Semaphores.{upped}
 use Rattle.nova_model.specs.State.{KernelState, budget_at, context, context_at, pd_of}
-use Rattle.nova_model.specs.Transfers.{Part, child_of, given, judged, next_part, next_source, part_of}
+use Rattle.nova_model.specs.Transfers.{Part, given, next_part}
 use Rattle.nova_model.specs.Turn.{charged, counted, paid_by, quantum_in}
 use Rattle.nova_model.specs.declared.budget.Budget.{Budget}
 use Rattle.nova_model.specs.declared.context.EcState.{EcState}
@@ -32,14 +28,11 @@ use Rattle.nova_model.specs.declared.delegation.Derivation.{Derivation}
 use Rattle.nova_model.specs.declared.root.Root.{Root}
 use Rattle.nova_model.specs.declared.transfer.ItemWords.{ItemWords}
 use Rattle.nova_model.specs.declared.transfer.Job.{Job}
-use Rattle.nova_model.specs.declared.transfer.Reason.TheVariants as reason
 use Rattle.nova_model.specs.declared.transfer.Sequel.{Sequel}
 use Rattle.nova_model.specs.declared.transfer.Sequel.TheVariants as sequel
 use Rattle.nova_laws.specs.Revoking.{AsksRevoke, revoke_after, running_after}
-use Rattle.nova_forest.proofs.Lines.{member_found}
 use Rattle.nova_forest.proofs.Running.{revokes_there, revoking_there}
-use Rattle.nova_forest.proofs.Transfers.{next_facts}
-use Rattle.nova_revoke.specs.Done.{done_of, would_grow}
+use Rattle.nova_revoke.specs.Done.{done_of}
 use Rattle.nova_revoke.specs.declared.leaves.RevokeDone.TheVariants.{Removed, Ended}
 use Rattle.nova_deeds.specs.Acts.{Fits, begun, is_over, part_now, with_part}
 use Rattle.nova_deeds.specs.Counted.{AreTables}

@@ -20,7 +20,7 @@ pub use Rattle.nova_deeds.specs.Acts
 pub use Rattle.nova_deeds.specs.Stirs
 pub use Rattle.nova_deeds.specs.Counted
 pub mod Views
+pub mod Known
 pub mod Parts
 pub mod ObjectTypes
 pub mod Revoking
-pub mod Bursts

@@ -1,31 +1,35 @@
-ghost use Rattle.std.specs.Prelude.{◌≡◌, ◌+◌, ◌<◌, ◌≤◌, ◌^◌, length, true, IsSome};
-ghost use Rattle.std.specs.List.{All};
+ghost use Rattle.std.specs.Prelude.{◌≡◌, ◌+◌, ◌<◌, ◌≤◌, ◌^◌, ℕ, length, replicate, slice_get, true, IsSome, IfSome};
 ghost use Rattle.nova_model.specs.Inputs.{is_covered_for};
+ghost use Rattle.nova_model.specs.Runs.{run};
+ghost use Rattle.nova_model.specs.State.{entry};
 ghost use Rattle.nova_sched.specs.Queues as queues;
-ghost use Rattle.nova_leases.specs.Paging.{charged_times, stores_seen};
-ghost use Rattle.nova_kernel.specs.Bursts.{AreFrames, pages_written};
+ghost use Rattle.nova_leases.specs.Commits.{IsReached, MayAdvance};
+ghost use Rattle.nova_leases.specs.Paging.{AreFrames, charged_times, pages_written, seen_from, stored_to, stores_seen};
 ghost use Rattle.nova_kernel.specs.Parts.{shown};
-ghost use Rattle.nova_deeds.specs.Counted.{IsToBeCharged};
+ghost use Rattle.nova_kernel.specs.Revoking.{AreRunning};
+ghost use Rattle.nova_deeds.specs.Counted.{IsCounted, IsToBeCharged};
 ghost use Rattle.nova_choice.specs.Schedules.{AreQueued};
 
 use crate::parts::Parts;
-use nova_leases::Page;
+use nova_leases::{Page, Steps};
 use nova_memory::Reach;
 
-/// The bytes of copied frames take the place of those of the frames.
-pub fn write_pages(reach: &mut Reach, pages: &[Page])
+/// The bytes of copied frames take the place of those of the frames, where a store went to the copy.
+fn write_pages(reach: &mut Reach, pages: &[Page])
     requires { AreFrames reach.old.memory.ram pages.now }
-    ensures { reach.new ≡ record reach.old { memory = record reach.old.memory { ram = pages_written pages.now reach.old.memory.ram } } }
+    ensures { reach.new ≡ record reach.old { memory = record reach.old.memory { ram = pages_written (stored_to pages.now) reach.old.memory.ram } } }
 {
     for page in pages {
-        reach.write_frame(page.frame, page.bytes.as_slice());
+        if page.stores > 0 {
+            reach.write_frame(page.frame, page.bytes.as_slice());
+        }
     }
 }
 
 impl Parts {
     /// How many of the stores that pages count went to frames to which the memory of a protection domain
     /// leads. All together are below 2^64.
-    pub fn stores_seen(&self, pd: u32, pages: &[Page]) -> u64
+    fn stores_seen(&self, pd: u32, pages: &[Page]) -> u64
         requires { stores_seen (λ f. true) pages.now < 2 ^ 64 }
         ensures { result ≡ stores_seen (is_covered_for (shown self.now) pd) pages.now }
     {
@@ -38,8 +42,25 @@ impl Parts {
         count
     }
 
+    /// Counts the stores of an execution context for each other virtual CPU whose memory leads to where they
+    /// went. All together, and with the count of each, are below 2^64.
+    fn count_stores(&mut self, ec: u32, pages: &[Page])
+        requires stores { stores_seen (λ f. true) pages.now < 2 ^ 64 }
+        requires counts { (g : ℕ) → IfSome (entry (slice_get (shown self.old).stirs.guests g)) (λ n. n + stores_seen (λ f. true) pages.now < 2 ^ 64) }
+        ensures counts { self.new.guests.counts ≡ seen_from (shown self.old) ec pages.now 0 self.old.guests.counts }
+        ensures rest { self.new ≡ record self.old { guests = self.new.guests } }
+    {
+        for i in 0..self.guests.numbers().len() {
+            let guest = self.guests.numbers()[i];
+            if guest != ec {
+                let count = self.stores_seen(self.pd(guest), pages);
+                self.guests.raise(guest, count);
+            }
+        }
+    }
+
     /// So many turns of the processor are charged to the scheduling context.
-    pub fn charge_times(&mut self, cpu: u32, sc: u32, count: u64)
+    fn charge_times(&mut self, cpu: u32, sc: u32, count: u64)
         requires charged { IsToBeCharged (shown self.old) }
         requires queued { AreQueued (shown self.old) self.old.queues.all }
         requires turns { self.old.turns + count ≤ 2 ^ 31 }
@@ -55,5 +76,31 @@ impl Parts {
         for _i in 0..count {
             self.charge(cpu, sc);
         }
+    }
+
+    /// As many turns of a processor as the virtual CPU that acts there took instructions, at once: they are
+    /// charged, and the virtual CPU has the registers, its frames the bytes, and others the stir counts that
+    /// these leave.
+    pub fn advance(&mut self, cpu: u32, steps: &Steps)
+        requires counted { IsCounted (shown self.old) }
+        requires reached { IsReached (shown self.old) }
+        requires queued { AreQueued (shown self.old) self.old.queues.all }
+        requires running { AreRunning (shown self.old) self.old.revokes }
+        requires may { MayAdvance (shown self.old) cpu steps.now }
+        requires turns { self.old.turns + steps.now.count ≤ 2 ^ 31 }
+        ensures state { shown self.new ≡ run (shown self.old) (replicate steps.now.count cpu) }
+        ensures counted { IsCounted (shown self.new) }
+        ensures reached { IsReached (shown self.new) }
+        ensures queued { AreQueued (shown self.new) self.new.queues.all }
+        ensures running { AreRunning (shown self.new) self.new.revokes }
+        ensures log { self.new.reach.room ≡ self.old.reach.room }
+    {
+        let Some(chosen) = self.choice(cpu, &[]) else {
+            unreachable!()
+        };
+        self.charge_times(cpu, chosen.sc, steps.count);
+        self.contexts.set_regs(chosen.actor, &steps.regs);
+        write_pages(&mut self.reach, &steps.pages);
+        self.count_stores(chosen.actor, &steps.pages);
     }
 }

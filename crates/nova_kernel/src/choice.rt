@@ -2,33 +2,54 @@ ghost use Rattle.std.specs.Prelude.{◌≡◌, IsSome, IfSome, option_map};
 ghost use Rattle.nova_model.specs.Choice.{choice, choose, is_quiet};
 ghost use Rattle.nova_model.specs.State.{context_at};
 ghost use Rattle.nova_sched.specs.Queues as queues;
-ghost use Rattle.nova_choice.specs.Choices.{chosen_of, led};
+ghost use Rattle.nova_choice.specs.Choices.{chosen_of};
+ghost use Rattle.nova_kernel.specs.Known.{AreKnown, known_after};
 ghost use Rattle.nova_kernel.specs.Parts.{shown};
 ghost use Rattle.nova_choice.specs.Schedules.{AreQueued};
 
 use crate::parts::Parts;
 use nova_choice::{Chosen, actor_of};
+use nova_model::{EventKind, Turn};
+
+/// What is known after a turn: an instruction that went on leaves all choices, and its own is known then. Any
+/// other deed may lead turns elsewhere, so that nothing is known.
+pub fn keep(known: &mut [Option<Chosen>; 8], turn: &Turn)
+    ensures { known.new ≡ known_after turn.now known.old }
+{
+    let Turn::Stepped(event) = turn else {
+        return;
+    };
+    match event.kind {
+        EventKind::Step => {
+            if event.cpu < 8 {
+                known[event.cpu as usize] = Some(Chosen {
+                    sc: event.sc,
+                    actor: event.ec,
+                });
+            }
+        }
+        _ => *known = [None; 8],
+    }
+}
 
 impl Parts {
-    /// The scheduling context of the processor that the queues choose, and who acts in its turns.
-    fn next(&self, cpu: u32) -> Option<Chosen>
-        ensures next { result ≡ led (shown self.now) (queues.choose self.now.queues.all cpu) }
-        ensures acts { IfSome result (λ c. IsSome (context_at (shown self.now) c.actor)) }
-        ensures pays { IfSome result (λ c. IsSome (queues.queued_at self.now.queues.all c.sc)) }
-    {
-        let sc = self.queues.choose(cpu)?;
-        let actor = actor_of(&self.objects, &self.contexts, sc)?;
-        Some(Chosen { sc, actor })
-    }
-
-    /// The runnable scheduling context of the processor before which no other goes, and who acts.
-    pub fn choice(&self, cpu: u32) -> Option<Chosen>
-        requires { AreQueued (shown self.now) self.now.queues.all }
+    /// The runnable scheduling context of the processor before which no other goes, and who acts. Where that
+    /// is known of the processor's last turn, nobody is chased.
+    pub fn choice(&self, cpu: u32, known: &[Option<Chosen>]) -> Option<Chosen>
+        requires queued { AreQueued (shown self.now) self.now.queues.all }
+        requires known { AreKnown (shown self.now) known.now }
         ensures choice { result ≡ option_map chosen_of (choice (shown self.now) cpu) }
         ensures acts { IfSome result (λ c. IsSome (context_at (shown self.now) c.actor)) }
         ensures pays { IfSome result (λ c. IsSome (queues.queued_at self.now.queues.all c.sc)) }
     {
-        self.next(cpu)
+        let sc = self.queues.choose(cpu)?;
+        if let Some(Some(last)) = known.get(cpu as usize) {
+            if last.sc == sc {
+                return Some(*last);
+            }
+        }
+        let actor = actor_of(&self.objects, &self.contexts, sc)?;
+        Some(Chosen { sc, actor })
     }
 
     /// The scheduling context that the processor's next turn is charged to; none where it is idle.

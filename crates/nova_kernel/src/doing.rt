@@ -10,6 +10,7 @@ ghost use Rattle.nova_kernel.specs.Revoking.{BeginsWithin, revokes_after};
 
 use crate::parts::Parts;
 use nova_deeds::changes::change;
+use nova_exit::wait;
 use nova_ipc::help;
 use nova_model::{Deed, NewObject};
 use nova_revoke::Revoke;
@@ -94,7 +95,7 @@ impl Parts {
                 reason,
                 q0,
                 q1,
-            } => self.await_handler(ec, handler, reason, q0, q1),
+            } => wait(&mut self.contexts, ec, handler, reason, q0, q1),
             Deed::Sends {
                 handler,
                 ip,

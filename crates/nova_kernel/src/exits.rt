@@ -11,7 +11,7 @@ ghost use Rattle.nova_deeds.specs.Counted.{AreTables};
 use crate::capabilities::ObjectType;
 use crate::parts::Parts;
 use nova_ec::Mark;
-use nova_exit::{admit, die, send, wait};
+use nova_exit::{admit, die, send};
 use nova_ipc::abort;
 use nova_model::{Deed, ExitAdmit, Object, Rights};
 use nova_range::{Mtd, Status};
@@ -80,17 +80,6 @@ impl Parts {
             },
             None => Mark::Call,
         }
-    }
-
-    /// Its exit waits for a handler.
-    pub fn await_handler(&mut self, ec: u32, handler: u32, reason: u32, q0: u32, q1: u32)
-        requires admitted { exit_admitted (shown self.old).contexts ec handler ≡ ExitAdmit.Waits }
-        ensures waits { shown self.new ≡ performed (shown self.old) ec (Deed.Waits handler reason q0 q1) }
-        ensures queues { self.new.queues ≡ self.old.queues }
-        ensures revokes { self.new.revokes ≡ self.old.revokes }
-        ensures log { self.new.reach.room ≡ self.old.reach.room }
-    {
-        wait(&mut self.contexts, ec, handler, reason, q0, q1);
     }
 
     /// Its exit is sent: the handler finds the exit's message, and begins.

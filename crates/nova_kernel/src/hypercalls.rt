@@ -1,6 +1,6 @@
 ghost use Rattle.std.specs.Prelude.{◌≡◌, ◌^◌, ◌<◌, ℕ, IfOk, IsSome};
 ghost use Rattle.nova_calls.specs.SoundCalls.{IsSoundCall};
-ghost use Rattle.nova_model.specs.Hypercalls.{maker, unless_busy, new_domain, create_pd, create_ec, schedules, is_scheduled, create_sc, create_pt, create_sm, looked_up, ticks_in, row, asked, or_refuses, hypercall};
+ghost use Rattle.nova_model.specs.Hypercalls.{maker, unless_busy, new_domain, create_pd, create_ec, is_scheduled, create_sc, create_pt, create_sm, looked_up, ticks_in, row, asked, or_refuses, hypercall};
 ghost use Rattle.nova_model.specs.State.{budget_at, context_at, context, pd_of};
 ghost use Rattle.nova_kernel.specs.Parts.{shown};
 ghost use Rattle.nova_deeds.specs.Counted.{IsCharged, IsCounted};
@@ -33,16 +33,6 @@ impl Site {
             target,
             pd_selector,
         }
-    }
-}
-
-/// Whether an object is a scheduling context of an execution context.
-fn schedules(object: &Object, ec: u32) -> bool
-    ensures { result ≡ schedules ec object.now }
-{
-    match object {
-        Object::Sc { ec: its, .. } => *its == ec,
-        _ => false,
     }
 }
 
@@ -148,7 +138,7 @@ impl Parts {
         ensures { result ≡ is_scheduled (shown self.now) ec }
     {
         for object in self.objects.as_slice() {
-            if schedules(object, ec) {
+            if matches!(object, Object::Sc { ec: its, .. } if *its == ec) {
                 return true;
             }
         }

@@ -1,9 +1,10 @@
-ghost use Rattle.std.specs.Prelude.{◌≡◌, ◌+◌, ◌*◌, ◌^◌, ◌<◌, ◌≤◌, ◌-◌, length, slice_get, Some, IfSome, IfOk, OnOk, OnErr, option_map};
+ghost use Rattle.std.specs.Prelude.{◌≡◌, ◌+◌, ◌*◌, ◌^◌, ◌<◌, ◌≤◌, ◌-◌, length, replicate, slice_get, Some, IfSome, IfOk, OnOk, OnErr, option_map};
 ghost use Rattle.std.specs.Option.{option_copied};
 ghost use Rattle.nova_model.specs.State.{context_at};
 ghost use Rattle.nova_model.specs.Choice.{choice, choose, is_quiet};
 ghost use Rattle.nova_model.specs.Delegations.{reach};
 ghost use Rattle.nova_model.specs.Turn.{turn, state_after, answer_of};
+ghost use Rattle.nova_model.specs.Runs.{run};
 ghost use Rattle.nova_model.specs.Boot.{bare, laid};
 ghost use Rattle.nova_model.specs.Forest.{IsForest};
 ghost use Rattle.nova_laws.specs.Tables.{IsOf};
@@ -12,12 +13,17 @@ ghost use Rattle.nova_model.specs.Guests.{input};
 ghost use Rattle.nova_model.specs.Views.{view};
 ghost use Rattle.nova_inputs.specs.Given.{BringsBytes};
 ghost use Rattle.nova_deeds.specs.Stirs.{stir_of};
+ghost use Rattle.nova_leases.specs.Commits.{IsReached, MayAdvance};
 ghost use Rattle.nova_kernel.specs.Views.{ticks_of, left_of, semaphore_at, derivation_from, turns_taken, IsMaking};
 
+use crate::choice::keep;
 use crate::parts::Parts;
+use nova_choice::Chosen;
 use nova_frames::{Frames, LogByte};
 use nova_guest::{Guest, Input};
 use nova_laws::turns_keep_what_they_find;
+use nova_leases::Steps;
+use nova_leases::laws::what_bursts_stand_on_is_kept;
 use nova_memory::Reach;
 use nova_model::{Derivation, EcKind, EcState, Kind, Object, Rights, Root, State, Turn};
 use rv_core::Regs;
@@ -29,6 +35,7 @@ use std::marker::Model;
 #[derive(Drop)]
 pub struct Kernel {
     parts: Parts,
+    known: [Option<Chosen>; 8],
 }
 
 impl Model for Kernel {
@@ -43,8 +50,10 @@ impl Model for Kernel {
 
     ghost use Rattle.nova_choice.specs.Schedules.{AreQueued};
     ghost use Rattle.nova_kernel.specs.Revoking.{AreRunning};
+    ghost use Rattle.nova_leases.specs.Commits.{IsReached};
+    ghost use Rattle.nova_kernel.specs.Known.{AreKnown};
 
-    ghost invariant = { λ k. IsCounted (shown k.parts) × (AreQueued (shown k.parts) k.parts.queues.all × AreRunning (shown k.parts) k.parts.revokes) };
+    ghost invariant = { λ k. IsCounted (shown k.parts) × (AreQueued (shown k.parts) k.parts.queues.all × (AreRunning (shown k.parts) k.parts.revokes × (IsReached (shown k.parts) × AreKnown (shown k.parts) k.known))) };
 }
 
 impl Kernel {
@@ -64,8 +73,12 @@ impl Kernel {
         ensures { IfOk result (λ k. k ≡ record { state = bare cpus ram consoles root; room = log_room }) }
     {
         turns_keep_what_they_find();
+        what_bursts_stand_on_is_kept();
         let parts = Parts::new(alloc, cpus, ram, consoles, root, log_room)?;
-        Ok(Kernel { parts })
+        Ok(Kernel {
+            parts,
+            known: [None; 8],
+        })
     }
 
     /// The same state in memory of its own. The copy's console log has no room for more bytes, so that it
@@ -75,7 +88,10 @@ impl Kernel {
         ensures room { IfOk result (λ k. k.room ≡ 0) }
     {
         let parts = self.parts.copy()?;
-        Ok(Kernel { parts })
+        Ok(Kernel {
+            parts,
+            known: [None; 8],
+        })
     }
 
     /// Lays bytes into RAM one after another from an address on. They lie in RAM, and no turn was taken yet: what is laid is no
@@ -88,6 +104,7 @@ impl Kernel {
         ensures frames { length self.new.state.memory.ram ≡ length self.old.state.memory.ram }
     {
         turns_keep_what_they_find();
+        what_bursts_stand_on_is_kept();
         self.parts.reach.put(address, bytes);
     }
 
@@ -109,7 +126,25 @@ impl Kernel {
         ensures counted { IfOk result (λ t. self.new.state.turns ≡ self.old.state.turns + turns_taken t) }
         ensures cpus { self.new.state.cpus ≡ self.old.state.cpus }
     {
-        self.parts.turn(cpu)
+        what_bursts_stand_on_is_kept();
+        let turn = self.parts.turn(cpu, &self.known)?;
+        keep(&mut self.known, &turn);
+        Ok(turn)
+    }
+
+    /// As many turns of a processor as a virtual CPU took instructions on copies, at once. It is the one who
+    /// acts there, ready and without a recall that is asked for; the instructions are no more than what is left of the
+    /// chosen quantum, and none of them raises or stores to a console. Registers, the bytes of each page,
+    /// of a frame each once, and the stores to it are those after these instructions, of which none
+    /// stores to a RAM frame outside the pages. With the turns taken before they are at most 2^31.
+    pub fn advance(&mut self, cpu: u32, steps: &Steps)
+        requires may { MayAdvance self.old.state cpu steps.now }
+        requires turns { self.old.state.turns + steps.now.count ≤ 2 ^ 31 }
+        ensures state { self.new.state ≡ run self.old.state (replicate steps.now.count cpu) }
+        ensures room { self.new.room ≡ self.old.room }
+    {
+        self.parts.advance(cpu, steps);
+        self.known = [None; 8];
     }
 
     /// The scheduling context that the processor's next turn is charged to; none where it is idle.
@@ -119,11 +154,14 @@ impl Kernel {
         self.parts.choose(cpu)
     }
 
-    /// The execution context that acts in the processor's next turn; none where it is idle.
+    /// The execution context that acts in the processor's next turn; none where it is idle. What bursts
+    /// stand on holds of the state.
     pub fn actor(&self, cpu: u32) -> Option<u32>
-        ensures { result ≡ option_map (λ c. c.actor) (choice self.now.state cpu) }
+        ensures reached { IsReached self.now.state }
+        ensures processors { length self.now.state.stirs.processors ≡ self.now.state.cpus }
+        ensures actor { result ≡ option_map (λ c. c.actor) (choice self.now.state cpu) }
     {
-        Some(self.parts.choice(cpu)?.actor)
+        Some(self.parts.choice(cpu, &self.known)?.actor)
     }
 
     /// The frame that a page of a protection domain leads to, with what is allowed there; none where it
@@ -222,7 +260,7 @@ impl Kernel {
         ensures input { IfOk result (λ i. i ≡ input self.now.state cpu ec) }
         ensures memory { OnErr result (BringsBytes (input self.now.state cpu ec)) }
     {
-        match self.parts.choice(cpu) {
+        match self.parts.choice(cpu, &self.known) {
             Some(chosen) => self.parts.input_of(alloc, chosen.actor, ec),
             None => Ok(None),
         }

@@ -85,6 +85,7 @@ impl Parts {
         ensures log { self.new.reach.room ≡ self.old.reach.room }
     {
         if self.may_stir(deed) {
+            self.reach.look();
             self.stir_each(ec, deed);
         }
     }

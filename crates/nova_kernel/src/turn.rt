@@ -4,6 +4,7 @@ ghost use Rattle.nova_model.specs.Edges.{acts};
 ghost use Rattle.nova_model.specs.State.{context_at};
 ghost use Rattle.nova_model.specs.Turn.{state_after, answer_of, turn};
 ghost use Rattle.nova_kernel.specs.Views.{IsMaking, turns_taken};
+ghost use Rattle.nova_kernel.specs.Known.{AreKnown};
 ghost use Rattle.nova_kernel.specs.Parts.{shown};
 ghost use Rattle.nova_deeds.specs.Counted.{IsCounted, IsToBeStirred, KeepsCounts};
 ghost use Rattle.nova_deeds.specs.Acts.{Fits, is_step};
@@ -13,6 +14,7 @@ ghost use Rattle.nova_running.specs.Guests.{numbers_from};
 ghost use Rattle.nova_deeds.specs.Stirs.{is_stirring, risen_in, written_by};
 
 use crate::parts::Parts;
+use nova_choice::Chosen;
 use nova_deeds::changes::is_over;
 use nova_deeds::signs::{event, sign_of};
 use nova_laws::{running_revokes_are_their_runners, turns_keep_what_they_find};
@@ -90,14 +92,8 @@ impl Parts {
     fn goes_unseen(&self, deed: Deed) -> bool
         ensures { result ≡ (is_step deed && not (is_some self.now.reach.written && not (length (numbers_from 0 self.now.guests.counts) == 0))) }
     {
-        matches!(deed, Deed::Steps) && !self.may_be_seen()
-    }
-
-    /// Whether the last instruction stored to a frame, and there are virtual CPUs that may see it.
-    fn may_be_seen(&self) -> bool
-        ensures { result ≡ (is_some self.now.reach.written && not (length (numbers_from 0 self.now.guests.counts) == 0)) }
-    {
-        self.reach.has_stored() && !self.guests.numbers().is_empty()
+        matches!(deed, Deed::Steps)
+            && !(self.reach.has_stored() && !self.guests.numbers().is_empty())
     }
 
     /// Counts what a deed is for virtual CPUs, and tells its sign.
@@ -123,13 +119,14 @@ impl Parts {
     /// and the scheduling context pays. It refuses for want of memory alone, where the turn would make
     /// an object or a derivation, and then nothing has changed.
     #[tactic(auto, unfolding(nova_model::specs::Turn::turn))]
-    pub fn turn(&mut self, cpu: u32) -> Result<Turn, AllocError>
+    pub fn turn(&mut self, cpu: u32, known: &[Option<Chosen>]) -> Result<Turn, AllocError>
         requires counted { IsCounted (shown self.old) }
         requires queued { AreQueued (shown self.old) self.old.queues.all }
         requires running { AreRunning (shown self.old) self.old.revokes }
         requires turns { self.old.turns < 2 ^ 31 }
         requires cpu { cpu < self.old.cpus }
         requires log { 0 < self.old.reach.room }
+        requires known { AreKnown (shown self.old) known.now }
         ensures answer { IfOk result (λ t. t ≡ answer_of (turn (shown self.old) cpu)) }
         ensures state { OnOk result (shown self.new ≡ state_after (shown self.old) (turn (shown self.old) cpu)) }
         ensures memory { OnErr result ((shown self.new ≡ shown self.old) × (self.new.reach.room ≡ self.old.reach.room)) }
@@ -142,7 +139,7 @@ impl Parts {
         ensures turns { IfOk result (λ t. self.new.turns ≡ self.old.turns + turns_taken t) }
         ensures cpus { self.new.cpus ≡ self.old.cpus }
     {
-        let Some(chosen) = self.choice(cpu) else {
+        let Some(chosen) = self.choice(cpu, known) else {
             return Ok(Turn::Idle);
         };
         let deed = self.act(chosen.actor)?;

@@ -121,7 +121,7 @@ all_front : (P : ℕ → Type 0) (o : Option ℕ) (fs : List ℕ) → ((n : ℕ)
 all_front P None fs first rest = rest
 all_front P (Some f) fs first rest = (first f refl, rest)
 
-all_weaker : (P Q : ℕ → Type 0) (fs : List ℕ) → ((n : ℕ) → P n → Q n) → AllByRecursion P fs → AllByRecursion Q fs
+pub all_weaker : (P Q : ℕ → Type 0) (fs : List ℕ) → ((n : ℕ) → P n → Q n) → AllByRecursion P fs → AllByRecursion Q fs
 all_weaker P Q [] goes all = tt
 all_weaker P Q (f ∷ fs) goes all = (goes f all.0, all_weaker P Q fs goes all.1)
 

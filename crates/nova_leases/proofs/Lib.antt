@@ -18,4 +18,6 @@ pub mod Leasing
 pub mod Paid
 pub mod Taken
 pub mod Stops
+pub mod Stored
+pub mod Laid
 pub mod Parts

@@ -183,7 +183,7 @@ frame_laid k g n f b pages are at = by_copy (copy_at pages f) refl
         ∙ (ap (λ (v : Guest). cell_at v.cells f) (view_is k g) ∙ cell_in_ram (maps_at k g) k.memory.ram f))
         ∙ over_old (is_covered (maps_at k g) f) (slice_get k.memory.ram f) b at
 
-ram_same : (k : KernelState) (g n : ℕ) (pages : List Page) → AreOf (view k g) n pages → laid_over 0 (own_after n (view k g)).cells k.memory.ram ≡ laid_over 0 (cells_in pages) k.memory.ram
+pub ram_same : (k : KernelState) (g n : ℕ) (pages : List Page) → AreOf (view k g) n pages → laid_over 0 (own_after n (view k g)).cells k.memory.ram ≡ laid_over 0 (cells_in pages) k.memory.ram
 ram_same k g n pages are = laid_same 0 (own_after n (view k g)).cells (cells_in pages) k.memory.ram
     (λ i b at. let e : 0 + i ≡ i = omega arith in
     subst (λ (f : ℕ). over (cell_at (own_after n (view k g)).cells f) b ≡ over (copy_at pages f) b) (sym e) (frame_laid k g n i b pages are at))

@@ -11,11 +11,12 @@ use Rattle.nova_model.specs.declared.budget.Budget.{Budget}
 use Rattle.nova_isolation.specs.Sound.{IsSound}
 use Rattle.nova_leases.specs.Advances.{IsLeasable, laid_over, over}
 use Rattle.nova_leases.specs.Leases.{cells_in}
-use Rattle.nova_leases.specs.Paging.{AreOnce, IsStepping, advanced_to, laid_counts, laid_pages, laid_regs, laid_steps, pages_written}
+use Rattle.nova_leases.specs.Paging.{AreOf, AreOnce, IsStepping, advanced_to, laid_counts, laid_pages, laid_regs, laid_steps, pages_written, stored_to}
 use Rattle.nova_leases.specs.declared.steps.Page.{Page}
 use Rattle.nova_leases.specs.declared.steps.Steps.{Steps}
-use Rattle.nova_leases.proofs.Paged.{steps_advance}
+use Rattle.nova_leases.proofs.Paged.{ram_same, steps_advance}
 use Rattle.nova_leases.proofs.Paid.{charged_all}
+use Rattle.nova_leases.proofs.Stored.{still_of}
 
 -- one frame written, then the others laid over
 laid_none : (n : ℕ) (ram : List (List ℕ)) → ram ≡ laid_over n [] ram
@@ -41,11 +42,17 @@ laid_one n (suc i) f b cells (c ∷ ram) at none = ap₂ (λ (d : List ℕ) (ds 
     (let e : cell_at (record { frame = f; contents = b } ∷ cells) n ≡ cell_at cells n = grind (arith, at) in ap (λ (o : Option (List ℕ)). over o c) e)
     (laid_one (n + 1) i f b cells ram (omega arith) none)
 
-pub written_laid : (pages : List Page) (ram : List (List ℕ)) → AreOnce pages → pages_written pages ram ≡ laid_over 0 (cells_in pages) ram
+written_laid : (pages : List Page) (ram : List (List ℕ)) → AreOnce pages → pages_written pages ram ≡ laid_over 0 (cells_in pages) ram
 written_laid [] ram once = laid_none 0 ram
 written_laid (p ∷ pages) ram once =
     written_laid pages (slice_set ram p.frame p.bytes) once.1
     ∙ sym (laid_one 0 p.frame p.frame p.bytes (cells_in pages) ram (omega arith) once.0)
+
+-- the pages that were stored to alone
+written_same : (k : KernelState) (g n : ℕ) (pages : List Page) → AreOf (view k g) n pages → pages_written (stored_to pages) k.memory.ram ≡ laid_over 0 (cells_in pages) k.memory.ram
+written_same k g n pages are =
+    let fewer : AreOf (view k g) n (stored_to pages) = still_of (view k g) n pages are in
+    written_laid (stored_to pages) k.memory.ram fewer.once ∙ (sym (ram_same k g n (stored_to pages) fewer) ∙ ram_same k g n pages are)
 
 -- all parts
 pub laid_advance : (k : KernelState) (cpu : ℕ) (c : Candidate) (b : Budget) (s : Steps) → IsSound k → IsLeasable k cpu c b → s.count ≤ b.left → IsStepping (view k c.actor) s →
@@ -53,4 +60,4 @@ pub laid_advance : (k : KernelState) (cpu : ℕ) (c : Candidate) (b : Budget) (s
 laid_advance k cpu c b s sound may left is =
     steps_advance k cpu c b s sound may left is
     ∙ sym (ap (λ (m : KernelState). laid_counts (laid_pages (laid_regs m c.actor s.regs) s.pages.items) c.actor s.pages.items) (charged_all s.count k cpu c.sc b left may.budget may.processor)
-    ∙ (λ i. record (advanced_to k cpu c b s) { memory = record k.memory { ram = written_laid s.pages.items k.memory.ram is.pages.once i } }))
+    ∙ (λ i. record (advanced_to k cpu c b s) { memory = record k.memory { ram = written_same k c.actor s.count s.pages.items is.pages i } }))

@@ -26,8 +26,9 @@ use Rattle.nova_model.specs.declared.budget.Budget.{Budget}
 use Rattle.nova_model.specs.declared.context.State.TheVariants.{Ready}
 use Rattle.nova_model.specs.declared.deed.Deed.{Deed}
 use Rattle.nova_model.specs.declared.deed.Deed.TheVariants.{Steps, Raises}
+use Rattle.nova_model.specs.declared.log.LogByte.{LogByte}
 use Rattle.nova_laws.proofs.Refused.{turn_chosen}
-use Rattle.nova_isolation.specs.Law.{answered, bytes_in}
+use Rattle.nova_isolation.specs.Law.{answered, bytes_in, bytes_of}
 use Rattle.nova_isolation.proofs.OwnTurns.{own_law}
 use Rattle.nova_isolation.proofs.Outputs.{guest_no_thread, guest_sees, own_output, own_space, put_out, wordless}
 use Rattle.nova_isolation.proofs.Premises.{HasPremises, IsGuest}
@@ -88,10 +89,14 @@ pub record IsPlainly (k s : KernelState) (g : ℕ) (regs : Registers) (store : O
 -- nothing is logged
 log_stays : (k : KernelState) (g : ℕ) → IsGuest k g → (p : IsPlain k g) → (memory_after (wordless k g) p.store k.memory).log ≡ k.memory.log
 log_stays k g is p =
+    let put = (put_out k g Steps tt).log in
     ap (λ (a : AddressSpace). (memory_after a p.store k.memory).log) (sym (own_space k g is))
     ∙ (sym (ap (λ (o : Once). (stepped k g o).memory.log) p.went)
-    ∙ ((put_out k g Steps tt).log
-    ∙ (ap (λ (o : Option Out). k.memory.log ++ bytes_in (length k.memory.ram) o) p.quiet ∙ append-nil k.memory.log)))
+    ∙ (put.log ∙ (ap (λ (more : List LogByte). k.memory.log ++ more) (none_gained put.gained (put.bytes ∙ ap bytes_in p.quiet)) ∙ append-nil k.memory.log)))
+  where
+    none_gained : (more : List LogByte) → bytes_of (length k.memory.ram) more ≡ [] → more ≡ []
+    none_gained [] none = refl
+    none_gained (b ∷ more) none = absurd (cc)
 
 done_plain : (k : KernelState) (g : ℕ) → IsGuest k g → (p : IsPlain k g) →
     done k g Steps ≡ record k { contexts = with_ec k.contexts g (record (context k g) { regs = p.regs }); memory = record k.memory { ram = ram_after k g p.store } }

@@ -34,6 +34,15 @@ pub record IsReached (k : KernelState) : Type 0 where
   pub sound : IsSound k
   pub single : IsSingle k
 
+-- so many turns of a processor may be taken at once: the one who acts may be leased with this budget, these are its steps, and they are no more than what
+-- is left of the quantum
+pub record MayAdvance (k : KernelState) (cpu : ℕ) (s : Steps) : Type 0 where
+  pub chosen : Candidate
+  pub budget : Budget
+  pub may : IsLeasable k cpu chosen budget
+  pub left : s.count ≤ budget.left
+  pub runs : IsStepping (view k chosen.actor) s
+
 -- it could be leased in this state; counts and bound are those of the state; it ran within the bound; and registers, pages and stores are those of
 -- the guest after what it ran
 pub record Stems (l : LeaseRun) (k : KernelState) : Type 0 where

@@ -1,5 +1,5 @@
 -- What a virtual CPU did on copies of frames, laid over the kernel's state.
-use Rattle.std.specs.Prelude.{◌≡◌, ◌<◌, ℕ, zero, suc, ◌+◌, ◌==◌, Bool, List, [], ◌∷◌, length, replicate, slice_get, slice_index, slice_set, Option, Some, None, IsSome, option_map, if◌then◌else◌}
+use Rattle.std.specs.Prelude.{◌≡◌, ◌<◌, ℕ, zero, suc, ◌+◌, ◌==◌, Bool, List, [], ◌∷◌, length, filter, nat_lt, replicate, slice_get, slice_index, slice_set, Option, Some, None, IsSome, option_map, if◌then◌else◌}
 use Rattle.std.specs.List.{AllByRecursion}
 use Rattle.rv_model.specs.Registers.{Registers}
 use Rattle.nova_guest.specs.Alone.{outputs}
@@ -78,6 +78,10 @@ charged_at_once k cpu sc b n = record k {
   stirs = record k.stirs { processors = slice_set k.stirs.processors cpu (slice_index k.stirs.processors cpu + n) };
 }
 
+-- the pages that were stored to
+abbrev pub stored_to : List Page → List Page
+stored_to pages = filter (λ p. nat_lt 0 p.stores) pages
+
 -- copied frames written back, one after another
 abbrev pub pages_written : List Page → List (List ℕ) → List (List ℕ)
 pages_written [] ram = ram
@@ -87,12 +91,12 @@ pages_written (p ∷ pages) ram = pages_written pages (slice_set ram p.frame p.b
 abbrev pub AreFrames : List (List ℕ) → List Page → Type 0
 AreFrames ram pages = AllByRecursion (λ (p : Page). (p.frame < length ram) × (length p.bytes ≡ 4096)) pages
 
--- steps laid over a state part by part: turns charged, registers, frames, and counts
+-- steps laid over a state part by part: turns charged, registers, frames that were stored to, and counts
 abbrev pub laid_regs : KernelState → ℕ → Registers → KernelState
 laid_regs k g regs = record k { contexts = with_ec k.contexts g (record (context k g) { regs = regs }) }
 
 abbrev pub laid_pages : KernelState → List Page → KernelState
-laid_pages k pages = record k { memory = record k.memory { ram = pages_written pages k.memory.ram } }
+laid_pages k pages = record k { memory = record k.memory { ram = pages_written (stored_to pages) k.memory.ram } }
 
 abbrev pub laid_counts : KernelState → ℕ → List Page → KernelState
 laid_counts k g pages = record k { stirs = record k.stirs { guests = seen_from k g pages 0 k.stirs.guests } }

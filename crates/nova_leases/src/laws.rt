@@ -4,7 +4,7 @@ ghost use Rattle.nova_guest.specs.declared.guest.Guest.{Guest};
 ghost use Rattle.nova_guest.specs.declared.guest.GuestState.TheVariants.{Ready};
 ghost use Rattle.nova_guest.specs.declared.input.Input.TheVariants.{Own};
 ghost use Rattle.nova_guest.specs.declared.page.Page.{Page as Place};
-ghost use Rattle.nova_model.specs.Boot.{Scenario, boot};
+ghost use Rattle.nova_model.specs.Boot.{Scenario, boot, laid};
 ghost use Rattle.nova_model.specs.Choice.{Candidate, choice};
 ghost use Rattle.nova_model.specs.Runs.{after, run, trace};
 ghost use Rattle.nova_model.specs.State.{KernelState};
@@ -75,11 +75,12 @@ pub fn a_commit_is_as_many_turns()
         → trace k (replicate l.steps.count l.cpu) ≡ replicate l.steps.count (step_of l.cpu d) }
 {}
 
-/// What these laws ask of a state always holds: a kernel begins so, and each turn keeps it, so that it holds
-/// of whatever a kernel comes to. Beside what isolation stands on, edges lead to local threads alone, and so
+/// What these laws ask of a state always holds: a kernel begins so, bytes laid into its memory leave it so, and
+/// each turn keeps it, so that it holds of whatever a kernel comes to. Beside what isolation stands on, edges lead to local threads alone, and so
 /// never to a virtual CPU, whose turns its own scheduling context pays.
 pub fn what_bursts_stand_on_is_kept()
     ensures begins { (scenario : Scenario) → IsReached (boot scenario) }
+    ensures memory { (k : KernelState) (address : ℕ) (bytes : List ℕ) → IsReached k → IsReached (record k { memory = laid k.memory address bytes }) }
     ensures turns { (k : KernelState) (cpu : ℕ) → IsReached k → IsReached (after k cpu) }
     ensures reached { (scenario : Scenario) (turns : List ℕ) → IsReached (run (boot scenario) turns) }
 {}

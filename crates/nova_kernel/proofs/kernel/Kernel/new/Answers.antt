@@ -1,13 +1,19 @@
-use Rattle.std.proofs.Common.{sym, subst}
-use Rattle.nova_model.specs.Boot.{bare}
+use Rattle.std.proofs.Common.{ℕ, [], sym, subst}
+use Rattle.nova_model.specs.Boot.{Scenario, bare}
+use Rattle.nova_model.specs.declared.root.Root.{Root}
+use Rattle.nova_leases.specs.Commits.{IsReached}
 use Rattle.nova_deeds.specs.Counted.{IsCounted}
 use Rattle.nova_kernel.specs.Parts.{shown}
 use Rattle.nova_choice.specs.Schedules.{root_schedule}
 use Rattle.nova_deeds.proofs.Booted.{IsCounted_bare}
 use Rattle.nova_deeds.proofs.Moves.{queued_same}
+use Rattle.nova_kernel.proofs.Known.{none_known}
 use Rattle.nova_kernel.proofs.Ongoing.{bare_runs}
 use Rattle.nova_choice.proofs.Started.{queued_bare}
 use Rattle.nova_kernel.proofs.kernel.Kernel.new.Goals as goal
+
+abbrev bare_scenario : ℕ → ℕ → ℕ → Root → Scenario
+bare_scenario cpus ram consoles root = record { cpus = cpus; ram = ram; consoles = consoles; root = root; images = [] }
 
 pub invariant_of-result : goal.invariant_of-result
 invariant_of-result c = (
@@ -16,7 +22,13 @@ invariant_of-result c = (
   (
     queued_same (bare c.args.cpus c.args.ram c.args.consoles c.args.root) (shown c.in_ok-parts.parts) (root_schedule c.args.cpus c.args.root)
         c.in_ok-parts.parts.queues.all (queued_bare c.args.cpus c.args.ram c.args.consoles c.args.root) c.in_ok-parts.ensures.shown c.in_ok-parts.ensures.queues,
-    bare_runs c.args.cpus c.args.ram c.args.consoles c.args.root (shown c.in_ok-parts.parts) c.in_ok-parts.parts.revokes c.in_ok-parts.ensures.shown
-        c.in_ok-parts.ensures.revokes,
+    (
+      bare_runs c.args.cpus c.args.ram c.args.consoles c.args.root (shown c.in_ok-parts.parts) c.in_ok-parts.parts.revokes c.in_ok-parts.ensures.shown
+          c.in_ok-parts.ensures.revokes,
+      (
+        subst IsReached (sym c.in_ok-parts.ensures.shown) (c.what_bursts_stand_on_is_kept.ensures.begins (bare_scenario c.args.cpus c.args.ram c.args.consoles c.args.root)),
+        none_known (shown c.in_ok-parts.parts) 8,
+      ),
+    ),
   ),
 )

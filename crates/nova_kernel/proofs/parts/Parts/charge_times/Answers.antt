@@ -1,4 +1,4 @@
-use Rattle.std.proofs.Common.{rules, arith, ◌≡◌, ◌+◌, ◌<◌, ◌^◌, ℕ, suc, IsSome, length, ap, sym, ◌∙◌, subst}
+use Rattle.std.proofs.Common.{arith, ◌≡◌, ◌+◌, ◌<◌, ◌^◌, ℕ, suc, IsSome, length, ap, sym, ◌∙◌, subst}
 use Rattle.nova_model.specs.State.{KernelState, budget_at}
 use Rattle.nova_model.specs.Turn.{charged}
 use Rattle.nova_leases.specs.Paging.{charged_times}
