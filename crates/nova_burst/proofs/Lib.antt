@@ -1,2 +1,9 @@
+pub mod Beginning
+pub mod Finding
+pub mod Grown
 pub mod Kept
+pub mod Lists
+pub mod Places
+pub mod Returning
 pub mod Steps
+pub mod Stemming

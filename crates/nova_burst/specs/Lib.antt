@@ -1,1 +1,5 @@
 pub mod Copies
+pub mod Found
+pub mod Gathered
+pub mod Lending
+pub mod Taken

@@ -1,14 +1,18 @@
-ghost use Rattle.std.specs.Prelude.{◌≡◌, ◌==◌, ◌+◌, ◌-◌, ◌*◌, ◌%◌, ◌^◌, ◌<◌, ◌≤◌, IfSome, Some, is_some, length, option_map};
+ghost use Rattle.std.specs.Prelude.{ℕ, ◌≡◌, ◌==◌, ◌+◌, ◌-◌, ◌*◌, ◌%◌, ◌/◌, ◌^◌, ◌<◌, ◌≤◌, [], ◌∷◌, ◌++◌, IfSome, None, OnOk, Some, is_some, length, option_and_then, option_map, slice_get};
 ghost use Rattle.std.specs.List.{All, find};
 ghost use Rattle.nova_guest.specs.Conditions.{IsStore, IsWidth};
-ghost use Rattle.nova_guest.specs.Frames.{frame_from, read_in};
+ghost use Rattle.nova_guest.specs.Frames.{frame_from, read_in, replaced};
+ghost use Rattle.byteorder.specs.Endian.{little_bytes};
 ghost use Rattle.nova_leases.specs.Leases.{copy_at, read_copy, stored_in_page, stored_in_pages};
-ghost use Rattle.nova_burst.specs.Copies.{HasRoom, known_in};
+ghost use Rattle.nova_leases.specs.Paging.{AreOnce};
+ghost use Rattle.nova_range.specs.Rights.{execute_right, read_right, write_right};
+ghost use Rattle.nova_burst.specs.Copies.{HasRoom, IsCopyFor, IsCopyOf, known_in};
 
 use bitflags::Flags;
 use nova_leases::Page;
 use nova_range::Rights;
 use rv_core::Bus;
+use std::alloc::AllocError;
 use std::marker::Model;
 
 /// A page that is known: the frame that it leads to, and what is allowed there.
@@ -19,46 +23,110 @@ pub struct Known {
     pub rights: Rights,
 }
 
-/// Copies of frames, with the pages that are known to lead there. What isn't known or not copied isn't
-/// there.
+/// The page that was touched last in some way, and the place of its copy. Beyond all pages before any was.
+#[derive(Clone, Copy)]
+struct Recent {
+    page: u32,
+    copy: usize,
+}
+
+/// Beyond all pages.
+const NO_PAGE: u32 = 1048576;
+
+const NOTHING: Recent = Recent {
+    page: NO_PAGE,
+    copy: 0,
+};
+
+/// Copies of frames, each once, with the pages that are known to lead there. What isn't known or not copied
+/// isn't there. The pages that were fetched from, loaded from and stored to last are found at once.
 #[derive(Drop)]
 pub struct Copies {
     known: Vec<Known>,
     pages: Vec<Page>,
+    fetched: Recent,
+    loaded: Recent,
+    stored: Recent,
 }
 
 impl Model for Copies {
-    ghost use Rattle.std.specs.Prelude.{◌≡◌, length};
-    ghost use Rattle.std.specs.List.{All};
-    ghost use Rattle.nova_burst.specs.Copies.{CopiesState};
+    ghost use Rattle.nova_burst.specs.Copies.{AreSound, CopiesState, known_in};
 
     ghost Value = { CopiesState };
 
     ghost view = { λ c. record { known = c.known.items; pages = c.pages.items } };
 
-    ghost invariant = { λ c. All (λ p. length p.bytes ≡ 4096) c.pages.items };
+    ghost invariant = { λ c. AreSound (known_in c.known.items) c.pages.items c.fetched.page c.fetched.copy c.loaded.page c.loaded.copy c.stored.page c.stored.copy };
 }
 
-/// A store to a frame changes the copy where it is of this one, and is counted.
-fn store_in(page: &mut Page, frame: u32, offset: u32, width: u32, value: u32)
+/// Stores the lowest bytes of a value to a copy, and counts it.
+fn store_in(page: &mut Page, offset: u32, width: u32, value: u32)
     requires whole { length page.old.bytes ≡ 4096 }
     requires place { IsStore offset width }
     requires few { page.old.stores < 2 ^ 64 - 1 }
-    ensures { page.new ≡ stored_in_page frame offset width value page.old }
+    ensures { page.new ≡ record page.old { bytes = replaced page.old.bytes offset (little_bytes width value); stores = page.old.stores + 1 } }
 {
-    if page.frame == frame {
-        page.bytes.store(offset, width, value);
-        page.stores += 1;
-    }
+    page.bytes.store(offset, width, value);
+    page.stores += 1;
 }
 
 impl Copies {
-    /// Copies of frames, each of 4,096 bytes, with the pages that are known to lead there.
+    /// Copies of frames, each once and of 4,096 bytes, with the pages that are known to lead there.
     pub fn new(known: Vec<Known>, pages: Vec<Page>) -> Copies
-        requires { All (λ p. length p.bytes ≡ 4096) pages.items }
+        requires whole { All (λ p. length p.bytes ≡ 4096) pages.items }
+        requires once { AreOnce pages.items }
         ensures { result ≡ record { known = known.items; pages = pages.items } }
     {
-        Copies { known, pages }
+        Copies {
+            known,
+            pages,
+            fetched: NOTHING,
+            loaded: NOTHING,
+            stored: NOTHING,
+        }
+    }
+
+    /// The pages that are known, and the copies.
+    pub fn into_parts(self) -> (Vec<Known>, Vec<Page>)
+        ensures known { result.0.items ≡ self.known }
+        ensures pages { result.1.items ≡ self.pages }
+        ensures whole { All (λ p. length p.bytes ≡ 4096) result.1.items }
+        ensures once { AreOnce result.1.items }
+    {
+        (self.known, self.pages)
+    }
+
+    /// How many frames are copied.
+    pub fn count(&self) -> usize
+        ensures { result ≡ length self.now.pages }
+    {
+        self.pages.len()
+    }
+
+    /// Another page is known, after the others. It refuses for want of memory alone.
+    pub fn know(&mut self, known: Known) -> Result<(), AllocError>
+        ensures { OnOk result (self.new ≡ record self.old { known = self.old.known ++ known ∷ [] }) }
+    {
+        self.known.push(known)?;
+        Ok(())
+    }
+
+    /// Another copy, after the others, of a frame that isn't copied yet. It refuses for want of memory
+    /// alone.
+    pub fn add(&mut self, page: Page) -> Result<(), AllocError>
+        requires whole { length page.bytes ≡ 4096 }
+        requires new { copy_at self.old.pages page.frame ≡ None }
+        ensures { OnOk result (self.new ≡ record self.old { pages = self.old.pages ++ page ∷ [] }) }
+    {
+        self.pages.push(page)?;
+        Ok(())
+    }
+
+    /// Whether a page is known.
+    pub fn knows(&self, page: u32) -> bool
+        ensures { result ≡ is_some (known_in self.now.known page) }
+    {
+        self.place(page).is_some()
     }
 
     /// What a page is known to lead to.
@@ -86,7 +154,7 @@ impl Copies {
     }
 
     /// Whether a frame is copied.
-    fn has(&self, frame: u32) -> bool
+    pub fn has(&self, frame: u32) -> bool
         ensures { result ≡ is_some (copy_at self.now.pages frame) }
     {
         for page in &self.pages {
@@ -97,40 +165,95 @@ impl Copies {
         false
     }
 
-    /// The number in the 1, 2 or 4 bytes of the copy of a frame from an offset on, or nothing.
-    fn load_at(&self, frame: u32, offset: u32, width: u32) -> Option<u32>
-        requires place { IsStore offset width }
-        ensures number { result ≡ option_map (λ bytes. read_in (Some bytes) offset width) (copy_at self.now.pages frame) }
-        ensures fits { IfSome result (λ n. n < 2 ^ (8 * width)) }
+    /// The place of the copy of a frame.
+    fn copy_of(&self, frame: u32) -> Option<usize>
+        ensures some { IfSome result (λ i. IsCopyOf self.now.pages frame i) }
+        ensures none { result ≡ None → copy_at self.now.pages frame ≡ None }
     {
-        for page in &self.pages {
-            if page.frame == frame {
-                return Some(page.bytes.load(offset, width));
+        for i in 0..self.pages.len() {
+            if self.pages[i].frame == frame {
+                return Some(i);
             }
         }
         None
     }
 
-    /// The number at an address that is known with the right and copied, or nothing.
-    fn read(&self, right: Rights, address: u32, width: u32) -> Option<u32>
-        requires width { IsWidth width }
-        requires aligned { address % width ≡ 0 }
-        ensures number { result ≡ read_copy self.now.pages (address % 4096) width (frame_from (known_in self.now.known) right.0 address) }
-        ensures fits { IfSome result (λ n. n < 2 ^ (8 * width)) }
+    /// The place of the copy to which an address is known to lead, where the right is there.
+    #[inline(never)]
+    fn find(&self, right: Rights, address: u32) -> Option<usize>
+        ensures some { IfSome result (λ i. IsCopyFor (known_in self.now.known) self.now.pages right.0 (address / 4096) i) }
+        ensures none { result ≡ None → option_and_then (copy_at self.now.pages) (frame_from (known_in self.now.known) right.0 address) ≡ None }
     {
         let frame = self.frame_for(right, address)?;
-        self.load_at(frame, address % 4096, width)
+        self.copy_of(frame)
     }
 
-    /// Stores the lowest bytes of a value to the copy of a frame.
-    fn store_at(&mut self, frame: u32, offset: u32, width: u32, value: u32)
+    /// The place of the copy from which an address is fetched.
+    fn copy_to_fetch(&mut self, address: u32) -> Option<usize>
+        ensures same { self.new ≡ self.old }
+        ensures once { AreOnce self.old.pages }
+        ensures some { IfSome result (λ i. IsCopyFor (known_in self.old.known) self.old.pages execute_right (address / 4096) i) }
+        ensures none { result ≡ None → option_and_then (copy_at self.old.pages) (frame_from (known_in self.old.known) execute_right address) ≡ None }
+    {
+        let page = address / 4096;
+        if page == self.fetched.page {
+            return Some(self.fetched.copy);
+        }
+        let copy = self.find(Rights::EXECUTE, address)?;
+        self.fetched = Recent { page, copy };
+        Some(copy)
+    }
+
+    /// The place of the copy from which an address is loaded.
+    fn copy_to_load(&mut self, address: u32) -> Option<usize>
+        ensures same { self.new ≡ self.old }
+        ensures once { AreOnce self.old.pages }
+        ensures some { IfSome result (λ i. IsCopyFor (known_in self.old.known) self.old.pages read_right (address / 4096) i) }
+        ensures none { result ≡ None → option_and_then (copy_at self.old.pages) (frame_from (known_in self.old.known) read_right address) ≡ None }
+    {
+        let page = address / 4096;
+        if page == self.loaded.page {
+            return Some(self.loaded.copy);
+        }
+        let copy = self.find(Rights::READ, address)?;
+        self.loaded = Recent { page, copy };
+        Some(copy)
+    }
+
+    /// The place of the copy to which an address is stored.
+    fn copy_to_store(&mut self, address: u32) -> Option<usize>
+        ensures same { self.new ≡ self.old }
+        ensures once { AreOnce self.old.pages }
+        ensures some { IfSome result (λ i. IsCopyFor (known_in self.old.known) self.old.pages write_right (address / 4096) i) }
+        ensures none { result ≡ None → option_and_then (copy_at self.old.pages) (frame_from (known_in self.old.known) write_right address) ≡ None }
+    {
+        let page = address / 4096;
+        if page == self.stored.page {
+            return Some(self.stored.copy);
+        }
+        let copy = self.find(Rights::WRITE, address)?;
+        self.stored = Recent { page, copy };
+        Some(copy)
+    }
+
+    /// The number in the 1, 2 or 4 bytes of a copy from an offset on.
+    fn load_from(&self, copy: usize, offset: u32, width: u32) -> u32
+        requires there { copy < length self.now.pages }
+        requires place { IsStore offset width }
+        ensures number { IfSome (slice_get self.now.pages copy) (λ p. result ≡ read_in (Some p.bytes) offset width) }
+        ensures fits { result < 2 ^ (8 * width) }
+    {
+        self.pages[copy].bytes.load(offset, width)
+    }
+
+    /// Stores the lowest bytes of a value to a copy.
+    fn store_to(&mut self, copy: usize, offset: u32, width: u32, value: u32)
+        requires there { copy < length self.old.pages }
         requires place { IsStore offset width }
         requires room { HasRoom self.old }
-        ensures { self.new ≡ record self.old { pages = stored_in_pages self.old.pages frame offset width value } }
+        ensures { (f : ℕ) → IsCopyOf self.old.pages f copy → self.new ≡ record self.old { pages = stored_in_pages self.old.pages f offset width value } }
     {
-        for i in 0..self.pages.len() {
-            store_in(&mut self.pages[i], frame, offset, width, value);
-        }
+        store_in(&mut self.pages[copy], offset, width, value);
     }
 }
 
@@ -151,22 +274,26 @@ impl Bus for Copies {
 
     ghost room = { HasRoom };
 
+    #[inline(always)]
     fn fetch(&mut self, addr: u32) -> Option<u32> {
-        self.read(Rights::EXECUTE, addr, 4)
+        let copy = self.copy_to_fetch(addr)?;
+        Some(self.load_from(copy, addr % 4096, 4))
     }
 
+    #[inline(always)]
     fn load(&mut self, addr: u32, width: u32) -> Option<u32> {
-        self.read(Rights::READ, addr, width)
+        let copy = self.copy_to_load(addr)?;
+        Some(self.load_from(copy, addr % 4096, width))
     }
 
+    #[inline(always)]
     fn store(&mut self, addr: u32, width: u32, value: u32) -> bool {
-        let Some(frame) = self.frame_for(Rights::WRITE, addr) else {
-            return false;
-        };
-        if !self.has(frame) {
-            return false;
+        match self.copy_to_store(addr) {
+            Some(copy) => {
+                self.store_to(copy, addr % 4096, width, value);
+                true
+            }
+            None => false,
         }
-        self.store_at(frame, addr % 4096, width, value);
-        true
     }
 }

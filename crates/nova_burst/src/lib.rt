@@ -1,8 +1,15 @@
 //! Bursts: a virtual CPU steps on copies of some of its frames, outside the kernel.
 #![tactic(auto)]
 
+mod committing;
 pub mod copies;
+mod gathering;
+mod leasing;
+mod lent;
 pub mod run;
 
+pub use committing::commit;
 pub use copies::{Copies, Known};
+pub use leasing::lease;
+pub use lent::Lease;
 pub use run::Burst;

@@ -32,12 +32,14 @@ impl Burst {
     /// Executes instructions on the copies, at most so many, and answers their number. It executes fewer
     /// only where the next one would raise or touches what isn't copied. So few stores were counted that
     /// there is room for all to come.
-    pub fn run(&mut self, most: u32) -> u32
-        requires { HasFewStores (2 ^ 63) self.old.copies }
+    pub fn run(&mut self, most: u64) -> u64
+        requires few { HasFewStores (2 ^ 32) self.old.copies }
+        requires most { most < 2 ^ 32 }
         ensures ran { lease_steps (known_in self.old.copies.known) result (lease_of self.old.regs self.old.copies) ≡ Some (lease_of self.new.regs self.new.copies) }
         ensures most { result ≤ most }
         ensures fewer { result < most → lease_step (known_in self.new.copies.known) (lease_of self.new.regs self.new.copies) ≡ None }
         ensures known { self.new.copies.known ≡ self.old.copies.known }
+        ensures stores { (n : ℕ) → HasFewStores n self.old.copies → HasFewStores (n + result) self.new.copies }
     {
         for i in 0..most {
             if !self.step() {

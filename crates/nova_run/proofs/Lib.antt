@@ -3,3 +3,4 @@ pub mod Passes
 pub mod Blocks
 pub mod Seated
 pub mod Ends
+pub mod Lent

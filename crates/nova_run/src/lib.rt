@@ -1,6 +1,7 @@
 //! Runs of a kernel: by one thread, along a given order of turns and by round robin; and by a thread for each processor.
 #![tactic(auto)]
 
+mod bursts;
 mod fault;
 mod gate;
 mod orders;

@@ -1,4 +1,4 @@
-ghost use Rattle.std.specs.Prelude.{◌≡◌, ◌+◌, ◌^◌, ◌<◌, ◌≤◌, ℕ, length, slice_index_or, All, IfOk, IfErr};
+ghost use Rattle.std.specs.Prelude.{◌≡◌, ◌+◌, ◌^◌, ◌<◌, ◌≤◌, ℕ, length, slice_index_or, All, IfSome, IfOk, IfErr};
 ghost use Rattle.std.specs.List.{AllByRecursion};
 ghost use Rattle.nova_laws.specs.Orders.{IsRunOut};
 ghost use Rattle.nova_lock.specs.Seats.{SeatView};
@@ -8,6 +8,7 @@ ghost use Rattle.nova_run.specs.Finished.{IsFinished, IsFreeOfIdle};
 ghost use Rattle.nova_run.specs.UnderWay.{IsReady};
 ghost use Rattle.nova_shared.specs.Ran.{Ran, IsCpuSeat, AreCpuSeats};
 
+use crate::bursts::burst;
 use crate::fault::RunFault;
 use crate::gate::Gate;
 use crate::rounds::run_all;
@@ -19,27 +20,52 @@ use std::sync::Wait;
 use std::thread;
 use std::thread::Threads;
 
-/// How many steps a worker goes on in one round.
-const STEPS: u32 = 4096;
+/// How many turns a worker takes in one round, before it ends with the step in which it took the last.
+const TURNS: u64 = 4096;
+
+/// One step of a worker: a burst, or a turn where a burst came to nothing. It tells how many turns were taken; none where the processor is idle,
+/// there are as many turns as there may be, or memory is refused.
+fn step<R: Wait, G: Gate>(
+    rt: &R,
+    alloc: Global,
+    shared: &Shared,
+    gate: &G,
+    seat: &mut CpuSeat,
+) -> Option<u64>
+    requires { IsCpuSeat shared.now seat.old }
+    ensures seat { seat.new ≡ record seat.old { front = seat.new.front } }
+    ensures some { IfSome result (λ n. 0 < n) }
+{
+    gate.at(seat.cpu(), seat.mine());
+    let taken = burst(rt, alloc, shared, seat);
+    if taken > 0 {
+        return Some(taken);
+    }
+    match shared.turn(rt, seat) {
+        Ok(SharedTurn::Stepped(_)) => Some(1),
+        Ok(SharedTurn::Idle(_)) | Ok(SharedTurn::AtLimit(_)) | Err(_) => None,
+    }
+}
 
 /// One worker's steps in a round: until its processor is idle, there are as many turns as there may be, memory is refused, or it took
-/// `STEPS` turns.
-fn work<R: Wait, G: Gate>(rt: &R, shared: &Shared, gate: &G, seat: &mut CpuSeat)
+/// `TURNS` turns.
+fn work<R: Wait, G: Gate>(rt: &R, alloc: Global, shared: &Shared, gate: &G, seat: &mut CpuSeat)
     requires { IsCpuSeat shared.now seat.old }
     ensures { seat.new ≡ record seat.old { front = seat.new.front } }
 {
-    for _step in 0..STEPS {
-        gate.at(seat.cpu(), seat.mine());
-        match shared.turn(rt, seat) {
-            Ok(SharedTurn::Stepped(_)) => {}
-            Ok(SharedTurn::Idle(_)) | Ok(SharedTurn::AtLimit(_)) | Err(_) => return,
-        }
+    let mut left = TURNS;
+    while left > 0 {
+        let Some(taken) = step(rt, alloc, shared, gate, seat) else {
+            return;
+        };
+        left = left.saturating_sub(taken);
     }
 }
 
 /// A round: each processor has a worker, in a thread of its own.
 fn round<R: Threads + Wait + Sync, G: Gate + Sync>(
     rt: &R,
+    alloc: Global,
     shared: &Shared,
     gate: &G,
     seats: &mut [CpuSeat],
@@ -54,7 +80,7 @@ fn round<R: Threads + Wait + Sync, G: Gate + Sync>(
         rt,
         seats,
         threads,
-        &|_, seat| { work(rt, shared, gate, seat) },
+        &|_, seat| { work(rt, alloc, shared, gate, seat) },
     );
 }
 
@@ -80,6 +106,7 @@ fn sweep<R: Wait>(rt: &R, shared: &Shared, seats: &mut [CpuSeat]) -> bool
 #[tactic(auto, using(crate::proofs::Seated::each_there, crate::proofs::Seated::still_seats))]
 fn go_on<R: Threads + Wait + Sync, G: Gate + Sync>(
     rt: &R,
+    alloc: Global,
     shared: &Shared,
     gate: &G,
     seats: &mut [CpuSeat],
@@ -90,13 +117,14 @@ fn go_on<R: Threads + Wait + Sync, G: Gate + Sync>(
     if !sweep(rt, shared, seats) {
         return false;
     }
-    round(rt, shared, gate, seats);
+    round(rt, alloc, shared, gate, seats);
     true
 }
 
 /// Sweeps and rounds until a sweep was the last, but at most `limit + 1` sweeps.
 fn work_together<R: Threads + Wait + Sync, G: Gate + Sync>(
     rt: &R,
+    alloc: Global,
     shared: &Shared,
     gate: &G,
     limit: u64,
@@ -107,7 +135,7 @@ fn work_together<R: Threads + Wait + Sync, G: Gate + Sync>(
     ensures seats { AreCpuSeats shared.now seats.new }
 {
     for _sweep in 0..limit + 1 {
-        if !go_on(rt, shared, gate, seats) {
+        if !go_on(rt, alloc, shared, gate, seats) {
             return;
         }
     }
@@ -137,14 +165,16 @@ fn share<R: Threads + Wait + Sync, G: Gate + Sync>(
             return Err(RunFault::Memory);
         }
     };
-    work_together(rt, &shared, gate, limit, seats.as_mut_slice());
+    work_together(rt, alloc, &shared, gate, limit, seats.as_mut_slice());
     Ok(shared.finish(seats))
 }
 
 /// Runs a kernel with a thread for each of its processors, of which there is one or more, for at most `limit` turns; the kernel has room in its
-/// log for as many. In turn come sweeps, in which each processor has a turn that is not idle, and rounds, in which each has up to 4,096, until a
-/// sweep takes no turn or there are `limit` turns. Before each step in a round its worker calls the gate, with the processor and how many turns
-/// of it there were.
+/// log for as many. In turn come sweeps, in which each processor has a turn that is not idle, and rounds, in which each takes steps until it took
+/// 4,096 turns or is idle, until a sweep takes no turn or there are `limit` turns. A step is a burst where a virtual CPU acts and can be
+/// leased: up to 4,096 of its instructions, which run on copies of up to 16 frames beside the other processors, and then count as so many
+/// turns. Else, and where a burst comes to nothing, it is one turn. Before each step the worker calls the gate, with the processor and how many
+/// turns of it there were.
 ///
 /// Whatever the workers did, there is one order of turns, and what comes is the run over it. It ends quiet or has `limit` turns. The only error is
 /// `Memory`, where memory is refused. It may wait; what it promises holds if it returns.

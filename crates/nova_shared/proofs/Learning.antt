@@ -1,16 +1,17 @@
 -- What a turn tells is what its seat learns.
 use Rattle.std.proofs.Common.{◌≡◌, ℕ, ◌+◌, ◌-◌, ◌≤◌, List, [], ◌∷◌, ◌++◌, length, refl, ap, ap₂, sym, ◌∙◌, arith, length-append, subst, Some}
-use Rattle.std.specs.Prelude.{slice_get, Result, Ok, Err, IfOk, IfErr, OnErr}
+use Rattle.std.specs.Prelude.{replicate, slice_get, Result, Ok, Err, IfOk, IfErr, OnErr}
+use Rattle.std.proofs.lemmas.List.{length-replicate}
 use mathlib.Core.List.{IsPrefix}
 use Rattle.nova_lock.specs.History.{entries, IsFrontOf}
 use Rattle.nova_lock.specs.Seats.{SeatView}
 use Rattle.nova_model.specs.State.{KernelState}
 use Rattle.nova_shared.specs.Ran.{Ran}
-use Rattle.nova_shared.specs.Seen.{IsTurnOf, Learns, LearnsOfOthers, mine, seen}
+use Rattle.nova_shared.specs.Seen.{IsTurnOf, Learns, LearnsOfBlock, LearnsOfOthers, mine, seen}
 use Rattle.nova_shared.specs.Told.{IsTold, IsRefused}
 use Rattle.nova_shared.specs.declared.turn.SharedTurn.{SharedTurn}
 use Rattle.nova_shared.specs.declared.turn.SharedTurn.TheVariants.{Stepped, Idle, AtLimit}
-use Rattle.nova_shared.proofs.Seats.{stepped_mine}
+use Rattle.nova_shared.proofs.Seats.{block_mine, stepped_mine}
 
 prefix_length : (xs ys : List ℕ) → IsPrefix xs ys → length xs ≤ length ys
 prefix_length xs ys p = omega (arith, ap length p.1, length-append xs p.0)
@@ -53,3 +54,10 @@ module _ (k : KernelState) (most : ℕ) (old new : SeatView Ran) (found : List �
     pub learned_of_others : (r : Result SharedTurn ℕ) → IfErr r (λ taken. (taken ≡ length found) × IsRefused k most cpu found new.front) → OnErr r (LearnsOfOthers old new)
     learned_of_others (Ok t) refused = tt
     learned_of_others (Err n) refused = (omega (arith, older, ap length refused.1.0), stays refused.1.0)
+
+    pub learned_of_block : (n : ℕ) → new.front ≡ found ++ replicate n cpu → LearnsOfBlock old new n
+    learned_of_block n left =
+        let place : new.front ≡ found ++ replicate n old.number = left ∙ ap (λ (m : ℕ). found ++ replicate n m) own in (
+          omega (arith, older, ap length place, length-append found (replicate n old.number), length-replicate n old.number),
+          ap₂ entries number place ∙ block_mine old.number n old.front found front,
+        )

@@ -2,3 +2,4 @@ pub mod Passing
 pub mod Shares
 pub mod Seats
 pub mod Learning
+pub mod Stepping

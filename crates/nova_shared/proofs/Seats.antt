@@ -1,5 +1,5 @@
 -- Seats, and how many turns each saw.
-use Rattle.std.proofs.Common.{◌≡◌, ◌≢◌, ⊎_elim, ℕ, suc, ◌+◌, ◌<◌, ◌≤◌, List, [], ◌∷◌, ◌++◌, length, drop, ap, sym, ◌∙◌, arith, All, subst}
+use Rattle.std.proofs.Common.{◌≡◌, ◌≢◌, ⊎_elim, ℕ, zero, suc, ◌+◌, ◌<◌, ◌≤◌, List, [], ◌∷◌, ◌++◌, length, drop, refl, replicate, ap, sym, ◌∙◌, arith, All, subst}
 use Rattle.std.proofs.lemmas.Bool.Decides.{nat_tests}
 use Rattle.std.proofs.lemmas.Bool.{cases_lt}
 use Rattle.std.specs.List.{AllByRecursion}
@@ -10,6 +10,14 @@ entries_snoc : (n : ℕ) (xs : List ℕ) → entries n (xs ++ n ∷ []) ≡ entr
 entries_snoc n [] = grind (arith, nat_tests)
 entries_snoc n (x ∷ xs) = let r = entries_snoc n xs in grind (arith, r)
 
+entries_own : (n k : ℕ) → entries n (replicate k n) ≡ k
+entries_own n zero = refl
+entries_own n (suc k) = let r = entries_own n k in grind (arith, nat_tests, r)
+
+entries_block : (n k : ℕ) (xs : List ℕ) → entries n (xs ++ replicate k n) ≡ entries n xs + k
+entries_block n k [] = let r = entries_own n k in grind (arith, r)
+entries_block n k (x ∷ xs) = let r = entries_block n k xs in grind (arith, r)
+
 entries_most : (n : ℕ) (xs : List ℕ) → entries n xs ≤ length xs
 entries_most n [] = omega arith
 entries_most n (x ∷ xs) = let r = entries_most n xs in grind (arith, r)
@@ -17,6 +25,10 @@ entries_most n (x ∷ xs) = let r = entries_most n xs in grind (arith, r)
 -- a turn more of the seat's own
 pub stepped_mine : (n : ℕ) (old found : List ℕ) → IsFrontOf n old found → entries n (found ++ n ∷ []) ≡ entries n old + 1
 stepped_mine n old found f = entries_snoc n found ∙ ap (λ (m : ℕ). m + 1) (sym f.whole)
+
+-- so many turns more of the seat's own
+pub block_mine : (n k : ℕ) (old found : List ℕ) → IsFrontOf n old found → entries n (found ++ replicate k n) ≡ entries n old + k
+block_mine n k old found f = entries_block n k found ∙ ap (λ (m : ℕ). m + k) (sym f.whole)
 
 pub mine_most : (n : ℕ) (old found : List ℕ) → IsFrontOf n old found → entries n old ≤ length found
 mine_most n old found f = omega (arith, f.whole, entries_most n found)

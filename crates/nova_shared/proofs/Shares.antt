@@ -1,7 +1,7 @@
 -- Turns of a run that is shared.
-use Rattle.std.proofs.Common.{◌≡◌, ◌≢◌, ℕ, ◌+◌, ◌<◌, ◌≤◌, ◌^◌, List, [], ◌∷◌, ◌++◌, length, refl, ap, ap₂, sym, ◌∙◌, subst, arith}
-use Rattle.std.specs.Prelude.{vec_capacity, Bool, true, false, is_some, None, if◌then◌else◌, Option, Some}
-use Rattle.std.proofs.lemmas.List.{append-nil}
+use Rattle.std.proofs.Common.{◌≡◌, ◌≢◌, ℕ, ◌+◌, ◌-◌, ◌<◌, ◌≤◌, ◌^◌, List, [], ◌∷◌, ◌++◌, length, refl, ap, ap₂, sym, ◌∙◌, subst, arith}
+use Rattle.std.specs.Prelude.{replicate, vec_capacity, Bool, true, false, is_some, None, if◌then◌else◌, Option, Some}
+use Rattle.std.proofs.lemmas.List.{append-nil, length-replicate}
 use Rattle.nova_kernel.specs.Views.{KernelView, IsMaking}
 use Rattle.nova_model.specs.State.{KernelState}
 use Rattle.nova_model.specs.Turn.{turn, Step}
@@ -12,7 +12,7 @@ use Rattle.nova_order.specs.declared.block.Block.{Block}
 use Rattle.nova_order.proofs.BlockLemmas.{length_turns}
 use Rattle.nova_shared.specs.Runs.{IsSharedRun}
 use Rattle.nova_shared.specs.Told.{IsTold, IsRefused}
-use Rattle.nova_shared.specs.UnderWay.{HasRoom, Passed, taken}
+use Rattle.nova_shared.specs.UnderWay.{HasRoom, Passed, left, taken}
 use Rattle.nova_shared.specs.declared.finished.Finished.{Finished}
 use Rattle.nova_shared.specs.declared.turn.SharedTurn.TheVariants.{Stepped, Idle, AtLimit}
 use Rattle.nova_shared.proofs.Passing.{run_on, trace_on}
@@ -51,19 +51,34 @@ module _ (f g : Finished) (cpu : ℕ) (was : IsSharedRun f) where
   pub long : length (turns f.order.blocks) ≡ length f.trace.items
   long = length_turns f.order.blocks ∙ was.ready.order
 
+  -- more turns, none of which is idle
+  pub shared_more : (ys : List ℕ) → IsFreeOfIdle f.kernel.state ys → Passed f ys g → HasRoom g → IsSharedRun g
+  unfolding k xs
+  shared_more ys free passed room =
+      let all : IsFreeOfIdle k (xs ++ ys) = free_append k xs ys was.no_idle (subst (λ (s : KernelState). IsFreeOfIdle s ys) was.kernel free) in record {
+        kernel = run_on k xs ys f.kernel.state g.kernel.state was.kernel passed.kernel ∙ ap₂ (λ (o : KernelView) (l : List ℕ). run o.state l) (sym passed.opening) (sym passed.order);
+        trace = trace_on k xs ys f.kernel.state [] f.trace.items g.trace.items was.kernel was.trace passed.trace ∙ ap₂ (λ (o : KernelView) (l : List ℕ). trace o.state l) (sym passed.opening) (sym passed.order);
+        no_idle = subst (λ (z : KernelView × List ℕ). IsFreeOfIdle z.0.state z.1) (λ i. (sym passed.opening i, sym passed.order i)) all;
+        ready = passed.ready;
+        room = room;
+      }
+
+  -- how many turns there are after so many more
+  pub seen_more : (m n : ℕ) → m ≡ length g.trace.items → Passed f (replicate n cpu) g → (m ≡ length (turns f.order.blocks) + n) × (m ≤ f.limit)
+  seen_more m n is passed =
+      let count = passed.count in let within = passed.ready.within in let limit = passed.limit in
+      (omega (arith, is, count, length-replicate n cpu, long), omega (arith, is, within, limit))
+
+  -- what is told of the kernel and of the turns that there may be is told of the run and of its order
+  pub told_of : (P : KernelState → ℕ → Type 0) → P f.kernel.state (left f) → P (run f.opening.state (turns f.order.blocks)) (f.limit - length (turns f.order.blocks))
+  told_of P told =
+      let same : left f ≡ f.limit - length (turns f.order.blocks) = ap (λ (n : ℕ). f.limit - n) (sym long) in
+      subst (λ (z : KernelState × ℕ). P z.0 z.1) (λ i. (was.kernel i, same i)) told
+
   module _ (passed : Passed f (taken f.kernel.state cpu) g) where
     -- a turn more, if there is one
     pub shared_on : HasRoom g → IsSharedRun g
-    unfolding k xs
-    shared_on room =
-        let ys : List ℕ = taken f.kernel.state cpu in
-        let free : IsFreeOfIdle k (xs ++ ys) = free_append k xs ys was.no_idle (subst (λ (s : KernelState). IsFreeOfIdle s ys) was.kernel (free_taken f.kernel.state cpu)) in record {
-          kernel = run_on k xs ys f.kernel.state g.kernel.state was.kernel passed.kernel ∙ ap₂ (λ (o : KernelView) (l : List ℕ). run o.state l) (sym passed.opening) (sym passed.order);
-          trace = trace_on k xs ys f.kernel.state [] f.trace.items g.trace.items was.kernel was.trace passed.trace ∙ ap₂ (λ (o : KernelView) (l : List ℕ). trace o.state l) (sym passed.opening) (sym passed.order);
-          no_idle = subst (λ (z : KernelView × List ℕ). IsFreeOfIdle z.0.state z.1) (λ i. (sym passed.opening i, sym passed.order i)) free;
-          ready = passed.ready;
-          room = room;
-        }
+    shared_on room = shared_more (taken f.kernel.state cpu) (free_taken f.kernel.state cpu) passed room
 
     -- the turn was taken
     pub told_stepped : (n : ℕ) → n ≡ length f.trace.items → is_some (turn f.kernel.state cpu) ≡ true → n ≢ f.limit

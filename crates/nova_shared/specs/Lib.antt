@@ -7,3 +7,4 @@ pub mod Runs
 pub mod Ran
 pub mod Told
 pub mod Seen
+pub mod Steps

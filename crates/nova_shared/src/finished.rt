@@ -1,11 +1,16 @@
-ghost use Rattle.std.specs.Prelude.{◌≡◌, ◌+◌, ◌^◌, ◌<◌, ◌≤◌, [], length, is_some, IfOk, IfErr, OnOk, OnErr};
+ghost use Rattle.std.specs.Prelude.{◌≡◌, ◌+◌, ◌^◌, ◌<◌, ◌≤◌, ◌++◌, [], length, replicate, is_some, None, option_map, vec_capacity, vec_len, IfOk, IfErr, OnOk, OnErr};
 ghost use Rattle.nova_kernel.specs.Views.{IsMaking};
+ghost use Rattle.nova_leases.specs.Advances.{step_of};
+ghost use Rattle.nova_model.specs.Choice.{choice};
+ghost use Rattle.nova_model.specs.Runs.{IsFreeOfIdle};
 ghost use Rattle.nova_model.specs.Turn.{turn};
-ghost use Rattle.nova_order.specs.Blocks.{turns};
+ghost use Rattle.nova_order.specs.Blocks.{turns, total};
 ghost use Rattle.nova_shared.specs.Runs.{IsSharedRun};
-ghost use Rattle.nova_shared.specs.UnderWay.{IsReady, HasRoom, Passed, taken};
+ghost use Rattle.nova_shared.specs.Steps.{repeated};
+ghost use Rattle.nova_shared.specs.UnderWay.{IsReady, HasRoom, Passed, left, taken};
 
-use nova_kernel::{Event, Kernel, Turn};
+use crate::block::Block;
+use nova_kernel::{Event, EventKind, Kernel, Turn};
 use nova_order::Order;
 use std::alloc::{AllocError, Global};
 
@@ -26,6 +31,34 @@ pub struct Finished {
 
     /// How many turns there may be.
     pub limit: u64,
+}
+
+/// The event of a plain step of the execution context that acts on a processor, paid by the chosen scheduling context; none where the
+/// processor is idle.
+fn plain_step(kernel: &Kernel, cpu: u32) -> Option<Event>
+    ensures { result ≡ option_map (step_of cpu) (choice kernel.now.state cpu) }
+{
+    let sc = kernel.choose(cpu)?;
+    let ec = kernel.actor(cpu)?;
+    Some(Event {
+        cpu,
+        sc,
+        ec,
+        kind: EventKind::Step,
+        a: 0,
+        b: 0,
+    })
+}
+
+/// Adds an event so many times, in reserved room.
+fn add_times(trace: &mut Vec<Event>, event: Event, count: u64)
+    requires { vec_len trace.old + count ≤ vec_capacity trace.old }
+    ensures items { trace.new.items ≡ trace.old.items ++ replicate count event }
+    ensures room { vec_capacity trace.old ≤ vec_capacity trace.new }
+{
+    for _i in 0..count {
+        trace.push_reserved(event);
+    }
 }
 
 impl Finished {
@@ -79,5 +112,46 @@ impl Finished {
             }
             Turn::Idle => Ok(false),
         }
+    }
+
+    /// Enters so many turns of a processor, each with this event, in the room that was made for them. Without an event there are none.
+    fn enter(&mut self, cpu: u32, event: Option<Event>, count: u64)
+        requires room { HasRoom self.old }
+        requires more { length self.old.trace.items + count ≤ self.old.limit }
+        requires order { total self.old.order.blocks ≡ length self.old.trace.items }
+        requires none { event ≡ None → count ≡ 0 }
+        ensures same { (self.new.opening ≡ self.old.opening) × (self.new.kernel ≡ self.old.kernel) × (self.new.limit ≡ self.old.limit) }
+        ensures order { turns self.new.order.blocks ≡ turns self.old.order.blocks ++ replicate count cpu }
+        ensures sum { total self.new.order.blocks ≡ total self.old.order.blocks + count }
+        ensures trace { self.new.trace.items ≡ self.old.trace.items ++ repeated event count }
+        ensures room { HasRoom self.new }
+    {
+        let Some(event) = event else {
+            return;
+        };
+        if count == 0 {
+            return;
+        }
+        add_times(&mut self.trace, event, count);
+        self.order.push(cpu, count);
+    }
+
+    /// So many turns of a processor as a block takes, in the room that was made for them.
+    pub(crate) fn block<B: Block>(&mut self, cpu: u32, call: &mut B) -> u64
+        requires ready { IsReady self.old }
+        requires room { HasRoom self.old }
+        requires cpu { cpu < self.old.kernel.state.cpus }
+        requires fits { B.fits call.old cpu self.old.kernel.state }
+        ensures tells { B.tells call.old cpu self.old.kernel.state (left self.old) call.new result }
+        ensures most { result ≤ left self.old }
+        ensures passed { Passed self.old (replicate result cpu) self.new }
+        ensures room { HasRoom self.new }
+        ensures no_idle { IsFreeOfIdle self.old.kernel.state (replicate result cpu) }
+    {
+        let event = plain_step(&self.kernel, cpu);
+        let left = self.limit - self.trace.len() as u64;
+        let taken = call.act(&mut self.kernel, cpu, left);
+        self.enter(cpu, event, taken);
+        taken
     }
 }

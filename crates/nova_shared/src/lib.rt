@@ -1,11 +1,13 @@
 //! A kernel that several processors run, each by a seat: the turns that they take have one order, and the kernel is the run over it.
 #![tactic(auto)]
 
+mod block;
 mod finished;
 mod running;
 mod shared;
 mod turn;
 
+pub use block::Block;
 pub use finished::Finished;
 pub use shared::{CpuSeat, Shared};
 pub use turn::SharedTurn;

@@ -1,8 +1,10 @@
-ghost use Rattle.std.specs.Prelude.{◌≡◌, ◌+◌, ◌%◌, ◌^◌, ◌<◌, [], length, IfOk, IfErr};
+ghost use Rattle.std.specs.Prelude.{◌≡◌, ◌+◌, ◌-◌, ◌%◌, ◌^◌, ◌<◌, ◌≤◌, ◌++◌, [], length, replicate, IfOk, IfErr};
+ghost use Rattle.nova_model.specs.Runs.{run};
 ghost use Rattle.nova_order.specs.Blocks.{turns};
 ghost use Rattle.nova_shared.specs.Runs.{IsSharedRun};
 ghost use Rattle.nova_shared.specs.Told.{IsTold, IsRefused};
 
+use crate::block::{Block, BlockDone};
 use crate::finished::Finished;
 use crate::turn::SharedTurn;
 use nova_kernel::Kernel;
@@ -79,6 +81,22 @@ impl Running {
             return Ok(SharedTurn::Idle(taken));
         }
         Ok(SharedTurn::Stepped(taken + 1))
+    }
+
+    /// So many turns of a processor as a block takes.
+    pub(crate) fn block<B: Block>(&mut self, cpu: u32, call: &mut B) -> BlockDone
+        requires cpu { cpu < self.old.opening.kernel.state.cpus }
+        requires fits { B.fits call.old cpu (run self.old.opening.kernel.state self.old.order) }
+        ensures same { (self.new.opening ≡ self.old.opening) × (self.new.uses ≡ self.old.uses) }
+        ensures order { self.new.order ≡ self.old.order ++ replicate result.taken cpu }
+        ensures seen { (result.seen ≡ length self.old.order + result.taken) × (result.seen ≤ self.old.opening.limit) }
+        ensures tells { B.tells call.old cpu (run self.old.opening.kernel.state self.old.order) (self.old.opening.limit - length self.old.order) call.new result.taken }
+    {
+        let taken = self.run.block(cpu, call);
+        BlockDone {
+            taken,
+            seen: self.run.trace.len() as u64,
+        }
     }
 
     /// Counts a use.

@@ -1,16 +1,17 @@
-ghost use Rattle.std.specs.Prelude.{◌≡◌, ◌≢◌, ◌+◌, ◌^◌, ◌<◌, ◌≤◌, ◌++◌, List, [], ◌∷◌, ℕ, length, drop, vec_len, vec_capacity, slice_index_or, All, IfOk, IfErr, OnErr};
+ghost use Rattle.std.specs.Prelude.{◌≡◌, ◌≢◌, ◌+◌, ◌-◌, ◌^◌, ◌<◌, ◌≤◌, ◌++◌, List, [], ◌∷◌, ℕ, length, drop, replicate, vec_len, vec_capacity, slice_index_or, All, IfOk, IfErr, OnErr};
 ghost use Rattle.std.specs.List.{AllByRecursion};
 ghost use mathlib.Core.List.{IsPrefix};
 ghost use Rattle.nova_lock.specs.History.{Adds, entries, IsFrontOf};
 ghost use Rattle.nova_lock.specs.Seats.{SeatView};
-ghost use Rattle.nova_model.specs.Runs.{IsFreeOfIdle};
+ghost use Rattle.nova_model.specs.Runs.{IsFreeOfIdle, run};
 ghost use Rattle.nova_order.specs.Blocks.{turns};
 ghost use Rattle.nova_shared.specs.Finished.{IsFinished};
 ghost use Rattle.nova_shared.specs.Ran.{Ran, IsCpuSeat, AreCpuSeats};
-ghost use Rattle.nova_shared.specs.Seen.{Learns, LearnsOfOthers, mine};
+ghost use Rattle.nova_shared.specs.Seen.{Learns, LearnsOfBlock, LearnsOfOthers, mine};
 ghost use Rattle.nova_shared.specs.Told.{IsTold, IsRefused};
 ghost use Rattle.nova_shared.specs.UnderWay.{IsReady, HasRoom};
 
+use crate::block::{Block, BlockDone, Blocking};
 use crate::finished::Finished;
 use crate::running::Running;
 use crate::turn::{OneTurn, SharedTurn};
@@ -243,6 +244,44 @@ impl Shared {
             SharedTurn::Idle(n) | SharedTurn::AtLimit(n) => seat.seen = n,
         }
         Ok(told)
+    }
+
+    /// One use of the lock, in which a block is done on the processor of a seat.
+    fn act<B: Block>(&self, rt: &impl Wait, seat: &mut Seat<Running>, call: &mut B) -> BlockDone
+        requires own { IsCpuSeat self.now seat.old }
+        requires fits { (h : List ℕ) → IsPrefix seat.old.front h → B.fits call.old seat.old.number (run self.now.opened.opening.kernel.state h) }
+        ensures seat { seat.new ≡ record seat.old { front = seat.new.front } }
+        ensures told { (found : List ℕ) × IsFrontOf seat.old.number seat.old.front found
+            × (seat.new.front ≡ found ++ replicate result.taken seat.old.number) × (result.seen ≡ length found + result.taken) × (result.seen ≤ self.now.opened.opening.limit)
+            × B.tells call.old seat.old.number (run self.now.opened.opening.kernel.state found) (self.now.opened.opening.limit - length found) call.new result.taken }
+        ensures learned { LearnsOfBlock seat.old seat.new result.taken }
+    {
+        let mut blocking = Blocking {
+            cpu: seat.number(),
+            call,
+        };
+        self.lock.with(rt, seat, &mut blocking)
+    }
+
+    /// A block of turns of the processor of a seat, in one use of the lock: the block takes as many as it likes, where it finds room for them, and
+    /// what comes is how many. It may be done on the processor after each order of turns that begins with the seat's front. The order of turns
+    /// that it finds begins with the seat's front and has all turns that the seat ever took. The block may take as many turns as there may be
+    /// after those of that order. The order that it leaves has these turns more, and is the seat's new front.
+    ///
+    /// It may wait for other processors; what it promises holds if it returns. It takes no memory but what the block takes.
+    pub fn block<B: Block>(&self, rt: &impl Wait, seat: &mut CpuSeat, call: &mut B) -> u64
+        requires own { IsCpuSeat self.now seat.old }
+        requires fits { (h : List ℕ) → IsPrefix seat.old.front h → B.fits call.old seat.old.number (run self.now.opened.opening.kernel.state h) }
+        ensures seat { seat.new ≡ record seat.old { front = seat.new.front } }
+        ensures told { (found : List ℕ) × IsFrontOf seat.old.number seat.old.front found
+            × (seat.new.front ≡ found ++ replicate result seat.old.number) × (length found + result ≤ self.now.opened.opening.limit)
+            × B.tells call.old seat.old.number (run self.now.opened.opening.kernel.state found) (self.now.opened.opening.limit - length found) call.new result }
+        ensures learned { LearnsOfBlock seat.old seat.new result }
+    {
+        let done = self.act(rt, &mut seat.seat, call);
+        seat.seen = done.seen;
+        seat.mine += done.taken;
+        done.taken
     }
 
     /// The run that the seats came to, from all seats of this kernel in the order of their processors. Each seat's front begins the order of turns, which

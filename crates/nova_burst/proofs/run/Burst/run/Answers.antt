@@ -1,4 +1,4 @@
-use Rattle.std.proofs.Common.{rules, arith, ◌≡◌, ◌+◌, ◌^◌, ℕ, List, Some, subst, ◌∙◌}
+use Rattle.std.proofs.Common.{rules, arith, ◌≡◌, ◌+◌, ◌^◌, ℕ, List, Some, subst, sym, ◌∙◌}
 use Rattle.nova_leases.specs.Leases.{lease_step}
 use Rattle.nova_burst.specs.Copies.{HasFewStores, known_in, lease_of}
 use Rattle.nova_burst.specs.declared.copies.Known.{Known}
@@ -11,10 +11,22 @@ loop-i-preserved c =
     let mid = c.loop-i.self in
     let new = c.step.new.self in
     let goes : lease_step (known_in mid.copies.known) (lease_of mid.regs mid.copies) ≡ Some (lease_of new.regs new.copies) = search rules in
-    let e : 2 ^ 63 + c.loop-i.i + 1 ≡ 2 ^ 63 + (c.loop-i.i + 1) = omega arith in
+    let e : 2 ^ 32 + c.loop-i.i + 1 ≡ 2 ^ 32 + (c.loop-i.i + 1) = omega arith in
     record {
       ran = steps_more (known_in old.copies.known) c.loop-i.i (lease_of old.regs old.copies) (lease_of mid.regs mid.copies) (lease_of new.regs new.copies) c.loop-i.invariant.ran
           (subst (λ (known : List Known). lease_step (known_in known) (lease_of mid.regs mid.copies) ≡ Some (lease_of new.regs new.copies)) c.loop-i.invariant.known goes);
       known = c.step.ensures.known ∙ c.loop-i.invariant.known;
-      few = subst (λ (n : ℕ). HasFewStores n new.copies) e (c.step.ensures.few (2 ^ 63 + c.loop-i.i) c.loop-i.invariant.few);
+      stores = λ n few. let same : n + c.loop-i.i + 1 ≡ n + (c.loop-i.i + 1) = omega arith in
+          subst (λ (m : ℕ). HasFewStores m new.copies) same (c.step.ensures.few (n + c.loop-i.i) (c.loop-i.invariant.stores n few));
+      few = subst (λ (n : ℕ). HasFewStores n new.copies) e (c.step.ensures.few (2 ^ 32 + c.loop-i.i) c.loop-i.invariant.few);
     }
+
+pub returns-then-not-step-clause-stores : goal.returns-then-not-step-clause-stores
+returns-then-not-step-clause-stores c =
+    let same : c.step.new.self.copies ≡ c.loop-i.self.copies = search rules in
+    λ n few. subst (HasFewStores (n + c.loop-i.i)) (sym same) (c.loop-i.invariant.stores n few)
+
+pub returns-clause-stores : goal.returns-clause-stores
+returns-clause-stores c =
+    let all : c.loop-i.i ≡ c.args.most = search rules in
+    λ n few. subst (λ (m : ℕ). HasFewStores (n + m) c.loop-i.self.copies) all (c.loop-i.invariant.stores n few)

@@ -1,6 +1,0 @@
-use Rattle.std.proofs.Common.{◌≡◌, drop}
-use Rattle.nova_leases.specs.Leases.{copy_at}
-use Rattle.nova_burst.proofs.copies.Copies.load_at.Given as goal
-
-abbrev pub invariant-loop-page : goal.invariant-loop-page
-invariant-loop-page l = copy_at (drop l.page-index l.self.pages) l.frame ≡ copy_at l.self.pages l.frame

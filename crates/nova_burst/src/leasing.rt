@@ -1,0 +1,133 @@
+ghost use Rattle.std.specs.Prelude.{◌≡◌, ◌≤◌, ◌<◌, IfOk, IfSome, is_some, slice_get};
+ghost use Rattle.nova_model.specs.State.{context};
+ghost use Rattle.nova_burst.specs.Found.{IsFound};
+ghost use Rattle.nova_burst.specs.Lending.{IsNew, StemsFrom, domain_of_virtual, is_at_code, is_leasable, regs_to_step};
+
+use crate::gathering::gather;
+use crate::lent::Lease;
+use bitflags::Flags;
+use nova_kernel::Kernel;
+use nova_model::{EcKind, Object, Rights, State};
+use rv_core::Regs;
+use std::alloc::{AllocError, Global};
+
+/// Whom a processor's next turn lets step: the virtual CPU and its protection domain, both stir counts, what
+/// is left of the quantum, and its registers.
+#[derive(Clone, Copy)]
+pub struct Leasable {
+    pub guest: u32,
+    pub pd: u32,
+    pub kept: (u64, u64),
+    pub left: u32,
+    pub regs: Regs,
+}
+
+/// The protection domain of a virtual CPU; none where the number is that of another.
+fn domain_of_virtual(kernel: &Kernel, ec: u32) -> Option<u32>
+    ensures { result ≡ domain_of_virtual (slice_get kernel.now.state.objects ec) }
+{
+    match kernel.object(ec) {
+        Some(
+            &Object::Ec {
+                pd,
+                kind: EcKind::Vcpu,
+                ..
+            },
+        ) => Some(pd),
+        _ => None,
+    }
+}
+
+/// The registers of an execution context that is ready, without recall flag.
+fn regs_to_step(kernel: &Kernel, ec: u32) -> Option<Regs>
+    ensures { result ≡ regs_to_step (context kernel.now.state ec) }
+{
+    let context = kernel.ec(ec)?;
+    if matches!(context.state, State::Ready) && !context.recall {
+        Some(context.regs)
+    } else {
+        None
+    }
+}
+
+/// Whether an address is a multiple of 4 and lies in a page with execute of a protection domain.
+fn is_at_code(kernel: &mut Kernel, pd: u32, pc: u32) -> bool
+    ensures is { result ≡ is_at_code kernel.old.state pd pc }
+    ensures kept { kernel.new ≡ kernel.old }
+{
+    if pc % 4 != 0 {
+        return false;
+    }
+    match kernel.reach(pd, pc / 4096) {
+        Some((_, rights)) => rights.contains(Rights::EXECUTE),
+        None => false,
+    }
+}
+
+/// Whom a processor's next turn lets step, if it may be leased.
+fn find(kernel: &mut Kernel, cpu: u32) -> Option<Leasable>
+    ensures given { is_some result ≡ is_leasable kernel.old.state cpu }
+    ensures found { IfSome result (λ r. IsFound kernel.old.state cpu r) }
+    ensures kept { kernel.new ≡ kernel.old }
+{
+    if cpu >= kernel.cpus() {
+        return None;
+    }
+    let guest = kernel.actor(cpu)?;
+    let sc = kernel.choose(cpu)?;
+    let left = kernel.left(sc)?;
+    let pd = domain_of_virtual(kernel, guest)?;
+    let regs = regs_to_step(kernel, guest)?;
+    if !is_at_code(kernel, pd, regs.pc()) {
+        return None;
+    }
+    let kept = kernel.stir(guest, cpu);
+    Some(Leasable {
+        guest,
+        pd,
+        kept,
+        left,
+        regs,
+    })
+}
+
+/// A lease of the one that was found.
+fn lease_of(
+    kernel: &mut Kernel,
+    alloc: Global,
+    cpu: u32,
+    found: &Leasable,
+    pages: usize,
+) -> Result<Lease, AllocError>
+    requires pages { 1 ≤ pages }
+    requires found { IsFound kernel.old.state cpu found.now }
+    ensures new { IfOk result (λ x. IsNew x kernel.old.state cpu pages) }
+    ensures stems { IfOk result (λ x. StemsFrom x kernel.old.state) }
+    ensures kept { kernel.new ≡ kernel.old }
+{
+    let copies = gather(kernel, alloc, found.pd, &found.regs, pages)?;
+    let lease = Lease::new(cpu, found.guest, found.kept, found.left, found.regs, copies);
+    Ok(lease)
+}
+
+/// A lease of the virtual CPU that acts next on a processor, with copies of at most `pages` RAM frames, at
+/// least one: the page of pc, and others of its choice. None exactly where no such one acts there, or it
+/// isn't Ready, its recall flag is set, or its pc isn't a multiple of 4 or lies in no page with execute.
+/// The kernel stays as it was. It refuses for want of memory alone.
+pub fn lease(
+    kernel: &mut Kernel,
+    alloc: Global,
+    cpu: u32,
+    pages: usize,
+) -> Result<Option<Lease>, AllocError>
+    requires { 1 ≤ pages }
+    ensures given { IfOk result (λ l. is_some l ≡ is_leasable kernel.old.state cpu) }
+    ensures new { IfOk result (λ l. IfSome l (λ x. IsNew x kernel.old.state cpu pages)) }
+    ensures stems { IfOk result (λ l. IfSome l (λ x. StemsFrom x kernel.old.state)) }
+    ensures kept { kernel.new ≡ kernel.old }
+{
+    match find(kernel, cpu) {
+        Some(found) => Ok(Some(lease_of(kernel, alloc, cpu, &found, pages)?)),
+        None => Ok(None),
+    }
+}

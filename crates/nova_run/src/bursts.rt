@@ -1,0 +1,106 @@
+ghost use Rattle.std.specs.Prelude.{◌≡◌, IfSome};
+ghost use Rattle.nova_burst.specs.Lending.{StemsFrom, turns_of};
+ghost use Rattle.nova_shared.specs.Ran.{IsCpuSeat};
+
+use nova_burst::{Lease, commit, lease};
+use nova_kernel::Kernel;
+use nova_leases::CommitDone;
+use nova_shared::{Block, CpuSeat, Shared};
+use std::alloc::Global;
+use std::sync::Wait;
+
+/// How many instructions a burst has at most.
+const INSTRUCTIONS: u64 = 4096;
+
+/// How many pages are copied for a burst at most.
+const PAGES: usize = 16;
+
+/// A lease of the virtual CPU that acts on a processor, where that can be had. One that is refused for want of memory is none.
+fn leased(kernel: &mut Kernel, alloc: Global, cpu: u32) -> Option<Lease>
+    ensures stems { IfSome result (λ l. (l.run.cpu ≡ cpu) × StemsFrom l kernel.old.state) }
+    ensures kept { kernel.new ≡ kernel.old }
+{
+    let Ok(leased) = lease(kernel, alloc, cpu, PAGES) else {
+        return None;
+    };
+    leased
+}
+
+/// The turns that came of a commit.
+fn turns_of(done: CommitDone) -> u64
+    ensures { result ≡ turns_of done }
+{
+    match done {
+        CommitDone::Committed(turns) => turns,
+        CommitDone::Dropped { .. } | CommitDone::Away { .. } | CommitDone::NoRoom { .. } => 0,
+    }
+}
+
+/// Leases the virtual CPU that acts on the processor, where that can be had, and takes no turn. It notes how many turns it might have taken.
+#[derive(Drop)]
+struct Leasing {
+    alloc: Global,
+    lease: Option<Lease>,
+    left: u64,
+}
+
+impl Block for Leasing {
+    ghost use Rattle.std.specs.Prelude.{◌≡◌, IfSome};
+    ghost use Rattle.nova_burst.specs.Lending.{StemsFrom};
+
+    ghost fits = { λ b cpu k. Unit {0} };
+
+    ghost tells = { λ b cpu k left next turns. (turns ≡ 0) × IfSome next.lease (λ l. (l.run.cpu ≡ cpu) × StemsFrom l k) };
+
+    #[tactic(auto, using(nova_shared::proofs::Stepping::no_steps))]
+    fn act(&mut self, kernel: &mut Kernel, cpu: u32, left: u64) -> u64 {
+        self.lease = leased(kernel, self.alloc, cpu);
+        self.left = left;
+        0
+    }
+}
+
+/// Commits a lease of the processor. It takes as many turns as the lease ran instructions, or none where they can't be committed.
+#[derive(Drop)]
+struct Committing {
+    lease: Option<Lease>,
+}
+
+impl Block for Committing {
+    ghost use Rattle.std.specs.Prelude.{◌≡◌, IfSome};
+    ghost use Rattle.nova_burst.specs.Lending.{ComesAfter};
+
+    ghost fits = { λ b cpu k. IfSome b.lease (λ l. (l.run.cpu ≡ cpu) × ComesAfter l k) };
+
+    ghost tells = { λ b cpu k left next turns. Unit {0} };
+
+    #[tactic(auto, using(nova_shared::proofs::Stepping::no_steps))]
+    fn act(&mut self, kernel: &mut Kernel, _cpu: u32, left: u64) -> u64 {
+        let Some(lease) = self.lease.take() else {
+            return 0;
+        };
+        turns_of(commit(kernel, lease, left))
+    }
+}
+
+/// A burst of the processor of a seat, and how many turns it was: it is leased in one use of the kernel, runs on its copies while others use the
+/// kernel, and is committed in another use. It was none where nothing could be leased, and where nothing was committed.
+pub(crate) fn burst<R: Wait>(rt: &R, alloc: Global, shared: &Shared, seat: &mut CpuSeat) -> u64
+    requires { IsCpuSeat shared.now seat.old }
+    ensures { seat.new ≡ record seat.old { front = seat.new.front } }
+{
+    let mut leasing = Leasing {
+        alloc,
+        lease: None,
+        left: 0,
+    };
+    shared.block(rt, seat, &mut leasing);
+    // More than there was room for would be run in vain.
+    let most = INSTRUCTIONS.min(leasing.left);
+    let Some(mut lease) = leasing.lease else {
+        return 0;
+    };
+    lease.run(most);
+    let mut committing = Committing { lease: Some(lease) };
+    shared.block(rt, seat, &mut committing)
+}

@@ -1,0 +1,68 @@
+ghost use Rattle.std.specs.Prelude.{◌≡◌, ◌+◌, ◌^◌, ◌<◌, ◌≤◌, ℕ, replicate};
+ghost use Rattle.nova_model.specs.Choice.{choice};
+ghost use Rattle.nova_model.specs.Runs.{run, trace};
+ghost use Rattle.nova_model.specs.State.{KernelState};
+ghost use Rattle.nova_shared.specs.Steps.{ArePlainSteps};
+
+use crate::running::Running;
+use nova_kernel::Kernel;
+use nova_lock::LockCall;
+
+/// What is done in one use of the lock that takes turns of one processor by itself.
+pub trait Block {
+    /// Whether it may be done on this processor of a kernel in this state.
+    ghost fits: { Self → ℕ → KernelState → Type 0 };
+
+    /// What it tells of the block before, the processor, the state that it found, how many turns it might take, the block after, and the
+    /// answer.
+    ghost tells: { Self → ℕ → KernelState → ℕ → Self → ℕ → Type 0 };
+
+    /// Takes at most `left` turns of a processor that is there, and answers how many it took. Each is a plain step of the execution context that
+    /// acts on the processor before, paid by the scheduling context that is chosen there before. The kernel has room in its log for `left`
+    /// turns, and each turn takes at most one place of it.
+    fn act(&mut self, kernel: &mut Kernel, cpu: u32, left: u64) -> u64
+        requires cpu { cpu < kernel.old.state.cpus }
+        requires fits { fits self.old cpu kernel.old.state }
+        requires room { left ≤ kernel.old.room }
+        requires turns { kernel.old.state.turns + left ≤ 2 ^ 31 }
+        ensures tells { tells self.old cpu kernel.old.state left self.new result }
+        ensures most { result ≤ left }
+        ensures room { kernel.old.room ≤ kernel.new.room + result }
+        ensures state { kernel.new.state ≡ run kernel.old.state (replicate result cpu) }
+        ensures steps { ArePlainSteps (choice kernel.old.state cpu) cpu result (trace kernel.old.state (replicate result cpu)) };
+}
+
+/// What a block did in one use of the lock: how many turns it took, and how many turns of all processors there were after it.
+#[derive(Clone, Copy)]
+pub struct BlockDone {
+    pub taken: u64,
+    pub seen: u64,
+}
+
+/// A use of the lock in which a block is done on a processor.
+#[derive(Drop)]
+pub struct Blocking<'a, B: Block> {
+    pub cpu: u32,
+    pub call: &'a mut B,
+}
+
+impl<'a, B: Block> LockCall<Running> for Blocking<'a, B> {
+    ghost use Rattle.std.specs.Prelude.{◌≡◌, ◌+◌, ◌-◌, ◌<◌, ◌≤◌, ◌++◌, length, replicate};
+    ghost use Rattle.nova_model.specs.Runs.{run};
+
+    type Out = BlockDone;
+
+    ghost number = { λ b. b.cpu };
+
+    ghost ready = { λ b o h. (b.cpu < o.kernel.state.cpus) × B.fits b.call.now b.cpu (run o.kernel.state h) };
+
+    ghost did = { λ o b found left next out. (left ≡ found ++ replicate out.taken b.cpu) × (out.seen ≡ length found + out.taken) × (out.seen ≤ o.limit)
+        × B.tells b.call.now b.cpu (run o.kernel.state found) (o.limit - length found) next.call.now out.taken
+        × (next.call.ghost_name ≡ b.call.ghost_name) };
+
+    fn act(&mut self, value: &mut Running) -> BlockDone {
+        let done = value.block(self.cpu, self.call);
+        value.count();
+        done
+    }
+}

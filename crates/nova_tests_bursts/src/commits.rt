@@ -1,0 +1,223 @@
+// Leases of a guest, and what becomes of them when they are committed.
+ghost use Rattle.std.specs.Prelude.{◌≡◌, ◌+◌, ◌^◌, ◌<◌, ◌≤◌, OnOk};
+ghost use Rattle.nova_burst.specs.Lending.{ComesAfter, LeaseView};
+
+use crate::scenarios::{ALONE, GUEST, OVERTAKEN, PARTED};
+use bitflags::Flags;
+use nova_boot::boot;
+use nova_burst::{Lease, commit, lease};
+use nova_guest::GuestState;
+use nova_kernel::{EcKind, Kernel, Object};
+use nova_leases::CommitDone;
+use nova_report::report;
+use nova_scenario::read;
+use std::alloc::{AllocError, Global};
+use std::process::Abort;
+
+/// What became of a burst, as a test compares it.
+#[derive(Clone, Copy, PartialEq)]
+enum Told {
+    Dropped { kept: (u64, u64), now: (u64, u64) },
+    Away { actor: u32 },
+    NoRoom { left: u64 },
+    Committed(u64),
+}
+
+/// What became of a burst.
+fn tell(done: CommitDone) -> Told {
+    match done {
+        CommitDone::Dropped { kept, now } => Told::Dropped { kept, now },
+        CommitDone::Away { actor } => Told::Away { actor },
+        CommitDone::NoRoom { left } => Told::NoRoom { left },
+        CommitDone::Committed(turns) => Told::Committed(turns),
+    }
+}
+
+/// So many turns of a processor, after which a lease comes from where it came from.
+#[tactic(auto, using(crate::proofs::Stems::one_more))]
+fn take(kernel: &mut Kernel, cpu: u32, turns: u64) -> Result<(), AllocError>
+    requires cpu { cpu < kernel.old.state.cpus }
+    requires room { turns ≤ kernel.old.room }
+    requires turns { kernel.old.state.turns + turns ≤ 2 ^ 31 }
+    ensures cpus { OnOk result (kernel.new.state.cpus ≡ kernel.old.state.cpus) }
+    ensures room { OnOk result (kernel.old.room ≤ kernel.new.room + turns) }
+    ensures turns { OnOk result (kernel.new.state.turns ≤ kernel.old.state.turns + turns) }
+    ensures after { OnOk result ((l : LeaseView) → ComesAfter l kernel.old.state → ComesAfter l kernel.new.state) }
+{
+    for _turn in 0..turns {
+        kernel.turn(cpu)?;
+    }
+    Ok(())
+}
+
+/// The machine of a scenario with two processors, as it boots.
+fn booted(rt: &impl Abort, alloc: Global, text: &str) -> Kernel
+    ensures cpus { result.state.cpus ≡ 2 }
+    ensures room { result.room ≡ 200 }
+    ensures turns { result.state.turns ≡ 0 }
+{
+    let scenario = read(alloc, text.as_bytes()).expect(rt, "a scenario");
+    let kernel = boot(alloc, &scenario, 200).expect(rt, "ample memory");
+    assert!(rt; kernel.turns() == 0 && kernel.cpus() == 2);
+    kernel
+}
+
+/// That machine after the 38 turns in which the root makes the guest, and 19 of the guest and its monitor, in which it gets its page.
+fn prepared(rt: &impl Abort, alloc: Global, text: &str) -> Kernel
+    ensures cpus { result.state.cpus ≡ 2 }
+    ensures room { 100 ≤ result.room }
+    ensures turns { result.state.turns ≤ 100 }
+{
+    let mut kernel = booted(rt, alloc, text);
+    take(&mut kernel, 0, 38).expect(rt, "ample memory");
+    take(&mut kernel, 1, 19).expect(rt, "ample memory");
+    kernel
+}
+
+/// Whether the guest is Ready without recall flag, with all registers 0 and the page of frame 1 alone.
+fn is_prepared(rt: &impl Abort, alloc: Global, kernel: &Kernel) -> bool {
+    let Some(
+        Object::Ec {
+            kind: EcKind::Vcpu,
+            ..
+        },
+    ) = kernel.object(GUEST)
+    else {
+        return false;
+    };
+    let guest = kernel.view(alloc, GUEST).expect(rt, "ample memory");
+    for n in 0..32 {
+        if guest.regs.get(n) != 0 {
+            return false;
+        }
+    }
+    let ([map], [cell]) = (guest.maps.as_slice(), guest.cells.as_slice()) else {
+        return false;
+    };
+    let is_page = (map.base, map.order, map.rights.bits(), map.frame) == (0, 0, 7, 1)
+        && cell.frame == 1;
+    is_page && guest.regs.pc() == 0 && !guest.recall && matches!(guest.state, GuestState::Ready)
+}
+
+/// A lease of the guest, which has executed the one instruction that it can.
+#[tactic(auto, using(crate::proofs::Stems::at_once))]
+fn lent(rt: &impl Abort, alloc: Global, kernel: &mut Kernel) -> Lease
+    ensures kept { kernel.new ≡ kernel.old }
+    ensures after { ComesAfter result kernel.old.state }
+{
+    let Some(mut lent) = lease(kernel, alloc, 1, 4).expect(rt, "ample memory") else {
+        panic!(rt; "the guest is about to step");
+    };
+    let ran = lent.run(4096);
+    assert!(rt; ran == 1);
+    lent
+}
+
+/// A lease, so many turns of a processor, and a commit with room for `left` turns.
+fn burst(
+    rt: &impl Abort,
+    alloc: Global,
+    kernel: &mut Kernel,
+    cpu: u32,
+    turns: u64,
+    left: u64,
+) -> Told
+    requires cpu { cpu < kernel.old.state.cpus }
+    requires room { turns ≤ kernel.old.room }
+    requires turns { kernel.old.state.turns + turns + left ≤ 2 ^ 31 }
+{
+    let lent = lent(rt, alloc, kernel);
+    take(kernel, cpu, turns).expect(rt, "ample memory");
+    tell(commit(kernel, lent, left))
+}
+
+/// The report of the machine of a scenario after those turns and so many more of a processor, without its events.
+fn after(rt: &impl Abort, alloc: Global, text: &str, cpu: u32, turns: u64) -> Vec<u8>
+    requires cpu { cpu < 2 }
+    requires turns { turns ≤ 100 }
+{
+    let mut kernel = prepared(rt, alloc, text);
+    take(&mut kernel, cpu, turns).expect(rt, "ample memory");
+    report(alloc, &kernel, &[]).expect(rt, "ample memory")
+}
+
+/// A burst of the guest: what it shows, the turns that come between its lease and its commit, how many turns there is room for, what becomes of
+/// it, and which turns then were taken in all since the guest got its page.
+#[derive(Clone, Copy)]
+struct Row {
+    shows: &'static str,
+    scenario: &'static str,
+    between: (u32, u64),
+    left: u64,
+    told: Told,
+    taken: (u32, u64),
+}
+
+static ROWS: [Row; 4] = [
+    Row {
+        shows: "what was run is as many turns",
+        scenario: PARTED,
+        between: (0, 0),
+        left: 5,
+        told: Told::Committed(1),
+        taken: (1, 1),
+    },
+    Row {
+        shows: "a turn of its processor came between",
+        scenario: PARTED,
+        between: (1, 1),
+        left: 5,
+        told: Told::Dropped {
+            kept: (5, 19),
+            now: (5, 20),
+        },
+        taken: (1, 1),
+    },
+    Row {
+        shows: "there is no room for another turn",
+        scenario: PARTED,
+        between: (0, 0),
+        left: 0,
+        told: Told::NoRoom { left: 0 },
+        taken: (0, 0),
+    },
+    Row {
+        shows: "another, of greater priority, would act",
+        scenario: OVERTAKEN,
+        between: (0, 11),
+        left: 5,
+        told: Told::Away { actor: 10 },
+        taken: (0, 11),
+    },
+];
+
+/// Whether a burst ends as its row says, and leaves the kernel as after the turns that its row says.
+fn is_so(rt: &impl Abort, alloc: Global, row: &Row) -> bool {
+    let mut kernel = prepared(rt, alloc, row.scenario);
+    let (cpu, turns) = row.between;
+    let (other, taken) = row.taken;
+    assert!(rt; cpu < 2 && other < 2 && turns <= 100 && taken <= 100 && row.left <= 100);
+    if !is_prepared(rt, alloc, &kernel) {
+        return false;
+    }
+    let told = burst(rt, alloc, &mut kernel, cpu, turns, row.left);
+    let text = report(alloc, &kernel, &[]).expect(rt, "ample memory");
+    let wanted = after(rt, alloc, row.scenario, other, taken);
+    told == row.told && text.as_slice() == wanted.as_slice()
+}
+
+#[test]
+fn a_burst_is_committed_dropped_away_or_without_room(rt: HostRuntime) {
+    for row in &ROWS {
+        assert!(rt; is_so(&rt, rt.alloc(), row), "{}", row.shows);
+    }
+}
+
+#[test]
+fn what_is_no_guest_is_not_leased(rt: HostRuntime) {
+    let alloc = rt.alloc();
+    let scenario = read(alloc, ALONE.as_bytes()).expect(&rt, "a scenario");
+    let mut kernel = boot(alloc, &scenario, 200).expect(&rt, "ample memory");
+    let lent = lease(&mut kernel, alloc, 0, 16).expect(&rt, "ample memory");
+    assert!(rt; lent.is_none());
+}
