@@ -118,6 +118,9 @@ NO_WRITE = Outcome(Ending(6, b"", b"nova: write fault\n"), b"")
 
 def said(whole: Whole, command: Command, kind: str, number: int, outcome: Outcome) -> str:
     """What a refusal came to, in a word; nothing where it went wrong."""
+    # A file that can't be moved where it is opened is read as a pipe is, from its first byte on.
+    if kind == "move" and outcome == whole.outcome:
+        return "full answer"
     if kind not in OF_ALL:
         return "fault" if outcome == faulted(whole, command, kind, number) else ""
     named = ((whole.outcome, "full answer"), (NO_MEMORY, "Memory"), (NO_FETCH, "ReadFault"), (NO_WRITE, "WriteFault"))

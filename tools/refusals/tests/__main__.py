@@ -104,13 +104,20 @@ class Texts(unittest.TestCase):
 class Calls(unittest.TestCase):
     """What is to come of a call that is refused."""
 
+    def test_a_move_that_is_refused_gives_a_fault_or_all(self) -> None:
+        fault = faulted(WHOLE, BYTEWISE, "move", 1)
+        cut = Outcome(Ending(0, b"r", b""), b"0 2\n")
+        for outcome, what in ((fault, "fault"), (WHOLE.outcome, "full answer"), (cut, "")):
+            self.assertEqual(said(WHOLE, BYTEWISE, "move", 1, outcome), what)
+        self.assertEqual(said(WHOLE, BYTEWISE, "read", 1, WHOLE.outcome), "")
+
     def test_what_is_out_is_a_prefix(self) -> None:
         for kind, number, status, out, order in REFUSED:
             with self.subTest(kind=kind, number=number):
                 outcome = faulted(WHOLE, BYTEWISE, kind, number)
                 self.assertEqual((outcome.ending.status, len(outcome.ending.out), len(outcome.order)), (status, out, order))
                 self.assertEqual(said(WHOLE, BYTEWISE, kind, number, outcome), "fault")
-                self.assertEqual(said(WHOLE, BYTEWISE, kind, number, WHOLE.outcome), "")
+                self.assertEqual(said(WHOLE, BYTEWISE, kind, number, WHOLE.outcome), "full answer" if kind == "move" else "")
 
     def test_refused_memory_leaves_nothing_or_all(self) -> None:
         for outcome, word in (
