@@ -1,18 +1,16 @@
 -- By processor those that may run: what changes keep them so.
-use Rattle.std.proofs.Common.{◌≡◌, ℕ, zero, suc, ◌+◌, ◌-◌, ◌<◌, ◌≤◌, List, [], ◌∷◌, ◌++◌, length, refl, ap, sym, subst, ◌∙◌, inl, inr, arith}
-use Rattle.std.specs.Prelude.{◌==◌, Bool, true, false, max, replicate, slice_get, map, slice_index, slice_index_or, slice_set, Option, Some, None, Result, OnOk, OnErr}
+use Rattle.std.proofs.Common.{◌≡◌, ℕ, zero, suc, ◌+◌, ◌-◌, ◌<◌, ◌≤◌, List, [], ◌∷◌, ◌++◌, length, refl, ap, sym, subst, ◌∙◌, arith}
+use Rattle.std.specs.Prelude.{◌==◌, Bool, true, false, max, replicate, map, slice_index, slice_index_or, slice_set, Option, Some, None, Result, OnOk, OnErr}
 use Rattle.std.specs.declared.result.Result.TheVariants.{Ok, Err}
-use Rattle.nova_model.specs.Choice.{in_front}
-use Rattle.nova_model.specs.Turn.{is_spent, budget_after}
-use Rattle.nova_sched.specs.Queues.{Schedule, new_entry, padded, queued_at, members_from, runnable_of, runnables_from}
-use Rattle.nova_sched.specs.Lists.{QueueState, AreQueues, entry_in, members_at, paid, unroomed}
+use Rattle.nova_sched.specs.Queues.{Schedule, padded, queued_at, runnable_of, runnables_from}
+use Rattle.nova_sched.specs.Lists.{QueueState, AreQueues, entry_in, members_at, unroomed}
 use Rattle.nova_sched.specs.Precedence.{AreStamped}
 use Rattle.nova_sched.specs.Ready.{AreReady, IsAmong, IsReady, ReadyState, as_runnable, dropped, items_at, renewed, requeued, room_at, spare_at}
 use Rattle.nova_sched.specs.declared.queued.Queued.{Queued}
 use Rattle.nova_sched.specs.declared.queued.Runnable.{Runnable}
-use Rattle.nova_sched.proofs.Others.{appended_other, set_other}
+use Rattle.nova_sched.proofs.Others.{appended_other}
 use Rattle.nova_sched.proofs.Placing.{dropped_among, length_dropped}
-use Rattle.nova_sched.proofs.Readiness.{IsRunner, at_most, fewer, idle_of, length_front, other_of, ready_joins, ready_kept, ready_leaves, ready_same, runner_facts, runner_of}
+use Rattle.nova_sched.proofs.Readiness.{at_most, fewer, idle_of, length_front, other_of, ready_joins, ready_kept, ready_leaves, ready_same, runner_facts, runner_of}
 use Rattle.nova_sched.proofs.Stamps.{appended_same, set_same, stamps_are_given_once}
 use Rattle.nova_sched.proofs.Tables.{members_set_other, members_set_same, members_unroomed}
 

@@ -1,12 +1,11 @@
 -- Those that may run stay the runnable ones of the processor, whatever changes.
-use Rattle.std.proofs.Common.{◌≡◌, ℕ, zero, suc, ◌+◌, ◌-◌, ◌<◌, ◌≤◌, List, [], ◌∷◌, ◌++◌, length, refl, ap, sym, subst, ◌∙◌, inl, inr, arith}
-use Rattle.std.specs.Prelude.{◌⊎◌, ◌==◌, ◌&&◌, Bool, true, false, replicate, slice_get, slice_set, if◌then◌else◌, Option, Some, None, MatchOption, IsSome, option_map}
+use Rattle.std.proofs.Common.{◌≡◌, ℕ, zero, suc, ◌+◌, ◌<◌, ◌≤◌, List, [], ◌∷◌, length, refl, ap, sym, subst, ◌∙◌, inl, inr, arith}
+use Rattle.std.specs.Prelude.{◌⊎◌, ◌==◌, ◌&&◌, Bool, true, false, slice_get, slice_set, if◌then◌else◌, Option, Some, None, MatchOption, IsSome, option_map}
 use Rattle.nova_model.specs.Choice.{in_front}
-use Rattle.nova_model.specs.Forest.{ArePairs}
-use Rattle.nova_sched.specs.Queues.{Schedule, choose, member_of, members_from, new_entry, padded, queued_at, runnable_of, runnables_from, runs_before}
+use Rattle.nova_sched.specs.Queues.{Schedule, choose, member_of, members_from, runnable_of, runnables_from, runs_before}
 use Rattle.nova_sched.specs.Lists.{QueueState, AreQueues, entry_in, members_at}
-use Rattle.nova_sched.specs.Precedence.{AreStamped, IsForemost, IsNotBehind, MayRun, NobodyMayRun}
-use Rattle.nova_sched.specs.Ready.{IsAmong, IsBehind, IsReady, as_runnable, dropped, placed, renewed, requeued}
+use Rattle.nova_sched.specs.Precedence.{AreStamped, IsForemost, NobodyMayRun}
+use Rattle.nova_sched.specs.Ready.{IsAmong, IsBehind, IsReady, as_runnable, dropped, placed}
 use Rattle.nova_sched.specs.declared.queued.Queued.{Queued}
 use Rattle.nova_sched.specs.declared.queued.Runnable.{Runnable}
 use Rattle.nova_sched.proofs.Chosen.{chosen_is_foremost, not_behind}

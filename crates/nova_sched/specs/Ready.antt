@@ -1,6 +1,5 @@
 -- Who of a processor may run, in the order in which they run.
 use Rattle.std.specs.Prelude.{◌≡◌, ◌≤◌, ◌<◌, ◌+◌, ◌⊎◌, ℕ, Bool, true, false, length, List, [], ◌∷◌, slice_get, slice_set, if◌then◌else◌, Option, Some, None}
-use Rattle.std.specs.List.{AllByRecursion}
 use Rattle.nova_model.specs.Forest.{ArePairs}
 use Rattle.nova_sched.specs.Queues.{Schedule, runnable_of, runnables_from, runs_before}
 use Rattle.nova_sched.specs.Lists.{QueueState, entry_in, members_at}

@@ -7,25 +7,28 @@ ghost use Rattle.nova_sched.specs.Ready.{IsBehind, StaysFirst, placed, dropped};
 use crate::choice::precedes;
 use crate::queued::Runnable;
 use std::alloc::{AllocError, Global};
+use std::collections::VecDeque;
 use std::marker::Model;
 
 /// The scheduling contexts of one processor that are runnable, in the order in which they run: by falling
-/// priority, and of one priority by rising stamp. There is room for all of the processor.
+/// priority, and of one priority by rising stamp. There is room for all of the processor. Who runs first mostly goes
+/// behind all of its priority next, so that both ends of the list are near.
 #[derive(Drop)]
 pub(crate) struct Ready {
-    items: Vec<Runnable>,
+    items: VecDeque<Runnable>,
     room: usize,
 }
 
 impl Model for Ready {
-    ghost use Rattle.std.specs.Prelude.{◌≤◌, vec_capacity};
+    ghost use Rattle.std.specs.Prelude.{◌≤◌};
+    ghost use Rattle.std.specs.VecDeque.{deque_capacity};
     ghost use Rattle.nova_sched.specs.Ready.{ReadyState};
 
     ghost Value = { ReadyState };
 
     ghost view = { λ r. record { items = r.items.items; room = r.room } };
 
-    ghost invariant = { λ r. r.room ≤ vec_capacity r.items };
+    ghost invariant = { λ r. r.room ≤ deque_capacity r.items };
 }
 
 impl Ready {
@@ -34,7 +37,7 @@ impl Ready {
         ensures { result ≡ record { items = []; room = 0 } }
     {
         Ready {
-            items: Vec::new(alloc),
+            items: VecDeque::new(alloc),
             room: 0,
         }
     }
@@ -56,7 +59,7 @@ impl Ready {
     pub(crate) fn first(&self) -> Option<Runnable>
         ensures { result ≡ slice_get self.now.items 0 }
     {
-        self.items.first().copied()
+        self.items.front().copied()
     }
 
     /// Puts one in behind those that run before it, in room that was made.
@@ -86,7 +89,7 @@ impl Ready {
     fn stays_first(&self, before: &Runnable, after: &Runnable) -> bool
         ensures { OnTrue result (StaysFirst before.now after.now self.now.items) }
     {
-        let is_first = match self.items.first() {
+        let is_first = match self.items.front() {
             Some(first) => !precedes(first, before),
             None => false,
         };
@@ -125,10 +128,12 @@ impl Ready {
     pub(crate) fn copy(&self, alloc: Global) -> Result<Ready, AllocError>
         ensures { IfOk result (λ r. r ≡ self.now) }
     {
-        let mut items = Vec::from_slice(alloc, self.items.as_slice())?;
+        let (front, back) = self.items.as_slices();
+        let mut items = Vec::from_slice(alloc, front)?;
+        items.extend_from_slice(back)?;
         items.reserve(self.room.saturating_sub(items.len()))?;
         Ok(Ready {
-            items,
+            items: VecDeque::from_vec(items),
             room: self.room,
         })
     }

@@ -1,4 +1,4 @@
-use Rattle.std.proofs.Common.{rules, arith, refl, ◌≡◌, ◌<◌, ◌∙◌, ◌+◌, List, length, ap, sym, subst}
+use Rattle.std.proofs.Common.{rules, arith, refl, ◌≡◌, ◌∙◌, ◌+◌, List, length, ap, sym, subst}
 use Rattle.std.specs.Prelude.{true, false, slice_set, Some, IsSome}
 use Rattle.nova_model.specs.Turn.{is_spent, budget_after}
 use Rattle.nova_sched.specs.Queues.{Schedule, QueuesState, charged}

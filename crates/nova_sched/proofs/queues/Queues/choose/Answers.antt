@@ -1,8 +1,7 @@
-use Rattle.std.proofs.Common.{rules, ◌≡◌, ◌∙◌, List, length, sym, ap, subst}
-use Rattle.std.specs.Prelude.{Option, Some, None, IsSome, option_map, slice_get}
+use Rattle.std.proofs.Common.{rules, ◌≡◌, ◌∙◌, length, sym, ap, subst}
+use Rattle.std.specs.Prelude.{Some, None, IsSome, option_map, slice_get}
 use Rattle.nova_sched.specs.Queues.{QueuesState, Schedule, choose, queued_at}
-use Rattle.nova_sched.specs.Ready.{IsAmong, items_at}
-use Rattle.nova_sched.specs.declared.queued.Queued.{Queued}
+use Rattle.nova_sched.specs.Ready.{items_at}
 use Rattle.nova_sched.specs.declared.queued.Runnable.{Runnable}
 use Rattle.nova_sched.proofs.Readiness.{first_chosen, first_there}
 use Rattle.nova_sched.proofs.queues.Queues.choose.Goals as goal

@@ -1,5 +1,5 @@
-use Rattle.std.proofs.Common.{rules, ◌≡◌, ◌≤◌, List, [], length, sym, subst}
-use Rattle.std.specs.Prelude.{replicate, vec_capacity, Option}
+use Rattle.std.proofs.Common.{rules, ◌≡◌, List, [], length, sym, subst}
+use Rattle.std.specs.Prelude.{replicate, Option}
 use Rattle.nova_sched.specs.Lists.{AreQueues, QueueState}
 use Rattle.nova_sched.specs.Ready.{AreReady, ReadyState}
 use Rattle.nova_sched.specs.declared.queued.Queued.{Queued}

@@ -1,4 +1,4 @@
-use Rattle.std.proofs.Common.{rules, arith, ◌≡◌, ◌<◌, ◌∙◌, List, length, refl, sym, subst}
+use Rattle.std.proofs.Common.{rules, arith, ◌≡◌, ◌∙◌, List, length, refl, sym, subst}
 use Rattle.std.specs.Prelude.{slice_set, Some, IsSome}
 use Rattle.nova_sched.specs.Queues.{Schedule, QueuesState, marked}
 use Rattle.nova_sched.specs.Lists.{entry_in}

@@ -10,21 +10,21 @@ use Rattle.nova_sched.proofs.ready.Ready.remove.Goals as goal
 
 pub returns-then-at-len : goal.returns-then-at-len
 returns-then-at-len c =
-    let items = c.deref.result.now in
+    let items = c.self.inside.items.items in
     let seen : c.args.self.now.items ≡ items = search rules in
-    let inside : c.self.inside.items.items ≡ items = search rules in
     let order = subst (ArePairs IsBehind) seen c.requires.order in
     let point = IsPartitionPoint-from_clause (λ (q : Runnable). runs_before q c.args.r) items c.partition_point-at.result c.partition_point-at.ensures.partitioned (parted c.args.r items order) (λ a r q k. search rules) in
     let low : c.partition_point-at.result < length items = search rules in
+    let out : c.remove.new.self.items ≡ remove items c.partition_point-at.result = search rules in
     let is : c.remove.new.self.items ≡ dropped c.args.r c.args.self.now.items =
-    c.remove.ensures.items ∙ ap (λ (l : List Runnable). remove l c.partition_point-at.result) inside ∙ removed c.args.r items c.partition_point-at.result low point ∙ ap (dropped c.args.r) (sym seen) in
+    out ∙ removed c.args.r items c.partition_point-at.result low point ∙ ap (dropped c.args.r) (sym seen) in
     let room : c.self.inside.room ≡ c.args.self.now.room = search rules in
     let made : List Runnable → ℕ → ReadyState = λ rs n. record { items = rs; room = n } in
     ap₂ made is room
 
 pub returns-else-at-len : goal.returns-else-at-len
 returns-else-at-len c =
-    let items = c.deref.result.now in
+    let items = c.self.inside.items.items in
     let seen : c.args.self.now.items ≡ items = search rules in
     let order = subst (ArePairs IsBehind) seen c.requires.order in
     let point = IsPartitionPoint-from_clause (λ (q : Runnable). runs_before q c.args.r) items c.partition_point-at.result c.partition_point-at.ensures.partitioned (parted c.args.r items order) (λ a r q k. search rules) in
