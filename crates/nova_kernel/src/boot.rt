@@ -4,7 +4,7 @@ ghost use Rattle.nova_model.specs.State.{no_transfer};
 ghost use Rattle.nova_choice.specs.Schedules.{root_schedule};
 ghost use Rattle.nova_kernel.specs.Parts.{shown};
 
-use crate::parts::{Counts, Entries, Parts, Tables, together};
+use crate::parts::{Counts, Entries, Parts, Rest, Tables, let_go, together};
 use nova_choice::root_queues;
 use nova_deeds::{
     first_stirs, no_entries, root_contexts, root_guests, root_objects, root_revokes,
@@ -63,6 +63,29 @@ fn root_counts(alloc: Global, cpus: u32) -> Result<Counts, AllocError>
     })
 }
 
+/// All tables.
+fn root_rest(alloc: Global, cpus: u32, root: Root) -> Result<Rest, AllocError>
+    ensures objects { IfOk result (λ r. r.tables.objects.items ≡ root_objects root) }
+    ensures contexts { IfOk result (λ r. r.tables.contexts.items ≡ None ∷ Some (root_context root) ∷ None ∷ []) }
+    ensures transfers { IfOk result (λ r. r.tables.transfers.items ≡ None ∷ Some no_transfer ∷ None ∷ []) }
+    ensures queues { IfOk result (λ r. r.entries.queues.all ≡ root_schedule cpus root) }
+    ensures identifiers { IfOk result (λ r. r.entries.identifiers.items ≡ None ∷ None ∷ None ∷ []) }
+    ensures semaphores { IfOk result (λ r. r.entries.semaphores.all ≡ None ∷ None ∷ None ∷ []) }
+    ensures stirs { IfOk result (λ r. r.counts.stirs.items ≡ replicate cpus 0) }
+    ensures guests { IfOk result (λ r. r.counts.guests.counts ≡ None ∷ None ∷ None ∷ []) }
+    ensures revokes { IfOk result (λ r. r.counts.revokes.list ≡ []) }
+    ensures places { IfOk result (λ r. 3 ≤ r.counts.revokes.places) }
+{
+    let tables = root_tables(alloc, root)?;
+    let entries = root_entries(alloc, cpus, root)?;
+    let counts = root_counts(alloc, cpus)?;
+    Ok(Rest {
+        tables,
+        entries,
+        counts,
+    })
+}
+
 impl Parts {
     /// The parts of a machine that boots, without images.
     #[tactic(auto, using(nova_choice::proofs::Started::started))]
@@ -81,10 +104,13 @@ impl Parts {
         ensures room { IfOk result (λ p. p.reach.room ≡ log_room) }
         ensures revokes { IfOk result (λ p. (p.revokes.list ≡ []) × (3 ≤ p.revokes.places)) }
     {
-        let reach = Reach::new(alloc, ram, consoles, log_room)?;
-        let tables = root_tables(alloc, root)?;
-        let entries = root_entries(alloc, cpus, root)?;
-        let counts = root_counts(alloc, cpus)?;
-        Ok(together(reach, tables, entries, counts, 0, cpus))
+        let rest = root_rest(alloc, cpus, root)?;
+        match Reach::new(alloc, ram, consoles, log_room) {
+            Ok(reach) => Ok(together(reach, rest, 0, cpus)),
+            Err(error) => {
+                let_go(rest);
+                Err(error)
+            }
+        }
     }
 }

@@ -55,17 +55,31 @@ pub(crate) struct Counts {
     pub revokes: Revokes,
 }
 
+/// All tables.
+#[derive(Drop)]
+pub(crate) struct Rest {
+    pub tables: Tables,
+    pub entries: Entries,
+    pub counts: Counts,
+}
+
+/// What is let go here is dropped apart from all else.
+pub(crate) fn let_go<T: Drop>(_value: T) {}
+
 /// The parts of a kernel, of what they are made from.
 pub(crate) fn together(
     reach: Reach,
-    tables: Tables,
-    entries: Entries,
-    counts: Counts,
+    rest: Rest,
     turns: u64,
     cpus: u32,
 ) -> Parts
-    ensures { result ≡ record { reach = reach; objects = tables.objects; contexts = tables.contexts; queues = entries.queues; transfers = tables.transfers; identifiers = entries.identifiers; semaphores = entries.semaphores; turns = turns; cpus = cpus; stirs = counts.stirs; guests = counts.guests; revokes = counts.revokes } }
+    ensures { result ≡ record { reach = reach; objects = rest.tables.objects; contexts = rest.tables.contexts; queues = rest.entries.queues; transfers = rest.tables.transfers; identifiers = rest.entries.identifiers; semaphores = rest.entries.semaphores; turns = turns; cpus = cpus; stirs = rest.counts.stirs; guests = rest.counts.guests; revokes = rest.counts.revokes } }
 {
+    let Rest {
+        tables,
+        entries,
+        counts,
+    } = rest;
     Parts {
         reach,
         objects: tables.objects,
@@ -102,11 +116,37 @@ impl Parts {
         ensures revokes { IfOk result (λ p. p.revokes.list ≡ self.now.revokes.list) }
         ensures places { IfOk result (λ p. length self.now.objects.items ≤ p.revokes.places) }
     {
-        let reach = self.reach.copy()?;
+        let rest = self.copied_rest()?;
+        match self.reach.copy() {
+            Ok(reach) => Ok(together(reach, rest, self.turns, self.cpus)),
+            Err(error) => {
+                let_go(rest);
+                Err(error)
+            }
+        }
+    }
+
+    /// All tables in memory of their own.
+    fn copied_rest(&self) -> Result<Rest, AllocError>
+        ensures objects { IfOk result (λ r. r.tables.objects.items ≡ self.now.objects.items) }
+        ensures contexts { IfOk result (λ r. r.tables.contexts.items ≡ self.now.contexts.items) }
+        ensures transfers { IfOk result (λ r. r.tables.transfers.items ≡ self.now.transfers.items) }
+        ensures queues { IfOk result (λ r. r.entries.queues.all ≡ self.now.queues.all) }
+        ensures identifiers { IfOk result (λ r. r.entries.identifiers.items ≡ self.now.identifiers.items) }
+        ensures semaphores { IfOk result (λ r. r.entries.semaphores.all ≡ self.now.semaphores.all) }
+        ensures stirs { IfOk result (λ r. r.counts.stirs.items ≡ self.now.stirs.items) }
+        ensures guests { IfOk result (λ r. r.counts.guests.counts ≡ self.now.guests.counts) }
+        ensures revokes { IfOk result (λ r. r.counts.revokes.list ≡ self.now.revokes.list) }
+        ensures places { IfOk result (λ r. length self.now.objects.items ≤ r.counts.revokes.places) }
+    {
         let tables = self.copied_tables()?;
         let entries = self.copied_entries()?;
         let counts = self.copied_counts()?;
-        Ok(together(reach, tables, entries, counts, self.turns, self.cpus))
+        Ok(Rest {
+            tables,
+            entries,
+            counts,
+        })
     }
 
     /// The first three tables in memory of their own.
