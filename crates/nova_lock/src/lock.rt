@@ -184,15 +184,19 @@ impl<T: Historied> HistoryLock<T> {
         call.act(value)
     }
 
-    /// Gives the value back, and has the next ticket served.
+    /// Gives the value back, has the next ticket served, and wakes who may wait for it.
     fn pass(&self, seat: &mut Place<T>)
         requires own { seat.old.table_id ≡ self.now.id }
         requires gives { (x : T) × Gives T.opening T.history T.uses seat.old.me x }
         ensures same { seat.new.table_id ≡ seat.old.table_id }
         ensures passed { Passes T.opening T.history T.uses (step 1 1 1 0 none) seat.old.me 0 seat.new.me }
     {
-        self.table.shared.fetch_add::<Pass>(seat, 1, 1);
-        self.table.shared.wake_all(1);
+        let passed = self.table.shared.fetch_add::<Pass>(seat, 1, 1);
+        // `serving` is stored before `ticket` is loaded, and all these steps have one order (SeqCst): who drew a ticket after the load reads the
+        // new `serving` before it parks. Who drew one before it is seen here, since `ticket` then is not what is served now, and is woken.
+        if self.table.shared.peek(0) != passed.wrapping_add(1) {
+            self.table.shared.wake_all(1);
+        }
     }
 
     /// Does a call on the value once all seats that asked before have had theirs. The history that it finds begins with the seat's front,
