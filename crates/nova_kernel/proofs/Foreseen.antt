@@ -54,11 +54,11 @@ write_ahead : (p : Parts) (ec pd : ℕ) (t : Bool) (regs : Registers) (w : Optio
 write_ahead p ec pd t regs w domain thread same is =
     is ∙ ap₂ (λ (r : Registers) (a : AddressSpace). write_by a (one r (space a))) same (space_ahead p ec pd t domain thread)
 
-goes_on : (k : KernelState) (ec : ℕ) (o : Once) → Next ≡ outcome_of o → Steps ≡ stepping k ec o
+pub goes_on : (k : KernelState) (ec : ℕ) (o : Once) → Next ≡ outcome_of o → Steps ≡ stepping k ec o
 goes_on k ec (Raised reason q0 q1) is = absurd (cc)
 goes_on k ec (Went regs store) is = refl
 
-raises : (k : KernelState) (ec reason q0 q1 : ℕ) (o : Once) → Raise reason q0 q1 ≡ outcome_of o →
+pub raises : (k : KernelState) (ec reason q0 q1 : ℕ) (o : Once) → Raise reason q0 q1 ≡ outcome_of o →
     signalled k ec reason q0 q1 ((reason == environment_call) && is_thread k ec) ≡ stepping k ec o
 raises k ec reason q0 q1 (Raised reason' q0' q1') is =
     let e : reason ≡ reason' = cc in

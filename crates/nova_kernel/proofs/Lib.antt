@@ -9,3 +9,4 @@ pub mod Ongoing
 pub mod Views
 pub mod Stores
 pub mod Advancing
+pub mod Going

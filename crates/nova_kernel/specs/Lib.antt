@@ -24,3 +24,4 @@ pub mod Known
 pub mod Parts
 pub mod ObjectTypes
 pub mod Revoking
+pub mod Going

@@ -1,17 +1,18 @@
 ghost use Rattle.std.specs.Prelude.{◌≡◌, ◌==◌, ◌&&◌, ◌+◌, ◌^◌, ◌<◌, ◌≤◌, true, false, IsSome, IfOk, OnErr};
 ghost use Rattle.rv_model.specs.Step.{environment_call};
-ghost use Rattle.nova_model.specs.Deeds.{instruction, signalled, stepping, deed, is_making};
+ghost use Rattle.nova_model.specs.Deeds.{signalled, deed, is_making};
 ghost use Rattle.nova_model.specs.State.{context_at, context, is_thread};
 ghost use Rattle.nova_kernel.specs.Parts.{shown};
 ghost use Rattle.nova_deeds.specs.Counted.{IsCounted};
 ghost use Rattle.nova_deeds.specs.Acts.{Fits, IsAsked, begun, is_executing};
+ghost use Rattle.nova_kernel.specs.Going.{HasRaised};
 ghost use Rattle.nova_kernel.specs.Revoking.{AreRunning};
 ghost use Rattle.nova_deeds.specs.Stirs.{written_by};
 
 use crate::parts::Parts;
 use nova_deeds::changes::RECALL;
 use nova_model::{Deed, State};
-use rv_core::outcome::{ENVIRONMENT_CALL, Outcome};
+use rv_core::outcome::ENVIRONMENT_CALL;
 use std::alloc::AllocError;
 
 /// The reason of a startup exit.
@@ -31,28 +32,6 @@ impl Parts {
             self.hypercall(ec)
         } else {
             Deed::Raises { reason, q0, q1 }
-        }
-    }
-
-    /// The deed of an execution context whose next is an instruction. One that goes on is done at
-    /// once, and nothing else is.
-    fn step(&mut self, ec: u32) -> Deed
-        requires there { IsSome (context_at (shown self.old) ec) }
-        requires counted { IsCounted (shown self.old) }
-        requires running { AreRunning (shown self.old) self.old.revokes }
-        requires log { 0 < self.old.reach.room }
-        ensures deed { result ≡ stepping (shown self.old) ec (instruction (shown self.old) ec) }
-        ensures begun { shown self.new ≡ begun (shown self.old) ec result }
-        ensures queues { self.new.queues ≡ self.old.queues }
-        ensures revokes { self.new.revokes ≡ self.old.revokes }
-        ensures fits { Fits (shown self.old) ec result }
-        ensures written { result ≡ Deed.Steps → self.new.reach.written ≡ written_by (shown self.old) ec }
-        ensures log { self.old.reach.room ≤ self.new.reach.room + 1 }
-        ensures making { is_making result ≡ true → self.new.reach.room ≡ self.old.reach.room }
-    {
-        match self.execute(ec) {
-            Outcome::Next => Deed::Steps,
-            Outcome::Raise { reason, q0, q1 } => self.signal(ec, reason, q0, q1),
         }
     }
 
@@ -110,15 +89,15 @@ impl Parts {
         Ok(deed)
     }
 
-    /// The deed of an execution context. An instruction that goes on, a part of an item and one of a revoke
-    /// are done at once, and nothing else is. It refuses for want of memory alone, where a part makes a child, and
-    /// then nothing has changed.
-    pub fn decide(&mut self, ec: u32) -> Result<Deed, AllocError>
+    /// The deed of an execution context of which no instruction went on; one that is next raised this. A part of an item and one
+    /// of a revoke are done at once, and nothing else is. It refuses for want of memory alone, where a part makes a child,
+    /// and then nothing has changed.
+    pub fn decide(&mut self, ec: u32, reason: u32, q0: u32, q1: u32) -> Result<Deed, AllocError>
         requires there { IsSome (context_at (shown self.old) ec) }
         requires counted { IsCounted (shown self.old) }
         requires running { AreRunning (shown self.old) self.old.revokes }
         requires turns { self.old.turns < 2 ^ 31 }
-        requires log { 0 < self.old.reach.room }
+        requires raised { HasRaised (shown self.old) ec reason q0 q1 }
         ensures deed { IfOk result (λ d. d ≡ deed (shown self.old) ec) }
         ensures begun { IfOk result (λ d. shown self.new ≡ begun (shown self.old) ec d) }
         ensures queues { self.new.queues ≡ self.old.queues }
@@ -131,10 +110,8 @@ impl Parts {
         ensures wanted { OnErr result (is_making (deed (shown self.old) ec) ≡ true) }
     {
         if self.is_executing(ec) {
-            return Ok(self.step(ec));
+            return Ok(self.signal(ec, reason, q0, q1));
         }
-        // not handed on in place, so that the compiler sees what an instruction that went on leads to
-        let deed = self.decide_in_state(ec)?;
-        Ok(deed)
+        self.decide_in_state(ec)
     }
 }

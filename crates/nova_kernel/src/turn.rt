@@ -1,10 +1,14 @@
-ghost use Rattle.std.specs.Prelude.{◌≡◌, ◌==◌, ◌&&◌, not, is_some, length, ◌+◌, ◌^◌, ◌<◌, ◌≤◌, true, IsSome, IfOk, OnOk, OnErr};
+ghost use Rattle.std.specs.Prelude.{◌≡◌, ℕ, ◌==◌, ◌&&◌, not, is_some, length, ◌+◌, ◌^◌, ◌<◌, ◌≤◌, true, Some, IsSome, IfOk, OnOk, OnErr, option_map};
 ghost use Rattle.nova_model.specs.Deeds.{deed, done, is_making, sign_of};
+ghost use Rattle.nova_model.specs.Choice.{choice};
 ghost use Rattle.nova_model.specs.Edges.{acts};
 ghost use Rattle.nova_model.specs.State.{context_at};
 ghost use Rattle.nova_model.specs.Turn.{state_after, answer_of, turn};
 ghost use Rattle.nova_kernel.specs.Views.{IsMaking, turns_taken};
+ghost use Rattle.nova_sched.specs.Queues.{queued_at};
+ghost use Rattle.nova_choice.specs.Choices.{chosen_of};
 ghost use Rattle.nova_kernel.specs.Known.{AreKnown};
+ghost use Rattle.nova_kernel.specs.Going.{HasRaised, Stays, WentOn};
 ghost use Rattle.nova_kernel.specs.Parts.{shown};
 ghost use Rattle.nova_deeds.specs.Counted.{IsCounted, IsToBeStirred, KeepsCounts};
 ghost use Rattle.nova_deeds.specs.Acts.{Fits, is_step};
@@ -19,12 +23,13 @@ use nova_deeds::changes::is_over;
 use nova_deeds::signs::{event, sign_of};
 use nova_laws::{running_revokes_are_their_runners, turns_keep_what_they_find};
 use nova_model::{Deed, EventKind, Turn};
+use rv_core::outcome::Outcome;
 use std::alloc::AllocError;
 
 impl Parts {
-    /// The execution context does its deed, and the marks of the queues stay as they were. It refuses
+    /// The execution context does its deed, and the marks of the queues stay as they were. An instruction that is next raised this. It refuses
     /// for want of memory alone, where the deed makes an object or a derivation, and then nothing has changed.
-    fn carry_out(&mut self, ec: u32) -> Result<Deed, AllocError>
+    fn carry_out(&mut self, ec: u32, reason: u32, q0: u32, q1: u32) -> Result<Deed, AllocError>
         requires there { IsSome (context_at (shown self.old) ec) }
         requires acts { acts (shown self.old).contexts ec ≡ true }
         requires counted { IsCounted (shown self.old) }
@@ -32,6 +37,7 @@ impl Parts {
         requires running { AreRunning (shown self.old) self.old.revokes }
         requires turns { self.old.turns < 2 ^ 31 }
         requires log { 0 < self.old.reach.room }
+        requires raised { HasRaised (shown self.old) ec reason q0 q1 }
         ensures deed { IfOk result (λ d. d ≡ deed (shown self.old) ec) }
         ensures fits { IfOk result (Fits (shown self.old) ec) }
         ensures done { IfOk result (λ d. shown self.new ≡ done (shown self.old) ec d) }
@@ -45,7 +51,7 @@ impl Parts {
         ensures log { self.old.reach.room ≤ self.new.reach.room + 1 }
     {
         running_revokes_are_their_runners();
-        let deed = self.decide(ec)?;
+        let deed = self.decide(ec, reason, q0, q1)?;
         if let Deed::Steps = deed {
             return Ok(Deed::Steps);
         }
@@ -59,7 +65,7 @@ impl Parts {
 
     /// The execution context does its deed, and where somebody moves, the scheduling contexts of that one's
     /// processor are marked anew. It refuses as `carry_out`.
-    fn act(&mut self, ec: u32) -> Result<Deed, AllocError>
+    fn act(&mut self, ec: u32, reason: u32, q0: u32, q1: u32) -> Result<Deed, AllocError>
         requires there { IsSome (context_at (shown self.old) ec) }
         requires acts { acts (shown self.old).contexts ec ≡ true }
         requires counted { IsCounted (shown self.old) }
@@ -67,6 +73,7 @@ impl Parts {
         requires running { AreRunning (shown self.old) self.old.revokes }
         requires turns { self.old.turns < 2 ^ 31 }
         requires log { 0 < self.old.reach.room }
+        requires raised { HasRaised (shown self.old) ec reason q0 q1 }
         ensures deed { IfOk result (λ d. d ≡ deed (shown self.old) ec) }
         ensures done { IfOk result (λ d. shown self.new ≡ done (shown self.old) ec d) }
         ensures queued { AreQueued (shown self.new) self.new.queues.all }
@@ -77,7 +84,7 @@ impl Parts {
         ensures written { IfOk result (λ d. d ≡ Deed.Steps → self.new.reach.written ≡ written_by (shown self.old) ec) }
         ensures log { self.old.reach.room ≤ self.new.reach.room + 1 }
     {
-        let deed = self.carry_out(ec)?;
+        let deed = self.carry_out(ec, reason, q0, q1)?;
         if let Deed::Steps = deed {
             return Ok(Deed::Steps);
         }
@@ -115,6 +122,108 @@ impl Parts {
         sign_of(deed)
     }
 
+    /// Counts a store to a frame for the virtual CPUs for which it is an input. Few turns need it, so that it stays
+    /// out of the code of each.
+    #[inline(never)]
+    fn note_store(&mut self, ec: u32)
+        requires charged { IsToBeStirred (shown self.old) }
+        requires turns { self.old.turns < 2 ^ 31 }
+        ensures shown { shown self.new ≡ risen_in (shown self.old) (is_stirring (shown self.old) self.old.reach.written ec Deed.Steps) }
+        ensures queues { self.new.queues ≡ self.old.queues }
+        ensures revokes { self.new.revokes ≡ self.old.revokes }
+        ensures turns { self.new.turns ≡ self.old.turns }
+        ensures cpus { self.new.cpus ≡ self.old.cpus }
+        ensures log { self.new.reach.room ≡ self.old.reach.room }
+    {
+        self.stir(ec, Deed::Steps);
+    }
+
+    /// Counts what an instruction that went on is for virtual CPUs.
+    #[inline(always)]
+    fn note_step(&mut self, ec: u32)
+        requires charged { IsToBeStirred (shown self.old) }
+        requires turns { self.old.turns < 2 ^ 31 }
+        ensures shown { shown self.new ≡ risen_in (shown self.old) (is_stirring (shown self.old) self.old.reach.written ec Deed.Steps) }
+        ensures queues { self.new.queues ≡ self.old.queues }
+        ensures revokes { self.new.revokes ≡ self.old.revokes }
+        ensures turns { self.new.turns ≡ self.old.turns }
+        ensures cpus { self.new.cpus ≡ self.old.cpus }
+        ensures log { self.new.reach.room ≡ self.old.reach.room }
+    {
+        if !self.goes_unseen(Deed::Steps) {
+            self.note_store(ec);
+        }
+    }
+
+    /// The instruction that is next of an execution context, where it goes on, is done. Otherwise nothing has changed:
+    /// it raises this, or none is next, and then the raise is of no meaning.
+    #[inline(always)]
+    fn go_on(&mut self, ec: u32) -> Outcome
+        requires there { IsSome (context_at (shown self.old) ec) }
+        requires acts { acts (shown self.old).contexts ec ≡ true }
+        requires counted { IsCounted (shown self.old) }
+        requires queued { AreQueued (shown self.old) self.old.queues.all }
+        requires running { AreRunning (shown self.old) self.old.revokes }
+        requires log { 0 < self.old.reach.room }
+        ensures went { result ≡ Outcome.Next → WentOn self.old self.new ec }
+        ensures raised { (reason q0 q1 : ℕ) → result ≡ Outcome.Raise reason q0 q1 → Stays self.old self.new ec reason q0 q1 }
+        ensures queues { self.new.queues ≡ self.old.queues }
+        ensures revokes { self.new.revokes ≡ self.old.revokes }
+        ensures log { self.old.reach.room ≤ self.new.reach.room + 1 }
+    {
+        running_revokes_are_their_runners();
+        if self.is_executing(ec) {
+            self.execute(ec)
+        } else {
+            Outcome::Raise {
+                reason: 0,
+                q0: 0,
+                q1: 0,
+            }
+        }
+    }
+
+    /// A turn of which the scheduling context and the execution context are chosen, and no instruction went on. Where one was next,
+    /// it raised this. It refuses as `turn`. Most turns are an instruction that goes on, so that all else stays out of their code.
+    #[inline(never)]
+    #[tactic(auto, unfolding(nova_model::specs::Turn::turn))]
+    fn settle(
+        &mut self,
+        cpu: u32,
+        chosen: Chosen,
+        reason: u32,
+        q0: u32,
+        q1: u32,
+    ) -> Result<Turn, AllocError>
+        requires counted { IsCounted (shown self.old) }
+        requires queued { AreQueued (shown self.old) self.old.queues.all }
+        requires running { AreRunning (shown self.old) self.old.revokes }
+        requires turns { self.old.turns < 2 ^ 31 }
+        requires cpu { cpu < self.old.cpus }
+        requires log { 0 < self.old.reach.room }
+        requires told { Some chosen ≡ option_map chosen_of (choice (shown self.old) cpu) }
+        requires there { IsSome (context_at (shown self.old) chosen.actor) }
+        requires pays { IsSome (queued_at self.old.queues.all chosen.sc) }
+        requires raised { HasRaised (shown self.old) chosen.actor reason q0 q1 }
+        ensures answer { IfOk result (λ t. t ≡ answer_of (turn (shown self.old) cpu)) }
+        ensures state { OnOk result (shown self.new ≡ state_after (shown self.old) (turn (shown self.old) cpu)) }
+        ensures memory { OnErr result ((shown self.new ≡ shown self.old) × (self.new.reach.room ≡ self.old.reach.room)) }
+        ensures making { OnErr result (IsMaking (shown self.old) cpu) }
+        ensures counted { IsCounted (shown self.new) }
+        ensures queued { AreQueued (shown self.new) self.new.queues.all }
+        ensures running { AreRunning (shown self.new) self.new.revokes }
+        ensures log { self.old.reach.room ≤ self.new.reach.room + 1 }
+        ensures idle { IfOk result (λ t. t ≡ Turn.Idle → self.new.reach.room ≡ self.old.reach.room) }
+        ensures turns { IfOk result (λ t. self.new.turns ≡ self.old.turns + turns_taken t) }
+        ensures cpus { self.new.cpus ≡ self.old.cpus }
+    {
+        let deed = self.act(chosen.actor, reason, q0, q1)?;
+        let sign = self.note(chosen.actor, deed);
+        self.charge(cpu, chosen.sc);
+        turns_keep_what_they_find();
+        Ok(Turn::Stepped(event(cpu, chosen, sign)))
+    }
+
     /// One turn of a processor: the execution context of the chosen scheduling context does its deed,
     /// and the scheduling context pays. It refuses for want of memory alone, where the turn would make
     /// an object or a derivation, and then nothing has changed.
@@ -142,10 +251,14 @@ impl Parts {
         let Some(chosen) = self.choice(cpu, known) else {
             return Ok(Turn::Idle);
         };
-        let deed = self.act(chosen.actor)?;
-        let sign = self.note(chosen.actor, deed);
-        self.charge(cpu, chosen.sc);
         turns_keep_what_they_find();
-        Ok(Turn::Stepped(event(cpu, chosen, sign)))
+        match self.go_on(chosen.actor) {
+            Outcome::Next => {
+                self.note_step(chosen.actor);
+                self.charge(cpu, chosen.sc);
+                Ok(Turn::Stepped(event(cpu, chosen, (EventKind::Step, 0, 0))))
+            }
+            Outcome::Raise { reason, q0, q1 } => self.settle(cpu, chosen, reason, q0, q1),
+        }
     }
 }

@@ -1,4 +1,4 @@
-ghost use Rattle.std.specs.Prelude.{◌≡◌, ◌-◌, ◌^◌, ◌<◌};
+ghost use Rattle.std.specs.Prelude.{◌≡◌, ◌-◌, ◌^◌, ◌<◌, ℕ, false};
 ghost use Rattle.nova_model.specs.Turn.{is_spent, budget_after};
 ghost use Rattle.nova_sched.specs.Lists.{paid};
 
@@ -39,4 +39,14 @@ pub(crate) fn pay(entry: &mut Queued, stamp: u64)
     ensures { entry.new ≡ paid entry.old stamp }
 {
     entry.budget = spend(entry.budget, entry.quantum, stamp);
+}
+
+/// A scheduling context pays a turn that is not the last of its quantum.
+pub(crate) fn tick(entry: &mut Queued)
+    requires left { is_spent entry.old.budget ≡ false }
+    requires ticks { entry.old.budget.ticks < 2 ^ 64 - 1 }
+    ensures { (stamp : ℕ) → entry.new ≡ paid entry.old stamp }
+{
+    entry.budget.left -= 1;
+    entry.budget.ticks += 1;
 }

@@ -1,10 +1,11 @@
 ghost use Rattle.std.specs.Prelude.{◌≡◌, ℕ, true, false, ◌+◌, ◌^◌, ◌<◌, ◌≤◌, ◌-◌, [], length, max, is_some, replicate, vec_len, vec_capacity, IsSome, IfSome, IfOk, IsOk, OnOk, OnErr, Some, slice_get};
+ghost use Rattle.nova_model.specs.Turn.{is_spent};
 ghost use Rattle.nova_sched.specs.Queues.{HasRoom, queued_at, choose, members, padded, added, marked, charged};
 ghost use Rattle.nova_model.specs.Forest.{ArePairs};
 ghost use Rattle.nova_sched.specs.Lists.{unroomed};
 ghost use Rattle.nova_sched.specs.Ready.{IsBehind, as_runnable, dropped, items_at, placed, renewed, requeued, room_at};
 
-use crate::charge::{is_spent, pay};
+use crate::charge::{is_spent, pay, tick};
 use crate::queue::Queue;
 use crate::queued::{Queued, Runnable};
 use crate::ready::Ready;
@@ -300,12 +301,13 @@ impl Queues {
         requeue(&mut self.readies, sc, &before, is_runnable);
     }
 
-    /// A turn is charged to a scheduling context: one tick more, one turn less of what is left of its
-    /// quantum. At 0 the quantum begins anew, with the next stamp.
-    pub fn charge(&mut self, sc: u32)
+    /// Charges the last turn of a quantum, which few turns are, so that it stays out of the code of each.
+    #[inline(never)]
+    fn charge_last(&mut self, sc: u32)
         requires there { IsSome (queued_at self.old.all sc) }
         requires ticks { IfSome (queued_at self.old.all sc) (λ e. e.budget.ticks < 2 ^ 64 - 1) }
         requires stamp { self.old.all.next_stamp < 2 ^ 64 - 1 }
+        requires last { IfSome (queued_at self.old.all sc) (λ e. is_spent e.budget ≡ true) }
         ensures charged { self.new.all ≡ charged self.old.all sc }
         ensures numbers { self.new.numbers ≡ self.old.numbers }
         ensures rooms { self.new.rooms ≡ self.old.rooms }
@@ -314,12 +316,42 @@ impl Queues {
             unreachable!();
         };
         let before = *payer;
-        let renews = is_spent(&payer.budget);
         pay(payer, self.next_stamp);
         let after = *payer;
-        if renews {
-            self.next_stamp += 1;
-            renew(&mut self.readies, sc, &before, &after);
+        self.next_stamp += 1;
+        renew(&mut self.readies, sc, &before, &after);
+    }
+
+    /// Charges a turn that is not the last of a quantum.
+    fn charge_one(&mut self, sc: u32)
+        requires there { IsSome (queued_at self.old.all sc) }
+        requires ticks { IfSome (queued_at self.old.all sc) (λ e. e.budget.ticks < 2 ^ 64 - 1) }
+        requires left { IfSome (queued_at self.old.all sc) (λ e. is_spent e.budget ≡ false) }
+        ensures charged { self.new.all ≡ charged self.old.all sc }
+        ensures numbers { self.new.numbers ≡ self.old.numbers }
+        ensures rooms { self.new.rooms ≡ self.old.rooms }
+    {
+        let Some(payer) = &mut self.entries[sc as usize] else {
+            unreachable!();
+        };
+        tick(payer);
+    }
+
+    /// A turn is charged to a scheduling context: one tick more, one turn less of what is left of its
+    /// quantum. At 0 the quantum begins anew, with the next stamp.
+    #[inline(always)]
+    pub fn charge(&mut self, sc: u32)
+        requires there { IsSome (queued_at self.old.all sc) }
+        requires ticks { IfSome (queued_at self.old.all sc) (λ e. e.budget.ticks < 2 ^ 64 - 1) }
+        requires stamp { self.old.all.next_stamp < 2 ^ 64 - 1 }
+        ensures charged { self.new.all ≡ charged self.old.all sc }
+        ensures numbers { self.new.numbers ≡ self.old.numbers }
+        ensures rooms { self.new.rooms ≡ self.old.rooms }
+    {
+        if is_spent(&self.entry(sc).budget) {
+            self.charge_last(sc);
+        } else {
+            self.charge_one(sc);
         }
     }
 

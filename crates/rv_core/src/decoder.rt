@@ -73,6 +73,7 @@ fn operands_in(format: Format, word: u32) -> Operands
 }
 
 /// The name of the instruction that a word is, or nothing where it has no row in the table.
+#[inline(always)]
 fn mnemonic_in(word: u32) -> Option<Mnemonic>
     ensures { result ≡ mnemonic_in word }
 {

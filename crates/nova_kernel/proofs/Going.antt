@@ -1,0 +1,56 @@
+-- An instruction that goes on, from its outcome.
+use Rattle.std.proofs.Common.{◌≡◌, ℕ, refl, ap, sym, subst, ◌∙◌}
+use Rattle.std.specs.Prelude.{◌&&◌, ◌==◌, true, false, None, IsSome}
+use Rattle.nova_model.specs.Deeds.{deed, done, instruction, signalled}
+use Rattle.nova_model.specs.Edges.{acts}
+use Rattle.nova_model.specs.State.{KernelState, context, context_at, is_thread}
+use Rattle.nova_model.specs.declared.deed.Deed.{Deed}
+use Rattle.nova_model.specs.declared.deed.Deed.TheVariants.{Steps}
+use Rattle.rv_core.specs.declared.outcome.Outcome.TheVariants.{Next}
+use Rattle.rv_model.specs.Step.{environment_call}
+use Rattle.nova_choice.specs.Schedules.{AreQueued}
+use Rattle.nova_deeds.specs.Acts.{begun, is_executing, is_over, outcome_of}
+use Rattle.nova_deeds.specs.Counted.{IsCounted, KeepsCounts}
+use Rattle.nova_deeds.specs.Stirs.{written_by}
+use Rattle.nova_deeds.proofs.Keeps.{done-keeps}
+use Rattle.nova_deeds.proofs.Moves.{may_move, stale_after}
+use Rattle.nova_deeds.proofs.Steps.{executing-deed}
+use Rattle.nova_sched.specs.Queues.{Schedule, QueuesState}
+use Rattle.nova_kernel.specs.Going.{HasRaised, WentOn}
+use Rattle.nova_kernel.specs.Parts.{shown}
+use Rattle.nova_kernel.specs.Revoking.{AreRunning}
+use Rattle.nova_kernel.specs.declared.parts.Parts.{Parts}
+use Rattle.nova_kernel.proofs.Foreseen.{goes_on, raises}
+use Rattle.nova_kernel.proofs.Ongoing.{IsDecided, over_runs}
+
+-- it is the deed
+pub goes_deed : (k : KernelState) (ec : ℕ) → is_executing (context k ec) ≡ true → Next ≡ outcome_of (instruction k ec) → Steps ≡ deed k ec
+goes_deed k ec next goes = goes_on k ec (instruction k ec) goes ∙ sym (executing-deed k ec next)
+
+-- and all marks stay right
+goes_queued : (k new : KernelState) (s after : Schedule) (ec : ℕ) → IsCounted k → IsSome (context_at k ec) → acts k.contexts ec ≡ true → AreQueued k s →
+    new ≡ done k ec Steps → after ≡ s → AreQueued new after
+goes_queued k new s after ec counted there acting queued does same =
+    stale_after k new s after ec Steps None (may_move k ec counted there acting) tt queued does same refl
+
+pub went_on : (p q : Parts) (ec : ℕ) → IsDecided (shown p) ec Steps → IsCounted (shown p) → acts (shown p).contexts ec ≡ true → AreQueued (shown p) p.queues.all →
+    AreRunning (shown p) p.revokes → shown q ≡ done (shown p) ec Steps → q.reach.written ≡ written_by (shown p) ec → q.queues ≡ p.queues → q.revokes ≡ p.revokes → WentOn p q ec
+went_on p q ec decided counted acting queued running does wrote same still = record {
+  decided = decided.is;
+  does = does;
+  kept = subst (λ (s : KernelState). KeepsCounts (shown p) s) (sym does) (done-keeps (shown p) ec Steps tt);
+  wrote = wrote;
+  queued = goes_queued (shown p) (shown q) p.queues.all q.queues.all ec counted decided.there acting queued does (ap (λ (x : QueuesState). x.all) same);
+  running = over_runs p q ec Steps decided running tt counted.tables refl does still;
+}
+
+-- what a raise leads to is the deed, and is still to be done
+pub raised_deed : (k : KernelState) (ec reason q0 q1 : ℕ) (d : Deed) → is_executing (context k ec) ≡ true → HasRaised k ec reason q0 q1 →
+    d ≡ signalled k ec reason q0 q1 ((reason == environment_call) && is_thread k ec) → d ≡ deed k ec
+raised_deed k ec reason q0 q1 d next raised signals = signals ∙ raises k ec reason q0 q1 (instruction k ec) (raised next) ∙ sym (executing-deed k ec next)
+
+pub raised_begun : (k : KernelState) (ec : ℕ) (d : Deed) → is_over d ≡ false → k ≡ begun k ec d
+raised_begun k ec d later = rw later refl
+
+pub raised_goes : (k : KernelState) (ec : ℕ) (d : Deed) (A : Type 0) → is_over d ≡ false → d ≡ Steps → A
+raised_goes k ec d A later is = let over : is_over d ≡ true = ap is_over is in absurd cc

@@ -1,0 +1,6 @@
+use Rattle.nova_kernel.specs.Parts.{shown}
+use Rattle.nova_deeds.proofs.Counts.{stirs-fit}
+use Rattle.nova_kernel.proofs.parts.Parts.note_store.Goals as goal
+
+pub stir-requires : goal.stir-requires
+stir-requires c = stirs-fit (shown c.args.self.now) c.requires.charged c.requires.turns
