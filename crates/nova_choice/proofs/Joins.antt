@@ -11,11 +11,12 @@ use Rattle.nova_model.specs.declared.context.EcState.{EcState}
 use Rattle.nova_model.specs.declared.new_object.NewObject.{NewObject}
 use Rattle.nova_model.specs.declared.new_object.NewObject.TheVariants as new
 use Rattle.nova_objects.specs.declared.object.Object.{Object}
+use Rattle.nova_objects.specs.declared.object.Object.TheVariants.{Pd, Ec, Sc, Pt, Sm}
 use Rattle.nova_ec.proofs.Tables.{ec_in-more}
 use Rattle.nova_ec.proofs.Untouched.{joining_moves_none, same_acts}
 use Rattle.nova_sched.specs.Queues.{Schedule, added, marked, marked_by, new_entry, padded, queued_at}
 use Rattle.nova_sched.specs.declared.queued.Queued.{Queued}
-use Rattle.nova_choice.specs.Schedules.{AreQueuedBut, HasHome, IsAtHome, but_for, joined, leads, wanted, wanted_with}
+use Rattle.nova_choice.specs.Schedules.{AreQueuedBut, HasHome, IsAtHome, IsOwned, IsPlacedIn, but_for, joined, leads, processor_at, wanted, wanted_with}
 use Rattle.nova_choice.proofs.Budgets.{padded_at, padded_length, stamp_joined}
 use Rattle.nova_choice.proofs.Waits.{LeadsBut, home_kept, wanted_but}
 
@@ -136,6 +137,27 @@ home_at cpus n cs (new.Sc ec cpu priority quantum) full home = (home.0, cpu_more
 home_at cpus n cs (new.Pt ec mtd ip) full home = tt
 home_at cpus n cs (new.Sm count) full home = tt
 
+-- owners stay
+owner_more : (os : List Object) (o : Object) (ec cpu : ℕ) → processor_at (slice_get os ec) ≡ Some cpu → processor_at (slice_get (os ++ o ∷ []) ec) ≡ Some cpu
+owner_more [] o ec cpu is = absurd cc
+owner_more (x ∷ os) o zero cpu is = is
+owner_more (x ∷ os) o (suc ec) cpu is = owner_more os o ec cpu is
+
+owned_more : (os : List Object) (o : Object) (x : Option Object) → IsOwned os x → IsOwned (os ++ o ∷ []) x
+owned_more os o (Some (Sc ec cpu priority quantum)) owned = owner_more os o ec cpu owned
+owned_more os o (Some Pd) owned = tt
+owned_more os o (Some (Ec pd cpu kind event)) owned = tt
+owned_more os o (Some (Pt ec mtd ip)) owned = tt
+owned_more os o (Some Sm) owned = tt
+owned_more os o None owned = tt
+
+owned_new : (k : KernelState) (new : NewObject) → IsPlacedIn k new → IsOwned (k.objects ++ object_of new ∷ []) (Some (object_of new))
+owned_new k (new.Sc ec cpu priority quantum) placed = owner_more k.objects (Sc ec cpu priority quantum) ec cpu placed
+owned_new k new.Pd placed = tt
+owned_new k (new.Ec pd cpu kind sp event) placed = tt
+owned_new k (new.Pt ec mtd ip) placed = tt
+owned_new k (new.Sm count) placed = tt
+
 cpus_joined : (cs : Contexts) (s : Schedule) (n : ℕ) (new : NewObject) → (joined cs s n new).cpus ≡ s.cpus
 cpus_joined cs s n (new.Sc ec cpu priority quantum) = marked_cpus (added s n cpu priority quantum) n (leads cs ec)
 cpus_joined cs s n new.Pd = refl
@@ -191,9 +213,9 @@ wanted_new cpus cs ds (new.Sm count) b kept home = refl
 -- THE STATE
 
 pub queued_joined : (stale : Option ℕ) (k : KernelState) (s : Schedule) (pd selector : ℕ) (new : NewObject) → AreEdges k.contexts →
-    length k.contexts ≡ length k.objects → length k.budgets ≡ length k.objects → HasHome s.cpus k.contexts new → AreQueuedBut stale k s →
+    length k.contexts ≡ length k.objects → length k.budgets ≡ length k.objects → HasHome s.cpus k.contexts new → IsPlacedIn k new → AreQueuedBut stale k s →
     AreQueuedBut stale (with_object k pd selector new) (joined k.contexts s (length k.objects) new)
-queued_joined stale k s pd selector new sound contexts budgets home queued =
+queued_joined stale k s pd selector new sound contexts budgets home placed queued =
     let n = length k.objects in
     let ds = k.contexts ++ context_of n new ∷ [] in
     let kept = leads_more k.contexts (context_of n new) sound in
@@ -227,4 +249,9 @@ queued_joined stale k s pd selector new sound contexts budgets home queued =
           (home_kept None s.cpus i k.contexts ds (slice_get k.objects i) kept (queued.homes i)))
           (subst (λ (o : Option Object). IsAtHome s.cpus ds n o) (sym (get_last k.objects (object_of new) n refl)) (home_at s.cpus n k.contexts new contexts home))
           (λ more. subst (λ (o : Option Object). IsAtHome s.cpus ds i o) (sym (get_past k.objects (object_of new) i more)) tt));
+      owners = λ i. by_number (λ j. IsOwned (k.objects ++ object_of new ∷ []) (slice_get (k.objects ++ object_of new ∷ []) j)) n i
+          (λ less. subst (λ (o : Option Object). IsOwned (k.objects ++ object_of new ∷ []) o) (sym (get_below k.objects (object_of new ∷ []) i less))
+          (owned_more k.objects (object_of new) (slice_get k.objects i) (queued.owners i)))
+          (subst (λ (o : Option Object). IsOwned (k.objects ++ object_of new ∷ []) o) (sym (get_last k.objects (object_of new) n refl)) (owned_new k new placed))
+          (λ more. subst (λ (o : Option Object). IsOwned (k.objects ++ object_of new ∷ []) o) (sym (get_past k.objects (object_of new) i more)) tt);
     }

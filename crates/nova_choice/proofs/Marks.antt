@@ -191,6 +191,7 @@ remarked_queued k s home queued = record {
       ∙ right_when_marked home (list_any (eqb sc) (members s home)) (mark_of k.objects k.contexts sc) (queued_at s sc) (wanted k sc) (queued.entries sc)
       (λ v is. wanted_mark k.contexts (slice_get k.objects sc) (budget_at k sc) v is) (λ e is at. members_listed s home sc e is at);
   homes = λ number. rw (remarked_cpus k.objects k.contexts (members s home) s) (queued.homes number);
+  owners = queued.owners;
 }
 
 -- the state with other budgets and another stamp

@@ -4,7 +4,7 @@ use Rattle.std.specs.Prelude.{[], ◌∷◌, Some, None, max, slice_get}
 use Rattle.nova_model.specs.Boot.{bare}
 use Rattle.nova_model.specs.declared.root.Root.{Root}
 use Rattle.nova_sched.specs.Queues.{queued_at}
-use Rattle.nova_choice.specs.Schedules.{AreQueued, IsAtHome, budgets_of, root_schedule, wanted}
+use Rattle.nova_choice.specs.Schedules.{AreQueued, IsAtHome, IsOwned, budgets_of, root_schedule, wanted}
 
 entries_bare : (cpus ram consoles : ℕ) (root : Root) (sc : ℕ) → queued_at (root_schedule cpus root) sc ≡ wanted (bare cpus ram consoles root) sc
 unfolding root_schedule
@@ -24,6 +24,12 @@ homes_bare cpus ram consoles root (suc zero) = (some_cpu cpus, refl)
 homes_bare cpus ram consoles root (suc (suc zero)) = (some_cpu cpus, refl)
 homes_bare cpus ram consoles root (suc (suc (suc n))) = tt
 
+owners_bare : (cpus ram consoles : ℕ) (root : Root) (n : ℕ) → IsOwned (bare cpus ram consoles root).objects (slice_get (bare cpus ram consoles root).objects n)
+owners_bare cpus ram consoles root zero = tt
+owners_bare cpus ram consoles root (suc zero) = tt
+owners_bare cpus ram consoles root (suc (suc zero)) = refl
+owners_bare cpus ram consoles root (suc (suc (suc n))) = tt
+
 pub queued_bare : (cpus ram consoles : ℕ) (root : Root) → AreQueued (bare cpus ram consoles root) (root_schedule cpus root)
 unfolding root_schedule
 queued_bare cpus ram consoles root = record {
@@ -32,6 +38,7 @@ queued_bare cpus ram consoles root = record {
   stamp = refl;
   entries = entries_bare cpus ram consoles root;
   homes = homes_bare cpus ram consoles root;
+  owners = owners_bare cpus ram consoles root;
 }
 
 pub budgets_bare : (cpus : ℕ) (root : Root) → budgets_of (root_schedule cpus root) 3 ≡ None ∷ None ∷ Some (record { left = root.quantum; stamp = 0; ticks = 0 }) ∷ []

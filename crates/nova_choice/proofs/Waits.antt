@@ -82,6 +82,7 @@ queued_kept stale k new s queued kept = record {
       ∙ sym (wanted_but stale s.cpus sc k.contexts new.contexts (slice_get k.objects sc) (budget_at k sc) kept.contexts (queued.homes sc))
       ∙ ap₂ (λ (os : List Object) (bs : List (Option Budget)). but_for stale (wanted_with new.contexts (slice_get os sc) (entry (slice_get bs sc)))) (sym kept.objects) (sym kept.budgets);
   homes = λ number. rw kept.objects (home_kept stale s.cpus number k.contexts new.contexts (slice_get k.objects number) kept.contexts (queued.homes number));
+  owners = λ number. rw kept.objects (queued.owners number);
 }
 
 -- ONE EXECUTION CONTEXT CHANGES
@@ -189,11 +190,6 @@ kept_twice cs e h x f sound there cpu keeps near =
     (λ n c is. cpu_set mid h n c (ec_of mid h) y its (keeps (ec_of mid h)) (first n c is))
 
 -- the state with that execution context
-pub steady : (k : KernelState) (ec : ℕ) (y : EcState) → IsSome (context_at k ec) → y.cpu ≡ (context k ec).cpu → y.state ≡ (context k ec).state →
-    KeepsQueued None k (with_context k ec y)
-steady k ec y there cpu same =
-    record { contexts = kept_steady k.contexts ec (context k ec) y (there_at k.contexts ec there) cpu same; objects = refl; budgets = refl; next_stamp = refl; cpus = refl }
-
 pub moved : (k : KernelState) (ec : ℕ) (y : EcState) → AreEdges k.contexts → IsSome (context_at k ec) → y.cpu ≡ (context k ec).cpu →
     KeepsQueued (Some (context k ec).cpu) k (with_context k ec y)
 moved k ec y sound there cpu =

@@ -1,6 +1,7 @@
 -- How the queues of scheduling contexts stand to the state: each scheduling context waits as its object says, with its budget, and is marked
 -- runnable where its turns lead to an execution context that acts.
 use Rattle.std.specs.Prelude.{ℕ, ◌≡◌, ◌<◌, ◌≤◌, ◌==◌, ◌&&◌, Bool, true, false, not, List, [], ◌∷◌, length, map, max, slice_get, Option, Some, None, is_some, option_and_then, option_map, if◌then◌else◌}
+use Rattle.nova_objects.specs.declared.object.EcKind.TheVariants.{Global, Vcpu}
 use Rattle.nova_objects.specs.declared.object.Object.{Object}
 use Rattle.nova_objects.specs.declared.object.Object.TheVariants.{Ec, Sc}
 use Rattle.nova_model.specs.Deeds.{changed}
@@ -8,14 +9,14 @@ use Rattle.nova_model.specs.Edges.{acts, chase, cpu_in}
 use Rattle.nova_model.specs.State.{Contexts, KernelState, budget_at, context, with_ec}
 use Rattle.nova_model.specs.declared.budget.Budget.{Budget}
 use Rattle.nova_model.specs.declared.context.EcState.{EcState}
+use Rattle.nova_model.specs.declared.context.Mark.TheVariants.{Exit}
 use Rattle.nova_model.specs.declared.context.State.{State}
 use Rattle.nova_model.specs.declared.context.State.TheVariants.{Ready}
 use Rattle.nova_model.specs.declared.deed.Deed.{Deed}
-use Rattle.nova_model.specs.declared.deed.Deed.TheVariants.{Rests, Steps, Makes, Gives, Skips, Removes, Finishes, Ups, Downs}
+use Rattle.nova_model.specs.declared.deed.Deed.TheVariants.{Dies, Waits, Makes, Helps, Aborts, Ups, Blocks}
 use Rattle.nova_model.specs.declared.new_object.NewObject.{NewObject}
 use Rattle.nova_model.specs.declared.new_object.NewObject.TheVariants as new
 use Rattle.nova_model.specs.declared.root.Root.{Root}
-use Rattle.nova_model.specs.declared.transfer.Sequel.TheVariants.{Item}
 use Rattle.nova_ec.specs.Tables.{actor_in}
 use Rattle.nova_sched.specs.Queues.{HasRoom, QueuesState, Schedule, added, marked, padded, queued_at}
 use Rattle.nova_sched.specs.declared.queued.Queued.{Queued}
@@ -63,12 +64,18 @@ HasHome cpus cs (new.Ec pd cpu kind sp event) = cpu < cpus
 HasHome cpus cs (new.Sc ec cpu priority quantum) = (cpu < cpus) × (cpu_in cs ec ≡ Some cpu)
 HasHome cpus cs other = Unit {0}
 
--- the processor of an execution context's object
+-- the processor of an execution context that may have a scheduling context: any but a local thread
 abbrev pub processor_at : Option Object → Option ℕ
-processor_at (Some (Ec pd cpu kind event)) = Some cpu
+processor_at (Some (Ec pd cpu Global event)) = Some cpu
+processor_at (Some (Ec pd cpu Vcpu event)) = Some cpu
 processor_at other = None
 
--- a new object is to be of a processor that is there, a scheduling context of that of its execution context
+-- a scheduling context is of an execution context of its processor that is no local thread
+abbrev pub IsOwned : List Object → Option Object → Type 0
+IsOwned objects (Some (Sc ec cpu priority quantum)) = processor_at (slice_get objects ec) ≡ Some cpu
+IsOwned objects other = Unit {0}
+
+-- a new object is to be of a processor that is there, a scheduling context of that of its execution context, which is no local thread
 abbrev pub IsPlacedIn : KernelState → NewObject → Type 0
 IsPlacedIn k (new.Ec pd cpu kind sp event) = cpu < k.cpus
 IsPlacedIn k (new.Sc ec cpu priority quantum) = processor_at (slice_get k.objects ec) ≡ Some cpu
@@ -87,6 +94,7 @@ pub record AreQueuedBut (stale : Option ℕ) (k : KernelState) (s : Schedule) : 
   pub stamp : s.next_stamp ≡ k.next_stamp
   pub entries : (sc : ℕ) → but_for stale (queued_at s sc) ≡ but_for stale (wanted k sc)
   pub homes : (number : ℕ) → IsAtHome s.cpus k.contexts number (slice_get k.objects number)
+  pub owners : (number : ℕ) → IsOwned k.objects (slice_get k.objects number)
 
 abbrev pub AreQueued : KernelState → Schedule → Type 0
 AreQueued k s = AreQueuedBut None k s
@@ -112,19 +120,15 @@ abbrev pub schedule_after : KernelState → ℕ → Schedule → Deed → Schedu
 schedule_after k ec s (Makes call target new) = joined (with_ec k.contexts ec (changed (context k ec) (Makes call target new))) s (length k.objects) new
 schedule_after k ec s other = s
 
--- An execution context that does this may be in another state then, and another one with it, so that others may find turns or lose them: a
--- hypercall may be made anew by one that helps. It stays as it is where it rests, goes on, gives a part of an item or one of several, or takes a
--- leaf away; and it acts as before where it ups a semaphore, or lowers one.
+-- One that does this may cease to act, and nobody else begins to in the turns that led to it. After any other deed they lead to one that acts as
+-- before: to itself; to the handler that it calls or to whom it raises an exit; or to the caller to whom it replies.
 abbrev pub is_moving : Deed → Bool
-is_moving Rests = false
-is_moving Steps = false
-is_moving (Gives child cursor) = false
-is_moving (Skips reason place cursor) = false
-is_moving (Removes leaf) = false
-is_moving (Finishes item end words Item) = false
-is_moving (Ups sm whom) = false
-is_moving (Downs sm) = false
-is_moving other = true
+is_moving (Dies reason q0) = true
+is_moving (Waits handler reason q0 q1) = true
+is_moving (Helps handler) = true
+is_moving (Aborts handler Exit) = true
+is_moving (Blocks sm) = true
+is_moving other = false
 
 -- an up moves whom it wakes alone, who may be of another processor
 abbrev pub moved_by : ℕ → Deed → Option ℕ

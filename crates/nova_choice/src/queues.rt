@@ -4,7 +4,7 @@ ghost use Rattle.nova_choice.specs.Schedules.{HasQueue, is_moving, joined, moved
 
 use crate::choice::actor_of;
 use nova_ec::Ecs;
-use nova_model::{Deed, NewObject, Root, Sequel};
+use nova_model::{Deed, Mark, NewObject, Root};
 use nova_objects::Objects;
 use nova_sched::Queues;
 use std::alloc::{AllocError, Global};
@@ -41,24 +41,21 @@ pub fn mark_all(queues: &mut Queues, objects: &Objects, contexts: &Ecs, cpu: u32
     }
 }
 
-/// Whether an execution context that does this may be in another state then, so that turns that others
-/// are given may find it or lose it.
+/// Whether an execution context that does this may cease to act, and no other acts in the turns that
+/// led to it.
 fn is_moving(deed: Deed) -> bool
     ensures { result ≡ is_moving deed }
 {
-    !matches!(
+    matches!(
         deed,
-        Deed::Rests
-            | Deed::Steps
-            | Deed::Gives { .. }
-            | Deed::Skips { .. }
-            | Deed::Removes { .. }
-            | Deed::Finishes {
-                after: Sequel::Item,
+        Deed::Dies { .. }
+            | Deed::Waits { .. }
+            | Deed::Helps { .. }
+            | Deed::Aborts {
+                mark: Mark::Exit,
                 ..
             }
-            | Deed::Ups { .. }
-            | Deed::Downs { .. }
+            | Deed::Blocks { .. }
     )
 }
 

@@ -74,6 +74,7 @@ paid_queued k s cpu sc e queued there =
       stamp = ap (stamp_after (is_spent e.budget)) queued.stamp;
       entries = λ n. by_place n (n == sc) refl (queued.entries n) is (h.others after) h.budget;
       homes = queued.homes;
+      owners = queued.owners;
     }
   where
     by_place : (n : ℕ) (t : Bool) → (n == sc) ≡ t → queued_at s n ≡ wanted k n →
@@ -156,4 +157,4 @@ charge_queued k mid new s between after cpu sc queued there paid counts charges 
 
 -- stir counts are nothing to the queues
 pub queued_risen : (k : KernelState) (rises : ℕ → Bool) (s : Schedule) → AreQueued k s → AreQueued (risen_in k rises) s
-queued_risen k rises s q = record { cpus = q.cpus; numbers = q.numbers; stamp = q.stamp; entries = q.entries; homes = q.homes }
+queued_risen k rises s q = record { cpus = q.cpus; numbers = q.numbers; stamp = q.stamp; entries = q.entries; homes = q.homes; owners = q.owners }

@@ -1,4 +1,5 @@
 pub mod Served
+pub mod Answered
 pub mod Moves
 pub mod Charges
 pub mod Steps

@@ -5,42 +5,49 @@ use Rattle.std.proofs.lemmas.List.{length-set}
 use Rattle.rv_model.specs.Step.{Once, Raised, Went}
 use Rattle.nova_range.specs.declared.status.Status.TheVariants.{Success}
 use Rattle.nova_model.specs.Creation.{context_of, with_object}
-use Rattle.nova_model.specs.Deeds.{aborted, after_item, answered, changed, done, followed, instruction, parked, performed, recalled, resumed, serving, stepped, told, with_context}
+use Rattle.nova_model.specs.Deeds.{answered, changed, done, instruction, parked, performed, recalled, resumed, serving, stepped, told, with_context}
 use Rattle.nova_model.specs.Edges.{AreCallers, AreEdges, acts, caller_in, cpu_in, edge_of}
 use Rattle.nova_model.specs.Semaphores.{semaphore, woken}
-use Rattle.nova_model.specs.State.{Contexts, KernelState, context, context_at, ec_in, ec_of, message, pd_of, with_ec}
+use Rattle.nova_model.specs.State.{Contexts, KernelState, context, context_at, ec_in, ec_of, is_local_thread, message, pd_of, with_ec}
 use Rattle.nova_model.specs.declared.context.EcState.{EcState}
 use Rattle.nova_model.specs.declared.context.Mark.{Mark}
 use Rattle.nova_model.specs.declared.context.Mark.TheVariants as mark
-use Rattle.nova_model.specs.declared.context.State.TheVariants.{Calling, Ready, Replying}
+use Rattle.nova_model.specs.declared.context.State.TheVariants.{Calling, Replying}
 use Rattle.nova_model.specs.declared.deed.Deed.{Deed}
-use Rattle.nova_model.specs.declared.deed.Deed.TheVariants.{Rests, Steps, Sends, Makes, Recalls, Names, Opens, Gives, Skips, Removes, Finishes, Calls, Replies, Aborts, Ups, Downs, Blocks}
+use Rattle.nova_model.specs.declared.deed.Deed.TheVariants.{Rests, Steps, Dies, Waits, Sends, Makes, Recalls, Names, Opens, Gives, Skips, Removes, Finishes, Calls, Helps, Replies, Aborts, Ups, Downs, Blocks}
 use Rattle.nova_model.specs.declared.new_object.NewObject.{NewObject}
 use Rattle.nova_model.specs.declared.new_object.NewObject.TheVariants as new
 use Rattle.nova_model.specs.declared.transfer.ItemEnd.{ItemEnd}
-use Rattle.nova_model.specs.declared.transfer.ItemEnd.TheVariants.{Given}
 use Rattle.nova_model.specs.declared.transfer.ItemWords.{ItemWords}
 use Rattle.nova_model.specs.declared.transfer.Sequel.{Sequel}
 use Rattle.nova_model.specs.declared.transfer.Sequel.TheVariants.{Item, Opened, Taken, Replied}
+use Rattle.nova_objects.specs.declared.object.EcKind.TheVariants.{Local, Global, Vcpu}
 use Rattle.nova_objects.specs.declared.object.Object.{Object}
 use Rattle.nova_objects.specs.declared.object.Object.TheVariants.{Pd, Ec, Sc, Pt, Sm}
-use Rattle.nova_ec.specs.Changes.{KeepsSound}
+use Rattle.nova_ec.specs.Changes.{KeepsSound, goes_on}
 use Rattle.nova_ec.proofs.Acting.{deeds_keep_chases}
 use Rattle.nova_ec.proofs.Changes.{deeds_keep}
 use Rattle.nova_ec.proofs.Tables.{edges_set}
+use Rattle.nova_laws.proofs.Serving.{IsReached, exit_reaches, send_reaches}
+use Rattle.nova_laws.specs.Links.{AreServed}
 use Rattle.nova_laws.specs.Waiting.{AreBlocked}
 use Rattle.nova_sched.specs.Queues.{Schedule}
 use Rattle.nova_deeds.specs.Acts.{Fits, IsSequel}
 use Rattle.nova_deeds.specs.Counted.{IsCounted}
-use Rattle.nova_choice.specs.Schedules.{AreQueued, AreQueuedBut, HasHome, IsAtHome, is_moving, IsPlacedIn, joined, processor_at, schedule_after, stale_by}
+use Rattle.nova_choice.specs.Schedules.{AreQueued, AreQueuedBut, HasHome, IsAtHome, is_moving, IsPlacedIn, joined, leads, processor_at, schedule_after, stale_by}
 use Rattle.nova_choice.proofs.Joins.{queued_joined, leads_more}
-use Rattle.nova_choice.proofs.Waits.{KeepsQueued, LeadsBut, acting, cpu_of, kept_moved, kept_steady, kept_twice, leads_any, leads_twice, moved, queued_kept, same_state, steady, there_at}
-use Rattle.nova_deeds.proofs.Served.{admitted_near, exit_near, still_there, woken_there}
+use Rattle.nova_choice.proofs.Serving.{queued_apart, serving_leads}
+use Rattle.nova_choice.proofs.Waits.{KeepsQueued, LeadsBut, acting, cpu_of, kept_moved, kept_steady, kept_twice, leads_any, leads_twice, moved, queued_kept, same_state, there_at}
+use Rattle.nova_deeds.proofs.Answered.{completed_serving, parked_local, sent_serving}
+use Rattle.nova_deeds.proofs.Served.{still_there, woken_there}
 
 -- a new object's processor is there
 at_home : (cpus ec cpu : ℕ) (cs : Contexts) (o : Option Object) → processor_at o ≡ Some cpu → IsAtHome cpus cs ec o → (cpu < cpus) × (cpu_in cs ec ≡ Some cpu)
-at_home cpus ec cpu cs (Some (Ec pd its kind event)) is home =
+at_home cpus ec cpu cs (Some (Ec pd its Global event)) is home =
     let same : its ≡ cpu = cc in subst (λ (n : ℕ). (n < cpus) × (cpu_in cs ec ≡ Some n)) same home
+at_home cpus ec cpu cs (Some (Ec pd its Vcpu event)) is home =
+    let same : its ≡ cpu = cc in subst (λ (n : ℕ). (n < cpus) × (cpu_in cs ec ≡ Some n)) same home
+at_home cpus ec cpu cs (Some (Ec pd its Local event)) is home = absurd cc
 at_home cpus ec cpu cs (Some Pd) is home = absurd cc
 at_home cpus ec cpu cs (Some (Sc its home_cpu priority quantum)) is home = absurd cc
 at_home cpus ec cpu cs (Some (Pt its mtd ip)) is home = absurd cc
@@ -67,6 +74,7 @@ pub record MayMove (k : KernelState) (ec : ℕ) : Type 0 where
   pub awake : acts k.contexts ec ≡ true
   pub edges : AreEdges k.contexts
   pub callers : AreCallers k.contexts
+  pub served : AreServed (is_local_thread k) k.contexts
   pub blocked : AreBlocked k.contexts k.semaphores
   pub contexts : length k.contexts ≡ length k.objects
   pub budgets : length k.budgets ≡ length k.objects
@@ -77,6 +85,7 @@ may_move k ec counted there awake = record {
   awake = awake;
   edges = counted.kept.edges;
   callers = λ e c m is. (counted.kept.served.linked c e).cpu m is;
+  served = counted.kept.served;
   blocked = counted.kept.blocked;
   contexts = counted.tables.contexts;
   budgets = counted.tables.budgets;
@@ -95,19 +104,35 @@ pub record Leaves (stale : Option ℕ) (k new : KernelState) (after : Schedule) 
 leaves : (stale : Option ℕ) (k new : KernelState) (s : Schedule) → AreQueued k s → KeepsQueued stale k new → Leaves stale k new s
 leaves stale k new s queued kept = record { homes = kept.contexts.homes; queued = queued_kept stale k new s queued kept }
 
--- an object is made by one that moves
-made_leaves : (k : KernelState) (s : Schedule) (ec pd selector : ℕ) (y : EcState) (new : NewObject) → MayMove k ec → y.cpu ≡ (context k ec).cpu → edge_of y.state ≡ None →
-    IsPlacedIn k new → AreQueued k s →
-    Leaves (Some (context k ec).cpu) k (with_object (with_context k ec y) pd selector new) (joined (with_ec k.contexts ec y) s (length k.objects) new)
-made_leaves k s ec pd selector y new may cpu none placed queued =
-    let stale = Some (context k ec).cpu in
-    let kept = moved k ec y may.edges may.there cpu in
+placed_along : (k : KernelState) (ec : ℕ) (y : EcState) (new : NewObject) → IsPlacedIn k new → IsPlacedIn (with_context k ec y) new
+placed_along k ec y (new.Ec pd cpu kind sp event) placed = placed
+placed_along k ec y (new.Sc its cpu priority quantum) placed = placed
+placed_along k ec y new.Pd placed = tt
+placed_along k ec y (new.Pt its mtd ip) placed = tt
+placed_along k ec y (new.Sm count) placed = tt
+
+-- one that acts before and after its deed moves no turns
+going : (k : KernelState) (ec : ℕ) (d : Deed) → MayMove k ec → goes_on d ≡ true → (changed (context k ec) d).cpu ≡ (context k ec).cpu →
+    KeepsQueued None k (with_context k ec (changed (context k ec) d))
+going k ec d may goes cpu = record {
+  contexts = acting k.contexts ec (changed (context k ec) d) may.there cpu (deeds_keep_chases k.contexts ec d may.awake goes);
+  objects = refl;
+  budgets = refl;
+  next_stamp = refl;
+  cpus = refl;
+}
+
+-- an object is made
+made_leaves : (k : KernelState) (s : Schedule) (ec pd selector : ℕ) (y : EcState) (new : NewObject) → MayMove k ec → KeepsQueued None k (with_context k ec y) →
+    y.cpu ≡ (context k ec).cpu → edge_of y.state ≡ None → IsPlacedIn k new → AreQueued k s →
+    Leaves None k (with_object (with_context k ec y) pd selector new) (joined (with_ec k.contexts ec y) s (length k.objects) new)
+made_leaves k s ec pd selector y new may kept cpu none placed queued =
     let after : AreEdges (with_ec k.contexts ec y) = edges_set k.contexts ec (context k ec) y None may.edges (there_at k.contexts ec may.there) cpu none tt in
     record {
       homes = λ e c at. (leads_more (with_ec k.contexts ec y) (context_of (length k.objects) new) after).homes e c (kept.contexts.homes e c at);
-      queued = queued_joined stale (with_context k ec y) s pd selector new after (length-set k.contexts ec (Some y) ∙ may.contexts) may.budgets
-          (home_along stale s.cpus k.contexts (with_ec k.contexts ec y) new kept.contexts (home_from k s new queued placed))
-          (queued_kept stale k (with_context k ec y) s queued kept);
+      queued = queued_joined None (with_context k ec y) s pd selector new after (length-set k.contexts ec (Some y) ∙ may.contexts) may.budgets
+          (home_along None s.cpus k.contexts (with_ec k.contexts ec y) new kept.contexts (home_from k s new queued placed)) (placed_along k ec y new placed)
+          (queued_kept None k (with_context k ec y) s queued kept);
     }
 
 stepped_keeps : (k : KernelState) (ec : ℕ) (o : Once) → IsSome (context_at k ec) → KeepsQueued None k (stepped k ec o)
@@ -158,71 +183,69 @@ two_queued k ec other x f sound there cpu keeps near =
     record { contexts = kept_twice k.contexts ec other x f sound there cpu keeps near; objects = refl; budgets = refl; next_stamp = refl; cpus = refl }
 
 -- a call or an exit is sent, and message words change
-sent_queued : (k new : KernelState) (ec handler ip identifier : ℕ) (m : Mark) (items : Bool) → MayMove k ec → cpu_in k.contexts handler ≡ cpu_in k.contexts ec →
+sent_leaves : (k new : KernelState) (s : Schedule) (ec handler ip identifier : ℕ) (m : Mark) (items : Bool) → MayMove k ec → IsReached k.contexts ec handler → AreQueued k s →
     let mid = with_context k ec (record (context k ec) { state = Calling handler }) in
     new.contexts ≡ with_ec mid.contexts handler (serving (context mid handler) ec m ip identifier items) →
-    new.objects ≡ k.objects → new.budgets ≡ k.budgets → new.next_stamp ≡ k.next_stamp → new.cpus ≡ k.cpus → KeepsQueued (Some (context k ec).cpu) k new
-sent_queued k new ec handler ip identifier m items may near contexts objects budgets stamp cpus =
-    let mid = with_context k ec (record (context k ec) { state = Calling handler }) in
-    aside (Some (context k ec).cpu) k (with_context mid handler (serving (context mid handler) ec m ip identifier items)) new
-    (two_queued k ec handler (record (context k ec) { state = Calling handler }) (λ z. serving z ec m ip identifier items) may.edges may.there refl (λ z. refl) near)
-    contexts objects budgets stamp cpus
+    new.objects ≡ k.objects → new.budgets ≡ k.budgets → new.next_stamp ≡ k.next_stamp → new.cpus ≡ k.cpus → Leaves None k new s
+sent_leaves k new s ec handler ip identifier m items may reached queued contexts objects budgets stamp cpus =
+    let y : EcState = record (context k ec) { state = Calling handler } in
+    let mid = with_context k ec y in
+    let stale = Some (context k ec).cpu in
+    let kept : KeepsQueued stale k new = aside stale k (with_context mid handler (serving (context mid handler) ec m ip identifier items)) new
+    (two_queued k ec handler y (λ z. serving z ec m ip identifier items) may.edges may.there refl (λ z. refl) reached.may.one_processor)
+    contexts objects budgets stamp cpus in
+    let both = sent_serving (is_local_thread k) k.contexts ec handler ip identifier m items may.edges may.awake reached may.served in
+    record {
+      homes = kept.contexts.homes;
+      queued = queued_apart stale k new s handler queued kept (parked_local (is_local_thread k) k.contexts ec handler reached may.served)
+          (λ z apart. ap (λ (ds : Contexts). leads ds z) contexts ∙ serving_leads k.contexts _ ec handler z both apart);
+    }
 
 resumed_cpu : (x : EcState) (m : Mark) (words : List ℕ) → (resumed x m words).cpu ≡ x.cpu
 resumed_cpu x mark.Call words = refl
 resumed_cpu x mark.Exit words = refl
 
-aborted_cpu : (x : EcState) (m : Mark) → (aborted x m).cpu ≡ x.cpu
-aborted_cpu x mark.Call = refl
-aborted_cpu x mark.Exit = refl
-
 -- a reply completes, and message words change
-completed_queued : (k new : KernelState) (ec caller : ℕ) (m : Mark) (words : List ℕ) → MayMove k ec → caller_in k.contexts ec ≡ Some (caller, m) →
+completed_leaves : (k new : KernelState) (s : Schedule) (ec caller : ℕ) (m : Mark) (words : List ℕ) → MayMove k ec → caller_in k.contexts ec ≡ Some (caller, m) → AreQueued k s →
     let mid = with_context k ec (parked (context k ec)) in
     new.contexts ≡ with_ec mid.contexts caller (resumed (context mid caller) m words) →
-    new.objects ≡ k.objects → new.budgets ≡ k.budgets → new.next_stamp ≡ k.next_stamp → new.cpus ≡ k.cpus → KeepsQueued (Some (context k ec).cpu) k new
-completed_queued k new ec caller m words may is contexts objects budgets stamp cpus =
+    new.objects ≡ k.objects → new.budgets ≡ k.budgets → new.next_stamp ≡ k.next_stamp → new.cpus ≡ k.cpus → Leaves None k new s
+completed_leaves k new s ec caller m words may is queued contexts objects budgets stamp cpus =
     let mid = with_context k ec (parked (context k ec)) in
-    aside (Some (context k ec).cpu) k (with_context mid caller (resumed (context mid caller) m words)) new
-    (two_queued k ec caller (parked (context k ec)) (λ z. resumed z m words) may.edges may.there refl (λ z. resumed_cpu z m words)
-    (may.callers ec caller m is))
-    contexts objects budgets stamp cpus
+    let stale = Some (context k ec).cpu in
+    let kept : KeepsQueued stale k new = aside stale k (with_context mid caller (resumed (context mid caller) m words)) new
+    (two_queued k ec caller (parked (context k ec)) (λ z. resumed z m words) may.edges may.there refl (λ z. resumed_cpu z m words) (may.callers ec caller m is))
+    contexts objects budgets stamp cpus in
+    let both = completed_serving (is_local_thread k) k.contexts ec caller m words may.edges may.callers may.awake is may.served in
+    record {
+      homes = kept.contexts.homes;
+      queued = queued_apart stale k new s ec queued kept ((may.served.well ec).kept caller m is)
+          (λ z apart. ap (λ (ds : Contexts). leads ds z) contexts ∙ sym (serving_leads _ k.contexts caller ec z both apart));
+    }
 
-replied_queued : (k : KernelState) (ec caller : ℕ) (m : Mark) (items : Bool) → MayMove k ec → caller_in k.contexts ec ≡ Some (caller, m) →
-    KeepsQueued (Some (context k ec).cpu) k (performed k ec (Replies caller m items))
-replied_queued k ec caller mark.Call true may is =
-    aside (Some (context k ec).cpu) k (with_context k ec (record (context k ec) { state = Replying })) _
-    (moved k ec (record (context k ec) { state = Replying }) may.edges may.there refl) refl refl refl refl refl
-replied_queued k ec caller mark.Exit true may is = moved k ec (record (context k ec) { state = Replying }) may.edges may.there refl
-replied_queued k ec caller mark.Call false may is = completed_queued k _ ec caller mark.Call (message k ec) may is refl refl refl refl refl
-replied_queued k ec caller mark.Exit false may is = completed_queued k _ ec caller mark.Exit (message k ec) may is refl refl refl refl refl
+replied_leaves : (k : KernelState) (s : Schedule) (ec caller : ℕ) (m : Mark) (items : Bool) → MayMove k ec → caller_in k.contexts ec ≡ Some (caller, m) → AreQueued k s →
+    Leaves None k (performed k ec (Replies caller m items)) s
+replied_leaves k s ec caller mark.Call true may is queued =
+    leaves None k _ s queued (aside None k (with_context k ec (record (context k ec) { state = Replying })) _ (going k ec (Replies caller mark.Call true) may refl refl) refl refl refl refl refl)
+replied_leaves k s ec caller mark.Exit true may is queued = leaves None k _ s queued (going k ec (Replies caller mark.Exit true) may refl refl)
+replied_leaves k s ec caller mark.Call false may is queued = completed_leaves k _ s ec caller mark.Call (message k ec) may is queued refl refl refl refl refl
+replied_leaves k s ec caller mark.Exit false may is queued = completed_leaves k _ s ec caller mark.Exit (message k ec) may is queued refl refl refl refl refl
 
 -- the end of an item, with words that are told
-ended_queued : (k : KernelState) (ec item : ℕ) (words : Option ItemWords) (after : Sequel) → MayMove k ec → IsSequel k ec item after →
-    KeepsQueued (stale_at k ec (Finishes item (Given 0) words after)) k (followed (told (with_context k ec (after_item (context k ec) after)) item words) ec after)
-ended_queued k ec item words Item may sequel = told_aside None k (with_context k ec (context k ec)) item words (steady k ec (context k ec) may.there refl refl)
-ended_queued k ec item words Opened may sequel =
-    told_aside (Some (context k ec).cpu) k _ item words (moved k ec (answered (context k ec) Success None) may.edges may.there refl)
-ended_queued k ec item words Taken may sequel =
-    told_aside (Some (context k ec).cpu) k _ item words (moved k ec (record (context k ec) { state = Ready }) may.edges may.there refl)
-ended_queued k ec item None (Replied caller m) may sequel = completed_queued k _ ec caller m _ may sequel refl refl refl refl refl
-ended_queued k ec item (Some w) (Replied caller m) may sequel = completed_queued k _ ec caller m _ may sequel refl refl refl refl refl
-
-finished_queued : (k : KernelState) (ec item : ℕ) (end : ItemEnd) (words : Option ItemWords) (after : Sequel) → MayMove k ec → IsSequel k ec item after →
-    KeepsQueued (stale_at k ec (Finishes item end words after)) k (done k ec (Finishes item end words after))
-finished_queued k ec item end words after may sequel =
-    aside (stale_at k ec (Finishes item (Given 0) words after)) k (followed (told (with_context k ec (after_item (context k ec) after)) item words) ec after) _
-    (ended_queued k ec item words after may sequel) refl refl refl refl refl
+finished_leaves : (k : KernelState) (s : Schedule) (ec item : ℕ) (end : ItemEnd) (words : Option ItemWords) (after : Sequel) → MayMove k ec → IsSequel k ec item after → AreQueued k s →
+    Leaves None k (done k ec (Finishes item end words after)) s
+finished_leaves k s ec item end words Item may sequel queued =
+    leaves None k _ s queued (aside None k _ _ (told_aside None k _ item words (going k ec (Finishes item end words Item) may refl refl)) refl refl refl refl refl)
+finished_leaves k s ec item end words Opened may sequel queued =
+    leaves None k _ s queued (aside None k _ _ (told_aside None k _ item words (going k ec (Finishes item end words Opened) may refl refl)) refl refl refl refl refl)
+finished_leaves k s ec item end words Taken may sequel queued =
+    leaves None k _ s queued (aside None k _ _ (told_aside None k _ item words (going k ec (Finishes item end words Taken) may refl refl)) refl refl refl refl refl)
+finished_leaves k s ec item end None (Replied caller m) may sequel queued = completed_leaves k _ s ec caller m _ may sequel queued refl refl refl refl refl
+finished_leaves k s ec item end (Some w) (Replied caller m) may sequel queued = completed_leaves k _ s ec caller m _ may sequel queued refl refl refl refl refl
 
 -- an up and a down leave who acts so: all turns stay, but for those of whom an up wakes
 answered_queued : (k : KernelState) (ec : ℕ) → MayMove k ec → KeepsQueued None k (with_context k ec (answered (context k ec) Success None))
-answered_queued k ec may = record {
-  contexts = acting k.contexts ec (answered (context k ec) Success None) may.there refl (deeds_keep_chases k.contexts ec (Downs 0) may.awake refl);
-  objects = refl;
-  budgets = refl;
-  next_stamp = refl;
-  cpus = refl;
-}
+answered_queued k ec may = going k ec (Downs 0) may refl refl
 
 upped_queued : (k : KernelState) (ec sm : ℕ) (whom : Option ℕ) → MayMove k ec → woken (semaphore k.semaphores sm) ≡ Ok whom →
     KeepsQueued (stale_at k ec (Ups sm whom)) k (performed k ec (Ups sm whom))
@@ -249,27 +272,26 @@ pub done_leaves : (k : KernelState) (s : Schedule) (ec : ℕ) (d : Deed) → May
     Leaves (stale_at k ec d) k (done k ec d) (schedule_after k ec s d)
 done_leaves k s ec Rests may fits queued = leaves None k k s queued (same_state k)
 done_leaves k s ec Steps may fits queued = leaves None k _ s queued (stepped_keeps k ec (instruction k ec) may.there)
-done_leaves k s ec (Makes call target new) may fits queued = made_leaves k s ec (pd_of k ec) target (changed (context k ec) (Makes call target new)) new may refl refl fits.1 queued
-done_leaves k s ec (Opens target domain) may fits queued = made_leaves k s ec (pd_of k ec) target (changed (context k ec) (Opens target domain)) new.Pd may refl refl tt queued
+done_leaves k s ec (Makes call target new) may fits queued =
+    made_leaves k s ec (pd_of k ec) target (changed (context k ec) (Makes call target new)) new may (going k ec (Makes call target new) may refl refl) refl refl fits.1 queued
+done_leaves k s ec (Opens target domain) may fits queued =
+    made_leaves k s ec (pd_of k ec) target (changed (context k ec) (Opens target domain)) new.Pd may (going k ec (Opens target domain) may refl refl) refl refl tt queued
 done_leaves k s ec (Recalls other) may fits queued =
-    leaves _ k _ s queued
-    (recalled_keeps (Some (context k ec).cpu) k (with_context k ec (changed (context k ec) (Recalls other))) other _
-    (moved k ec (changed (context k ec) (Recalls other)) may.edges may.there refl) refl)
+    leaves None k _ s queued (recalled_keeps None k (with_context k ec (changed (context k ec) (Recalls other))) other _ (going k ec (Recalls other) may refl refl) refl)
 done_leaves k s ec (Names pt identifier) may fits queued =
-    leaves _ k _ s queued
-    (aside (Some (context k ec).cpu) k (with_context k ec (changed (context k ec) (Names pt identifier))) _
-    (moved k ec (changed (context k ec) (Names pt identifier)) may.edges may.there refl) refl refl refl refl refl)
+    leaves None k _ s queued (aside None k (with_context k ec (changed (context k ec) (Names pt identifier))) _ (going k ec (Names pt identifier) may refl refl) refl refl refl refl refl)
 done_leaves k s ec (Gives child cursor) may fits queued = leaves None k _ s queued (aside None k k _ (same_state k) refl refl refl refl refl)
 done_leaves k s ec (Skips reason place cursor) may fits queued = leaves None k _ s queued (aside None k k _ (same_state k) refl refl refl refl refl)
 done_leaves k s ec (Removes leaf) may fits queued = leaves None k _ s queued (aside None k k _ (same_state k) refl refl refl refl refl)
-done_leaves k s ec (Finishes item end words after) may fits queued = leaves _ k _ s queued (finished_queued k ec item end words after may fits.1.1)
+done_leaves k s ec (Finishes item end words after) may fits queued = finished_leaves k s ec item end words after may fits.1.1 queued
 done_leaves k s ec (Calls handler ip identifier items) may fits queued =
-    leaves _ k _ s queued (sent_queued k _ ec handler ip identifier mark.Call items may (admitted_near k.contexts ec handler fits.0) refl refl refl refl refl)
+    sent_leaves k _ s ec handler ip identifier mark.Call items may (send_reaches k.contexts ec handler false fits.0) queued refl refl refl refl refl
 done_leaves k s ec (Sends handler ip identifier mtd reason q0 q1) may fits queued =
-    leaves _ k _ s queued (sent_queued k _ ec handler ip identifier mark.Exit false may (exit_near k.contexts ec handler fits.0) refl refl refl refl refl)
-done_leaves k s ec (Replies caller m items) may fits queued = leaves _ k _ s queued (replied_queued k ec caller m items may fits.0)
-done_leaves k s ec (Aborts handler m) may fits queued =
-    leaves _ k _ s queued (moved k ec (changed (context k ec) (Aborts handler m)) may.edges may.there (aborted_cpu (context k ec) m))
+    sent_leaves k _ s ec handler ip identifier mark.Exit false may (exit_reaches k.contexts ec handler fits.0) queued refl refl refl refl refl
+done_leaves k s ec (Replies caller m items) may fits queued = replied_leaves k s ec caller m items may fits.0 queued
+done_leaves k s ec (Aborts handler mark.Call) may fits queued = leaves None k _ s queued (going k ec (Aborts handler mark.Call) may refl refl)
+done_leaves k s ec (Aborts handler mark.Exit) may fits queued =
+    leaves _ k _ s queued (moved k ec (changed (context k ec) (Aborts handler mark.Exit)) may.edges may.there refl)
 done_leaves k s ec (Ups sm whom) may fits queued = leaves _ k _ s queued (upped_queued k ec sm whom may fits)
 done_leaves k s ec (Downs sm) may fits queued =
     leaves None k _ s queued (aside None k (with_context k ec (answered (context k ec) Success None)) _ (answered_queued k ec may) refl refl refl refl refl)
@@ -277,7 +299,11 @@ done_leaves k s ec (Blocks sm) may fits queued =
     leaves _ k _ s queued
     (aside (Some (context k ec).cpu) k (with_context k ec (changed (context k ec) (Blocks sm))) _
     (moved k ec (changed (context k ec) (Blocks sm)) may.edges may.there refl) refl refl refl refl refl)
-done_leaves k s ec other may fits queued = leaves _ k _ s queued (moved k ec (changed (context k ec) other) may.edges may.there refl)
+done_leaves k s ec (Dies reason q0) may fits queued = leaves _ k _ s queued (moved k ec (changed (context k ec) (Dies reason q0)) may.edges may.there refl)
+done_leaves k s ec (Waits handler reason q0 q1) may fits queued =
+    leaves _ k _ s queued (moved k ec (changed (context k ec) (Waits handler reason q0 q1)) may.edges may.there refl)
+done_leaves k s ec (Helps handler) may fits queued = leaves _ k _ s queued (moved k ec (changed (context k ec) (Helps handler)) may.edges may.there refl)
+done_leaves k s ec other may fits queued = leaves None k _ s queued (going k ec other may refl refl)
 
 -- whose marks are old is the same after the deed
 stale_stays : (k : KernelState) (ds : Contexts) (ec : ℕ) (d : Deed) → MayMove k ec → Fits k ec d →

@@ -3,12 +3,11 @@ use Rattle.std.proofs.Common.{◌≡◌, ℕ, zero, suc, ◌<◌, List, [], ◌�
 use Rattle.std.specs.Prelude.{Bool, true, false, not, ◌||◌, ◌==◌, eqb, if◌then◌else◌, Option, Some, None, Result, option_and_then, option_map}
 use Rattle.std.specs.declared.result.Result.TheVariants.{Ok, Err}
 use Rattle.nova_range.specs.declared.status.Status.TheVariants.{Aborted, BadCpu, Timeout}
-use Rattle.nova_model.specs.Calls.{admitted, exit_admitted, is_parked, is_same_cpu}
+use Rattle.nova_model.specs.Calls.{admitted, is_parked, is_same_cpu}
 use Rattle.nova_model.specs.Edges.{AreCallers, acts, acts_as, caller_in, circle, cpu_in, is_dead, state_in}
 use Rattle.nova_model.specs.Semaphores.{Semaphores, greatest, has, semaphore, waits, woken, woken_of}
 use Rattle.nova_model.specs.State.{Contexts, KernelState, context_at, ec_in, with_ec}
 use Rattle.nova_model.specs.declared.admit.Admit.TheVariants.{Help, Refused, Send}
-use Rattle.nova_model.specs.declared.admit.ExitAdmit.TheVariants as exit
 use Rattle.nova_model.specs.declared.context.EcState.{EcState}
 use Rattle.nova_model.specs.declared.context.Mark.{Mark}
 use Rattle.nova_model.specs.declared.context.State.{State}
@@ -22,7 +21,7 @@ use Rattle.nova_choice.proofs.Waits.{there_at, there_by_cpu}
 
 -- ON ONE PROCESSOR
 
--- the processor of one who is called, or to whom an exit is sent
+-- the processor of one who is called
 same_by : (a b : Option ℕ) → is_same_cpu a b ≡ true → a ≡ b
 same_by (Some a) (Some b) same = ap Some (let h : a ≡ b = grind (arith, same) in h)
 same_by None b same = absurd cc
@@ -37,17 +36,6 @@ admitted_near cs caller handler is = same_by (cpu_in cs handler) (cpu_in cs call
         else if is_parked (state_in cs handler) then Send
         else if false then Refused Timeout
         else Help) ≡ Send → t ≡ true
-    by_test true h = refl
-    by_test false h = absurd cc
-
-pub exit_near : (cs : Contexts) (ec handler : ℕ) → exit_admitted cs ec handler ≡ exit.Sends → cpu_in cs handler ≡ cpu_in cs ec
-exit_near cs ec handler is = same_by (cpu_in cs handler) (cpu_in cs ec) (by_test (is_same_cpu (cpu_in cs handler) (cpu_in cs ec)) is)
-  where
-    by_test : (t : Bool) →
-        (if not t then exit.Dies
-        else if is_dead (state_in cs handler) || circle cs handler ec then exit.Dies
-        else if is_parked (state_in cs handler) then exit.Sends
-        else exit.Waits) ≡ exit.Sends → t ≡ true
     by_test true h = refl
     by_test false h = absurd cc
 
