@@ -11,7 +11,7 @@ use crate::fault::{ScenarioFault, Why};
 use crate::image::{Image, Images};
 use crate::occupied::Occupied;
 use crate::scenario::Scenario;
-use crate::settings::Settings;
+use crate::settings::{Root, Settings};
 use crate::statement::Setting;
 use std::alloc::{AllocError, Global};
 use std::marker::Model;
@@ -127,17 +127,37 @@ impl Draft {
     pub fn finish(self) -> Option<Scenario>
         ensures { result ≡ finished self }
     {
-        let root = self.settings.root?;
-        Some(Scenario {
-            cpus: self.settings.cpus?,
-            ram: self.settings.ram?,
-            consoles: self.settings.consoles?,
-            pc: root.pc?,
-            sp: root.sp,
-            priority: root.priority,
-            quantum: root.quantum,
-            images: self.images.into(),
-        })
+        let Settings {
+            cpus,
+            ram,
+            consoles,
+            root,
+        } = self.settings;
+        match (cpus, ram, consoles, root) {
+            (
+                Some(cpus),
+                Some(ram),
+                Some(consoles),
+                Some(
+                    Root {
+                        pc: Some(pc),
+                        sp,
+                        priority,
+                        quantum,
+                    },
+                ),
+            ) => Some(Scenario {
+                cpus,
+                ram,
+                consoles,
+                pc,
+                sp,
+                priority,
+                quantum,
+                images: self.images.into(),
+            }),
+            _ => None,
+        }
     }
 }
 

@@ -2,6 +2,7 @@ ghost use Rattle.std.specs.Prelude.{◌≡◌};
 ghost use Rattle.nova_range.specs.declared.range.Range.{Range};
 ghost use Rattle.nova_range.specs.declared.range.Kind.TheVariants.{Mem};
 
+use crate::translations::give;
 use nova_nodes::Nodes;
 use nova_range::{Kind, Range, Rights};
 use nova_revoke::{Revoke, RevokeDone, in_scope, part, would_grow};
@@ -26,14 +27,10 @@ fn nodes(rt: &impl Abort, alloc: Global) -> Nodes<Space> {
     let mut nodes = Nodes::new(alloc);
     nodes.reserve(0, 1).expect(rt, "ample memory");
     nodes.root(0, pages(0, 2), Rights::READ, 32);
-    nodes.reserve(1, 1).expect(rt, "ample memory");
-    nodes.child(0, 1, pages(0, 0), Rights::READ, 32);
-    nodes.reserve(2, 1).expect(rt, "ample memory");
-    nodes.child(1, 2, pages(0, 0), Rights::READ, 32);
-    nodes.reserve(3, 1).expect(rt, "ample memory");
-    nodes.child(2, 3, pages(0, 0), Rights::READ, 32);
-    nodes.reserve(4, 1).expect(rt, "ample memory");
-    nodes.child(0, 4, pages(0, 0), Rights::READ, 33);
+    give(rt, &mut nodes, 0, 1, 0x0000_0005, 0x0000_0005);
+    give(rt, &mut nodes, 1, 2, 0x0000_0005, 0x0000_0005);
+    give(rt, &mut nodes, 2, 3, 0x0000_0005, 0x0000_0005);
+    give(rt, &mut nodes, 0, 4, 0x0000_1005, 0x0000_0005);
     nodes
 }
 
