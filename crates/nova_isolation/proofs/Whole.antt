@@ -156,7 +156,7 @@ bare_whole cpus ram consoles root = record {
     counts (suc (suc zero)) is = absurd (cc)
     counts (suc (suc (suc i))) is = absurd (cc)
 
-laid_whole : (m : Memory) (address : ℕ) (bytes : List ℕ) → AreWhole m.ram → AreWhole (laid m address bytes).ram
+pub laid_whole : (m : Memory) (address : ℕ) (bytes : List ℕ) → AreWhole m.ram → AreWhole (laid m address bytes).ram
 laid_whole m address [] whole = whole
 laid_whole m address (b ∷ bytes) whole =
     laid_whole (written m (address / 4096) (address % 4096) 1 b) (address + 1) bytes

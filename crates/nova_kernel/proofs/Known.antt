@@ -12,7 +12,8 @@ use Rattle.nova_model.specs.Choice.{Candidate, choice}
 use Rattle.nova_model.specs.Deeds.{deed, done, instruction, sign_of, stepped}
 use Rattle.nova_model.specs.Inputs.{stirred}
 use Rattle.nova_model.specs.State.{Contexts, KernelState, budget_at, context, context_at, with_ec}
-use Rattle.nova_model.specs.Turn.{answer_of, charged, counted, event_of, paid_by, quantum_in, state_after, turn, turn_by}
+use Rattle.nova_model.specs.Runs.{after}
+use Rattle.nova_model.specs.Turn.{answer_of, charged, counted, event_of, paid_by, quantum_in, state_after, turn}
 use Rattle.nova_model.specs.declared.budget.Budget.{Budget}
 use Rattle.nova_model.specs.declared.context.EcState.{EcState}
 use Rattle.nova_model.specs.declared.context.Mark.{Mark}
@@ -22,6 +23,9 @@ use Rattle.nova_model.specs.declared.event.Turn.{Turn}
 use Rattle.nova_model.specs.declared.transfer.ItemEnd.TheVariants.{Given, Skipped, Translated}
 use Rattle.nova_sched.specs.Queues.{Schedule}
 use Rattle.nova_sched.specs.Queues as queues
+use Rattle.nova_forest.specs.Turns.{Acts, Idles, Takes}
+use Rattle.nova_forest.proofs.Actors.{chosen_answers}
+use Rattle.nova_forest.proofs.Turning.{acting_is, chosen_turn, comes}
 use Rattle.nova_choice.proofs.Choosing.{led_chosen}
 use Rattle.nova_choice.proofs.Nexts.{chosen_acts}
 use Rattle.nova_choice.proofs.Waits.{there_at}
@@ -134,15 +138,19 @@ chosen_there k cpu c told = ap is_some (awake k.contexts c.actor (told_acts k cp
 -- A TURN
 
 turn_known : (k : KernelState) (cpu : ℕ) (t : Turn) (known : List (Option Chosen)) → t ≡ answer_of (turn k cpu) → AreKnown k known →
-    AreKnown (state_after k (turn k cpu)) (known_after t known)
-unfolding turn
-turn_known k cpu t known is all =
-    subst (λ (a : Turn). AreKnown (state_after k (turn_by k cpu (choice k cpu))) (known_after a known)) (sym is) (by_choice (choice k cpu) refl)
-  where
-    by_choice : (o : Option Candidate) → choice k cpu ≡ o → AreKnown (state_after k (turn_by k cpu o)) (known_after (answer_of (turn_by k cpu o)) known)
-    by_choice None at = all
-    by_choice (Some c) at =
-        event_known k cpu c (deed k c.actor) known (chosen_there k cpu (chosen_of c) (sym (ap (option_map chosen_of) at))) (chosen_acts k cpu c at) all
+    AreKnown (after k cpu) (known_after t known)
+turn_known k cpu t known told all = elim (comes k cpu) [
+  | Idles none same answer ↦
+      subst (λ (a : Turn). AreKnown (after k cpu) (known_after a known)) (sym (told ∙ answer)) (subst (λ (s : KernelState). AreKnown s known) (sym same) all)
+  | Takes u e is state answer ↦ elim is [
+    | Acts c chosen acts event ↦
+        let d = deed k c.actor in
+        let new : after k cpu ≡ charged (stirred k c.actor d (done k c.actor d)) cpu c.sc = chosen_turn k cpu c chosen ∙ sym (acting_is k cpu c) in
+        let there = chosen_there k cpu (chosen_of c) (sym (ap (option_map chosen_of) chosen)) in
+        subst (λ (a : Turn). AreKnown (after k cpu) (known_after a known)) (sym (told ∙ chosen_answers k cpu c chosen))
+        (subst (λ (s : KernelState). AreKnown s (known_by (sign_of d).0 (event_of cpu c d) known)) (sym new) (event_known k cpu c d known there (chosen_acts k cpu c chosen) all))
+  ]
+]
 
 -- after it what is known is as the code keeps it
 pub kept_known : (k new : KernelState) (cpu : ℕ) (t : Turn) (known after : List (Option Chosen)) → t ≡ answer_of (turn k cpu) → new ≡ state_after k (turn k cpu) →

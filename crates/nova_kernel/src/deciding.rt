@@ -78,7 +78,7 @@ impl Parts {
             State::Exiting(reason, q0, q1) => self.exit(ec, reason, q0, q1),
             State::Sending(reason, q0, q1, _) => self.exit(ec, reason, q0, q1),
             State::Granting(_) | State::Replying => self.deliver(ec)?,
-            State::Revoking(range, own) => self.take_leaf(ec, range, own),
+            State::Revoking(_, _) => self.take_leaf(ec),
             State::Calling(handler) => Deed::Aborts {
                 handler,
                 mark: self.mark_of(handler),

@@ -1,14 +1,14 @@
-ghost use Rattle.std.specs.Prelude.{◌≡◌, IsSome};
-ghost use Rattle.nova_model.specs.Deeds.{deed_in};
+ghost use Rattle.std.specs.Prelude.{◌≡◌, false, IsSome, IfSome};
+ghost use Rattle.nova_model.specs.Deeds.{removes};
+ghost use Rattle.nova_model.specs.Revokes.{next_leaf};
 ghost use Rattle.nova_model.specs.Running.{is_revoked};
-ghost use Rattle.nova_model.specs.State.{context, context_at};
-ghost use Rattle.nova_deeds.specs.Acts.{Fits, begun};
+ghost use Rattle.nova_running.specs.Runners.{revoke_in};
+ghost use Rattle.nova_deeds.specs.Acts.{Fits, begun, is_step};
 ghost use Rattle.nova_kernel.specs.Parts.{shown};
 ghost use Rattle.nova_kernel.specs.Revoking.{AreRunning};
 
 use crate::parts::Parts;
-use nova_model::{Deed, State};
-use nova_range::Range;
+use nova_model::Deed;
 use nova_revoke::RevokeDone;
 
 impl Parts {
@@ -22,12 +22,11 @@ impl Parts {
 
     /// One part of the revoke that an execution context runs, done at once: a leaf goes. Where none is
     /// left the revoke returns, which is still to be done.
-    pub fn take_leaf(&mut self, ec: u32, range: Range, own: bool) -> Deed
-        requires there { IsSome (context_at (shown self.old) ec) }
-        requires running { AreRunning (shown self.old) self.old.revokes }
-        requires state { (context (shown self.old) ec).state ≡ State.Revoking range own }
-        ensures deed { result ≡ deed_in (shown self.old) ec (State.Revoking range own) }
+    pub fn take_leaf(&mut self, ec: u32) -> Deed
+        requires running { IsSome (revoke_in ec self.old.revokes.list) }
+        ensures deed { IfSome (revoke_in ec self.old.revokes.list) (λ revoke. result ≡ removes (next_leaf revoke (shown self.old).delegations)) }
         ensures begun { shown self.new ≡ begun (shown self.old) ec result }
+        ensures no_step { is_step result ≡ false }
         ensures fits { Fits (shown self.old) ec result }
         ensures queues { self.new.queues ≡ self.old.queues }
         ensures revokes { self.new.revokes ≡ self.old.revokes }

@@ -2,5 +2,4 @@ pub mod Placed
 pub mod Rooted
 pub mod Laid
 pub mod Views
-pub mod Rising
 pub mod Seen

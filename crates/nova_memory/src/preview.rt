@@ -6,8 +6,7 @@ ghost use Rattle.std.specs.Bool.{OnTrue, OnFalse};
 ghost use Rattle.nova_range.specs.Rights.{read_right, write_right};
 ghost use Rattle.nova_utcb.specs.Pages.{IsWidth};
 
-use crate::reach::{MESSAGE_SIZE, OWN_PAGE, Reach};
-use bitflags::Flags;
+use crate::reach::{OWN_PAGE, Reach, frame_with, is_message};
 use nova_model::{Page, Rights};
 use rv_core::bus::Bus;
 use std::marker::Model;
@@ -77,18 +76,14 @@ impl<'a> Preview<'a> {
         ensures there { IfSome result (λ frame. frame < length self.now.reach.memory.ram + self.now.reach.consoles) }
     {
         let page = self.page_at(address / 4096)?;
-        if page.rights.contains(right) {
-            Some(page.frame)
-        } else {
-            None
-        }
+        frame_with(page, right)
     }
 
     /// Whether an address is among the message words of the thread that acts.
     fn is_own(&self, address: u32) -> bool
         ensures { result ≡ is_some (words_at (reached self.now.reach) address) }
     {
-        self.is_thread && address / 4096 == OWN_PAGE && address % 4096 < MESSAGE_SIZE
+        self.is_thread && is_message(address)
     }
 
     /// A load that finds no frame: message words, or nothing.

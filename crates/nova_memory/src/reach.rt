@@ -1,9 +1,10 @@
-ghost use Rattle.std.specs.Prelude.{true, false, ℕ, ◌≡◌, ◌≤◌, ◌+◌, ◌-◌, ◌*◌, ◌/◌, ◌%◌, ◌^◌, ◌<◌, length, is_some, None, Some, IfSome, IfOk};
+ghost use Rattle.std.specs.Prelude.{true, false, ℕ, ◌≡◌, ◌≤◌, ◌+◌, ◌-◌, ◌*◌, ◌/◌, ◌%◌, ◌^◌, ◌<◌, ◌==◌, ◌&&◌, nat_lt, length, is_some, None, Some, IfSome, IfOk};
 ghost use Rattle.std.specs.List.{find};
 ghost use Rattle.std.specs.Bool.{OnTrue, OnFalse};
 ghost use Rattle.nova_utcb.specs.Pages.{IsWidth};
 ghost use Rattle.nova_range.specs.Rights.{read_right, write_right};
-ghost use Rattle.nova_model.specs.AddressSpaces.{frame_for, words_at};
+ghost use Rattle.nova_guest.specs.Frames.{frame_with};
+ghost use Rattle.nova_model.specs.AddressSpaces.{frame_for, message_size, own_page, words_at};
 ghost use Rattle.nova_model.specs.Delegations.{covers, page_in, reach};
 ghost use Rattle.nova_memory.specs.Reach.{loaded, reached, stored, takes};
 
@@ -22,7 +23,7 @@ use std::marker::Model;
 pub(crate) const OWN_PAGE: u32 = 0xfffff;
 
 /// How many bytes the message words of a thread have.
-pub(crate) const MESSAGE_SIZE: u32 = 512;
+const MESSAGE_SIZE: u32 = 512;
 
 /// What an instruction reaches: the frames, through the derivations of the protection domain of the
 /// execution context that acts, and the message words of one that is a thread. The derivation of the last
@@ -84,6 +85,27 @@ pub(crate) fn page_in(derivation: &Derivation, page: u32) -> Page
         frame: derivation.target + (page - derivation.base),
         rights: derivation.rights,
     }
+}
+
+/// The frame that a page leads to, where the right is there.
+#[inline(always)]
+pub(crate) fn frame_with(page: Page, right: Rights) -> Option<u32>
+    ensures frame { result ≡ frame_with right.0 page }
+    ensures same { IfSome result (λ frame. frame ≡ page.frame) }
+{
+    if page.rights.contains(right) {
+        Some(page.frame)
+    } else {
+        None
+    }
+}
+
+/// Whether an address is among the message words of a thread.
+#[inline(always)]
+pub(crate) fn is_message(address: u32) -> bool
+    ensures { result ≡ (address / 4096 == own_page && nat_lt (address % 4096) message_size) }
+{
+    address / 4096 == OWN_PAGE && address % 4096 < MESSAGE_SIZE
 }
 
 impl Reach {
@@ -194,18 +216,14 @@ impl Reach {
         ensures kept { self.new ≡ self.old }
     {
         let page = self.page_at(address / 4096)?;
-        if page.rights.contains(right) {
-            Some(page.frame)
-        } else {
-            None
-        }
+        frame_with(page, right)
     }
 
     /// Whether an address is among the message words of the thread that acts.
     fn is_own(&self, address: u32) -> bool
         ensures { result ≡ is_some (words_at (reached self.now) address) }
     {
-        self.is_thread && address / 4096 == OWN_PAGE && address % 4096 < MESSAGE_SIZE
+        self.is_thread && is_message(address)
     }
 
     /// A load that finds no frame: message words, or nothing.

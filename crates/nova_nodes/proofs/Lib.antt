@@ -4,7 +4,7 @@ pub mod Copies
 pub mod Found
 pub mod Indexed
 pub mod Joined
-pub mod Last
+pub mod Rising
 pub mod Rooms
 pub mod Kept
 pub mod Points
@@ -16,4 +16,3 @@ pub mod Linking
 pub mod Changes
 pub mod Members
 pub mod Ways
-pub mod Bounds

@@ -1,4 +1,3 @@
-pub mod ListIndices
 pub mod Spaces
 pub mod NodesStates
 pub mod Stores

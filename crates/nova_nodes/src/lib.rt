@@ -3,7 +3,6 @@
 
 pub mod guarded;
 mod linked;
-pub mod list_index;
 pub mod node;
 pub mod nodes;
 mod space;
@@ -11,7 +10,6 @@ mod spaces;
 mod store;
 
 pub use guarded::Guarded;
-pub use list_index::ListIndex;
 pub use nodes::Nodes;
 pub use nova_model::Derivation;
 pub use nova_range::{Entry, Index, Kind, Range, Rights};

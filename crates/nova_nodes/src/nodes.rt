@@ -331,10 +331,12 @@ impl<I: Index> Nodes<I> {
         }
     }
 
-    /// The end of the way from a derivation from newest child to newest child.
-    fn walk(&self, from: Derivation) -> Derivation
-        requires there { Contains self.now.delegations.list from }
-        ensures leaf { IsOnWay self.now.delegations.list from result }
+    /// The derivation at the end of the way from one that is there from newest child to newest child, for
+    /// callers that only look.
+    pub fn leaf_of(&self, from: Derivation) -> Derivation
+        requires { Contains self.now.delegations.list from }
+        ensures leaf { result ≡ leaf_by self.now.delegations.next self.now.delegations.list from }
+        ensures way { IsOnWay self.now.delegations.list from result }
         ensures last { newest_child self.now.delegations.list result.id ≡ None }
     {
         let mut at = from;
@@ -356,7 +358,7 @@ impl<I: Index> Nodes<I> {
         ensures kept { self.new ≡ self.old }
     {
         let start = self.resume(&from);
-        let leaf = self.walk(start);
+        let leaf = self.leaf_of(start);
         self.trail = Trail {
             from: from.id,
             at: step_back(&from, &leaf),

@@ -14,10 +14,6 @@ pub all_from : {T : Type 0} (P : T → Type 0) (xs : List T) → ((x : T) → Is
 all_from P [] h = tt
 all_from P (x ∷ xs) h = (h x (inl refl), all_from P xs (λ y i. h y (inr i)))
 
-pub all_weaker : {T : Type 0} (P Q : T → Type 0) (xs : List T) → ((x : T) → P x → Q x) → AllByRecursion P xs → AllByRecursion Q xs
-all_weaker P Q [] weaker all = tt
-all_weaker P Q (x ∷ xs) weaker all = (weaker x all.0, all_weaker P Q xs weaker all.1)
-
 pub filtered_in : {T : Type 0} (p : T → Bool) (xs : List T) (x : T) → IsIn (filter p xs) x → IsIn xs x × (p x ≡ true)
 filtered_in p [] x i = absurd i
 filtered_in p (y ∷ ys) x i = by_test (λ j. filtered_in p ys x j) i

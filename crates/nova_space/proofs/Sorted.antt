@@ -8,9 +8,8 @@ use Rattle.std.proofs.lemmas.Nat.{pow_pos}
 use Rattle.nova_range.specs.declared.index.Entry.{Entry}
 use Rattle.nova_range.specs.Ranges.{IsRange, end_of, overlaps}
 use Rattle.nova_range.specs.Indices.{IsRising, IsSorted, begins_before, put_in, taken_out, has_base, has_place, ends_after, key_at, key_of}
-use Rattle.nova_space.specs.Cached.{IsIn}
+use Rattle.nova_space.specs.Cached.{IsIn, is_below}
 use Rattle.nova_space.proofs.Members.{all_at, all_from, filtered_in}
-use Rattle.nova_space.specs.Cached.{is_below}
 
 -- all pass, or none
 pub filter_all : {T : Type 0} (p : T → Bool) (xs : List T) → AllByRecursion (λ x. p x ≡ true) xs → filter p xs ≡ xs
@@ -110,21 +109,6 @@ sorted_with x es sorted range apart = record {
     between : (e f : Entry) → end_of e.range ≤ x.range.base → IsIn (x ∷ filter (λ e. not (begins_before x e)) es) f → end_of e.range ≤ f.range.base
     between e f low (inl is) = rw (sym is) low
     between e f low (inr i) = let far = behind f i in let some = pow_pos x.range.order in omega arith
-
--- the first that has a place at or after this one is the one of least base that does
-pub first_least : (place : ℕ) (es : List Entry) (e f : Entry) → IsRising es → find (ends_after place) es ≡ Some e → IsIn es f → ends_after place f ≡ true → e.range.base ≤ f.range.base
-first_least place [] e f rising is i h = absurd i
-first_least place (a ∷ es) e f rising is i h = by_test (ends_after place a) refl i is (λ j k. first_least place es e f rising.1 k j h)
-  where
-    by_test : (t : Bool) → ends_after place a ≡ t → IsIn (a ∷ es) f → find (ends_after place) (a ∷ es) ≡ Some e → (IsIn es f → find (ends_after place) es ≡ Some e → e.range.base ≤ f.range.base) → e.range.base ≤ f.range.base
-    by_test true t (inl same) g rest = let it : a ≡ e = (let k : Some a ≡ Some e = rw t at g in cc) in rw (sym it, sym same) (omega arith)
-    by_test true t (inr j) g rest =
-        let it : a ≡ e = (let k : Some a ≡ Some e = rw t at g in cc) in
-        let later = all_at (λ b. end_of a.range ≤ b.range.base) es f rising.0 j in
-        let some = pow_pos a.range.order in
-        rw (sym it) (omega arith)
-    by_test false t (inl same) g rest = let k : ends_after place f ≡ false = ap (ends_after place) (sym same) ∙ t in absurd (cc)
-    by_test false t (inr j) g rest = let k : find (ends_after place) es ≡ Some e = rw t at g in rest j k
 
 -- one more at the place that so many come before
 pub put_in_is : (x : Entry) (es : List Entry) → IsRising es → insert es (length (filter (is_below x.range.base) es)) x ≡ put_in x es

@@ -51,8 +51,10 @@ fn serve<R: Threads + Wait + Sync, D: Depot, O: Sink, G: Gate + Sync>(
 /// scenario over round robin of at most N turns, or over the order that was read from ORDER, and appends nothing. `bench` runs the
 /// scenario that `generated` gives, which is valid and of one processor, so that its order is round robin; it writes a line that
 /// sums the run up, and does nothing to the depot. None of a run's turns is idle, and it has at most N turns. Delegations are a sound forest after
-/// each part of it. Where the event of a turn answers SUCCESS to a revoke, that revoke ran, and after the
-/// turn nothing is left of what it took away. From the turn that made it on each virtual CPU is a guest alone: its view at the end, its
+/// each part of it. Where the event of a turn answers SUCCESS to a revoke, the turn ends the one that its caller began in an earlier turn, of
+/// the range and with the flag that its registers had then, and has run ever since. Nothing of that revoke's scope is left: no derivation
+/// leads to what an ancestor of it, of the revoker's, leads to from a place of the range; nor, where the revoker's own go too, has the
+/// revoker one that lies in the range. From the turn that made it on each virtual CPU is a guest alone: its view at the end, its
 /// exits and the bytes that it stores to consoles are what its view then and its inputs since come to. The answer is Done exactly where the run ends quiet, and Limit exactly where it
 /// doesn't; it has then taken N turns, unless the order was read. `check` writes `ok` and answers Done.
 ///

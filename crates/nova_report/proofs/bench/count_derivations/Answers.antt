@@ -1,7 +1,7 @@
 use Rattle.std.proofs.Common.{rules, arith, ◌≡◌, ◌∙◌, sym, ap, length, Some, None}
 use Rattle.std.specs.List.{find}
 use Rattle.nova_model.specs.Delegations.{is_from, from_id}
-use Rattle.nova_report.proofs.Rising.{from_0, least_found, found_first, found_from, found_none}
+use Rattle.nova_nodes.proofs.Rising.{from_0, least_found, found_first, found_from, found_none}
 use Rattle.nova_report.proofs.bench.count_derivations.Goals as goal
 
 pub loop-derivation-init : goal.loop-derivation-init

@@ -2,7 +2,8 @@ use Rattle.std.proofs.Common.{rules, arith, ◌≡◌, ◌∙◌, sym, ◌++◌,
 use Rattle.std.specs.List.{find}
 use Rattle.nova_report.specs.Report.{derivation_line}
 use Rattle.nova_model.specs.Delegations.{is_from, from_id}
-use Rattle.nova_report.proofs.Rising.{from_0, least_found, found_first, one_more, no_more}
+use Rattle.nova_nodes.proofs.Rising.{from_0, least_found, found_first}
+use Rattle.nova_report.proofs.Written.{one_more, no_more}
 use Rattle.nova_report.proofs.derivations.write_derivations.Goals as goal
 
 pub loop-derivation-init : goal.loop-derivation-init

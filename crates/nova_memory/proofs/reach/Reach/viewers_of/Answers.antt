@@ -2,9 +2,8 @@ use Rattle.std.proofs.Common.{rules, arith, ◌≡◌, ◌∙◌, ◌+◌, ◌�
 use Rattle.std.specs.List.{find}
 use Rattle.nova_model.specs.Delegations.{from_id, is_from}
 use Rattle.nova_model.specs.Forest.{IsForest}
-use Rattle.nova_nodes.proofs.Last.{from_first}
+use Rattle.nova_nodes.proofs.Rising.{found_first, found_none, from_0, least_found}
 use Rattle.nova_memory.specs.Reach.{ReachState}
-use Rattle.nova_memory.proofs.Rising.{found_first, found_none, from_0}
 use Rattle.nova_memory.proofs.Seen.{all_left, is_joined, none_left, one_further}
 use Rattle.nova_memory.proofs.reach.Reach.viewers_of.Goals as goal
 
@@ -18,7 +17,7 @@ loop-d-smaller c =
     let f = c.args.self.now.nodes.delegations in
     let forest : IsForest f = subst (λ (r : ReachState). IsForest r.nodes.delegations) c.self.view_is c.in-Some.ensures.sound.forest in
     let least : from_id f.list c.loop-d.id ≡ Some c.in-Some.d = search rules in
-    let is : find (is_from c.loop-d.id) f.list ≡ Some c.in-Some.d = sym (from_first c.loop-d.id f.list forest.rising) ∙ least in
+    let is : find (is_from c.loop-d.id) f.list ≡ Some c.in-Some.d = sym (least_found c.loop-d.id f.list forest.rising) ∙ least in
     let next : c.in_ok-next.next ≡ c.in-Some.d.id + 1 = search rules in
     let first = ap length (found_first c.loop-d.id f.list c.in-Some.d forest.rising is ∙ ap (λ (n : ℕ). c.in-Some.d ∷ filter (is_from n) f.list) (sym next)) in
     omega (arith, first)
@@ -28,7 +27,7 @@ loop-d-preserved c =
     let f = c.args.self.now.nodes.delegations in
     let forest : IsForest f = subst (λ (r : ReachState). IsForest r.nodes.delegations) c.self.view_is c.in-Some.ensures.sound.forest in
     let least : from_id f.list c.loop-d.id ≡ Some c.in-Some.d = search rules in
-    let is : find (is_from c.loop-d.id) f.list ≡ Some c.in-Some.d = sym (from_first c.loop-d.id f.list forest.rising) ∙ least in
+    let is : find (is_from c.loop-d.id) f.list ≡ Some c.in-Some.d = sym (least_found c.loop-d.id f.list forest.rising) ∙ least in
     let next : c.in_ok-next.next ≡ c.in-Some.d.id + 1 = search rules in
     one_further f.list (filter (is_from c.loop-d.id) f.list) (filter (is_from c.in_ok-next.next) f.list) c.args.frame c.loop-d.viewers c.join.new.viewers c.in-Some.d
     c.loop-d.invariant (found_first c.loop-d.id f.list c.in-Some.d forest.rising is ∙ ap (λ (n : ℕ). c.in-Some.d ∷ filter (is_from n) f.list) (sym next))
@@ -39,5 +38,5 @@ returns c =
     let f = c.args.self.now.nodes.delegations in
     let forest : IsForest f = subst (λ (r : ReachState). IsForest r.nodes.delegations) c.self.view_is c.from_id.ensures.sound.forest in
     let least : from_id f.list c.loop-d.id ≡ None = search rules in
-    let is : find (is_from c.loop-d.id) f.list ≡ None = sym (from_first c.loop-d.id f.list forest.rising) ∙ least in
+    let is : find (is_from c.loop-d.id) f.list ≡ None = sym (least_found c.loop-d.id f.list forest.rising) ∙ least in
     none_left f.list (filter (is_from c.loop-d.id) f.list) c.args.frame c.loop-d.viewers c.loop-d.invariant (found_none c.loop-d.id f.list is)

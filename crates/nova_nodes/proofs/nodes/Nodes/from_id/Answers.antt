@@ -3,7 +3,7 @@ use Rattle.std.specs.Prelude.{Option}
 use Rattle.std.specs.List.{find}
 use Rattle.nova_model.specs.Delegations.{Delegations, from_id, is_from}
 use Rattle.nova_model.specs.declared.delegation.Derivation.{Derivation}
-use Rattle.nova_nodes.proofs.Last.{from_first}
+use Rattle.nova_nodes.proofs.Rising.{least_found}
 use Rattle.nova_nodes.proofs.Members.{found_placed}
 use Rattle.nova_nodes.proofs.nodes.Nodes.from_id.Goals as goal
 
@@ -12,7 +12,7 @@ returns-clause-found g c =
     let list = c.self.inside.list.list in
     let seen : c.args.self.now.delegations.list ≡ list = search rules in
     let gives : c.from_id.result ≡ find (is_from c.args.id) list = search rules in
-    gives ∙ sym (from_first c.args.id list c.self.invariant.0.forest.rising) ∙ ap (λ (ds : List Derivation). from_id ds c.args.id) (sym seen)
+    gives ∙ sym (least_found c.args.id list c.self.invariant.0.forest.rising) ∙ ap (λ (ds : List Derivation). from_id ds c.args.id) (sym seen)
 
 pub returns-clause-placed : goal.returns-clause-placed
 returns-clause-placed g c =

@@ -14,8 +14,8 @@ invariant_of-self g c =
     let from = c.args.from in
     let seen : c.args.self.now.delegations.list ≡ f.list = search rules in
     let i = in_from_contains f.list from (subst (λ (ds : List Derivation). Contains ds from) seen c.requires) in
-    let way = subst (λ (ds : List Derivation). IsOnWay ds from c.walk-leaf.result) seen (way_through c.args.self.now.delegations.list from c.resume-start.result c.walk-leaf.result c.resume-start.ensures.way c.walk-leaf.ensures.leaf) in
-    let trail = subst (λ at. IsTrail f (record { from = from.id; at = at; next = f.next })) (sym c.step_back.ensures) (trail_gone f from c.walk-leaf.result c.self.invariant.0.forest i way) in
+    let way = subst (λ (ds : List Derivation). IsOnWay ds from c.leaf_of-leaf.result) seen (way_through c.args.self.now.delegations.list from c.resume-start.result c.leaf_of-leaf.result c.resume-start.ensures.way c.leaf_of-leaf.ensures.way) in
+    let trail = subst (λ at. IsTrail f (record { from = from.id; at = at; next = f.next })) (sym c.step_back.ensures) (trail_gone f from c.leaf_of-leaf.result c.self.invariant.0.forest i way) in
     (c.self.invariant.0, (c.self.invariant.1.0, (c.self.invariant.1.1.0, (c.self.invariant.1.1.1.0, trail))))
 
 pub returns-clause-leaf : goal.returns-clause-leaf
@@ -24,6 +24,6 @@ returns-clause-leaf g c =
     let from = c.args.from in
     let seen : c.args.self.now.delegations ≡ f = search rules in
     let i = in_from_contains f.list from (subst (λ (h : Delegations). Contains h.list from) seen c.requires) in
-    let way = subst (λ (h : Delegations). IsOnWay h.list from c.walk-leaf.result) seen (way_through c.args.self.now.delegations.list from c.resume-start.result c.walk-leaf.result c.resume-start.ensures.way c.walk-leaf.ensures.leaf) in
-    let last = subst (λ (h : Delegations). newest_child h.list c.walk-leaf.result.id ≡ None) seen c.walk-leaf.ensures.last in
-    way_ends f c.self.invariant.0.forest from c.walk-leaf.result i way last ∙ ap (λ (h : Delegations). leaf_by h.next h.list from) (sym seen)
+    let way = subst (λ (h : Delegations). IsOnWay h.list from c.leaf_of-leaf.result) seen (way_through c.args.self.now.delegations.list from c.resume-start.result c.leaf_of-leaf.result c.resume-start.ensures.way c.leaf_of-leaf.ensures.way) in
+    let last = subst (λ (h : Delegations). newest_child h.list c.leaf_of-leaf.result.id ≡ None) seen c.leaf_of-leaf.ensures.last in
+    way_ends f c.self.invariant.0.forest from c.leaf_of-leaf.result i way last ∙ ap (λ (h : Delegations). leaf_by h.next h.list from) (sym seen)

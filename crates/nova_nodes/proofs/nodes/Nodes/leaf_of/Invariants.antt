@@ -1,7 +1,7 @@
 use Rattle.std.proofs.Common.{◌-◌}
 use Rattle.nova_forest.proofs.Members.{IsIn}
 use Rattle.nova_nodes.specs.Trails.{IsOnWay}
-use Rattle.nova_nodes.proofs.nodes.Nodes.walk.Given as goal
+use Rattle.nova_nodes.proofs.nodes.Nodes.leaf_of.Given as goal
 
 abbrev pub invariant-loop-child : goal.invariant-loop-child
 invariant-loop-child g l = record {

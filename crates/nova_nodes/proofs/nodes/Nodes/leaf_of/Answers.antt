@@ -4,12 +4,12 @@ use Rattle.nova_model.specs.Delegations.{id_of, newest_child, with_id}
 use Rattle.nova_model.specs.declared.delegation.Derivation.{Derivation}
 use Rattle.nova_forest.proofs.Members.{IsIn, contains_from_in, in_from_contains}
 use Rattle.nova_nodes.specs.Trails.{Here, IsOnWay}
-use Rattle.nova_nodes.proofs.Ways.{below_next, looked, way_on}
-use Rattle.nova_nodes.proofs.nodes.Nodes.walk.Goals as goal
+use Rattle.nova_nodes.proofs.Ways.{below_next, looked, way_ends, way_on}
+use Rattle.nova_nodes.proofs.nodes.Nodes.leaf_of.Goals as goal
 
 pub loop-child-init : goal.loop-child-init
 loop-child-init g c =
-    let i = in_from_contains c.args.self.now.delegations.list c.args.from c.requires.there in
+    let i = in_from_contains c.args.self.now.delegations.list c.args.from c.requires in
     record { at = Here c.args.from; at_there = i }
 
 pub unreachable-requires : goal.unreachable-requires
@@ -47,3 +47,10 @@ loop-child-preserved g c =
       at = subst (λ (d : Derivation). IsOnWay f.list c.args.from d) same (way_on f.list c.args.from c.loop-child.at l.child c.loop-child.invariant.at l.newest);
       at_there = subst (λ (d : Derivation). IsIn f.list d) same l.step.there;
     }
+
+pub returns-clause-leaf : goal.returns-clause-leaf
+returns-clause-leaf g c =
+    let f = c.args.self.now.delegations in
+    let i = in_from_contains f.list c.args.from c.requires in
+    let last : newest_child f.list c.loop-child.at.id ≡ None = search rules in
+    way_ends f c.newest_child.ensures.sound.forest c.args.from c.loop-child.at i c.loop-child.invariant.at last
