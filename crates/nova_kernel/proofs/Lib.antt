@@ -10,3 +10,4 @@ pub mod Views
 pub mod Stores
 pub mod Advancing
 pub mod Going
+pub mod Homes

@@ -22,6 +22,7 @@ pub use Rattle.nova_deeds.specs.Counted
 pub mod Views
 pub mod Known
 pub mod Parts
+pub mod Homes
 pub mod ObjectTypes
 pub mod Revoking
 pub mod Going

@@ -4,6 +4,7 @@ ghost use Rattle.nova_model.specs.State.{no_transfer};
 ghost use Rattle.nova_choice.specs.Schedules.{root_schedule};
 ghost use Rattle.nova_kernel.specs.Parts.{shown};
 
+use crate::inventory::Inventory;
 use crate::parts::{Counts, Entries, Parts, Rest, Tables, let_go, together};
 use nova_choice::root_queues;
 use nova_deeds::{
@@ -20,7 +21,7 @@ fn root_tables(alloc: Global, root: Root) -> Result<Tables, AllocError>
     ensures contexts { IfOk result (λ t. t.contexts.items ≡ None ∷ Some (root_context root) ∷ None ∷ []) }
     ensures transfers { IfOk result (λ t. t.transfers.items ≡ None ∷ Some no_transfer ∷ None ∷ []) }
 {
-    let objects = root_objects(alloc, root)?;
+    let objects = Inventory::new(alloc, root_objects(alloc, root)?)?;
     let contexts = root_contexts(alloc, root)?;
     let transfers = root_transfers(alloc)?;
     Ok(Tables {

@@ -48,7 +48,7 @@ impl Parts {
                 return Some(*last);
             }
         }
-        let actor = actor_of(&self.objects, &self.contexts, sc)?;
+        let actor = actor_of(self.objects.table(), &self.contexts, sc)?;
         Some(Chosen { sc, actor })
     }
 

@@ -1,10 +1,12 @@
 ghost use Rattle.std.specs.Prelude.{◌≡◌, ◌^◌, ◌-◌, ◌<◌, ◌≤◌, length, true, false, OnOk, OnErr};
+ghost use Rattle.std.specs.List.{AllByRecursion};
 ghost use Rattle.nova_model.specs.Capabilities.{is_held, rights_to};
 ghost use Rattle.nova_model.specs.Creation.{root_capability, with_object};
 ghost use Rattle.nova_model.specs.Deeds.{is_making};
 ghost use Rattle.nova_sched.specs.Queues.{HasRoom as HasRoomIn};
 ghost use Rattle.nova_kernel.specs.Parts.{shown, HasRoom, HasRoomFor};
 ghost use Rattle.nova_deeds.specs.Counted.{AreTables, IsNumbered};
+ghost use Rattle.nova_laws.specs.Tables.{Refers};
 ghost use Rattle.nova_choice.specs.Schedules.{FitsQueues, HasQueue};
 ghost use Rattle.nova_choice.specs.Schedules.{joined};
 
@@ -113,6 +115,7 @@ impl Parts {
         requires stamp { self.old.queues.all.next_stamp < 2 ^ 64 - 1 }
         requires numbered { IsNumbered (2 ^ 31) (shown self.old) }
         requires tables { AreTables (shown self.old) }
+        requires refer { AllByRecursion (Refers (shown self.old).objects) (shown self.old).objects }
         requires selector { selector < 2 ^ 20 }
         requires free { is_held (shown self.old) pd selector ≡ false }
         ensures added { shown self.new ≡ with_object (shown self.old) pd selector new }

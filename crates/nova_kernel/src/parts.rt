@@ -2,10 +2,10 @@ ghost use Rattle.std.specs.Prelude.{◌≡◌, ◌≤◌, length, option_map, If
 ghost use Rattle.nova_kernel.specs.Parts.{shown};
 ghost use Rattle.nova_kernel.specs.Views.{semaphore_at};
 
+use crate::inventory::Inventory;
 use nova_ec::Ecs;
 use nova_memory::Reach;
 use nova_model::Transfer;
-use nova_objects::Objects;
 use nova_running::{Guests, Revokes};
 use nova_sched::Queues;
 use nova_sem::Sems;
@@ -18,7 +18,7 @@ use std::alloc::AllocError;
 #[derive(Drop)]
 pub struct Parts {
     pub reach: Reach,
-    pub objects: Objects,
+    pub objects: Inventory,
     pub contexts: Ecs,
     pub queues: Queues,
     pub transfers: Vec<Option<Transfer>>,
@@ -34,7 +34,7 @@ pub struct Parts {
 /// The first three tables.
 #[derive(Drop)]
 pub(crate) struct Tables {
-    pub objects: Objects,
+    pub objects: Inventory,
     pub contexts: Ecs,
     pub transfers: Vec<Option<Transfer>>,
 }

@@ -23,6 +23,6 @@ impl Parts {
         ensures revokes { self.new.revokes ≡ self.old.revokes }
         ensures log { self.new.reach.room ≡ self.old.reach.room }
     {
-        mark_all(&mut self.queues, &self.objects, &self.contexts, cpu);
+        mark_all(&mut self.queues, self.objects.table(), &self.contexts, cpu);
     }
 }

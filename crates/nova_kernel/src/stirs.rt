@@ -1,6 +1,7 @@
-ghost use Rattle.std.specs.Prelude.{◌≡◌, ◌-◌, ◌^◌, ◌<◌, ℕ, false, slice_get, IfSome};
+ghost use Rattle.std.specs.Prelude.{◌≡◌, ◌-◌, ◌^◌, ◌<◌, ℕ, slice_get, IfSome};
 ghost use Rattle.std.specs.Bool.{OnFalse};
 ghost use Rattle.nova_model.specs.State.{entry};
+ghost use Rattle.nova_kernel.specs.Homes.{AreAlone, HasCounts, IsForNone, IsUnseen};
 ghost use Rattle.nova_kernel.specs.Parts.{shown};
 ghost use Rattle.nova_deeds.specs.Stirs.{is_seen, is_stirring};
 ghost use Rattle.nova_running.specs.Guests.{risen_from};
@@ -45,14 +46,55 @@ impl Parts {
         }
     }
 
-    /// Whether a deed may be an input from outside for some virtual CPU.
-    fn may_stir(&self, deed: Deed) -> bool
-        ensures { OnFalse result ((ec guest : ℕ) → is_stirring (shown self.now) self.now.reach.written ec deed guest ≡ false) }
+    /// Whether one of these protection domains may have a virtual CPU besides this one.
+    #[tactic(auto, using(crate::proofs::Homes::none_yet, crate::proofs::Homes::one_alone, crate::proofs::Homes::all_alone))]
+    fn have_other(&self, ec: u32, domains: &[u32]) -> bool
+        ensures { OnFalse result (AreAlone (shown self.now).objects ec domains.now) }
+    {
+        for pd in domains {
+            if self.objects.may_have_other(*pd, ec) {
+                return true;
+            }
+        }
+        false
+    }
+
+    /// Whether what an execution context stored may be seen by another that is a virtual CPU: where it is not
+    /// known who sees the frame, too.
+    #[tactic(auto, using(crate::proofs::Homes::unseen_none, crate::proofs::Homes::unseen_beyond, crate::proofs::Homes::unseen_alone))]
+    fn may_be_seen(&self, ec: u32) -> bool
+        ensures { OnFalse result (IsUnseen (shown self.now) ec self.now.reach.written) }
+    {
+        let Some(frame) = self.reach.stored_to() else {
+            return false;
+        };
+        if frame >= self.reach.ram_frames() {
+            return false;
+        }
+        match self.reach.known_viewers(frame) {
+            Some(viewers) => self.have_other(ec, viewers.domains()),
+            None => true,
+        }
+    }
+
+    /// Whether a deed of an execution context may be an input from outside for some virtual CPU.
+    #[tactic(auto, using(crate::proofs::Homes::store_for_none))]
+    fn may_stir(&self, ec: u32, deed: Deed) -> bool
+        ensures { OnFalse result (IsForNone (shown self.now) (is_stirring (shown self.now) self.now.reach.written ec deed)) }
     {
         match deed {
-            Deed::Steps => self.reach.has_stored(),
+            Deed::Steps => self.may_be_seen(ec),
             Deed::Raises { .. } | Deed::Rests | Deed::Skips { .. } => false,
             _ => true,
+        }
+    }
+
+    /// Looks up who sees what an instruction stored to, where that is not remembered.
+    fn look(&mut self, deed: Deed)
+        ensures kept { self.new ≡ self.old }
+    {
+        if let Deed::Steps = deed {
+            self.reach.look();
         }
     }
 
@@ -72,7 +114,8 @@ impl Parts {
 
     /// Counts what a deed that an execution context did is for virtual CPUs.
     pub fn stir(&mut self, ec: u32, deed: Deed)
-        requires { (g : ℕ) → IfSome (entry (slice_get (shown self.old).stirs.guests g)) (λ n. n < 2 ^ 64 - 1) }
+        requires counted { HasCounts (shown self.old) }
+        requires few { (g : ℕ) → IfSome (entry (slice_get (shown self.old).stirs.guests g)) (λ n. n < 2 ^ 64 - 1) }
         ensures shown { shown self.new ≡ record (shown self.old) {
           stirs = record (shown self.old).stirs {
             guests = risen_from (is_stirring (shown self.old) self.old.reach.written ec deed) 0 (shown self.old).stirs.guests;
@@ -84,8 +127,8 @@ impl Parts {
         ensures cpus { self.new.cpus ≡ self.old.cpus }
         ensures log { self.new.reach.room ≡ self.old.reach.room }
     {
-        if self.may_stir(deed) {
-            self.reach.look();
+        self.look(deed);
+        if self.may_stir(ec, deed) {
             self.stir_each(ec, deed);
         }
     }

@@ -7,6 +7,7 @@ ghost use Rattle.nova_model.specs.Turn.{state_after, answer_of, turn};
 ghost use Rattle.nova_kernel.specs.Views.{IsMaking, turns_taken};
 ghost use Rattle.nova_sched.specs.Queues.{queued_at};
 ghost use Rattle.nova_choice.specs.Choices.{chosen_of};
+ghost use Rattle.nova_kernel.specs.Homes.{HasCounts};
 ghost use Rattle.nova_kernel.specs.Known.{AreKnown};
 ghost use Rattle.nova_kernel.specs.Going.{HasRaised, Stays, WentOn};
 ghost use Rattle.nova_kernel.specs.Parts.{shown};
@@ -105,6 +106,7 @@ impl Parts {
 
     /// Counts what a deed is for virtual CPUs, and tells its sign.
     fn note(&mut self, ec: u32, deed: Deed) -> (EventKind, u32, u32)
+        requires counted { HasCounts (shown self.old) }
         requires charged { IsToBeStirred (shown self.old) }
         requires turns { self.old.turns < 2 ^ 31 }
         ensures sign { result ≡ sign_of deed }
@@ -126,6 +128,7 @@ impl Parts {
     /// out of the code of each.
     #[inline(never)]
     fn note_store(&mut self, ec: u32)
+        requires counted { HasCounts (shown self.old) }
         requires charged { IsToBeStirred (shown self.old) }
         requires turns { self.old.turns < 2 ^ 31 }
         ensures shown { shown self.new ≡ risen_in (shown self.old) (is_stirring (shown self.old) self.old.reach.written ec Deed.Steps) }
@@ -141,6 +144,7 @@ impl Parts {
     /// Counts what an instruction that went on is for virtual CPUs.
     #[inline(always)]
     fn note_step(&mut self, ec: u32)
+        requires counted { HasCounts (shown self.old) }
         requires charged { IsToBeStirred (shown self.old) }
         requires turns { self.old.turns < 2 ^ 31 }
         ensures shown { shown self.new ≡ risen_in (shown self.old) (is_stirring (shown self.old) self.old.reach.written ec Deed.Steps) }

@@ -8,9 +8,12 @@ use Rattle.nova_model.specs.declared.delegation.Derivation.{Derivation}
 use Rattle.nova_memory.specs.declared.sights.Sight.{Sight}
 use Rattle.nova_memory.specs.declared.viewers.Viewers.{Viewers}
 
+abbrev pub domains_of : Viewers → List ℕ
+domains_of v = take v.count v.domains
+
 -- the protection domain is one of these
 abbrev pub sees : Viewers → ℕ → Bool
-sees v pd = list_any (λ p. p == pd) (take v.count v.domains)
+sees v pd = list_any (λ p. p == pd) (domains_of v)
 
 -- these see the frame, and no other does
 abbrev pub AreViewers : List Derivation → ℕ → Viewers → Type 0

@@ -40,6 +40,13 @@ impl Reach {
         }
     }
 
+    /// The protection domains whose memory leads to a frame, where that is remembered.
+    pub fn known_viewers(&self, frame: u32) -> Option<Viewers>
+        ensures { IfSome result (AreViewers self.now.nodes.delegations.list frame) }
+    {
+        self.sights.get(frame)
+    }
+
     /// The protection domains whose memory leads to a frame; nothing where they are too many to keep.
     fn viewers_of(&self, frame: u32) -> Option<Viewers>
         ensures { IfSome result (AreViewers self.now.nodes.delegations.list frame) }

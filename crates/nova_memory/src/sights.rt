@@ -60,7 +60,7 @@ impl Sights {
     }
 
     /// Whether it would find nothing new to look who sees a frame: that was done, or it is none of RAM.
-    pub fn has_looked(&self, frame: u32) -> bool {
+    pub(crate) fn has_looked(&self, frame: u32) -> bool {
         match self.sights.get(frame as usize) {
             Some(sight) => sight.version == self.version && self.version > 0,
             None => true,

@@ -1,6 +1,6 @@
 ghost use Rattle.std.specs.Prelude.{◌≡◌, ◌==◌, ◌||◌, ℕ, false};
 ghost use Rattle.std.specs.Bool.{OnTrue};
-ghost use Rattle.nova_memory.specs.Sights.{sees};
+ghost use Rattle.nova_memory.specs.Sights.{domains_of, sees};
 
 /// How many domains are kept of a frame at most.
 pub const MOST: usize = 8;
@@ -28,6 +28,13 @@ impl Viewers {
         ensures { result ≡ sees self.now pd }
     {
         self.domains.iter().take(self.count).any(|p| *p == pd)
+    }
+
+    /// The domains.
+    pub fn domains(&self) -> &[u32]
+        ensures { result.now ≡ domains_of self.now }
+    {
+        &self.domains[..self.count.min(MOST)]
     }
 
     /// One more domain is among them. It answers false, and nothing has changed, where all places are taken.

@@ -5,8 +5,8 @@ use Rattle.nova_deeds.proofs.Counts.{stirs-fit}
 use Rattle.nova_deeds.proofs.Taken.{GoesUnseen, goes_unseen}
 use Rattle.nova_kernel.proofs.parts.Parts.note.Goals as goal
 
-pub stir-requires : goal.stir-requires
-stir-requires c = stirs-fit (shown c.args.self.now) c.requires.charged c.requires.turns
+pub stir-requires-clause-few : goal.stir-requires-clause-few
+stir-requires-clause-few c = stirs-fit (shown c.args.self.now) c.requires.charged c.requires.turns
 
 pub returns-then-goes_unseen-clause-sign : goal.returns-then-goes_unseen-clause-sign
 returns-then-goes_unseen-clause-sign c =

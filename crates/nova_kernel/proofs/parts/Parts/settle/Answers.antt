@@ -9,6 +9,7 @@ use Rattle.nova_sched.specs.Queues.{QueuesState, queued_at}
 use Rattle.nova_choice.proofs.Budgets.{still_queued}
 use Rattle.nova_deeds.proofs.Charges.{queued_risen}
 use Rattle.nova_deeds.proofs.Counts.{IsCharged-kept, IsCharged-risen}
+use Rattle.nova_kernel.proofs.Homes.{still_counted}
 use Rattle.nova_kernel.proofs.Making.{making-wants}
 use Rattle.nova_kernel.proofs.Ongoing.{settled_runs}
 use Rattle.nova_deeds.proofs.Taken.{IsSettled, settled_counts, settled_state, told_acts}
@@ -24,6 +25,10 @@ returns-in_err-deed-clause-making c =
 
 pub note-sign-requires-clause-charged : goal.note-sign-requires-clause-charged
 note-sign-requires-clause-charged c = IsCharged-kept (shown c.args.self.now) (shown c.act.new.self) c.in_ok-deed.ensures.kept c.requires.counted.charged
+
+pub note-sign-requires-clause-counted : goal.note-sign-requires-clause-counted
+note-sign-requires-clause-counted c =
+    still_counted (shown c.args.self.now) (shown c.act.new.self) c.args.chosen.actor c.in_ok-deed.deed c.in_ok-deed.ensures.done c.requires.counted.kept.tables.guests
 
 pub charge-requires-clause-charged : goal.charge-requires-clause-charged
 charge-requires-clause-charged c =

@@ -1,9 +1,10 @@
+use Rattle.std.proofs.Common.{◌∙◌, ap}
 use Rattle.nova_kernel.specs.Parts.{shown}
 use Rattle.nova_deeds.specs.Stirs.{is_stirring}
-use Rattle.nova_deeds.proofs.Calm.{none_rise}
+use Rattle.nova_kernel.proofs.Homes.{none_rises}
 use Rattle.nova_kernel.proofs.parts.Parts.stir.Goals as goal
 
 pub returns-else-may_stir-clause-shown : goal.returns-else-may_stir-clause-shown
 returns-else-may_stir-clause-shown c =
     let p = c.args.self.now in
-    none_rise (shown p) c.may_stir.result (λ e g. is_stirring (shown p) p.reach.written e c.args.deed g) c.args.ec c.may_stir.ensures c.if-may_stir.false
+    none_rises (shown p) c.may_stir.result (is_stirring (shown p) p.reach.written c.args.ec c.args.deed) c.requires.counted c.may_stir.ensures c.if-may_stir.false

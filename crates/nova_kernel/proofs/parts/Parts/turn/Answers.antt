@@ -16,6 +16,7 @@ use Rattle.nova_deeds.proofs.Charges.{queued_risen}
 use Rattle.nova_deeds.proofs.Counts.{IsCharged-kept, IsCharged-risen}
 use Rattle.nova_kernel.specs.Going.{HasRaised, Stays, WentOn}
 use Rattle.nova_model.specs.declared.deed.Deed.TheVariants.{Steps}
+use Rattle.nova_kernel.proofs.Homes.{still_counted}
 use Rattle.nova_kernel.proofs.Ongoing.{settled_runs}
 use Rattle.nova_deeds.proofs.Taken.{IsSettled, settled_counts, settled_state, told_acts}
 use Rattle.nova_kernel.proofs.parts.Parts.turn.Goals as goal
@@ -27,6 +28,11 @@ pub note_step-requires-clause-charged : goal.note_step-requires-clause-charged
 note_step-requires-clause-charged c =
     let went : WentOn c.args.self.now c.go_on.new.self c.in-Some.chosen.actor = c.go_on.ensures.went c.in-Next.is in
     IsCharged-kept (shown c.args.self.now) (shown c.go_on.new.self) went.kept c.requires.counted.charged
+
+pub note_step-requires-clause-counted : goal.note_step-requires-clause-counted
+note_step-requires-clause-counted c =
+    let went : WentOn c.args.self.now c.go_on.new.self c.in-Some.chosen.actor = c.go_on.ensures.went c.in-Next.is in
+    still_counted (shown c.args.self.now) (shown c.go_on.new.self) c.in-Some.chosen.actor Steps went.does c.requires.counted.kept.tables.guests
 
 pub charge-requires-clause-charged : goal.charge-requires-clause-charged
 charge-requires-clause-charged c =
