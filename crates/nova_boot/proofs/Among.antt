@@ -2,7 +2,7 @@
 use Rattle.std.proofs.Common.{◌≡◌, ℕ, ◌<◌, ◌⊎◌, List, [], ◌∷◌, length, subst, sym, inl, inr}
 use Rattle.std.specs.Prelude.{slice_index}
 use Rattle.std.specs.List.{AllByRecursion}
-use Rattle.nova_elf.specs.Fits.{Fits}
+use Rattle.nova_elf.specs.SegmentFits.{SegmentFits}
 use Rattle.nova_elf.specs.declared.program.Segment.{Segment}
 use Rattle.nova_model.specs.Memory.{Memory}
 use Rattle.nova_scenario.specs.Executables.{IsAmong, AreLaidIn, IsLaidItem}
@@ -21,7 +21,7 @@ of_one P image [] all among = absurd among
 of_one P image (first ∷ images) all (inl is) = subst P (sym is) all.0
 of_one P image (first ∷ images) all (inr later) = of_one P image images all.1 later
 
-pub segments_held : (m : Memory) (images : List Image) (address : ℕ) (file : List ℕ) (segments : List Segment) → ((i : ℕ) → slice_index file i < 256) → AllByRecursion (LiesThere m) images → AllByRecursion (Fits (length file)) segments → AreLaidIn images address file segments → AllByRecursion (HoldsSegment m address file) segments
+pub segments_held : (m : Memory) (images : List Image) (address : ℕ) (file : List ℕ) (segments : List Segment) → ((i : ℕ) → slice_index file i < 256) → AllByRecursion (LiesThere m) images → AllByRecursion (SegmentFits (length file)) segments → AreLaidIn images address file segments → AllByRecursion (HoldsSegment m address file) segments
 segments_held m images address file [] small there fit among = tt
 segments_held m images address file (s ∷ segments) small there fit among = (
   segment_held address file s fit.0 m small (of_one (LiesThere m) (segment_image address file s) images there among.0),

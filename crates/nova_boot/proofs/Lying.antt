@@ -6,7 +6,7 @@ use Rattle.std.proofs.lemmas.Bool.{cases_lt}
 use Rattle.std.proofs.lemmas.List.{length-append, length-take-le, length-drop, length-replicate, get_or-replicate, get_or_append_left, get_or-append-add, get_or-take, get_or-drop}
 use Rattle.std.proofs.lemmas.List.Elements.{All-replicate}
 use Rattle.std.proofs.lemmas.Option.{slice_get-get_or}
-use Rattle.nova_elf.specs.Fits.{Fits}
+use Rattle.nova_elf.specs.SegmentFits.{SegmentFits}
 use Rattle.nova_elf.specs.declared.program.Segment.{Segment}
 use Rattle.nova_frames.specs.Store.{AreWhole}
 use Rattle.nova_model.specs.Boot.{laid, with_image, with_images}
@@ -98,7 +98,7 @@ empty_byte m frames address is below =
     ∙ omega (arith, byte)
 
 -- the bytes of a segment's image
-module _ (address : ℕ) (file : List ℕ) (s : Segment) (fits : Fits (length file) s) where
+module _ (address : ℕ) (file : List ℕ) (s : Segment) (fits : SegmentFits (length file) s) where
   abbrev front : List ℕ
   front = slice_range file s.offset (s.offset + s.file)
 

@@ -28,7 +28,7 @@ use Rattle.nova_leases.proofs.Leasing.{runs}
 use Rattle.nova_burst.specs.Copies.{CopiesState, known_in}
 use Rattle.nova_burst.specs.Found.{IsFound}
 use Rattle.nova_burst.specs.Gathered.{AreGathered, HasPage, IsLedTo}
-use Rattle.nova_burst.specs.Lending.{IsCodeCopied, IsNew, LeaseView, StemsFrom, state_of}
+use Rattle.nova_burst.specs.Lending.{IsCodeCopied, IsNew, LeaseView, StemsFrom, lease_state_of}
 use Rattle.nova_burst.specs.declared.copies.Known.{Known}
 use Rattle.nova_burst.specs.declared.leasing.Leasable.{Leasable}
 
@@ -85,12 +85,12 @@ stems_new k cpu most r s l found are made =
     let regs : (view k g).regs ≡ l.run.steps.regs =
     ap (λ (v : Guest). v.regs) (view_is k g) ∙ (ap (λ (n : ℕ). (context k n).regs) made.guest ∙ (sym found.regs ∙ sym made.regs)) in
     let start : LeaseState = record { regs = (view k g).regs; pages = s.pages } in
-    let begins : start ≡ state_of l.run.steps = ap₂ (λ (x : Registers) (ps : List Page). record { regs = x; pages = ps }) regs (sym made.pages) in
-    let ran : lease_steps known l.run.steps.count start ≡ Some (state_of l.run.steps) = ap (λ (n : ℕ). lease_steps known n start) made.count ∙ ap Some begins in
+    let begins : start ≡ lease_state_of l.run.steps = ap₂ (λ (x : Registers) (ps : List Page). record { regs = x; pages = ps }) regs (sym made.pages) in
+    let ran : lease_steps known l.run.steps.count start ≡ Some (lease_state_of l.run.steps) = ap (λ (n : ℕ). lease_steps known n start) made.count ∙ ap Some begins in
     let actor : found.chosen.actor ≡ g = found.actor ∙ sym made.guest in
     let ready = ap (λ (v : Guest). v.state) (view_is k g) ∙ (ap (λ (n : ℕ). guest_state (context k n).state) (sym actor) ∙ ap guest_state found.may.ready) in
     let free : (view k g).recall ≡ false = ap (λ (v : Guest). v.recall) (view_is k g) ∙ (ap (λ (n : ℕ). (context k n).recall) (sym actor) ∙ found.may.recall) in
-    let is : IsRun k g l.run.steps.count (state_of l.run.steps) = runs known l.run.steps.count k g start (state_of l.run.steps) ready free guests refl are.fresh ran in
+    let is : IsRun k g l.run.steps.count (lease_state_of l.run.steps) = runs known l.run.steps.count k g start (lease_state_of l.run.steps) ready free guests refl are.fresh ran in
     record {
       processor = let a = found.processor in let b = made.its_cpu in omega arith;
       stems = record {

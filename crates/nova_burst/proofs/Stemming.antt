@@ -16,7 +16,7 @@ use Rattle.nova_leases.proofs.Copying.{IsStep, step_leased}
 use Rattle.nova_leases.proofs.Leasing.{runs}
 use Rattle.nova_leases.proofs.Stops.{stops}
 use Rattle.nova_burst.specs.Copies.{known_in}
-use Rattle.nova_burst.specs.Lending.{IsSameLease, LeaseView, MustStop, StemsFrom, state_of}
+use Rattle.nova_burst.specs.Lending.{IsSameLease, LeaseView, MustStop, StemsFrom, lease_state_of}
 use Rattle.nova_burst.specs.declared.copies.Known.{Known}
 
 -- some steps, and then more
@@ -65,14 +65,14 @@ same_but l m same =
     (ap₂ (λ (a : ℕ) (b : ℕ × ((ℕ × ℕ) × ℕ)). (a, b)) same.cpu (ap₂ (λ (a : ℕ) (b : (ℕ × ℕ) × ℕ). (a, b)) same.guest (ap₂ (λ (a : ℕ × ℕ) (b : ℕ). (a, b)) same.kept same.left))) same.known
 
 grown : (l : LeaseView) (t : Steps) (n : ℕ) (k : KernelState) → t.count ≡ l.run.steps.count + n → t.count ≤ l.run.left →
-    lease_steps (known_in l.known) n (state_of l.run.steps) ≡ Some (state_of t) → StemsFrom l k → StemsFrom (with_steps l t) k
+    lease_steps (known_in l.known) n (lease_state_of l.run.steps) ≡ Some (lease_state_of t) → StemsFrom l k → StemsFrom (with_steps l t) k
 grown l t n k count within ran s =
     let known = known_in l.known in
     let g : ℕ = l.run.guest in
     let start : LeaseState = record { regs = (view k g).regs; pages = s.first } in
-    let all : lease_steps known t.count start ≡ Some (state_of t) =
-    subst (λ (c : ℕ). lease_steps known c start ≡ Some (state_of t)) (sym count) (steps_add known l.run.steps.count n start (state_of l.run.steps) (state_of t) s.ran ran) in
-    let is : IsRun k g t.count (state_of t) = runs known t.count k g start (state_of t) (view_ready l k s) (view_free l k s) s.guests refl s.fresh all in
+    let all : lease_steps known t.count start ≡ Some (lease_state_of t) =
+    subst (λ (c : ℕ). lease_steps known c start ≡ Some (lease_state_of t)) (sym count) (steps_add known l.run.steps.count n start (lease_state_of l.run.steps) (lease_state_of t) s.ran ran) in
+    let is : IsRun k g t.count (lease_state_of t) = runs known t.count k g start (lease_state_of t) (view_ready l k s) (view_free l k s) s.guests refl s.fresh all in
     record {
       processor = s.processor;
       stems = record {
@@ -93,13 +93,13 @@ grown l t n k count within ran s =
     }
 
 pub stems_on : (l m : LeaseView) (n : ℕ) (k : KernelState) → IsSameLease l m → m.run.steps.count ≡ l.run.steps.count + n → m.run.steps.count ≤ m.run.left →
-    lease_steps (known_in l.known) n (state_of l.run.steps) ≡ Some (state_of m.run.steps) → StemsFrom l k → StemsFrom m k
+    lease_steps (known_in l.known) n (lease_state_of l.run.steps) ≡ Some (lease_state_of m.run.steps) → StemsFrom l k → StemsFrom m k
 stems_on l m n k same count within ran s =
     subst (λ (x : LeaseView). StemsFrom x k) (sym (same_but l m same)) (grown l m.run.steps n k count (let a = within in let b = same.left in omega arith) ran s)
 
-pub must_stop : (l : LeaseView) (k : KernelState) → StemsFrom l k → lease_step (known_in l.known) (state_of l.run.steps) ≡ None → MustStop l k
+pub must_stop : (l : LeaseView) (k : KernelState) → StemsFrom l k → lease_step (known_in l.known) (lease_state_of l.run.steps) ≡ None → MustStop l k
 must_stop l k s none =
     let g : ℕ = l.run.guest in
-    stops (known_in l.known) (view k g) (state_of l.run.steps)
-    (guests_stay (known_in l.known) l.run.steps.count (view k g) (record { regs = (view k g).regs; pages = s.first }) (state_of l.run.steps) (view_ready l k s) (view_free l k s) s.guests s.ran)
+    stops (known_in l.known) (view k g) (lease_state_of l.run.steps)
+    (guests_stay (known_in l.known) l.run.steps.count (view k g) (record { regs = (view k g).regs; pages = s.first }) (lease_state_of l.run.steps) (view_ready l k s) (view_free l k s) s.guests s.ran)
     none

@@ -71,8 +71,8 @@ is_leasable k cpu = nat_lt cpu k.cpus && is_to_step k (choice k cpu)
 -- STATES FROM WHICH A LEASE STEMS
 
 -- registers and copies as they are now
-abbrev pub state_of : Steps → LeaseState
-state_of s = record { regs = s.regs; pages = s.pages.items }
+abbrev pub lease_state_of : Steps → LeaseState
+lease_state_of s = record { regs = s.regs; pages = s.pages.items }
 
 -- it could be leased there, and what was run is what the guest does there; it knows pages as that guest does; and it was run on copies that were just made there
 pub record StemsFrom (l : LeaseView) (k : KernelState) : Type 0 where
@@ -81,7 +81,7 @@ pub record StemsFrom (l : LeaseView) (k : KernelState) : Type 0 where
   pub first : List Page
   pub fresh : AreFresh k.memory.ram first
   pub guests : IsOfGuest (known_in l.known) first (view k l.run.guest)
-  pub ran : lease_steps (known_in l.known) l.run.steps.count (record { regs = (view k l.run.guest).regs; pages = first }) ≡ Some (state_of l.run.steps)
+  pub ran : lease_steps (known_in l.known) l.run.steps.count (record { regs = (view k l.run.guest).regs; pages = first }) ≡ Some (lease_state_of l.run.steps)
 
 -- a list of turns leads to this state from one from which the lease stems
 pub record ComesAfter (l : LeaseView) (k : KernelState) : Type 0 where
@@ -125,7 +125,7 @@ abbrev pub StopsIn : LeaseView → Guest → Type 0
 StopsIn l v = HoldsOfTouched (IsCopiedAt (known_in l.known) l.run.steps.pages.items) v.regs (guest_space v.maps v.cells) → IsRaise (one v.regs (guest_space v.maps v.cells))
 
 abbrev pub MustStop : LeaseView → KernelState → Type 0
-MustStop l k = StopsIn l (put_back (view k l.run.guest) (state_of l.run.steps))
+MustStop l k = StopsIn l (put_back (view k l.run.guest) (lease_state_of l.run.steps))
 
 -- A COMMIT
 

@@ -3,7 +3,7 @@ ghost use Rattle.std.specs.List.{All};
 ghost use Rattle.nova_model.specs.State.{KernelState};
 ghost use Rattle.nova_leases.specs.Leases.{lease_step, lease_steps};
 ghost use Rattle.nova_burst.specs.Copies.{known_in};
-ghost use Rattle.nova_burst.specs.Lending.{AreCounted, IsSameLease, MustStop, StemsFrom, left_in, state_of};
+ghost use Rattle.nova_burst.specs.Lending.{AreCounted, IsSameLease, MustStop, StemsFrom, left_in, lease_state_of};
 
 use crate::copies::{Copies, Known};
 use crate::run::Burst;
@@ -45,8 +45,8 @@ fn run_on(steps: &mut Steps, known: &mut Vec<Known>, most: u64) -> u64
     requires most { steps.old.count + most < 2 ^ 32 }
     ensures most { result ≤ most }
     ensures count { steps.new.count ≡ steps.old.count + result }
-    ensures ran { lease_steps (known_in known.old.items) result (state_of steps.old) ≡ Some (state_of steps.new) }
-    ensures fewer { result < most → lease_step (known_in known.new.items) (state_of steps.new) ≡ None }
+    ensures ran { lease_steps (known_in known.old.items) result (lease_state_of steps.old) ≡ Some (lease_state_of steps.new) }
+    ensures fewer { result < most → lease_step (known_in known.new.items) (lease_state_of steps.new) ≡ None }
     ensures known { known.new.items ≡ known.old.items }
     ensures counted { AreCounted steps.new.count steps.new.pages.items }
 {

@@ -4,7 +4,7 @@ use Rattle.std.specs.Prelude.{ℕ, ◌≡◌, ◌<◌, ◌≤◌, ◌==◌, ◌&
 use Rattle.nova_objects.specs.declared.object.EcKind.TheVariants.{Global, Vcpu}
 use Rattle.nova_objects.specs.declared.object.Object.{Object}
 use Rattle.nova_objects.specs.declared.object.Object.TheVariants.{Ec, Sc}
-use Rattle.nova_model.specs.Deeds.{changed}
+use Rattle.nova_model.specs.Deeds.{actor_after}
 use Rattle.nova_model.specs.Edges.{acts, chase, cpu_in}
 use Rattle.nova_model.specs.State.{Contexts, KernelState, budget_at, context, with_ec}
 use Rattle.nova_model.specs.declared.budget.Budget.{Budget}
@@ -117,7 +117,7 @@ joined cs s number (new.Sc ec cpu priority quantum) = marked (added s number cpu
 joined cs s number other = s
 
 abbrev pub schedule_after : KernelState → ℕ → Schedule → Deed → Schedule
-schedule_after k ec s (Makes call target new) = joined (with_ec k.contexts ec (changed (context k ec) (Makes call target new))) s (length k.objects) new
+schedule_after k ec s (Makes call target new) = joined (with_ec k.contexts ec (actor_after (context k ec) (Makes call target new))) s (length k.objects) new
 schedule_after k ec s other = s
 
 -- One that does this may cease to act, and nobody else begins to in the turns that led to it. After any other deed they lead to one that acts as

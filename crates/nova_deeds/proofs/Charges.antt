@@ -8,7 +8,7 @@ use Rattle.nova_model.specs.Turn as turn
 use Rattle.nova_model.specs.declared.budget.Budget.{Budget}
 use Rattle.nova_objects.specs.declared.object.Object.{Object}
 use Rattle.nova_objects.specs.declared.object.Object.TheVariants.{Pd, Ec, Sc, Pt, Sm}
-use Rattle.nova_sched.specs.Queues.{Schedule, charged, charged_by, queued_at}
+use Rattle.nova_sched.specs.Queues.{Schedule, charged_schedule, charged_by, queued_at}
 use Rattle.nova_sched.specs.declared.queued.Queued.{Queued}
 use Rattle.nova_choice.specs.Schedules.{AreQueued, budgets_of, leads, wanted, wanted_with}
 use Rattle.nova_choice.proofs.Budgets.{budgets_set}
@@ -44,11 +44,11 @@ abbrev paid_entry : Queued → ℕ → Queued
 paid_entry e stamp = record e { budget = budget_after (is_spent e.budget) e.quantum stamp e.budget }
 
 charged_is : (s : Schedule) (sc : ℕ) (e : Queued) → queued_at s sc ≡ Some e →
-    charged s sc ≡ record s { entries = slice_set s.entries sc (Some (paid_entry e s.next_stamp)); next_stamp = stamp_after (is_spent e.budget) s.next_stamp }
+    charged_schedule s sc ≡ record s { entries = slice_set s.entries sc (Some (paid_entry e s.next_stamp)); next_stamp = stamp_after (is_spent e.budget) s.next_stamp }
 charged_is s sc e there = ap (charged_by s sc) there
 
 pub budgets_charged : (k : KernelState) (s : Schedule) (count sc : ℕ) (e : Queued) → AreQueued k s → queued_at s sc ≡ Some e →
-    budgets_of (charged s sc) count
+    budgets_of (charged_schedule s sc) count
     ≡ slice_set (budgets_of s count) sc (Some (budget_after (is_spent e.budget) (quantum_in (slice_get k.objects sc)) s.next_stamp e.budget))
 unfolding budgets_of
 budgets_charged k s count sc e queued there =
@@ -56,7 +56,7 @@ budgets_charged k s count sc e queued there =
     ∙ budgets_set s count sc e (paid_entry e s.next_stamp) there
     ∙ ap (λ (q : ℕ). slice_set (budgets_of s count) sc (Some (budget_after (is_spent e.budget) q s.next_stamp e.budget))) (sym (held_by k s sc e queued there).quantum)
 
-pub stamp_charged : (s : Schedule) (sc : ℕ) (e : Queued) → queued_at s sc ≡ Some e → (charged s sc).next_stamp ≡ stamp_after (is_spent e.budget) s.next_stamp
+pub stamp_charged : (s : Schedule) (sc : ℕ) (e : Queued) → queued_at s sc ≡ Some e → (charged_schedule s sc).next_stamp ≡ stamp_after (is_spent e.budget) s.next_stamp
 stamp_charged s sc e there = ap (λ (x : Schedule). x.next_stamp) (charged_is s sc e there)
 
 -- the state that a charge leaves
@@ -101,7 +101,7 @@ paid_queued k s cpu sc e queued there =
         ∙ before
         ∙ ap (λ (o : Option (Option Budget)). wanted_with k.contexts (slice_get k.objects n) (entry o)) (sym (get_set_other k.budgets sc n (Some after) apart))
 
-pub charged_queued : (k : KernelState) (s : Schedule) (cpu sc : ℕ) (e : Queued) → AreQueued k s → queued_at s sc ≡ Some e → AreQueued (turn.charged k cpu sc) (charged s sc)
+pub charged_queued : (k : KernelState) (s : Schedule) (cpu sc : ℕ) (e : Queued) → AreQueued k s → queued_at s sc ≡ Some e → AreQueued (turn.charged k cpu sc) (charged_schedule s sc)
 unfolding turn.charged
 charged_queued k s cpu sc e queued there =
     subst (λ (x : Schedule). AreQueued (turn.charged k cpu sc) x) (sym (charged_is s sc e there))
@@ -113,7 +113,7 @@ charged_queued k s cpu sc e queued there =
 with_budgets : KernelState → List (Option Budget) → ℕ → KernelState
 with_budgets k budgets stamp = record k { budgets = budgets; next_stamp = stamp }
 
-pub paid_shown : (k : KernelState) (s after : Schedule) (count sc : ℕ) → AreQueued k s → k.budgets ≡ budgets_of s count → IsSome (queued_at s sc) → after ≡ charged s sc →
+pub paid_shown : (k : KernelState) (s after : Schedule) (count sc : ℕ) → AreQueued k s → k.budgets ≡ budgets_of s count → IsSome (queued_at s sc) → after ≡ charged_schedule s sc →
     record k { budgets = budgets_of after count; next_stamp = after.next_stamp } ≡ paid_by k sc (quantum_in (slice_get k.objects sc)) (budget_at k sc)
 unfolding with_budgets
 paid_shown k s after count sc queued budgets there is = by_entry (queued_at s sc) refl there
@@ -135,11 +135,11 @@ paid_shown k s after count sc queued budgets there is = by_entry (queued_at s sc
         by_budget e at ∙ ap (paid_by k sc (quantum_in (slice_get k.objects sc))) (sym (held_by k s sc e queued at).budget)
 
 -- one that is there is charged
-pub charged_there : (k : KernelState) (s after : Schedule) (cpu sc : ℕ) → AreQueued k s → IsSome (queued_at s sc) → after ≡ charged s sc → AreQueued (turn.charged k cpu sc) after
+pub charged_there : (k : KernelState) (s after : Schedule) (cpu sc : ℕ) → AreQueued k s → IsSome (queued_at s sc) → after ≡ charged_schedule s sc → AreQueued (turn.charged k cpu sc) after
 charged_there k s after cpu sc queued there is =
     subst (λ (x : Schedule). AreQueued (turn.charged k cpu sc) x) (sym is) (by_entry (queued_at s sc) refl there)
   where
-    by_entry : (o : Option Queued) → queued_at s sc ≡ o → IsSome o → AreQueued (turn.charged k cpu sc) (charged s sc)
+    by_entry : (o : Option Queued) → queued_at s sc ≡ o → IsSome o → AreQueued (turn.charged k cpu sc) (charged_schedule s sc)
     by_entry None at some = absurd cc
     by_entry (Some e) at some = charged_queued k s cpu sc e queued at
 
@@ -150,7 +150,7 @@ unfolding turn.charged
 charged_from k mid new cpu sc paid counts = counts ∙ ap (λ (x : KernelState). counted x cpu) paid
 
 pub charge_queued : (k mid new : KernelState) (s between after : Schedule) (cpu sc : ℕ) → AreQueued k s → IsSome (queued_at s sc) →
-    mid ≡ paid_by k sc (quantum_in (slice_get k.objects sc)) (budget_at k sc) → new ≡ counted mid cpu → between ≡ charged s sc → after ≡ between → AreQueued new after
+    mid ≡ paid_by k sc (quantum_in (slice_get k.objects sc)) (budget_at k sc) → new ≡ counted mid cpu → between ≡ charged_schedule s sc → after ≡ between → AreQueued new after
 charge_queued k mid new s between after cpu sc queued there paid counts charges same =
     subst (λ (x : KernelState). AreQueued x after) (sym (charged_from k mid new cpu sc paid counts))
     (charged_there k s after cpu sc queued there (same ∙ charges))

@@ -17,7 +17,7 @@ use Rattle.nova_model.specs.declared.transfer.Job.{Job}
 use Rattle.nova_model.specs.declared.transfer.Reason.{Reason}
 use Rattle.nova_model.specs.declared.transfer.Skip.{Skip}
 use Rattle.nova_model.specs.declared.transfer.Transfer.{Transfer}
-use Rattle.nova_deeds.specs.Acts.{begun, is_over, part_now, with_part}
+use Rattle.nova_deeds.specs.Acts.{begun, is_done_when_decided, part_now, with_part}
 
 -- a child was made
 child_deed : (f : Delegations) (x : Derivation) (id cursor end : ℕ) (d : Deed) → with_id f.list x.id ≡ Some x → id ≡ x.id → cursor ≡ end →
@@ -85,10 +85,10 @@ pub ended_deed : (v : Delivery) (t : Transfer) (j : Job) (p : Option Part) (answ
 ended_deed v t j p answer d is range h = h ∙ ap (finished v t.item (Given t.children)) range ∙ sym (ap (part_deed v t j) (ended_part j p is))
 
 -- what is decided and not over changes nothing
-later_begun : (k : KernelState) (ec : ℕ) (d : Deed) → is_over d ≡ false → k ≡ begun k ec d
+later_begun : (k : KernelState) (ec : ℕ) (d : Deed) → is_done_when_decided d ≡ false → k ≡ begun k ec d
 later_begun k ec d later = sym (ap (λ (b : Bool). if b then done k ec d else k) later)
 
-pub ended_begun : (k k₁ : KernelState) (ec : ℕ) (j : Job) (p : Option Part) (d : Deed) → Ended ≡ done_of j p → is_over d ≡ false → k₁ ≡ with_part k p →
+pub ended_begun : (k k₁ : KernelState) (ec : ℕ) (j : Job) (p : Option Part) (d : Deed) → Ended ≡ done_of j p → is_done_when_decided d ≡ false → k₁ ≡ with_part k p →
     k₁ ≡ begun k ec d
 ended_begun k k₁ ec j p d is later given = given ∙ ap (with_part k) (ended_part j p is) ∙ later_begun k ec d later
 

@@ -8,7 +8,7 @@ use Rattle.nova_range.specs.declared.mtd.Mtd.{Mtd}
 use Rattle.nova_range.specs.declared.status.Status.TheVariants.{Success}
 use Rattle.nova_model.specs.AddressSpaces.{AddressSpace, stored_among, words_at}
 use Rattle.nova_model.specs.Creation.{budget_of, with_object, object_of}
-use Rattle.nova_model.specs.Deeds.{address_space, after_item, answered, brought, messages_after, parked, passed, followed, woken_in, told, transfer_after, with_context, with_transfer, gave, skipped, changed, performed, recalled, stepped, done, instruction}
+use Rattle.nova_model.specs.Deeds.{address_space, after_item, answered, brought, messages_after, parked, passed, followed, woken_in, told, transfer_after, with_context, with_transfer, gave, skipped, actor_after, performed, recalled, stepped, done, instruction}
 use Rattle.nova_model.specs.Delegations.{added, without}
 use Rattle.nova_model.specs.Semaphores.{Semaphores, changed_by, downed, lowered, raised, semaphore_at, upped}
 use Rattle.nova_model.specs.Semaphores as semaphores
@@ -28,7 +28,7 @@ use Rattle.nova_model.specs.declared.transfer.Sequel.{Sequel}
 use Rattle.nova_model.specs.declared.transfer.Sequel.TheVariants.{Item, Opened, Taken, Replied}
 use Rattle.nova_model.specs.declared.transfer.Transfer.{Transfer}
 use Rattle.nova_deeds.proofs.Bounds.{there-set, there-more, length-more, given-later, given-more, given-set, none-given, gave-within, skipped-within, item-more, item-set, none-item, same-item, next-item, next-given, inputs-more, none-stirred, ticks-more, none-paid, stamp-made}
-use Rattle.nova_deeds.specs.Acts.{Fits, IsSequel}
+use Rattle.nova_deeds.specs.Acts.{DeedFits, IsSequel}
 use Rattle.nova_deeds.specs.Counted.{KeepsCounts, IsAtItem, IsGivenWithin}
 
 -- an execution context changes
@@ -359,7 +359,7 @@ leaf-keeps k leaf = let kept = KeepsCounts-self k in record {
   tables = λ t. record { contexts = t.contexts; messages = t.messages; transfers = t.transfers; budgets = t.budgets; identifiers = t.identifiers; semaphores = t.semaphores; guests = t.guests };
 }
 
-pub done-keeps : (k : KernelState) (ec : ℕ) (d : Deed) → Fits k ec d → KeepsCounts k (done k ec d)
+pub done-keeps : (k : KernelState) (ec : ℕ) (d : Deed) → DeedFits k ec d → KeepsCounts k (done k ec d)
 done-keeps k ec Rests fits = KeepsCounts-self k
 done-keeps k ec Steps fits = stepped-keeps k ec (instruction k ec)
 done-keeps k ec (Makes call target new) fits = made-keeps k ec _ _ target new
@@ -380,4 +380,4 @@ done-keeps k ec (Sends handler ip identifier mtd reason q0 q1) fits = sent-keeps
 done-keeps k ec (Ups sm whom) fits = upped-keeps k ec sm whom
 done-keeps k ec (Downs sm) fits = downed-keeps k ec sm _
 done-keeps k ec (Blocks sm) fits = downed-keeps k ec sm _
-done-keeps k ec other fits = changed-keeps k ec (changed (context k ec) other)
+done-keeps k ec other fits = changed-keeps k ec (actor_after (context k ec) other)

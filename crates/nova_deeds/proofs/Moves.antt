@@ -5,7 +5,7 @@ use Rattle.std.proofs.lemmas.List.{length-set}
 use Rattle.rv_model.specs.Step.{Once, Raised, Went}
 use Rattle.nova_range.specs.declared.status.Status.TheVariants.{Success}
 use Rattle.nova_model.specs.Creation.{context_of, with_object}
-use Rattle.nova_model.specs.Deeds.{answered, changed, done, instruction, parked, performed, recalled, resumed, serving, stepped, told, with_context}
+use Rattle.nova_model.specs.Deeds.{answered, actor_after, done, instruction, parked, performed, recalled, resumed, serving, stepped, told, with_context}
 use Rattle.nova_model.specs.Edges.{AreCallers, AreEdges, acts, caller_in, cpu_in, edge_of}
 use Rattle.nova_model.specs.Semaphores.{semaphore, woken}
 use Rattle.nova_model.specs.State.{Contexts, KernelState, context, context_at, ec_in, ec_of, is_local_thread, message, pd_of, with_ec}
@@ -32,7 +32,7 @@ use Rattle.nova_laws.proofs.Serving.{IsReached, exit_reaches, send_reaches}
 use Rattle.nova_laws.specs.Links.{AreServed}
 use Rattle.nova_laws.specs.Waiting.{AreBlocked}
 use Rattle.nova_sched.specs.Queues.{Schedule}
-use Rattle.nova_deeds.specs.Acts.{Fits, IsSequel}
+use Rattle.nova_deeds.specs.Acts.{DeedFits, IsSequel}
 use Rattle.nova_deeds.specs.Counted.{IsCounted}
 use Rattle.nova_choice.specs.Schedules.{AreQueued, AreQueuedBut, HasHome, IsAtHome, is_moving, IsPlacedIn, joined, leads, processor_at, schedule_after, stale_by}
 use Rattle.nova_choice.proofs.Joins.{queued_joined, leads_more}
@@ -112,10 +112,10 @@ placed_along k ec y (new.Pt its mtd ip) placed = tt
 placed_along k ec y (new.Sm count) placed = tt
 
 -- one that acts before and after its deed moves no turns
-going : (k : KernelState) (ec : ℕ) (d : Deed) → MayMove k ec → goes_on d ≡ true → (changed (context k ec) d).cpu ≡ (context k ec).cpu →
-    KeepsQueued None k (with_context k ec (changed (context k ec) d))
+going : (k : KernelState) (ec : ℕ) (d : Deed) → MayMove k ec → goes_on d ≡ true → (actor_after (context k ec) d).cpu ≡ (context k ec).cpu →
+    KeepsQueued None k (with_context k ec (actor_after (context k ec) d))
 going k ec d may goes cpu = record {
-  contexts = acting k.contexts ec (changed (context k ec) d) may.there cpu (deeds_keep_chases k.contexts ec d may.awake goes);
+  contexts = acting k.contexts ec (actor_after (context k ec) d) may.there cpu (deeds_keep_chases k.contexts ec d may.awake goes);
   objects = refl;
   budgets = refl;
   next_stamp = refl;
@@ -268,18 +268,18 @@ upped_queued k ec sm (Some w) may is =
       cpus = refl;
     }
 
-pub done_leaves : (k : KernelState) (s : Schedule) (ec : ℕ) (d : Deed) → MayMove k ec → Fits k ec d → AreQueued k s →
+pub done_leaves : (k : KernelState) (s : Schedule) (ec : ℕ) (d : Deed) → MayMove k ec → DeedFits k ec d → AreQueued k s →
     Leaves (stale_at k ec d) k (done k ec d) (schedule_after k ec s d)
 done_leaves k s ec Rests may fits queued = leaves None k k s queued (same_state k)
 done_leaves k s ec Steps may fits queued = leaves None k _ s queued (stepped_keeps k ec (instruction k ec) may.there)
 done_leaves k s ec (Makes call target new) may fits queued =
-    made_leaves k s ec (pd_of k ec) target (changed (context k ec) (Makes call target new)) new may (going k ec (Makes call target new) may refl refl) refl refl fits.1 queued
+    made_leaves k s ec (pd_of k ec) target (actor_after (context k ec) (Makes call target new)) new may (going k ec (Makes call target new) may refl refl) refl refl fits.1 queued
 done_leaves k s ec (Opens target domain) may fits queued =
-    made_leaves k s ec (pd_of k ec) target (changed (context k ec) (Opens target domain)) new.Pd may (going k ec (Opens target domain) may refl refl) refl refl tt queued
+    made_leaves k s ec (pd_of k ec) target (actor_after (context k ec) (Opens target domain)) new.Pd may (going k ec (Opens target domain) may refl refl) refl refl tt queued
 done_leaves k s ec (Recalls other) may fits queued =
-    leaves None k _ s queued (recalled_keeps None k (with_context k ec (changed (context k ec) (Recalls other))) other _ (going k ec (Recalls other) may refl refl) refl)
+    leaves None k _ s queued (recalled_keeps None k (with_context k ec (actor_after (context k ec) (Recalls other))) other _ (going k ec (Recalls other) may refl refl) refl)
 done_leaves k s ec (Names pt identifier) may fits queued =
-    leaves None k _ s queued (aside None k (with_context k ec (changed (context k ec) (Names pt identifier))) _ (going k ec (Names pt identifier) may refl refl) refl refl refl refl refl)
+    leaves None k _ s queued (aside None k (with_context k ec (actor_after (context k ec) (Names pt identifier))) _ (going k ec (Names pt identifier) may refl refl) refl refl refl refl refl)
 done_leaves k s ec (Gives child cursor) may fits queued = leaves None k _ s queued (aside None k k _ (same_state k) refl refl refl refl refl)
 done_leaves k s ec (Skips reason place cursor) may fits queued = leaves None k _ s queued (aside None k k _ (same_state k) refl refl refl refl refl)
 done_leaves k s ec (Removes leaf) may fits queued = leaves None k _ s queued (aside None k k _ (same_state k) refl refl refl refl refl)
@@ -291,22 +291,22 @@ done_leaves k s ec (Sends handler ip identifier mtd reason q0 q1) may fits queue
 done_leaves k s ec (Replies caller m items) may fits queued = replied_leaves k s ec caller m items may fits.0 queued
 done_leaves k s ec (Aborts handler mark.Call) may fits queued = leaves None k _ s queued (going k ec (Aborts handler mark.Call) may refl refl)
 done_leaves k s ec (Aborts handler mark.Exit) may fits queued =
-    leaves _ k _ s queued (moved k ec (changed (context k ec) (Aborts handler mark.Exit)) may.edges may.there refl)
+    leaves _ k _ s queued (moved k ec (actor_after (context k ec) (Aborts handler mark.Exit)) may.edges may.there refl)
 done_leaves k s ec (Ups sm whom) may fits queued = leaves _ k _ s queued (upped_queued k ec sm whom may fits)
 done_leaves k s ec (Downs sm) may fits queued =
     leaves None k _ s queued (aside None k (with_context k ec (answered (context k ec) Success None)) _ (answered_queued k ec may) refl refl refl refl refl)
 done_leaves k s ec (Blocks sm) may fits queued =
     leaves _ k _ s queued
-    (aside (Some (context k ec).cpu) k (with_context k ec (changed (context k ec) (Blocks sm))) _
-    (moved k ec (changed (context k ec) (Blocks sm)) may.edges may.there refl) refl refl refl refl refl)
-done_leaves k s ec (Dies reason q0) may fits queued = leaves _ k _ s queued (moved k ec (changed (context k ec) (Dies reason q0)) may.edges may.there refl)
+    (aside (Some (context k ec).cpu) k (with_context k ec (actor_after (context k ec) (Blocks sm))) _
+    (moved k ec (actor_after (context k ec) (Blocks sm)) may.edges may.there refl) refl refl refl refl refl)
+done_leaves k s ec (Dies reason q0) may fits queued = leaves _ k _ s queued (moved k ec (actor_after (context k ec) (Dies reason q0)) may.edges may.there refl)
 done_leaves k s ec (Waits handler reason q0 q1) may fits queued =
-    leaves _ k _ s queued (moved k ec (changed (context k ec) (Waits handler reason q0 q1)) may.edges may.there refl)
-done_leaves k s ec (Helps handler) may fits queued = leaves _ k _ s queued (moved k ec (changed (context k ec) (Helps handler)) may.edges may.there refl)
+    leaves _ k _ s queued (moved k ec (actor_after (context k ec) (Waits handler reason q0 q1)) may.edges may.there refl)
+done_leaves k s ec (Helps handler) may fits queued = leaves _ k _ s queued (moved k ec (actor_after (context k ec) (Helps handler)) may.edges may.there refl)
 done_leaves k s ec other may fits queued = leaves None k _ s queued (going k ec other may refl refl)
 
 -- whose marks are old is the same after the deed
-stale_stays : (k : KernelState) (ds : Contexts) (ec : ℕ) (d : Deed) → MayMove k ec → Fits k ec d →
+stale_stays : (k : KernelState) (ds : Contexts) (ec : ℕ) (d : Deed) → MayMove k ec → DeedFits k ec d →
     ((e cpu : ℕ) → cpu_in k.contexts e ≡ Some cpu → cpu_in ds e ≡ Some cpu) → stale_by ds ec d ≡ stale_at k ec d
 stale_stays k ds ec (Ups sm None) may fits homes = refl
 stale_stays k ds ec (Ups sm (Some w)) may fits homes =
@@ -318,7 +318,7 @@ stale_stays k ds ec other may fits homes = by_test (is_moving other)
     by_test false = refl
 
 -- in other words: what is left to be marked when a deed is done
-pub stale_after : (k new : KernelState) (s after : Schedule) (ec : ℕ) (d : Deed) (stale : Option ℕ) → MayMove k ec → Fits k ec d → AreQueued k s → new ≡ done k ec d →
+pub stale_after : (k new : KernelState) (s after : Schedule) (ec : ℕ) (d : Deed) (stale : Option ℕ) → MayMove k ec → DeedFits k ec d → AreQueued k s → new ≡ done k ec d →
     after ≡ schedule_after k ec s d → stale ≡ stale_by new.contexts ec d → AreQueuedBut stale new after
 stale_after k new s after ec d stale may fits queued is marks home =
     let left = done_leaves k s ec d may fits queued in

@@ -20,7 +20,7 @@ use Rattle.nova_model.specs.declared.transfer.Reason.{Reason}
 use Rattle.nova_model.specs.declared.transfer.Skip.{Skip}
 use Rattle.nova_model.specs.declared.transfer.Transfer.{Transfer}
 use Rattle.nova_forest.proofs.Allowed as free
-use Rattle.nova_deeds.specs.Acts.{outcome_of, begun, is_executing, is_over, is_step, TakesFree}
+use Rattle.nova_deeds.specs.Acts.{outcome_of, begun, is_executing, is_done_when_decided, is_step, TakesFree}
 use Rattle.nova_choice.specs.Schedules.{is_ready}
 
 -- one that raises leaves all as it was, so that its deed is the one that is signalled then, and nothing of it is done
@@ -39,7 +39,7 @@ pub raise-stays : (k new : KernelState) (ec : ℕ) (reason q0 q1 : ℕ) → outc
 raise-stays k new ec reason q0 q1 is steps = steps ∙ (raises k ec (instruction k ec) reason q0 q1 is).1
 
 pub raise-begun : (k new : KernelState) (ec : ℕ) (reason q0 q1 : ℕ) (d : Deed) → outcome_of (instruction k ec) ≡ Raise reason q0 q1 → new ≡ done k ec Steps →
-    is_over d ≡ false → new ≡ begun k ec d
+    is_done_when_decided d ≡ false → new ≡ begun k ec d
 raise-begun k new ec reason q0 q1 d is steps later = raise-stays k new ec reason q0 q1 is steps ∙ rw later refl
 
 -- a deed of which something is left is done from the state that it was decided in
@@ -56,10 +56,10 @@ takes-free k ec d is = by_deed d (subst (free.TakesFree k (pd_of k ec)) (sym is)
     by_deed other h = tt
 
 -- what is done when a deed is decided
-pub begun-over : (k mid : KernelState) (ec : ℕ) (d : Deed) → is_over d ≡ true → mid ≡ begun k ec d → mid ≡ done k ec d
+pub begun-over : (k mid : KernelState) (ec : ℕ) (d : Deed) → is_done_when_decided d ≡ true → mid ≡ begun k ec d → mid ≡ done k ec d
 begun-over k mid ec d over begins = begins ∙ rw over refl
 
-pub begun-later : (k mid : KernelState) (ec : ℕ) (d : Deed) → is_over d ≡ false → mid ≡ begun k ec d → mid ≡ k
+pub begun-later : (k mid : KernelState) (ec : ℕ) (d : Deed) → is_done_when_decided d ≡ false → mid ≡ begun k ec d → mid ≡ k
 begun-later k mid ec d later begins = begins ∙ rw later refl
 
 -- one that gives items executes no instruction

@@ -16,7 +16,7 @@ use Rattle.nova_model.specs.declared.deed.Deed.{Deed}
 use Rattle.nova_model.specs.declared.deed.Deed.TheVariants.{Steps, Raises, Dies, Sends, Recalls, Gives, Removes, Finishes, Replies, Aborts}
 use Rattle.nova_model.specs.declared.transfer.Sequel.TheVariants.{Replied}
 use Rattle.nova_deeds.proofs.Calm.{with_guests}
-use Rattle.nova_deeds.specs.Stirs.{frame_at, is_seen, is_stirring, stirs_itself, stirs_other, written_by}
+use Rattle.nova_deeds.specs.Stirs.{frame_at, is_seen, is_stirring, stirs_itself, stirs_other, written_frame}
 use Rattle.nova_running.specs.Guests.{risen, risen_from}
 
 -- an input from outside
@@ -84,7 +84,7 @@ outside true i is = rw is refl
 outside false i is = refl
 
 abbrev IsWritten : KernelState → ℕ → Option ℕ → Deed → Type 0
-IsWritten k ec w d = d ≡ Steps → w ≡ written_by k ec
+IsWritten k ec w d = d ≡ Steps → w ≡ written_frame k ec
 
 other : (k : KernelState) (w : Option ℕ) (ec g : ℕ) (d : Deed) → IsWritten k ec w d → stirs_other (done k ec d) w d g ≡ from_outside (others_input k ec g d)
 other k w ec g Steps written =
@@ -125,7 +125,7 @@ counts_same k stirs ec d all n (count ∷ counts) =
     by_entry (Some m) = ap (λ (c : ℕ). Some c) (by_count (stirs n) m ∙ ap (λ (t : Bool). if t then m + 1 else m) (all n))
 
 -- counts that rise by what is left after a deed are those that the deed stirs
-pub risen_stirred : (k : KernelState) (ec : ℕ) (d : Deed) (w : Option ℕ) → (d ≡ Steps → w ≡ written_by k ec) →
+pub risen_stirred : (k : KernelState) (ec : ℕ) (d : Deed) (w : Option ℕ) → (d ≡ Steps → w ≡ written_frame k ec) →
     record (done k ec d) { stirs = record (done k ec d).stirs { guests = risen_from (is_stirring (done k ec d) w ec d) 0 (done k ec d).stirs.guests } }
     ≡ stirred k ec d (done k ec d)
 risen_stirred k ec d w written =

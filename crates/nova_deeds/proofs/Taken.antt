@@ -17,7 +17,7 @@ use Rattle.nova_objects.specs.declared.object.Object.TheVariants.{Pd, Ec, Sc, Pt
 use Rattle.nova_deeds.specs.Acts.{is_step}
 use Rattle.nova_choice.specs.Choices.{chosen_of}
 use Rattle.nova_choice.specs.Schedules.{actor_of, leads}
-use Rattle.nova_deeds.specs.Stirs.{is_stirring, risen_in, written_by}
+use Rattle.nova_deeds.specs.Stirs.{is_stirring, risen_in, written_frame}
 use Rattle.nova_deeds.proofs.Counts.{IsCounted-charged}
 use Rattle.nova_running.proofs.GuestTables.{risen_calm, risen_same}
 use Rattle.nova_deeds.proofs.Calm.{with_guests}
@@ -61,10 +61,10 @@ pub record IsSettled (k mid new : KernelState) (cpu : ℕ) (chosen : Chosen) (d 
   pub told : Some chosen ≡ option_map chosen_of (choice k cpu)
   pub decided : d ≡ deed k chosen.actor
   pub does : mid ≡ done k chosen.actor d
-  pub wrote : d ≡ Steps → written ≡ written_by k chosen.actor
+  pub wrote : d ≡ Steps → written ≡ written_frame k chosen.actor
   pub settled : new ≡ charged (risen_in mid (is_stirring mid written chosen.actor d)) cpu chosen.sc
 
-stirred_done : (k mid : KernelState) (ec : ℕ) (d : Deed) (written : Option ℕ) → mid ≡ done k ec d → (d ≡ Steps → written ≡ written_by k ec) →
+stirred_done : (k mid : KernelState) (ec : ℕ) (d : Deed) (written : Option ℕ) → mid ≡ done k ec d → (d ≡ Steps → written ≡ written_frame k ec) →
     risen_in mid (is_stirring mid written ec d) ≡ stirred k ec d (done k ec d)
 stirred_done k mid ec d written does wrote = ap (λ (s : KernelState). risen_in s (is_stirring s written ec d)) does ∙ risen_stirred k ec d written wrote
 

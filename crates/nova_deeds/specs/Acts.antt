@@ -57,34 +57,34 @@ pub record IsGivenBy (k : KernelState) (ec item : ℕ) (v : Delivery) : Type 0 w
 -- what a deed names is there, a selector is one, and what it makes is of a processor that is there; a call is sent or helps as it is admitted, and
 -- with a message that has its counts; a reply goes to the caller that is kept; an exit that is raised is sent or waits as it is admitted; an up and a down
 -- come to what the semaphore says; what is revoked is a range
-abbrev pub Fits : KernelState → ℕ → Deed → Type 0
-Fits k ec (Makes call target new) = (target < 2 ^ 20) × IsPlacedIn k new
-Fits k ec (Opens target domain) = (target < 2 ^ 20) × (domain ≡ length k.objects)
-Fits k ec (Recalls whose) = whose < length k.objects
-Fits k ec (Names pt identifier) = pt < length k.objects
-Fits k ec (Calls handler ip identifier items) =
+abbrev pub DeedFits : KernelState → ℕ → Deed → Type 0
+DeedFits k ec (Makes call target new) = (target < 2 ^ 20) × IsPlacedIn k new
+DeedFits k ec (Opens target domain) = (target < 2 ^ 20) × (domain ≡ length k.objects)
+DeedFits k ec (Recalls whose) = whose < length k.objects
+DeedFits k ec (Names pt identifier) = pt < length k.objects
+DeedFits k ec (Calls handler ip identifier items) =
     (admitted k.contexts ec handler false ≡ Send) × ((has_counts (message k ec) ≡ true) × (items ≡ has_items (message k ec)))
-Fits k ec (Helps handler) = admitted k.contexts ec handler false ≡ Help
-Fits k ec (Replies caller mark items) = (caller_in k.contexts ec ≡ Some (caller, mark)) × (has_counts (message k ec) ≡ true)
-Fits k ec (Waits handler reason q0 q1) = exit_admitted k.contexts ec handler ≡ exit.Waits
-Fits k ec (Sends handler ip identifier mtd reason q0 q1) =
+DeedFits k ec (Helps handler) = admitted k.contexts ec handler false ≡ Help
+DeedFits k ec (Replies caller mark items) = (caller_in k.contexts ec ≡ Some (caller, mark)) × (has_counts (message k ec) ≡ true)
+DeedFits k ec (Waits handler reason q0 q1) = exit_admitted k.contexts ec handler ≡ exit.Waits
+DeedFits k ec (Sends handler ip identifier mtd reason q0 q1) =
     (exit_admitted k.contexts ec handler ≡ exit.Sends) × (raised_exit (context k ec).state ≡ Some (reason, q0, q1))
-Fits k ec (Revokes range own) = IsRange range
-Fits k ec (Ups sm whom) = woken (semaphore k.semaphores sm) ≡ Ok whom
-Fits k ec (Downs sm) = answer_of (semaphore k.semaphores sm) ≡ Done
-Fits k ec (Blocks sm) = answer_of (semaphore k.semaphores sm) ≡ Blocked
-Fits k ec (Finishes item end words after) = (item < 62) × (IsToldThere k words × IsSequel k ec item after)
-Fits k ec other = Unit {0}
+DeedFits k ec (Revokes range own) = IsRange range
+DeedFits k ec (Ups sm whom) = woken (semaphore k.semaphores sm) ≡ Ok whom
+DeedFits k ec (Downs sm) = answer_of (semaphore k.semaphores sm) ≡ Done
+DeedFits k ec (Blocks sm) = answer_of (semaphore k.semaphores sm) ≡ Blocked
+DeedFits k ec (Finishes item end words after) = (item < 62) × (IsToldThere k words × IsSequel k ec item after)
+DeedFits k ec other = Unit {0}
 
 -- nothing is left of a deed when it is decided: it rests, or it is an instruction that goes on, a part of an item or one of a revoke, which are done at
 -- once
-abbrev pub is_over : Deed → Bool
-is_over Rests = true
-is_over Steps = true
-is_over (Gives child cursor) = true
-is_over (Skips reason place cursor) = true
-is_over (Removes leaf) = true
-is_over other = false
+abbrev pub is_done_when_decided : Deed → Bool
+is_done_when_decided Rests = true
+is_done_when_decided Steps = true
+is_done_when_decided (Gives child cursor) = true
+is_done_when_decided (Skips reason place cursor) = true
+is_done_when_decided (Removes leaf) = true
+is_done_when_decided other = false
 
 -- an instruction went on
 abbrev pub is_step : Deed → Bool
@@ -92,26 +92,26 @@ is_step Steps = true
 is_step other = false
 
 -- what a deed makes of its execution context is all that it does to contexts, message words and semaphores, but for a recall
-abbrev pub is_alone : Deed → Bool
-is_alone (Calls handler ip identifier items) = false
-is_alone (Helps handler) = false
-is_alone (Waits handler reason q0 q1) = false
-is_alone (Sends handler ip identifier mtd reason q0 q1) = false
-is_alone (Replies caller mark items) = false
-is_alone (Aborts handler mark) = false
-is_alone (Ups sm whom) = false
-is_alone (Downs sm) = false
-is_alone (Blocks sm) = false
-is_alone (Finishes item end words after) = false
-is_alone other = true
+abbrev pub changes_actor_only : Deed → Bool
+changes_actor_only (Calls handler ip identifier items) = false
+changes_actor_only (Helps handler) = false
+changes_actor_only (Waits handler reason q0 q1) = false
+changes_actor_only (Sends handler ip identifier mtd reason q0 q1) = false
+changes_actor_only (Replies caller mark items) = false
+changes_actor_only (Aborts handler mark) = false
+changes_actor_only (Ups sm whom) = false
+changes_actor_only (Downs sm) = false
+changes_actor_only (Blocks sm) = false
+changes_actor_only (Finishes item end words after) = false
+changes_actor_only other = true
 
 -- what is done when a deed is decided: all of it or nothing
 abbrev pub begun : KernelState → ℕ → Deed → KernelState
-begun k ec d = if is_over d then done k ec d else k
+begun k ec d = if is_done_when_decided d then done k ec d else k
 
 -- what a hypercall asks for fits, and is still to be done
-abbrev pub IsAsked : KernelState → ℕ → Deed → Type 0
-IsAsked k ec d = Fits k ec d × (is_over d ≡ false)
+abbrev pub IsToBeDone : KernelState → ℕ → Deed → Type 0
+IsToBeDone k ec d = DeedFits k ec d × (is_done_when_decided d ≡ false)
 
 -- how far an execution context is with its items
 abbrev pub now_at : KernelState → ℕ → Transfer

@@ -17,8 +17,8 @@ use Rattle.nova_running.specs.Guests.{count_in, risen_from}
 abbrev pub frame_at : KernelState → ℕ → Store → Option ℕ
 frame_at k ec s = frame_for (address_space k ec) write_right s.address
 
-abbrev pub written_by : KernelState → ℕ → Option ℕ
-written_by k ec = option_and_then (frame_at k ec) (store_of (instruction k ec))
+abbrev pub written_frame : KernelState → ℕ → Option ℕ
+written_frame k ec = option_and_then (frame_at k ec) (store_of (instruction k ec))
 
 -- a frame that was stored to is one of RAM, to which the protection domain's memory leads
 abbrev pub is_seen : KernelState → ℕ → Option ℕ → Bool

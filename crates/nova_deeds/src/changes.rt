@@ -1,8 +1,8 @@
 ghost use Rattle.std.specs.Prelude.{not, ◌≡◌, ◌==◌, ◌&&◌, ◌<◌, true, IsSome};
-ghost use Rattle.nova_model.specs.Deeds.{changed, recall, transfer_after};
+ghost use Rattle.nova_model.specs.Deeds.{actor_after, recall, transfer_after};
 ghost use Rattle.nova_ec.specs.Tables.{with_items};
 ghost use Rattle.nova_model.specs.State.{ec_in, ec_of, with_ec};
-ghost use Rattle.nova_deeds.specs.Acts.{is_alone, is_over};
+ghost use Rattle.nova_deeds.specs.Acts.{changes_actor_only, is_done_when_decided};
 
 use crate::births::NO_TRANSFER;
 use nova_ec::Ecs;
@@ -23,7 +23,7 @@ fn stays_recalled(context: &EcState, reason: u32) -> bool
 /// An exit is raised; the registers stay.
 fn raise(contexts: &mut Ecs, ec: u32, reason: u32, q0: u32, q1: u32)
     requires { IsSome (ec_in contexts.old.items ec) }
-    ensures { contexts.new ≡ with_items contexts.old (with_ec contexts.old.items ec (changed (ec_of contexts.old.items ec) (Deed.Raises reason q0 q1))) }
+    ensures { contexts.new ≡ with_items contexts.old (with_ec contexts.old.items ec (actor_after (ec_of contexts.old.items ec) (Deed.Raises reason q0 q1))) }
 {
     let is_recalled = stays_recalled(contexts.context(ec), reason);
     contexts.set_recall(ec, is_recalled);
@@ -34,8 +34,8 @@ fn raise(contexts: &mut Ecs, ec: u32, reason: u32, q0: u32, q1: u32)
 #[tactic(auto, using(nova_ec::proofs::Steps::rests))]
 pub fn change(contexts: &mut Ecs, ec: u32, deed: Deed)
     requires there { IsSome (ec_in contexts.old.items ec) }
-    requires alone { is_alone deed ≡ true }
-    ensures { contexts.new ≡ with_items contexts.old (with_ec contexts.old.items ec (changed (ec_of contexts.old.items ec) deed)) }
+    requires alone { changes_actor_only deed ≡ true }
+    ensures { contexts.new ≡ with_items contexts.old (with_ec contexts.old.items ec (actor_after (ec_of contexts.old.items ec) deed)) }
 {
     match deed {
         Deed::Raises { reason, q0, q1 } => raise(contexts, ec, reason, q0, q1),
@@ -53,8 +53,8 @@ pub fn change(contexts: &mut Ecs, ec: u32, deed: Deed)
 }
 
 /// Whether nothing is left of a deed when it is decided.
-pub fn is_over(deed: Deed) -> bool
-    ensures { result ≡ is_over deed }
+pub fn is_done_when_decided(deed: Deed) -> bool
+    ensures { result ≡ is_done_when_decided deed }
 {
     matches!(
         deed,

@@ -3,7 +3,7 @@ use Rattle.std.proofs.Common.{◌≡◌, ℕ, zero, suc, length, ap, ap₂, sym,
 use Rattle.std.specs.Prelude.{Bool, true, false, ◌==◌, ◌||◌, ◌≢◌, Option, Some, None, is_none, option_map, option_and_then, if◌then◌else◌}
 use Rattle.std.specs.List.{find}
 use Rattle.std.proofs.lemmas.List.{length-set}
-use Rattle.nova_model.specs.Deeds.{changed}
+use Rattle.nova_model.specs.Deeds.{actor_after}
 use Rattle.nova_model.specs.State.{Contexts, ec_in, ec_of, with_ec}
 use Rattle.nova_model.specs.Edges.{met_within, edge, edge_of, acts, acts_as, acts_by, is_dead, is_free, stays, chase, or_itself, state_in}
 use Rattle.nova_model.specs.declared.context.EcState.{EcState}
@@ -190,13 +190,13 @@ deeds_keep_chases cs e (Waits handler reason q0 q1) before goes = absurd cc
 deeds_keep_chases cs e (Sends handler ip identifier mtd reason q0 q1) before goes = absurd cc
 deeds_keep_chases cs e (Finishes item end words sequel.Item) before goes = all_stay_here cs e before
 deeds_keep_chases cs e (Finishes item end words sequel.Opened) before goes =
-    all_stay_alone cs e (changed (ec_of cs e) (Finishes item end words sequel.Opened)) before (λ handler. refl)
+    all_stay_alone cs e (actor_after (ec_of cs e) (Finishes item end words sequel.Opened)) before (λ handler. refl)
 deeds_keep_chases cs e (Finishes item end words sequel.Taken) before goes =
-    all_stay_alone cs e (changed (ec_of cs e) (Finishes item end words sequel.Taken)) before (λ handler. refl)
+    all_stay_alone cs e (actor_after (ec_of cs e) (Finishes item end words sequel.Taken)) before (λ handler. refl)
 deeds_keep_chases cs e (Finishes item end words (sequel.Replied caller mark)) before goes = absurd cc
 deeds_keep_chases cs e (Calls handler ip identifier items) before goes = absurd cc
 deeds_keep_chases cs e (Helps handler) before goes = absurd cc
 deeds_keep_chases cs e (Replies caller mark false) before goes = absurd cc
 deeds_keep_chases cs e (Aborts handler mark.Exit) before goes = absurd cc
 deeds_keep_chases cs e (Blocks sm) before goes = absurd cc
-deeds_keep_chases cs e other before goes = all_stay_alone cs e (changed (ec_of cs e) other) before (λ handler. refl)
+deeds_keep_chases cs e other before goes = all_stay_alone cs e (actor_after (ec_of cs e) other) before (λ handler. refl)

@@ -2,7 +2,7 @@
 use Rattle.std.proofs.Common.{◌≡◌, ℕ, ap, sym, ◌∙◌, subst, inl, inr, refl, IsSome}
 use Rattle.std.specs.Prelude.{Bool, true, false, ◌⊎◌, List, Option, Some, None, option_map}
 use Rattle.nova_range.specs.declared.status.Status.{Status}
-use Rattle.nova_model.specs.Deeds.{changed, answered, parked, resumed, serving}
+use Rattle.nova_model.specs.Deeds.{actor_after, answered, parked, resumed, serving}
 use Rattle.nova_model.specs.Edges.{MayServe, MayWait, after_edges, cpu_in, edge}
 use Rattle.nova_model.specs.State.{Contexts, context_in, ec_in, ec_of, with_ec}
 use Rattle.nova_model.specs.declared.context.EcState.{EcState}
@@ -27,7 +27,7 @@ there_at cs e there = by_place (ec_in cs e) there
 
 -- what one may become
 
-pub deed_may : (cs : Contexts) (e : ℕ) (d : Deed) → IsSome (ec_in cs e) → MayWait cs e (edge_by d) → MayBecome cs e (changed (ec_of cs e) d)
+pub deed_may : (cs : Contexts) (e : ℕ) (d : Deed) → IsSome (ec_in cs e) → MayWait cs e (edge_by d) → MayBecome cs e (actor_after (ec_of cs e) d)
 deed_may cs e Rests there may = (ec_of cs e, there_at cs e there, refl, inl refl, refl, inl refl)
 deed_may cs e Steps there may = (ec_of cs e, there_at cs e there, refl, inl refl, refl, inl refl)
 deed_may cs e (Waits handler reason q0 q1) there may = (ec_of cs e, there_at cs e there, refl, inr may, refl, inl refl)
@@ -69,7 +69,7 @@ changes_keep cs e y may = record {
 }
 
 pub deeds_keep : DeedsKeep
-deeds_keep cs e d there may = changes_keep cs e (changed (ec_of cs e) d) (deed_may cs e d there may)
+deeds_keep cs e d there may = changes_keep cs e (actor_after (ec_of cs e) d) (deed_may cs e d there may)
 
 pub serving_keeps : ServingKeeps
 serving_keeps cs h c ip identifier mark items there may =
@@ -102,7 +102,7 @@ there_on_one cs ds e f kept there same =
 
 pub sending_keeps : SendingKeeps
 sending_keeps cs c h ip identifier mark items there new =
-    let ds = with_ec cs c (changed (ec_of cs c) (Calls h ip identifier items)) in
+    let ds = with_ec cs c (actor_after (ec_of cs c) (Calls h ip identifier items)) in
     let first : KeepsSound cs ds = deeds_keep cs c (Calls h ip identifier items) there new in
     let serves : MayServe ds h (Some (c, mark)) = first.cpus c ∙ sym new.one_processor ∙ sym (first.cpus h) in
     keeps_through cs ds _ first (serving_keeps ds h c ip identifier mark items (there_on_one cs ds c h first there new.one_processor) serves)

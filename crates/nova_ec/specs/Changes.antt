@@ -1,7 +1,7 @@
 -- What stays where an execution context changes.
 use Rattle.std.specs.Prelude.{ℕ, ◌≡◌, ◌≢◌, ◌⊎◌, Bool, true, false, List, Option, Some, None, IsSome}
 use Rattle.nova_range.specs.declared.status.Status.{Status}
-use Rattle.nova_model.specs.Deeds.{changed, answered, parked, resumed, serving}
+use Rattle.nova_model.specs.Deeds.{actor_after, answered, parked, resumed, serving}
 use Rattle.nova_model.specs.Edges.{AreCallers, AreEdges, IsNewEdge, MayServe, MayWait, acts, after_edges, caller_in, chase, cpu_in, edge}
 use Rattle.nova_model.specs.State.{Contexts, ec_in, ec_of, with_ec}
 use Rattle.nova_model.specs.declared.context.EcState.{EcState}
@@ -37,7 +37,7 @@ edge_by (Sends handler ip identifier mtd reason q0 q1) = Some handler
 edge_by other = None
 
 abbrev pub DeedsKeep : Type 0
-DeedsKeep = (cs : Contexts) (e : ℕ) (d : Deed) → IsSome (ec_in cs e) → MayWait cs e (edge_by d) → KeepsSound cs (with_ec cs e (changed (ec_of cs e) d))
+DeedsKeep = (cs : Contexts) (e : ℕ) (d : Deed) → IsSome (ec_in cs e) → MayWait cs e (edge_by d) → KeepsSound cs (with_ec cs e (actor_after (ec_of cs e) d))
 
 abbrev pub ServingKeeps : Type 0
 ServingKeeps = (cs : Contexts) (h c ip identifier : ℕ) (mark : Mark) (items : Bool) → IsSome (ec_in cs h) → MayServe cs h (Some (c, mark)) →
@@ -113,7 +113,7 @@ goes_on (Finishes item end words after) = acts_after after
 goes_on other = true
 
 abbrev pub DeedsKeepChases : Type 0
-DeedsKeepChases = (cs : Contexts) (e : ℕ) (d : Deed) → acts cs e ≡ true → goes_on d ≡ true → AllStay cs (with_ec cs e (changed (ec_of cs e) d))
+DeedsKeepChases = (cs : Contexts) (e : ℕ) (d : Deed) → acts cs e ≡ true → goes_on d ≡ true → AllStay cs (with_ec cs e (actor_after (ec_of cs e) d))
 
 -- where two of one processor change, one after the other, turns on other processors stay
 abbrev pub OthersStayTwice : Type 0

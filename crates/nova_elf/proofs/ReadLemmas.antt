@@ -6,7 +6,7 @@ use Rattle.std.specs.Option.{option_or}
 use Rattle.std.proofs.lemmas.Bool.Decides.{nat_tests}
 use Rattle.nova_elf.specs.Executable.{is_not_elf, has_other_class, has_other_order, has_other_version, is_not_exec, is_for_other_machine, has_bad_table, head_fault, first_fault, unless, program, IsRead}
 use Rattle.nova_elf.specs.Fields.{word}
-use Rattle.nova_elf.specs.Fits.{Fits}
+use Rattle.nova_elf.specs.SegmentFits.{SegmentFits}
 use Rattle.nova_elf.specs.Headers.{is_dynamic, is_loaded, has_bad_segment, fault_in, or_later, first_fault_in, segment_of, segments_of, headers}
 use Rattle.nova_elf.specs.declared.fault.ElfFault.{ElfFault}
 use Rattle.nova_elf.specs.declared.fault.ElfFault.TheVariants.{NotElf, Class, ByteOrder, Version, NotExec, Machine, Table, Dynamic, Segment as BadSegment, Memory}
@@ -57,20 +57,20 @@ none_of : (a b : Option ElfFault) → or_later a b ≡ None → (a ≡ None) × 
 none_of (Some fault) b is = cc
 none_of None b is = (refl, is)
 
-header_fits : (len i : ℕ) (h : Header) → fault_in len i h ≡ None → is_loaded h ≡ true → Fits len (segment_of h)
+header_fits : (len i : ℕ) (h : Header) → fault_in len i h ≡ None → is_loaded h ≡ true → SegmentFits len (segment_of h)
 header_fits len i h none loaded = go (is_dynamic h) (has_bad_segment len h) refl refl where
-  go : (dynamic bad : Bool) → is_dynamic h ≡ dynamic → has_bad_segment len h ≡ bad → Fits len (segment_of h)
+  go : (dynamic bad : Bool) → is_dynamic h ≡ dynamic → has_bad_segment len h ≡ bad → SegmentFits len (segment_of h)
   go true bad d b = let same : Some (Dynamic i) ≡ None = rw d at none in cc
   go false true d b = let same : Some (BadSegment i) ≡ None = rw (d, b) at none in cc
   go false false d b = record { within = grind (arith, nat_tests); room = grind (arith, nat_tests); addresses = grind (arith, nat_tests) }
 
-pub headers_fit : (len i : ℕ) (hs : List Header) → first_fault_in len i hs ≡ None → AllByRecursion (Fits len) (segments_of hs)
+pub headers_fit : (len i : ℕ) (hs : List Header) → first_fault_in len i hs ≡ None → AllByRecursion (SegmentFits len) (segments_of hs)
 headers_fit len i [] none = tt
 headers_fit len i (h ∷ hs) none =
     let both = none_of (fault_in len i h) (first_fault_in len (i + 1) hs) none in
     go (is_loaded h) refl both.0 (headers_fit len (i + 1) hs both.1)
   where
-    go : (b : Bool) → is_loaded h ≡ b → fault_in len i h ≡ None → AllByRecursion (Fits len) (segments_of hs) → AllByRecursion (Fits len) (segments_of (h ∷ hs))
+    go : (b : Bool) → is_loaded h ≡ b → fault_in len i h ≡ None → AllByRecursion (SegmentFits len) (segments_of hs) → AllByRecursion (SegmentFits len) (segments_of (h ∷ hs))
     go true is here rest = rw is (header_fits len i h here is, rest)
     go false is here rest = rw is rest
 
@@ -82,7 +82,7 @@ unless_ok : (fault : Option ElfFault) (p q : Program) → unless fault p ≡ Ok 
 unless_ok (Some fault) p q is = cc
 unless_ok None p q is = (refl, cc)
 
-pub program_fits : (bytes : List ℕ) (p : Program) → program bytes ≡ Ok p → AllByRecursion (Fits (length bytes)) p.segments
+pub program_fits : (bytes : List ℕ) (p : Program) → program bytes ≡ Ok p → AllByRecursion (SegmentFits (length bytes)) p.segments
 unfolding program first_fault
 program_fits bytes p is =
     let both = unless_ok _ _ p is in

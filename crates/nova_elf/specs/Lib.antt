@@ -2,4 +2,4 @@ pub mod Fault
 pub mod Fields
 pub mod Headers
 pub mod Executable
-pub mod Fits
+pub mod SegmentFits

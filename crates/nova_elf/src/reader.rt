@@ -1,7 +1,7 @@
 ghost use Rattle.std.specs.Prelude.{◌≡◌, ◌≤◌, ℕ, length, None, IfOk};
 ghost use Rattle.std.specs.List.{AllByRecursion};
 ghost use Rattle.nova_elf.specs.Executable.{is_not_elf, has_other_version, has_bad_table, HasTable, head_fault, program, IsRead};
-ghost use Rattle.nova_elf.specs.Fits.{Fits};
+ghost use Rattle.nova_elf.specs.SegmentFits.{SegmentFits};
 
 use crate::fault::ElfFault;
 use crate::fields::{half, word};
@@ -69,7 +69,7 @@ fn head_fault(bytes: &[u8]) -> Option<ElfFault>
 #[tactic(auto, unfolding(crate::specs::Executable::first_fault, crate::specs::Executable::program))]
 pub fn read(alloc: Global, bytes: &[u8]) -> Result<Program, ElfFault>
     ensures exact { IsRead (program bytes.now) result }
-    ensures segments { IfOk result (λ p. AllByRecursion (Fits (length bytes.now)) p.segments) }
+    ensures segments { IfOk result (λ p. AllByRecursion (SegmentFits (length bytes.now)) p.segments) }
 {
     if let Some(fault) = head_fault(bytes) {
         return Err(fault);

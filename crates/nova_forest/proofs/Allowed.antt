@@ -44,13 +44,13 @@ use Rattle.nova_forest.proofs.Members.{IsIn, all_at, contains_from_in, found_in,
 use Rattle.nova_forest.proofs.Running.{revokes_there}
 use Rattle.nova_forest.proofs.Selectors.{TakesSelector, call_takes}
 use Rattle.nova_forest.proofs.Transfers.{kinds_equal, next_facts, left_facts, judged_facts, child_rights, sent_rights, child_is_range, free_child_fits}
-use Rattle.nova_forest.proofs.Walk.{IfDone, resumed, IsGiving, sm_ctrl_holds, deed_holds}
+use Rattle.nova_forest.proofs.Walk.{IfDone, job_at_cursor, IsGiving, sm_ctrl_holds, deed_holds}
 
 -- deciding: a selector that a deed takes is below 2^20 and free, the domain that takes it may make objects, a domain that it opens has the next
 -- number, a child that it gives is one, and a leaf that it takes is the next of its revoke
 
 -- what is asked of a maker
-pub record IsAsked (k : KernelState) (domain target : ℕ) (object : Object) : Type 0 where
+pub record MayMake (k : KernelState) (domain target : ℕ) (object : Object) : Type 0 where
   pub free : is_held k domain target ≡ false
   pub selector : target < 2 ^ 20
   pub creator : MayCreate k domain
@@ -59,8 +59,8 @@ pub record IsAsked (k : KernelState) (domain target : ℕ) (object : Object) : T
   pub unrevoked : is_revoked k domain target ≡ false
 
 abbrev pub IsAllowed : KernelState → ℕ → Deed → Type 0
-IsAllowed k ec (Makes call target new) = IsAsked k (pd_of k ec) target (object_of new)
-IsAllowed k ec (Opens target number) = IsAsked k (pd_of k ec) target Pd × (number ≡ length k.objects)
+IsAllowed k ec (Makes call target new) = MayMake k (pd_of k ec) target (object_of new)
+IsAllowed k ec (Opens target number) = MayMake k (pd_of k ec) target Pd × (number ≡ length k.objects)
 IsAllowed k ec (Gives child cursor) = IsGivenChild k ec child
 IsAllowed k ec (Removes leaf) = IsNextLeaf k ec leaf
 IsAllowed k ec other = Unit {0}
@@ -165,7 +165,7 @@ makes_free k ec number target pd made selector places =
     })
     by_new o (Err status) free named good = tt
 
-new_domain_free : (k : KernelState) (ec target : ℕ) (first : Option (Range × Rights)) → IsAsked k (pd_of k ec) target Pd → IsAllowed k ec (new_domain k target first)
+new_domain_free : (k : KernelState) (ec target : ℕ) (first : Option (Range × Rights)) → MayMake k (pd_of k ec) target Pd → IsAllowed k ec (new_domain k target first)
 new_domain_free k ec target None asked = asked
 new_domain_free k ec target (Some range) asked = (asked, refl)
 
@@ -254,7 +254,7 @@ ids_below k forest a there =
 given_child : (k : KernelState) (ec : ℕ) (d x : Derivation) → IsGiving k ec d x → IsGivenChild k ec x
 given_child k ec d x g =
     let v = g.item in
-    let j = resumed k ec g.job in
+    let j = job_at_cursor k ec g.job in
     let next = next_facts k.delegations.list j d g.next in
     let left = left_facts j d next.left in
     let good = judged_facts (is_busy k) k.delegations.list (child_of j k.delegations.next d) x g.good in

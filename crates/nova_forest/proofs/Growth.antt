@@ -14,13 +14,13 @@ use Rattle.nova_model.specs.declared.new_object.NewObject.TheVariants as new
 use Rattle.nova_forest.specs.Effects.{branch_by, branched, joined, made_by}
 use Rattle.nova_forest.specs.Made.{Grows, Leaves, MakesObject, GivesChild, TakesLeaf, GrowsBy}
 use Rattle.nova_forest.specs.Turns.{Acts, Idles, Takes, turned}
-use Rattle.nova_forest.proofs.Allowed.{IsAllowed, IsAsked, deed_allowed, ids_below}
+use Rattle.nova_forest.proofs.Allowed.{IsAllowed, MayMake, deed_allowed, ids_below}
 use Rattle.nova_forest.proofs.Doing.{done_is}
 use Rattle.nova_forest.proofs.Running.{root_idle}
 use Rattle.nova_forest.proofs.Turning.{comes}
 
 -- a state with one object more
-made_grows : (k s : KernelState) (ec target : ℕ) (made : NewObject) → IsAsked k (pd_of k ec) target (object_of made) → s.objects ≡ k.objects ++ object_of made ∷ [] →
+made_grows : (k s : KernelState) (ec target : ℕ) (made : NewObject) → MayMake k (pd_of k ec) target (object_of made) → s.objects ≡ k.objects ++ object_of made ∷ [] →
     s.delegations ≡ added k.delegations (root_capability k (pd_of k ec) target (object_of made)) → Grows k ec s
 made_grows k s ec target made asked objects delegations = MakesObject (record {
   object = object_of made;

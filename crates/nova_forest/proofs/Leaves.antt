@@ -6,7 +6,7 @@ use Rattle.std.proofs.lemmas.Bool.{and_parts, and_from, or_cases, or_left, or_ri
 use Rattle.nova_model.specs.Delegations.{Delegations, parent_of, is_id, is_child_of, newest_child, greatest_by, id_of, base_of}
 use Rattle.nova_model.specs.Forest.{ArePairs, IsForest}
 use Rattle.nova_model.specs.Lines.{line_by}
-use Rattle.nova_model.specs.Revokes.{Revocation, is_met, is_made_of, is_own, is_top, in_scope, scope, is_child_in, newest_in, is_entry, entry, onward, leaf_by, leaf_from, next_leaf, taken_away, revoked}
+use Rattle.nova_model.specs.Revokes.{Revocation, is_met, is_made_of, is_own, is_top, in_scope, scope, is_child_in, newest_in, is_entry, scope_entry, onward, leaf_by, leaf_from, next_leaf, taken_away, revoked}
 use Rattle.nova_model.specs.declared.delegation.Derivation.{Derivation}
 use Rattle.nova_forest.specs.Courses.{IsLeaf, lacking}
 use Rattle.nova_forest.proofs.Members.{IsIn, all_at, all_from, filtered_in, in_from_contains, contains_from_in}
@@ -32,10 +32,10 @@ newest_in_is r list id c is = newest_of (is_child_in r list id) list c is
 pub no_newest_in : (r : Revocation) (list : List Derivation) (id : ℕ) → newest_in r list id ≡ None → (a : Derivation) → IsIn list a → is_child_in r list id a ≡ false
 no_newest_in r list id none a i = no_newest (is_child_in r list id) list none a i
 
-pub entry_is : (r : Revocation) (list : List Derivation) (e : Derivation) → entry r list ≡ Some e → IsIn list e × (is_entry r list e ≡ true)
+pub entry_is : (r : Revocation) (list : List Derivation) (e : Derivation) → scope_entry r list ≡ Some e → IsIn list e × (is_entry r list e ≡ true)
 entry_is r list e is = filtered_in (is_entry r list) list e (before_facts (λ a b. nat_le a.base b.base) (filter (is_entry r list) list) e is).there
 
-pub no_entry_is : (r : Revocation) (list : List Derivation) → entry r list ≡ None → (a : Derivation) → IsIn list a → is_entry r list a ≡ false
+pub no_entry_is : (r : Revocation) (list : List Derivation) → scope_entry r list ≡ None → (a : Derivation) → IsIn list a → is_entry r list a ≡ false
 no_entry_is r list none a i = none_passes (is_entry r list) list (none_before (λ a b. nat_le a.base b.base) (least base_of) (filter (is_entry r list) list) none) a i
 
 -- THE WAY
@@ -112,7 +112,7 @@ line_entry r list (suc n) d i h = by_case (λ p j g. line_entry r list n p j g) 
 -- THE LEAF
 
 -- there is no entry only where the scope is empty
-no_entry : (r : Revocation) (list : List Derivation) → entry r list ≡ None → (d : Derivation) → IsIn list d → in_scope r list d ≡ false
+no_entry : (r : Revocation) (list : List Derivation) → scope_entry r list ≡ None → (d : Derivation) → IsIn list d → in_scope r list d ≡ false
 no_entry r list none d i =
     false_from_ne_true (in_scope r list d) (λ t.
     let e = line_entry r list (suc d.id) d i t in
@@ -121,9 +121,9 @@ no_entry r list none d i =
     cc)
 
 none_left : (r : Revocation) (f : Delegations) → next_leaf r f ≡ None → scope r f.list ≡ []
-none_left r f h = by_entry (entry r f.list) refl h
+none_left r f h = by_entry (scope_entry r f.list) refl h
   where
-    by_entry : (o : Option Derivation) → entry r f.list ≡ o → option_map (leaf_from r f) o ≡ None → scope r f.list ≡ []
+    by_entry : (o : Option Derivation) → scope_entry r f.list ≡ o → option_map (leaf_from r f) o ≡ None → scope r f.list ≡ []
     by_entry None is g = none_kept (in_scope r f.list) f.list (λ d i. no_entry r f.list is d i)
     by_entry (Some e) is g = absurd (cc)
 
@@ -153,9 +153,9 @@ from_entry r f forest e i h = by_child (newest_in r f.list e.id) refl
         way_ends r f forest f.next c k.0 (omega arith) (and_parts (is_child_of e.id c) (in_scope r f.list c) k.1).1
 
 pub leaf_facts : (r : Revocation) (f : Delegations) (d : Derivation) → IsForest f → next_leaf r f ≡ Some d → IsLeaf r f d
-leaf_facts r f d forest h = by_entry (entry r f.list) refl h
+leaf_facts r f d forest h = by_entry (scope_entry r f.list) refl h
   where
-    by_entry : (o : Option Derivation) → entry r f.list ≡ o → option_map (leaf_from r f) o ≡ Some d → IsLeaf r f d
+    by_entry : (o : Option Derivation) → scope_entry r f.list ≡ o → option_map (leaf_from r f) o ≡ Some d → IsLeaf r f d
     by_entry None is g = absurd (cc)
     by_entry (Some e) is g =
         let k = entry_is r f.list e is in

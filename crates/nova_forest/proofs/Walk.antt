@@ -2,6 +2,7 @@
 -- hypercalls give, and of the parts and ends of items, holds of the deed of every execution context.
 use Rattle.std.proofs.Common.{◌≡◌, ℕ, ap, refl}
 use Rattle.std.specs.Prelude.{Bool, true, false, ◌==◌, Option, Some, None, option_map, Result, Ok, Err, if◌then◌else◌}
+use Rattle.nova_model.specs.Edges.{is_giving, is_asking}
 use Rattle.rv_model.specs.Registers.{Registers, reg}
 use Rattle.rv_model.specs.Step.{Once, Raised, Went}
 use Rattle.nova_calls.specs.Hypercalls.{call_of}
@@ -47,17 +48,6 @@ use Rattle.nova_model.specs.declared.transfer.Skip.{Skip}
 abbrev pub IfDone : {A : Type 0} → (A → Type 0) → Result A Status → Type 0
 IfDone P (Ok x) = P x
 IfDone P (Err status) = Unit {0}
-
--- the states in which a hypercall is made, and those in which items are given
-abbrev pub is_asking : State → Bool
-is_asking Ready = true
-is_asking (Helping handler) = true
-is_asking other = false
-
-abbrev pub is_giving : State → Bool
-is_giving (Granting new) = true
-is_giving Replying = true
-is_giving other = false
 
 -- ONE THAT GIVES NO ITEMS
 
@@ -167,8 +157,8 @@ revoking_holds P k ec range own is h = by_leaf (next_leaf (record { pd = pd_of k
 -- ONE THAT GIVES ITEMS
 
 -- where it goes on with its present item
-abbrev pub resumed : KernelState → ℕ → Job → Job
-resumed k ec j = record j { cursor = (transfer k ec).cursor }
+abbrev pub job_at_cursor : KernelState → ℕ → Job → Job
+job_at_cursor k ec j = record j { cursor = (transfer k ec).cursor }
 
 -- what the present item reads as, where it is a delegation
 abbrev pub job_in : Delivery → Result Job Skip
@@ -185,8 +175,8 @@ pub record IsGiving (k : KernelState) (ec : ℕ) (d x : Derivation) : Type 0 whe
   pub of_item : IsDelegating k ec item
   pub job : Job
   pub reads : job_in item ≡ Ok job
-  pub next : next_source k.delegations.list (resumed k ec job) ≡ Some d
-  pub good : judged (is_busy k) k.delegations.list (child_of (resumed k ec job) k.delegations.next d) ≡ Ok x
+  pub next : next_source k.delegations.list (job_at_cursor k ec job) ≡ Some d
+  pub good : judged (is_busy k) k.delegations.list (child_of (job_at_cursor k ec job) k.delegations.next d) ≡ Ok x
 
 -- a part that it skips: of this derivation, for this reason
 pub record IsSkipping (k : KernelState) (ec : ℕ) (d : Derivation) (reason : Reason) : Type 0 where
@@ -194,13 +184,13 @@ pub record IsSkipping (k : KernelState) (ec : ℕ) (d : Derivation) (reason : Re
   pub of_item : IsDelegating k ec item
   pub job : Job
   pub reads : job_in item ≡ Ok job
-  pub next : next_source k.delegations.list (resumed k ec job) ≡ Some d
-  pub bad : judged (is_busy k) k.delegations.list (child_of (resumed k ec job) k.delegations.next d) ≡ Err reason
+  pub next : next_source k.delegations.list (job_at_cursor k ec job) ≡ Some d
+  pub bad : judged (is_busy k) k.delegations.list (child_of (job_at_cursor k ec job) k.delegations.next d) ≡ Err reason
 
 -- how an item ends, with its answer: nothing is left, or it is skipped as a whole, or it was translated
 abbrev pub EndsAs : KernelState → ℕ → Delivery → ItemEnd → ℕ → Type 0
 EndsAs k ec v (Given children) answer =
-    (children ≡ (transfer k ec).children) × ((job : Job) × (job_in v ≡ Ok job) × (answer ≡ range_given (resumed k ec job) children))
+    (children ≡ (transfer k ec).children) × ((job : Job) × (job_in v ≡ Ok job) × (answer ≡ range_given (job_at_cursor k ec job) children))
 EndsAs k ec v (Skipped skip) answer = (job_in v ≡ Err skip) × (answer ≡ 0)
 EndsAs k ec v (Translated word) answer =
     (word ≡ translated k.delegations.list v.range_word v.translations v.giver v.receiver) × (answer ≡ word)
@@ -216,20 +206,20 @@ pub record Delivers (P : Deed → Type 0) (k : KernelState) (ec : ℕ) : Type 0 
 delegated_holds : (P : Deed → Type 0) (k : KernelState) (ec : ℕ) (v : Delivery) → IsDelegating k ec v → Delivers P k ec → P (delegated k v (transfer k ec) (job_in v))
 delegated_holds P k ec v of_item h = by_job (job_in v) refl
   where
-    by_verdict : (j : Job) → job_in v ≡ Ok j → (d : Derivation) → next_source k.delegations.list (resumed k ec j) ≡ Some d → (r : Result Derivation Reason) →
-        judged (is_busy k) k.delegations.list (child_of (resumed k ec j) k.delegations.next d) ≡ r → P (parted (resumed k ec j) d r)
+    by_verdict : (j : Job) → job_in v ≡ Ok j → (d : Derivation) → next_source k.delegations.list (job_at_cursor k ec j) ≡ Some d → (r : Result Derivation Reason) →
+        judged (is_busy k) k.delegations.list (child_of (job_at_cursor k ec j) k.delegations.next d) ≡ r → P (parted (job_at_cursor k ec j) d r)
     by_verdict j reads d next (Ok x) good = h.gives d x (record { item = v; of_item = of_item; job = j; reads = reads; next = next; good = good })
     by_verdict j reads d next (Err reason) bad =
         h.skips d reason _ (record { item = v; of_item = of_item; job = j; reads = reads; next = next; bad = bad })
 
-    by_source : (j : Job) → job_in v ≡ Ok j → (o : Option Derivation) → next_source k.delegations.list (resumed k ec j) ≡ o →
-        P (part_deed v (transfer k ec) (resumed k ec j) (option_map (part_of (is_busy k) k.delegations (resumed k ec j)) o))
+    by_source : (j : Job) → job_in v ≡ Ok j → (o : Option Derivation) → next_source k.delegations.list (job_at_cursor k ec j) ≡ o →
+        P (part_deed v (transfer k ec) (job_at_cursor k ec j) (option_map (part_of (is_busy k) k.delegations (job_at_cursor k ec j)) o))
     by_source j reads None next = h.finishes v (Given (transfer k ec).children) _ of_item.present (refl, (j, reads, refl))
-    by_source j reads (Some d) next = by_verdict j reads d next (judged (is_busy k) k.delegations.list (child_of (resumed k ec j) k.delegations.next d)) refl
+    by_source j reads (Some d) next = by_verdict j reads d next (judged (is_busy k) k.delegations.list (child_of (job_at_cursor k ec j) k.delegations.next d)) refl
 
     by_job : (r : Result Job Skip) → job_in v ≡ r → P (delegated k v (transfer k ec) r)
     by_job (Err skip) reads = h.finishes v (Skipped skip) 0 of_item.present (reads, refl)
-    by_job (Ok j) reads = by_source j reads (next_source k.delegations.list (resumed k ec j)) refl
+    by_job (Ok j) reads = by_source j reads (next_source k.delegations.list (job_at_cursor k ec j)) refl
 
 -- of any item
 pub delivered_holds : (P : Deed → Type 0) (k : KernelState) (ec : ℕ) (v : Delivery) → delivery k ec (context k ec).state ≡ Some v → Delivers P k ec →

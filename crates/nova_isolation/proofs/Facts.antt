@@ -15,7 +15,7 @@ use Rattle.nova_model.specs.Calls.{admitted}
 use Rattle.nova_model.specs.Capabilities.{call_right, control_right, event_right, is_ec, is_pt, is_sc, named}
 use Rattle.nova_model.specs.Deeds.{deed}
 use Rattle.nova_model.specs.Deliveries.{delivery, delivery_between, finished, first_delivery, flag, given_to, taken_from, told_by, words_for}
-use Rattle.nova_model.specs.Edges.{caller_in, is_dead, state_in}
+use Rattle.nova_model.specs.Edges.{caller_in, is_dead, state_in, is_asking}
 use Rattle.nova_model.specs.Hypercalls.{and_then, call, called, create_pd, maker, makes, new_domain, replied, reply, row, unless, unless_busy}
 use Rattle.nova_model.specs.Portals.{handler_of}
 use Rattle.nova_model.specs.Running.{is_revoked}
@@ -39,10 +39,10 @@ use Rattle.nova_model.specs.declared.transfer.ItemEnd.{ItemEnd}
 use Rattle.nova_model.specs.declared.transfer.Sequel.{Sequel}
 use Rattle.nova_model.specs.declared.transfer.Sequel.TheVariants as sequel
 use Rattle.nova_forest.proofs.Leaves.{leaf_facts}
-use Rattle.nova_forest.proofs.Walk.{IfDone, deed_holds, is_asking, sm_ctrl_holds}
+use Rattle.nova_forest.proofs.Walk.{IfDone, deed_holds, sm_ctrl_holds}
 use Rattle.nova_isolation.proofs.Premises.{HasPremises, IsGuest, IsGuestState}
 use Rattle.nova_isolation.proofs.Unseen.{Facts, WaitsFor}
-use Rattle.nova_isolation.proofs.OwnTurns.{caller_of, handler_apart, state_of, thread_apart}
+use Rattle.nova_isolation.proofs.OwnTurns.{caller_of, handler_apart, state_in_there, thread_apart}
 
 -- what comes after an answer, or after a condition
 then_holds : {A : Type 0} (P : Deed → Type 0) (o : Result A Status) (f : A → Result Deed Status) → ((x : A) → o ≡ Ok x → IfDone P (f x)) → IfDone P (and_then o f)
@@ -103,7 +103,7 @@ caller_waits k ec g caller came sound is alive keeps own = (by_mark came kept, a
     by_mark mark.Call h = absurd (thread_apart k g g is (sound.called g ec h) refl)
 
     waits : (context k g).state ≡ Calling ec
-    waits = same_Some (context k g).state (Calling ec) (sym (state_of k g is.there) ∙ sound.waited g ec came kept (lives k ec alive))
+    waits = same_Some (context k g).state (Calling ec) (sym (state_in_there k g is.there) ∙ sound.waited g ec came kept (lives k ec alive))
 
 reply_holds : (k : KernelState) (ec g : ℕ) → HasPremises k → IsGuest k g → is_asking (context k ec).state ≡ true → IfDone (Facts k g) (reply k ec)
 reply_holds k ec g sound is asking =
@@ -116,7 +116,7 @@ reply_holds k ec g sound is asking =
 -- who waits at a semaphore is no virtual CPU
 blocked_apart : (k : KernelState) (sm w g : ℕ) → HasPremises k → IsGuest k g → waits k.semaphores sm w ≡ true → w ≢ g
 blocked_apart k sm w g sound is wait own =
-    subst IsGuestState (same_Some (context k g).state (Blocked sm) (sym (state_of k g is.there) ∙ (ap (state_in k.contexts) (sym own) ∙ sound.blocked sm w wait))) is.runs
+    subst IsGuestState (same_Some (context k g).state (Blocked sm) (sym (state_in_there k g is.there) ∙ (ap (state_in k.contexts) (sym own) ∙ sound.blocked sm w wait))) is.runs
 
 first_waits : (count : ℕ) (ecs : List ℕ) (w : ℕ) → woken_of count ecs ≡ Ok (Some w) → has ecs w ≡ true
 first_waits count [] w h = by_count (count == greatest) h

@@ -18,7 +18,7 @@ use Rattle.nova_objects.specs.declared.object.Object.TheVariants.{Pd, Ec, Sc, Pt
 use Rattle.nova_range.specs.Rights.{write_right}
 use Rattle.nova_model.specs.AddressSpaces.{frame_for, stored_at}
 use Rattle.nova_model.specs.Capabilities.{is_ec, is_vcpu}
-use Rattle.nova_model.specs.Deeds.{address_space, instruction, with_context, memory_after, messages_after, changed, stepped, recalled, resumed, brought, completed, with_transfer, done}
+use Rattle.nova_model.specs.Deeds.{address_space, instruction, with_context, memory_after, messages_after, actor_after, stepped, recalled, resumed, brought, completed, with_transfer, done}
 use Rattle.nova_model.specs.Deeds.{told as told_words}
 use Rattle.nova_model.specs.Delegations.{added, without}
 use Rattle.nova_model.specs.Forest.{AreApart, IsFitting}
@@ -255,13 +255,13 @@ take_law k g leaf sound there = elim (cases_Bool (is_memory_of (pd_of k g) leaf)
 
 -- its own context is written first, and then the rest
 abbrev mid : KernelState → ℕ → Deed → KernelState
-mid k ec d = with_context k ec (changed (context k ec) d)
+mid k ec d = with_context k ec (actor_after (context k ec) d)
 
 mid_seen : (k : KernelState) (ec g : ℕ) (d : Deed) → ec ≢ g → IsSeenSame k (mid k ec d) g
-mid_seen k ec g d ne = seen_context k ec g (changed (context k ec) d) ne
+mid_seen k ec g d ne = seen_context k ec g (actor_after (context k ec) d) ne
 
 mid_there : (k : KernelState) (ec g : ℕ) (d : Deed) → ec ≢ g → IsGuest k g → IsSome (context_at (mid k ec d) g)
-mid_there k ec g d ne is = ap is_some (at_other k ec g (changed (context k ec) d) ne) ∙ is.there
+mid_there k ec g d ne is = ap is_some (at_other k ec g (actor_after (context k ec) d) ne) ∙ is.there
 
 told_seen : (k : KernelState) (g item : ℕ) (words : Option ItemWords) → IsSeenSame k (told_words k item words) g
 told_seen k g item None = seen_self k g

@@ -235,12 +235,12 @@ caller_of k h = by_entry (context_at k h)
     by_entry (Some x) = refl
     by_entry None = refl
 
-pub state_of : (k : KernelState) (g : ℕ) → IsSome (context_at k g) → state_in k.contexts g ≡ Some (context k g).state
-state_of k g there = some_state (context_at k g) there
+pub state_in_there : (k : KernelState) (g : ℕ) → IsSome (context_at k g) → state_in k.contexts g ≡ Some (context k g).state
+state_in_there k g there = some_state (context_at k g) there
 
 aborts_law : (k : KernelState) (g handler : ℕ) → HasPremises k → IsGuest k g → (context k g).state ≡ Calling handler → OwnLaw k g (Aborts handler (mark_in (context k handler).caller))
 aborts_law k g handler sound is waits =
-    by_mark (sound.known g handler (state_of k g is.there ∙ ap Some waits))
+    by_mark (sound.known g handler (state_in_there k g is.there ∙ ap Some waits))
   where
     by_known : (m : Mark) → caller_in k.contexts handler ≡ Some (g, m) → OwnLaw k g (Aborts handler m)
     by_known mark.Call h = absurd (thread_apart k g g is (sound.called g handler h) refl)

@@ -38,7 +38,7 @@ use Rattle.nova_deeds.specs.Counted.{IsCharged, IsCounted, IsGivenWithin, IsToBe
 use Rattle.nova_deeds.specs.Stirs.{IsStirredWithin}
 use Rattle.nova_deeds.proofs.Counts.{IsCharged-paid}
 use Rattle.nova_memory.specs.Reach.{ReachState}
-use Rattle.nova_kernel.specs.Parts.{shown}
+use Rattle.nova_kernel.specs.Parts.{state_of}
 use Rattle.nova_kernel.specs.Revoking.{AreRunning}
 use Rattle.nova_kernel.specs.declared.parts.Parts.{Parts}
 use Rattle.nova_kernel.proofs.Stores.{entry_seen, length_seen, less_for, stores_for}
@@ -98,49 +98,49 @@ at_once k cpu s may = charged_all s.count k cpu may.chosen.sc may.budget may.lef
 -- the parts after the charge, and then with registers, frames and counts; the pages as each of the last two has them
 pub record IsLaid (k : KernelState) (cpu : ℕ) (s : Steps) (chosen : Chosen) (p : Parts) (t : EcTable) (written : List Page) (r : ReachState) (seen : List Page) (new : Parts) : Type 0 where
   pub told : Some chosen ≡ option_map chosen_of (choice k cpu)
-  pub paid : shown p ≡ charged_times s.count k cpu chosen.sc
+  pub paid : state_of p ≡ charged_times s.count k cpu chosen.sc
   pub regs : t ≡ with_items p.contexts (with_ec p.contexts.items chosen.actor (record (ec_of p.contexts.items chosen.actor) { regs = s.regs }))
   pub frames : r ≡ record p.reach { memory = record p.reach.memory { ram = pages_written (stored_to written) p.reach.memory.ram } }
-  pub counts : new.guests.counts ≡ seen_from (shown (record p { contexts = t; reach = r })) chosen.actor seen 0 p.guests.counts
+  pub counts : new.guests.counts ≡ seen_from (state_of (record p { contexts = t; reach = r })) chosen.actor seen 0 p.guests.counts
   pub first : written ≡ s.pages.items
   pub second : seen ≡ s.pages.items
   pub rest : new ≡ record p { contexts = t; reach = r; guests = new.guests }
 
 pub paid_times : (k : KernelState) (cpu : ℕ) (s : Steps) (chosen : Chosen) (p : Parts) → (may : MayAdvance k cpu s) → Some chosen ≡ option_map chosen_of (choice k cpu) →
-    shown p ≡ charged_times s.count k cpu chosen.sc → shown p ≡ charged_times s.count k cpu may.chosen.sc
+    state_of p ≡ charged_times s.count k cpu chosen.sc → state_of p ≡ charged_times s.count k cpu may.chosen.sc
 paid_times k cpu s chosen p may told paid = paid ∙ ap (λ (c : Chosen). charged_times s.count k cpu c.sc) (is_chosen k cpu s chosen may told)
 
 all_laid : (k : KernelState) (cpu : ℕ) (s : Steps) (chosen : Chosen) (p : Parts) (t : EcTable) (written : List Page) (r : ReachState) (seen : List Page) (new : Parts) → IsLaid k cpu s chosen p t written r seen new →
-    shown new ≡ laid_counts (laid_pages (laid_regs (shown p) chosen.actor s.regs) s.pages.items) chosen.actor s.pages.items
+    state_of new ≡ laid_counts (laid_pages (laid_regs (state_of p) chosen.actor s.regs) s.pages.items) chosen.actor s.pages.items
 all_laid k cpu s chosen p t written r seen new is =
     let tables : EcTable = with_items p.contexts (with_ec p.contexts.items chosen.actor (record (ec_of p.contexts.items chosen.actor) { regs = s.regs })) in
     let reach : ReachState = record p.reach { memory = record p.reach.memory { ram = pages_written (stored_to s.pages.items) p.reach.memory.ram } } in
     let frames : r ≡ reach = is.frames ∙ ap (λ (ps : List Page). record p.reach { memory = record p.reach.memory { ram = pages_written (stored_to ps) p.reach.memory.ram } }) is.first in
-    let counts : new.guests.counts ≡ seen_from (shown (record p { contexts = t; reach = r })) chosen.actor s.pages.items 0 p.guests.counts =
-    is.counts ∙ ap (λ (ps : List Page). seen_from (shown (record p { contexts = t; reach = r })) chosen.actor ps 0 p.guests.counts) is.second in
-    ap shown is.rest
-    ∙ (ap₂ (λ (a : EcTable) (b : ReachState). shown (record p { contexts = a; reach = b; guests = new.guests })) is.regs frames
-    ∙ ap (λ (cs : List (Option ℕ)). shown (record p { contexts = tables; reach = reach; guests = record p.guests { counts = cs } }))
-    (counts ∙ ap₂ (λ (a : EcTable) (b : ReachState). seen_from (shown (record p { contexts = a; reach = b })) chosen.actor s.pages.items 0 p.guests.counts) is.regs frames))
+    let counts : new.guests.counts ≡ seen_from (state_of (record p { contexts = t; reach = r })) chosen.actor s.pages.items 0 p.guests.counts =
+    is.counts ∙ ap (λ (ps : List Page). seen_from (state_of (record p { contexts = t; reach = r })) chosen.actor ps 0 p.guests.counts) is.second in
+    ap state_of is.rest
+    ∙ (ap₂ (λ (a : EcTable) (b : ReachState). state_of (record p { contexts = a; reach = b; guests = new.guests })) is.regs frames
+    ∙ ap (λ (cs : List (Option ℕ)). state_of (record p { contexts = tables; reach = reach; guests = record p.guests { counts = cs } }))
+    (counts ∙ ap₂ (λ (a : EcTable) (b : ReachState). seen_from (state_of (record p { contexts = a; reach = b })) chosen.actor s.pages.items 0 p.guests.counts) is.regs frames))
 
 pub lays : (k : KernelState) (cpu : ℕ) (s : Steps) (chosen : Chosen) (p : Parts) (t : EcTable) (written : List Page) (r : ReachState) (seen : List Page) (new : Parts) → (may : MayAdvance k cpu s) →
-    IsLaid k cpu s chosen p t written r seen new → shown new ≡ laid_steps k cpu may.chosen.sc may.chosen.actor s
+    IsLaid k cpu s chosen p t written r seen new → state_of new ≡ laid_steps k cpu may.chosen.sc may.chosen.actor s
 lays k cpu s chosen p t written r seen new may is =
     all_laid k cpu s chosen p t written r seen new is
-    ∙ (ap (λ (c : Chosen). laid_counts (laid_pages (laid_regs (shown p) c.actor s.regs) s.pages.items) c.actor s.pages.items) (is_chosen k cpu s chosen may is.told)
+    ∙ (ap (λ (c : Chosen). laid_counts (laid_pages (laid_regs (state_of p) c.actor s.regs) s.pages.items) c.actor s.pages.items) (is_chosen k cpu s chosen may is.told)
     ∙ ap (λ (l : KernelState). laid_counts (laid_pages (laid_regs l may.chosen.actor s.regs) s.pages.items) may.chosen.actor s.pages.items)
     (paid_times k cpu s chosen p may is.told is.paid))
 
 -- WHAT IT FINDS
 
 pub still_acts : (k : KernelState) (cpu : ℕ) (s : Steps) (chosen : Chosen) (p : Parts) → IsReached k → (may : MayAdvance k cpu s) → Some chosen ≡ option_map chosen_of (choice k cpu) →
-    shown p ≡ charged_times s.count k cpu chosen.sc → IsSome (context_at (shown p) chosen.actor)
+    state_of p ≡ charged_times s.count k cpu chosen.sc → IsSome (context_at (state_of p) chosen.actor)
 still_acts k cpu s chosen p is may told paid =
     subst (λ (l : KernelState). IsSome (context_at l chosen.actor)) (sym (paid_times k cpu s chosen p may told paid ∙ at_once k cpu s may))
     (subst (λ (c : Chosen). IsSome (context_at k c.actor)) (sym (is_chosen k cpu s chosen may told)) (acts_there k cpu s is may))
 
 pub still_frames : (k : KernelState) (cpu : ℕ) (s : Steps) (chosen : Chosen) (p : Parts) → IsReached k → (may : MayAdvance k cpu s) → Some chosen ≡ option_map chosen_of (choice k cpu) →
-    shown p ≡ charged_times s.count k cpu chosen.sc → AreFrames (shown p).memory.ram s.pages.items
+    state_of p ≡ charged_times s.count k cpu chosen.sc → AreFrames (state_of p).memory.ram s.pages.items
 still_frames k cpu s chosen p is may told paid =
     subst (λ (l : KernelState). AreFrames l.memory.ram s.pages.items) (sym (paid_times k cpu s chosen p may told paid ∙ at_once k cpu s may)) (pages_whole k cpu s is may)
 
@@ -152,7 +152,7 @@ count_fits turns n all (Some c) h few most = omega (arith, h, few, most)
 count_fits turns n all None h few most = tt
 
 pub counts_fit : (k : KernelState) (cpu : ℕ) (s : Steps) (chosen : Chosen) (p : Parts) → IsCounted k → (may : MayAdvance k cpu s) → Some chosen ≡ option_map chosen_of (choice k cpu) →
-    shown p ≡ charged_times s.count k cpu chosen.sc → k.turns + s.count ≤ 2 ^ 31 → (g : ℕ) → IfSome (entry (slice_get (shown p).stirs.guests g)) (λ n. n + stores_seen (λ f. true) s.pages.items < 2 ^ 64)
+    state_of p ≡ charged_times s.count k cpu chosen.sc → k.turns + s.count ≤ 2 ^ 31 → (g : ℕ) → IfSome (entry (slice_get (state_of p).stirs.guests g)) (λ n. n + stores_seen (λ f. true) s.pages.items < 2 ^ 64)
 counts_fit k cpu s chosen p c may told paid most g =
     subst (λ (l : KernelState). IfSome (entry (slice_get l.stirs.guests g)) (λ n. n + stores_seen (λ f. true) s.pages.items < 2 ^ 64))
     (sym (paid_times k cpu s chosen p may told paid ∙ at_once k cpu s may))

@@ -9,15 +9,15 @@ use Rattle.nova_model.specs.declared.deed.Deed.TheVariants.{Steps}
 use Rattle.rv_core.specs.declared.outcome.Outcome.TheVariants.{Next}
 use Rattle.rv_model.specs.Step.{environment_call}
 use Rattle.nova_choice.specs.Schedules.{AreQueued}
-use Rattle.nova_deeds.specs.Acts.{begun, is_executing, is_over, outcome_of}
+use Rattle.nova_deeds.specs.Acts.{begun, is_executing, is_done_when_decided, outcome_of}
 use Rattle.nova_deeds.specs.Counted.{IsCounted, KeepsCounts}
-use Rattle.nova_deeds.specs.Stirs.{written_by}
+use Rattle.nova_deeds.specs.Stirs.{written_frame}
 use Rattle.nova_deeds.proofs.Keeps.{done-keeps}
 use Rattle.nova_deeds.proofs.Moves.{may_move, stale_after}
 use Rattle.nova_deeds.proofs.Steps.{executing-deed}
 use Rattle.nova_sched.specs.Queues.{Schedule, QueuesState}
 use Rattle.nova_kernel.specs.Going.{HasRaised, WentOn}
-use Rattle.nova_kernel.specs.Parts.{shown}
+use Rattle.nova_kernel.specs.Parts.{state_of}
 use Rattle.nova_kernel.specs.Revoking.{AreRunning}
 use Rattle.nova_kernel.specs.declared.parts.Parts.{Parts}
 use Rattle.nova_kernel.proofs.Foreseen.{goes_on, raises}
@@ -33,14 +33,14 @@ goes_queued : (k new : KernelState) (s after : Schedule) (ec : ℕ) → IsCounte
 goes_queued k new s after ec counted there acting queued does same =
     stale_after k new s after ec Steps None (may_move k ec counted there acting) tt queued does same refl
 
-pub went_on : (p q : Parts) (ec : ℕ) → IsDecided (shown p) ec Steps → IsCounted (shown p) → acts (shown p).contexts ec ≡ true → AreQueued (shown p) p.queues.all →
-    AreRunning (shown p) p.revokes → shown q ≡ done (shown p) ec Steps → q.reach.written ≡ written_by (shown p) ec → q.queues ≡ p.queues → q.revokes ≡ p.revokes → WentOn p q ec
+pub went_on : (p q : Parts) (ec : ℕ) → IsDecided (state_of p) ec Steps → IsCounted (state_of p) → acts (state_of p).contexts ec ≡ true → AreQueued (state_of p) p.queues.all →
+    AreRunning (state_of p) p.revokes → state_of q ≡ done (state_of p) ec Steps → q.reach.written ≡ written_frame (state_of p) ec → q.queues ≡ p.queues → q.revokes ≡ p.revokes → WentOn p q ec
 went_on p q ec decided counted acting queued running does wrote same still = record {
   decided = decided.is;
   does = does;
-  kept = subst (λ (s : KernelState). KeepsCounts (shown p) s) (sym does) (done-keeps (shown p) ec Steps tt);
+  kept = subst (λ (s : KernelState). KeepsCounts (state_of p) s) (sym does) (done-keeps (state_of p) ec Steps tt);
   wrote = wrote;
-  queued = goes_queued (shown p) (shown q) p.queues.all q.queues.all ec counted decided.there acting queued does (ap (λ (x : QueuesState). x.all) same);
+  queued = goes_queued (state_of p) (state_of q) p.queues.all q.queues.all ec counted decided.there acting queued does (ap (λ (x : QueuesState). x.all) same);
   running = over_runs p q ec Steps decided running tt counted.tables refl does still;
 }
 
@@ -49,8 +49,8 @@ pub raised_deed : (k : KernelState) (ec reason q0 q1 : ℕ) (d : Deed) → is_ex
     d ≡ signalled k ec reason q0 q1 ((reason == environment_call) && is_thread k ec) → d ≡ deed k ec
 raised_deed k ec reason q0 q1 d next raised signals = signals ∙ raises k ec reason q0 q1 (instruction k ec) (raised next) ∙ sym (executing-deed k ec next)
 
-pub raised_begun : (k : KernelState) (ec : ℕ) (d : Deed) → is_over d ≡ false → k ≡ begun k ec d
+pub raised_begun : (k : KernelState) (ec : ℕ) (d : Deed) → is_done_when_decided d ≡ false → k ≡ begun k ec d
 raised_begun k ec d later = rw later refl
 
-pub raised_goes : (k : KernelState) (ec : ℕ) (d : Deed) (A : Type 0) → is_over d ≡ false → d ≡ Steps → A
-raised_goes k ec d A later is = let over : is_over d ≡ true = ap is_over is in absurd cc
+pub raised_goes : (k : KernelState) (ec : ℕ) (d : Deed) (A : Type 0) → is_done_when_decided d ≡ false → d ≡ Steps → A
+raised_goes k ec d A later is = let over : is_done_when_decided d ≡ true = ap is_done_when_decided is in absurd cc

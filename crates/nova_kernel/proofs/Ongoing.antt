@@ -9,7 +9,7 @@ use Rattle.nova_objects.specs.declared.object.Object.TheVariants.{Pd}
 use Rattle.nova_range.specs.declared.range.Range.{Range}
 use Rattle.nova_model.specs.Boot.{bare}
 use Rattle.nova_model.specs.Creation.{object_of}
-use Rattle.nova_model.specs.Deeds.{brought, changed, deed, done, followed, instruction, recalled, replied_to, stepped, told, with_context, woken_in}
+use Rattle.nova_model.specs.Deeds.{brought, actor_after, deed, done, followed, instruction, recalled, replied_to, stepped, told, with_context, woken_in}
 use Rattle.nova_model.specs.Delegations.{Delegations}
 use Rattle.nova_model.specs.Memory.{Memory}
 use Rattle.nova_model.specs.Running.{Running, revoke_of, running}
@@ -34,9 +34,9 @@ use Rattle.nova_laws.specs.Revoking.{AsksRevoke, revoke_after, running_after}
 use Rattle.nova_forest.proofs.Running.{revokes_there, revoking_there}
 use Rattle.nova_revoke.specs.Done.{done_of}
 use Rattle.nova_revoke.specs.declared.leaves.RevokeDone.TheVariants.{Removed, Ended}
-use Rattle.nova_deeds.specs.Acts.{Fits, begun, is_over, part_now, with_part}
+use Rattle.nova_deeds.specs.Acts.{DeedFits, begun, is_done_when_decided, part_now, with_part}
 use Rattle.nova_deeds.specs.Counted.{AreTables}
-use Rattle.nova_kernel.specs.Parts.{HasRoomFor, shown}
+use Rattle.nova_kernel.specs.Parts.{HasRoomFor, state_of}
 use Rattle.nova_kernel.specs.Revoking.{AreRunning, BeginsWithin, revokes_after}
 use Rattle.nova_running.specs.Runners.{RevokesState, busy_under, revoke_in}
 use Rattle.nova_deeds.specs.Stirs.{risen_in}
@@ -150,18 +150,18 @@ objects_within k ec (Opens target number) places domain p few same room =
 objects_within k ec Rests places domain p few same room = few
 objects_within k ec Steps places domain p few same room = rw (stepped_objects k ec (instruction k ec)) few
 objects_within k ec (Recalls whose) places domain p few same room =
-    rw (recalled_objects (with_context k ec (changed (context k ec) (Recalls whose))) whose (context_at (with_context k ec (changed (context k ec) (Recalls whose))) whose)) few
+    rw (recalled_objects (with_context k ec (actor_after (context k ec) (Recalls whose))) whose (context_at (with_context k ec (actor_after (context k ec) (Recalls whose))) whose)) few
 objects_within k ec (Finishes item end words after) places domain p few same room =
-    let mid = with_context k ec (changed (context k ec) (Finishes item end words after)) in
+    let mid = with_context k ec (actor_after (context k ec) (Finishes item end words after)) in
     rw (followed_objects (told mid item words) ec after ∙ told_objects mid item words) few
 objects_within k ec (Replies caller m items) places domain p few same room =
-    rw (replied_objects (with_context k ec (changed (context k ec) (Replies caller m items))) ec caller m items) few
+    rw (replied_objects (with_context k ec (actor_after (context k ec) (Replies caller m items))) ec caller m items) few
 objects_within k ec (Ups sm whom) places domain p few same room =
-    rw (woken_objects (record (with_context k ec (changed (context k ec) (Ups sm whom))) { semaphores = upped k.semaphores sm }) whom) few
+    rw (woken_objects (record (with_context k ec (actor_after (context k ec) (Ups sm whom))) { semaphores = upped k.semaphores sm }) whom) few
 objects_within k ec other places domain p few same room = few
 
 -- each execution context has a place after a deed, for which room was made
-pub places_within : (k : KernelState) (ec domain : ℕ) (d : Deed) (p : Parts) → Fits k ec d → AreTables k → length k.contexts ≤ p.revokes.places → shown p ≡ k →
+pub places_within : (k : KernelState) (ec domain : ℕ) (d : Deed) (p : Parts) → DeedFits k ec d → AreTables k → length k.contexts ≤ p.revokes.places → state_of p ≡ k →
     HasRoomFor domain d p → length (done k ec d).contexts ≤ p.revokes.places
 places_within k ec domain d p fits tables places same room =
     let new = (done-keeps k ec d fits).tables tables in
@@ -169,32 +169,32 @@ places_within k ec domain d p fits tables places same room =
     rw new.contexts (objects_within k ec d 0 domain p few (ap (λ (s : KernelState). s.objects) same) room)
 
 -- what is over when it is decided begins no revoke, ends none, and makes no object
-pub over_room : (domain : ℕ) (d : Deed) (p : Parts) → is_over d ≡ true → HasRoomFor domain d p
+pub over_room : (domain : ℕ) (d : Deed) (p : Parts) → is_done_when_decided d ≡ true → HasRoomFor domain d p
 over_room domain (Makes call target new) p over = absurd (cc)
 over_room domain (Opens target number) p over = absurd (cc)
 over_room domain other p over = tt
 
-pub over_leaves : (pd ec : ℕ) (d : Deed) (list : List Running) → is_over d ≡ true → list ≡ revokes_after pd ec d list
+pub over_leaves : (pd ec : ℕ) (d : Deed) (list : List Running) → is_done_when_decided d ≡ true → list ≡ revokes_after pd ec d list
 over_leaves pd ec (Revokes range own) list over = absurd (cc)
 over_leaves pd ec Returns list over = absurd (cc)
 over_leaves pd ec other list over = refl
 
 -- after a deed that is over when it is decided, and after one that is done in the room that was made
-pub over_runs : (p q : Parts) (ec : ℕ) (d : Deed) → IsDecided (shown p) ec d → AreRunning (shown p) p.revokes → Fits (shown p) ec d → AreTables (shown p) →
-    is_over d ≡ true → shown q ≡ begun (shown p) ec d → q.revokes ≡ p.revokes → AreRunning (shown q) q.revokes
+pub over_runs : (p q : Parts) (ec : ℕ) (d : Deed) → IsDecided (state_of p) ec d → AreRunning (state_of p) p.revokes → DeedFits (state_of p) ec d → AreTables (state_of p) →
+    is_done_when_decided d ≡ true → state_of q ≡ begun (state_of p) ec d → q.revokes ≡ p.revokes → AreRunning (state_of q) q.revokes
 over_runs p q ec d decided are fits tables over begins same =
-    still_running (shown p) (shown q) ec d p.revokes q.revokes decided are (begun-over (shown p) (shown q) ec d over begins)
-    (ap (λ (r : RevokesState). r.list) same ∙ over_leaves (pd_of (shown p) ec) ec d p.revokes.list over)
-    (rw same (places_within (shown p) ec 0 d p fits tables are.places refl (over_room 0 d p over)))
+    still_running (state_of p) (state_of q) ec d p.revokes q.revokes decided are (begun-over (state_of p) (state_of q) ec d over begins)
+    (ap (λ (r : RevokesState). r.list) same ∙ over_leaves (pd_of (state_of p) ec) ec d p.revokes.list over)
+    (rw same (places_within (state_of p) ec 0 d p fits tables are.places refl (over_room 0 d p over)))
 
-pub done_runs : (p mid q : Parts) (ec domain : ℕ) (d : Deed) → IsDecided (shown p) ec d → AreRunning (shown p) p.revokes → Fits (shown p) ec d → AreTables (shown p) →
-    shown mid ≡ shown p → mid.revokes.list ≡ p.revokes.list → p.revokes.places ≤ mid.revokes.places → HasRoomFor domain d mid → shown q ≡ done (shown p) ec d →
-    q.revokes.list ≡ revokes_after (pd_of (shown mid) ec) ec d mid.revokes.list → q.revokes.places ≡ mid.revokes.places → AreRunning (shown q) q.revokes
+pub done_runs : (p mid q : Parts) (ec domain : ℕ) (d : Deed) → IsDecided (state_of p) ec d → AreRunning (state_of p) p.revokes → DeedFits (state_of p) ec d → AreTables (state_of p) →
+    state_of mid ≡ state_of p → mid.revokes.list ≡ p.revokes.list → p.revokes.places ≤ mid.revokes.places → HasRoomFor domain d mid → state_of q ≡ done (state_of p) ec d →
+    q.revokes.list ≡ revokes_after (pd_of (state_of mid) ec) ec d mid.revokes.list → q.revokes.places ≡ mid.revokes.places → AreRunning (state_of q) q.revokes
 done_runs p mid q ec domain d decided are fits tables same list more room does after places =
     let few = are.places in
-    still_running (shown p) (shown q) ec d p.revokes q.revokes decided are does
+    still_running (state_of p) (state_of q) ec d p.revokes q.revokes decided are does
     (after ∙ ap₂ (λ (s : KernelState) (ws : List Running). revokes_after (pd_of s ec) ec d ws) same list)
-    (rw places (places_within (shown p) ec domain d mid fits tables (omega (arith, few, more)) same room))
+    (rw places (places_within (state_of p) ec domain d mid fits tables (omega (arith, few, more)) same room))
 
 -- AFTER A CHARGE
 

@@ -15,7 +15,7 @@ use Rattle.nova_model.specs.State.{KernelState, Contexts, entry, ec_of, message_
 use Rattle.nova_model.specs.declared.deed.Deed.TheVariants.{Steps}
 use Rattle.nova_model.specs.declared.delegation.Derivation.{Derivation}
 use Rattle.nova_deeds.specs.Acts.{outcome_of}
-use Rattle.nova_deeds.specs.Stirs.{frame_at, written_by}
+use Rattle.nova_deeds.specs.Stirs.{frame_at, written_frame}
 use Rattle.nova_memory.specs.Reach.{ReachState, reached, fetched, loaded, takes, stored}
 
 -- the state with what an instruction reaches, and with another table of execution contexts
@@ -111,7 +111,7 @@ reaching-written k t t' ec reach reach' outcome (Went regs (Some store)) r none 
 
 pub written-there : (k : KernelState) (t t' : EcTable) (ec : ℕ) (reach reach' : ReachState) (outcome : Outcome) → t.items ≡ k.contexts → IsReached k ec reach →
     reach.written ≡ None → Steps_of stored (one (ec_of t.items ec).regs (space_of fetched loaded takes reach)) t ec reach outcome t' reach' →
-    reach'.written ≡ written_by k ec
+    reach'.written ≡ written_frame k ec
 written-there k t t' ec reach reach' outcome is r none h =
     reaching-written k t t' ec reach reach' outcome (instruction k ec) r none
     (subst (λ (a : AddressSpace). Steps_of stored (one (context k ec).regs (space a)) t ec reach outcome t' reach') (space-reached k ec reach r)

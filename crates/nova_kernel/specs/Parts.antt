@@ -8,8 +8,8 @@ use Rattle.nova_choice.specs.Schedules.{HasQueue, budgets_of}
 use Rattle.nova_kernel.specs.declared.parts.Parts.{Parts}
 
 -- the state that the lists show
-abbrev pub shown : Parts → KernelState
-shown p = record {
+abbrev pub state_of : Parts → KernelState
+state_of p = record {
   delegations = p.reach.nodes.delegations;
   objects = p.objects.items;
   contexts = p.contexts.items;

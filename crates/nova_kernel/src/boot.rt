@@ -2,7 +2,7 @@ ghost use Rattle.std.specs.Prelude.{◌≡◌, ◌≤◌, [], ◌∷◌, replica
 ghost use Rattle.nova_model.specs.Boot.{bare, root_objects, root_context};
 ghost use Rattle.nova_model.specs.State.{no_transfer};
 ghost use Rattle.nova_choice.specs.Schedules.{root_schedule};
-ghost use Rattle.nova_kernel.specs.Parts.{shown};
+ghost use Rattle.nova_kernel.specs.Parts.{state_of};
 
 use crate::inventory::Inventory;
 use crate::parts::{Counts, Entries, Parts, Rest, Tables, let_go, together};
@@ -100,7 +100,7 @@ impl Parts {
     ) -> Result<Parts, AllocError>
         requires ram { ram ≤ 14 }
         requires consoles { consoles ≤ 16 }
-        ensures shown { IfOk result (λ p. shown p ≡ bare cpus ram consoles root) }
+        ensures shown { IfOk result (λ p. state_of p ≡ bare cpus ram consoles root) }
         ensures queues { IfOk result (λ p. p.queues.all ≡ root_schedule cpus root) }
         ensures room { IfOk result (λ p. p.reach.room ≡ log_room) }
         ensures revokes { IfOk result (λ p. (p.revokes.list ≡ []) × (3 ≤ p.revokes.places)) }

@@ -5,7 +5,7 @@ ghost use Rattle.nova_model.specs.State.{entry};
 ghost use Rattle.nova_sched.specs.Queues as queues;
 ghost use Rattle.nova_leases.specs.Commits.{IsReached, MayAdvance};
 ghost use Rattle.nova_leases.specs.Paging.{AreFrames, charged_times, pages_written, seen_from, stored_to, stores_seen};
-ghost use Rattle.nova_kernel.specs.Parts.{shown};
+ghost use Rattle.nova_kernel.specs.Parts.{state_of};
 ghost use Rattle.nova_kernel.specs.Revoking.{AreRunning};
 ghost use Rattle.nova_deeds.specs.Counted.{IsCounted, IsToBeCharged};
 ghost use Rattle.nova_choice.specs.Schedules.{AreQueued};
@@ -31,7 +31,7 @@ impl Parts {
     /// leads. All together are below 2^64.
     fn stores_seen(&self, pd: u32, pages: &[Page]) -> u64
         requires { stores_seen (λ f. true) pages.now < 2 ^ 64 }
-        ensures { result ≡ stores_seen (is_covered_for (shown self.now) pd) pages.now }
+        ensures { result ≡ stores_seen (is_covered_for (state_of self.now) pd) pages.now }
     {
         let mut count = 0;
         for page in pages {
@@ -46,8 +46,8 @@ impl Parts {
     /// went. All together, and with the count of each, are below 2^64.
     fn count_stores(&mut self, ec: u32, pages: &[Page])
         requires stores { stores_seen (λ f. true) pages.now < 2 ^ 64 }
-        requires counts { (g : ℕ) → IfSome (entry (slice_get (shown self.old).stirs.guests g)) (λ n. n + stores_seen (λ f. true) pages.now < 2 ^ 64) }
-        ensures counts { self.new.guests.counts ≡ seen_from (shown self.old) ec pages.now 0 self.old.guests.counts }
+        requires counts { (g : ℕ) → IfSome (entry (slice_get (state_of self.old).stirs.guests g)) (λ n. n + stores_seen (λ f. true) pages.now < 2 ^ 64) }
+        ensures counts { self.new.guests.counts ≡ seen_from (state_of self.old) ec pages.now 0 self.old.guests.counts }
         ensures rest { self.new ≡ record self.old { guests = self.new.guests } }
     {
         for i in 0..self.guests.numbers().len() {
@@ -61,13 +61,13 @@ impl Parts {
 
     /// So many turns of the processor are charged to the scheduling context.
     fn charge_times(&mut self, cpu: u32, sc: u32, count: u64)
-        requires charged { IsToBeCharged (shown self.old) }
-        requires queued { AreQueued (shown self.old) self.old.queues.all }
+        requires charged { IsToBeCharged (state_of self.old) }
+        requires queued { AreQueued (state_of self.old) self.old.queues.all }
         requires turns { self.old.turns + count ≤ 2 ^ 31 }
         requires cpu { cpu < self.old.cpus }
         requires there { IsSome (queues.queued_at self.old.queues.all sc) }
-        ensures charged { shown self.new ≡ charged_times count (shown self.old) cpu sc }
-        ensures queued { AreQueued (shown self.new) self.new.queues.all }
+        ensures charged { state_of self.new ≡ charged_times count (state_of self.old) cpu sc }
+        ensures queued { AreQueued (state_of self.new) self.new.queues.all }
         ensures turns { self.new.turns ≡ self.old.turns + count }
         ensures cpus { self.new.cpus ≡ self.old.cpus }
         ensures revokes { self.new.revokes ≡ self.old.revokes }
@@ -82,17 +82,17 @@ impl Parts {
     /// charged, and the virtual CPU has the registers, its frames the bytes, and others the stir counts that
     /// these leave.
     pub fn advance(&mut self, cpu: u32, steps: &Steps)
-        requires counted { IsCounted (shown self.old) }
-        requires reached { IsReached (shown self.old) }
-        requires queued { AreQueued (shown self.old) self.old.queues.all }
-        requires running { AreRunning (shown self.old) self.old.revokes }
-        requires may { MayAdvance (shown self.old) cpu steps.now }
+        requires counted { IsCounted (state_of self.old) }
+        requires reached { IsReached (state_of self.old) }
+        requires queued { AreQueued (state_of self.old) self.old.queues.all }
+        requires running { AreRunning (state_of self.old) self.old.revokes }
+        requires may { MayAdvance (state_of self.old) cpu steps.now }
         requires turns { self.old.turns + steps.now.count ≤ 2 ^ 31 }
-        ensures state { shown self.new ≡ run (shown self.old) (replicate steps.now.count cpu) }
-        ensures counted { IsCounted (shown self.new) }
-        ensures reached { IsReached (shown self.new) }
-        ensures queued { AreQueued (shown self.new) self.new.queues.all }
-        ensures running { AreRunning (shown self.new) self.new.revokes }
+        ensures state { state_of self.new ≡ run (state_of self.old) (replicate steps.now.count cpu) }
+        ensures counted { IsCounted (state_of self.new) }
+        ensures reached { IsReached (state_of self.new) }
+        ensures queued { AreQueued (state_of self.new) self.new.queues.all }
+        ensures running { AreRunning (state_of self.new) self.new.revokes }
         ensures log { self.new.reach.room ≡ self.old.reach.room }
     {
         let Some(chosen) = self.choice(cpu, &[]) else {

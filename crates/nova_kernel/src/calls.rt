@@ -5,9 +5,9 @@ ghost use Rattle.nova_model.specs.Deeds.{after_item, brought, followed, passed, 
 ghost use Rattle.nova_model.specs.Edges.{caller_in};
 ghost use Rattle.nova_model.specs.Hypercalls.{call, reply};
 ghost use Rattle.nova_model.specs.State.{context, context_at, message};
-ghost use Rattle.nova_deeds.specs.Acts.{IsAsked};
+ghost use Rattle.nova_deeds.specs.Acts.{IsToBeDone};
 ghost use Rattle.nova_deeds.specs.Counted.{AreTables};
-ghost use Rattle.nova_kernel.specs.Parts.{shown};
+ghost use Rattle.nova_kernel.specs.Parts.{state_of};
 
 use crate::capabilities::ObjectType;
 use crate::parts::Parts;
@@ -21,9 +21,9 @@ impl Parts {
     /// the message counts more words than there are, `BadCap` where the capability names no portal with
     /// the right to call; then what `admit` answers.
     pub fn call(&self, ec: u32, domain: u32, portal: u32, flag: bool) -> Result<Deed, Status>
-        requires { IsSome (context_at (shown self.now) ec) }
-        ensures row { result ≡ call (shown self.now) ec domain portal flag }
-        ensures fits { IfOk result (IsAsked (shown self.now) ec) }
+        requires { IsSome (context_at (state_of self.now) ec) }
+        ensures row { result ≡ call (state_of self.now) ec domain portal flag }
+        ensures fits { IfOk result (IsToBeDone (state_of self.now) ec) }
     {
         let message = self.message(ec);
         if !message.has_counts() {
@@ -46,9 +46,9 @@ impl Parts {
     /// `REPLY`: replies to the caller. `BadPar` where no local thread asks, or where the message counts
     /// more words than there are.
     pub fn reply(&self, ec: u32) -> Result<Deed, Status>
-        requires { IsSome (context_at (shown self.now) ec) }
-        ensures row { result ≡ reply (shown self.now) ec }
-        ensures fits { IfOk result (IsAsked (shown self.now) ec) }
+        requires { IsSome (context_at (state_of self.now) ec) }
+        ensures row { result ≡ reply (state_of self.now) ec }
+        ensures fits { IfOk result (IsToBeDone (state_of self.now) ec) }
     {
         let message = self.message(ec);
         if !self.is_local_thread(ec) || !message.has_counts() {
@@ -66,11 +66,11 @@ impl Parts {
 
     /// Its call is sent: the handler gets the message, and begins.
     pub fn send(&mut self, ec: u32, handler: u32, ip: u32, identifier: u32)
-        requires there { IsSome (context_at (shown self.old) ec) }
-        requires admitted { admitted (shown self.old).contexts ec handler false ≡ Admit.Send }
-        requires counts { has_counts (message (shown self.old) ec) ≡ true }
-        requires tables { AreTables (shown self.old) }
-        ensures sent { shown self.new ≡ performed (shown self.old) ec (Deed.Calls handler ip identifier (has_items (message (shown self.old) ec))) }
+        requires there { IsSome (context_at (state_of self.old) ec) }
+        requires admitted { admitted (state_of self.old).contexts ec handler false ≡ Admit.Send }
+        requires counts { has_counts (message (state_of self.old) ec) ≡ true }
+        requires tables { AreTables (state_of self.old) }
+        ensures sent { state_of self.new ≡ performed (state_of self.old) ec (Deed.Calls handler ip identifier (has_items (message (state_of self.old) ec))) }
         ensures queues { self.new.queues ≡ self.old.queues }
         ensures revokes { self.new.revokes ≡ self.old.revokes }
         ensures log { self.new.reach.room ≡ self.old.reach.room }
@@ -91,9 +91,9 @@ impl Parts {
 
     /// Its caller gets the message of its reply.
     fn pass(&mut self, ec: u32, caller: u32)
-        requires counts { has_counts (message (shown self.old) ec) ≡ true }
-        requires there { caller < length (shown self.old).messages }
-        ensures passed { shown self.new ≡ passed (shown self.old) ec caller }
+        requires counts { has_counts (message (state_of self.old) ec) ≡ true }
+        requires there { caller < length (state_of self.old).messages }
+        ensures passed { state_of self.new ≡ passed (state_of self.old) ec caller }
         ensures queues { self.new.queues ≡ self.old.queues }
         ensures revokes { self.new.revokes ≡ self.old.revokes }
         ensures log { self.new.reach.room ≡ self.old.reach.room }
@@ -106,9 +106,9 @@ impl Parts {
 
     /// A reply brings a caller who called its message; one who came by an exit gets none.
     fn bring(&mut self, ec: u32, caller: u32, mark: Mark)
-        requires counts { has_counts (message (shown self.old) ec) ≡ true }
-        requires there { caller < length (shown self.old).messages }
-        ensures brought { shown self.new ≡ brought (shown self.old) ec caller mark }
+        requires counts { has_counts (message (state_of self.old) ec) ≡ true }
+        requires there { caller < length (state_of self.old).messages }
+        ensures brought { state_of self.new ≡ brought (state_of self.old) ec caller mark }
         ensures queues { self.new.queues ≡ self.old.queues }
         ensures revokes { self.new.revokes ≡ self.old.revokes }
         ensures log { self.new.reach.room ≡ self.old.reach.room }
@@ -121,8 +121,8 @@ impl Parts {
 
     /// A reply completes: the execution context waits for a call, and its caller goes on.
     pub fn complete(&mut self, ec: u32, caller: u32, mark: Mark)
-        requires { caller_in (shown self.old).contexts ec ≡ Some (caller, mark) }
-        ensures completed { shown self.new ≡ followed (with_context (shown self.old) ec (after_item (context (shown self.old) ec) (Sequel.Replied caller mark))) ec (Sequel.Replied caller mark) }
+        requires { caller_in (state_of self.old).contexts ec ≡ Some (caller, mark) }
+        ensures completed { state_of self.new ≡ followed (with_context (state_of self.old) ec (after_item (context (state_of self.old) ec) (Sequel.Replied caller mark))) ec (Sequel.Replied caller mark) }
         ensures queues { self.new.queues ≡ self.old.queues }
         ensures revokes { self.new.revokes ≡ self.old.revokes }
         ensures log { self.new.reach.room ≡ self.old.reach.room }
@@ -139,10 +139,10 @@ impl Parts {
     /// It replies: a caller who called gets the message, and where no items are to be given the reply
     /// completes.
     pub fn reply_to(&mut self, ec: u32, caller: u32, mark: Mark, items: bool)
-        requires caller { caller_in (shown self.old).contexts ec ≡ Some (caller, mark) }
-        requires counts { has_counts (message (shown self.old) ec) ≡ true }
-        requires tables { AreTables (shown self.old) }
-        ensures replied { shown self.new ≡ performed (shown self.old) ec (Deed.Replies caller mark items) }
+        requires caller { caller_in (state_of self.old).contexts ec ≡ Some (caller, mark) }
+        requires counts { has_counts (message (state_of self.old) ec) ≡ true }
+        requires tables { AreTables (state_of self.old) }
+        ensures replied { state_of self.new ≡ performed (state_of self.old) ec (Deed.Replies caller mark items) }
         ensures queues { self.new.queues ≡ self.old.queues }
         ensures revokes { self.new.revokes ≡ self.old.revokes }
         ensures log { self.new.reach.room ≡ self.old.reach.room }

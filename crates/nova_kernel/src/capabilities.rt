@@ -1,6 +1,6 @@
 ghost use Rattle.std.specs.Prelude.{◌≡◌, ◌<◌, true, length, slice_get, Some, option_map, IfOk};
 ghost use Rattle.nova_model.specs.Capabilities.{is_held, named};
-ghost use Rattle.nova_kernel.specs.Parts.{shown};
+ghost use Rattle.nova_kernel.specs.Parts.{state_of};
 ghost use Rattle.nova_kernel.specs.ObjectTypes.{is_of};
 
 use crate::parts::Parts;
@@ -54,7 +54,7 @@ impl ObjectType {
 impl Parts {
     /// Whether a capability is held at a selector of a protection domain.
     pub fn is_held(&self, pd: u32, selector: u32) -> bool
-        ensures { result ≡ is_held (shown self.now) pd selector }
+        ensures { result ≡ is_held (state_of self.now) pd selector }
     {
         self.reach.covering(pd, Kind::Obj, selector).is_some()
     }
@@ -68,9 +68,9 @@ impl Parts {
         right: Rights,
         selector: u32,
     ) -> Result<u32, Status>
-        ensures named { result ≡ named (shown self.now) pd (is_of object_type) right.0 selector }
-        ensures there { IfOk result (λ number. number < length (shown self.now).objects) }
-        ensures fits { IfOk result (λ number. option_map (is_of object_type) (slice_get (shown self.now).objects number) ≡ Some true) }
+        ensures named { result ≡ named (state_of self.now) pd (is_of object_type) right.0 selector }
+        ensures there { IfOk result (λ number. number < length (state_of self.now).objects) }
+        ensures fits { IfOk result (λ number. option_map (is_of object_type) (slice_get (state_of self.now).objects number) ≡ Some true) }
     {
         let Some(capability) = self.reach.covering(pd, Kind::Obj, selector) else {
             return Err(Status::BadCap);

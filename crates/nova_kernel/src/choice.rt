@@ -4,7 +4,7 @@ ghost use Rattle.nova_model.specs.State.{context_at};
 ghost use Rattle.nova_sched.specs.Queues as queues;
 ghost use Rattle.nova_choice.specs.Choices.{chosen_of};
 ghost use Rattle.nova_kernel.specs.Known.{AreKnown, known_after};
-ghost use Rattle.nova_kernel.specs.Parts.{shown};
+ghost use Rattle.nova_kernel.specs.Parts.{state_of};
 ghost use Rattle.nova_choice.specs.Schedules.{AreQueued};
 
 use crate::parts::Parts;
@@ -36,10 +36,10 @@ impl Parts {
     /// The runnable scheduling context of the processor before which no other goes, and who acts. Where that
     /// is known of the processor's last turn, nobody is chased.
     pub fn choice(&self, cpu: u32, known: &[Option<Chosen>]) -> Option<Chosen>
-        requires queued { AreQueued (shown self.now) self.now.queues.all }
-        requires known { AreKnown (shown self.now) known.now }
-        ensures choice { result ≡ option_map chosen_of (choice (shown self.now) cpu) }
-        ensures acts { IfSome result (λ c. IsSome (context_at (shown self.now) c.actor)) }
+        requires queued { AreQueued (state_of self.now) self.now.queues.all }
+        requires known { AreKnown (state_of self.now) known.now }
+        ensures choice { result ≡ option_map chosen_of (choice (state_of self.now) cpu) }
+        ensures acts { IfSome result (λ c. IsSome (context_at (state_of self.now) c.actor)) }
         ensures pays { IfSome result (λ c. IsSome (queues.queued_at self.now.queues.all c.sc)) }
     {
         let sc = self.queues.choose(cpu)?;
@@ -55,16 +55,16 @@ impl Parts {
     /// The scheduling context that the processor's next turn is charged to; none where it is idle.
     #[tactic(auto, using(nova_choice::proofs::Nexts::choose_told))]
     pub fn choose(&self, cpu: u32) -> Option<u32>
-        requires { AreQueued (shown self.now) self.now.queues.all }
-        ensures { result ≡ choose (shown self.now) cpu }
+        requires { AreQueued (state_of self.now) self.now.queues.all }
+        ensures { result ≡ choose (state_of self.now) cpu }
     {
         self.queues.choose(cpu)
     }
 
     /// Whether no processor has a turn to take.
     pub fn is_quiet(&self) -> bool
-        requires { AreQueued (shown self.now) self.now.queues.all }
-        ensures { result ≡ is_quiet (shown self.now) }
+        requires { AreQueued (state_of self.now) self.now.queues.all }
+        ensures { result ≡ is_quiet (state_of self.now) }
     {
         for cpu in 0..self.cpus {
             if self.choose(cpu).is_some() {

@@ -4,7 +4,7 @@ ghost use Rattle.nova_model.specs.Capabilities.{is_held, rights_to};
 ghost use Rattle.nova_model.specs.Creation.{root_capability, with_object};
 ghost use Rattle.nova_model.specs.Deeds.{is_making};
 ghost use Rattle.nova_sched.specs.Queues.{HasRoom as HasRoomIn};
-ghost use Rattle.nova_kernel.specs.Parts.{shown, HasRoom, HasRoomFor};
+ghost use Rattle.nova_kernel.specs.Parts.{state_of, HasRoom, HasRoomFor};
 ghost use Rattle.nova_deeds.specs.Counted.{AreTables, IsNumbered};
 ghost use Rattle.nova_laws.specs.Tables.{Refers};
 ghost use Rattle.nova_choice.specs.Schedules.{FitsQueues, HasQueue};
@@ -22,9 +22,9 @@ impl Parts {
     /// Makes room for one more object and its capability, which a protection domain holds. It refuses
     /// for want of memory alone.
     fn reserve(&mut self, domain: u32) -> Result<(), AllocError>
-        requires objects { length (shown self.old).objects < 2 ^ 32 }
-        requires numbers { length (shown self.old).semaphores < 2 ^ 32 - 1 }
-        ensures shown { shown self.new ≡ shown self.old }
+        requires objects { length (state_of self.old).objects < 2 ^ 32 }
+        requires numbers { length (state_of self.old).semaphores < 2 ^ 32 - 1 }
+        ensures shown { state_of self.new ≡ state_of self.old }
         ensures queues { self.new.queues ≡ self.old.queues }
         ensures log { self.new.reach.room ≡ self.old.reach.room }
         ensures revokes { self.new.revokes.list ≡ self.old.revokes.list }
@@ -46,9 +46,9 @@ impl Parts {
 
     /// Makes room for one more protection domain too, with a space of its own.
     fn reserve_domain(&mut self, domain: u32) -> Result<(), AllocError>
-        requires objects { length (shown self.old).objects < 2 ^ 32 }
-        requires numbers { length (shown self.old).semaphores < 2 ^ 32 - 1 }
-        ensures shown { shown self.new ≡ shown self.old }
+        requires objects { length (state_of self.old).objects < 2 ^ 32 }
+        requires numbers { length (state_of self.old).semaphores < 2 ^ 32 - 1 }
+        ensures shown { state_of self.new ≡ state_of self.old }
         ensures queues { self.new.queues ≡ self.old.queues }
         ensures log { self.new.reach.room ≡ self.old.reach.room }
         ensures revokes { self.new.revokes.list ≡ self.old.revokes.list }
@@ -61,10 +61,10 @@ impl Parts {
 
     /// Makes room for one more scheduling context too, in the queue of a processor.
     fn reserve_sc(&mut self, domain: u32, cpu: u32) -> Result<(), AllocError>
-        requires objects { length (shown self.old).objects < 2 ^ 32 }
-        requires numbers { length (shown self.old).semaphores < 2 ^ 32 - 1 }
+        requires objects { length (state_of self.old).objects < 2 ^ 32 }
+        requires numbers { length (state_of self.old).semaphores < 2 ^ 32 - 1 }
         requires cpu { cpu < self.old.queues.all.cpus }
-        ensures shown { shown self.new ≡ shown self.old }
+        ensures shown { state_of self.new ≡ state_of self.old }
         ensures queues { self.new.queues.all ≡ self.old.queues.all }
         ensures log { self.new.reach.room ≡ self.old.reach.room }
         ensures revokes { self.new.revokes.list ≡ self.old.revokes.list }
@@ -79,10 +79,10 @@ impl Parts {
     /// Makes room for what a deed of an execution context makes, whose protection domain is given. It
     /// refuses for want of memory alone.
     pub fn make_room(&mut self, domain: u32, deed: Deed) -> Result<(), AllocError>
-        requires objects { length (shown self.old).objects < 2 ^ 32 }
-        requires numbers { length (shown self.old).semaphores < 2 ^ 32 - 1 }
+        requires objects { length (state_of self.old).objects < 2 ^ 32 }
+        requires numbers { length (state_of self.old).semaphores < 2 ^ 32 - 1 }
         requires queue { FitsQueues deed self.old.queues.all }
-        ensures shown { shown self.new ≡ shown self.old }
+        ensures shown { state_of self.new ≡ state_of self.old }
         ensures queues { self.new.queues.all ≡ self.old.queues.all }
         ensures log { self.new.reach.room ≡ self.old.reach.room }
         ensures revokes { self.new.revokes.list ≡ self.old.revokes.list }
@@ -113,13 +113,13 @@ impl Parts {
         requires queue { HasQueue new (length self.old.objects.items) self.old.queues }
         requires few { length self.old.queues.all.entries ≤ length self.old.objects.items }
         requires stamp { self.old.queues.all.next_stamp < 2 ^ 64 - 1 }
-        requires numbered { IsNumbered (2 ^ 31) (shown self.old) }
-        requires tables { AreTables (shown self.old) }
-        requires refer { AllByRecursion (Refers (shown self.old).objects) (shown self.old).objects }
+        requires numbered { IsNumbered (2 ^ 31) (state_of self.old) }
+        requires tables { AreTables (state_of self.old) }
+        requires refer { AllByRecursion (Refers (state_of self.old).objects) (state_of self.old).objects }
         requires selector { selector < 2 ^ 20 }
-        requires free { is_held (shown self.old) pd selector ≡ false }
-        ensures added { shown self.new ≡ with_object (shown self.old) pd selector new }
-        ensures joined { self.new.queues.all ≡ joined (shown self.old).contexts self.old.queues.all (length (shown self.old).objects) new }
+        requires free { is_held (state_of self.old) pd selector ≡ false }
+        ensures added { state_of self.new ≡ with_object (state_of self.old) pd selector new }
+        ensures joined { self.new.queues.all ≡ joined (state_of self.old).contexts self.old.queues.all (length (state_of self.old).objects) new }
         ensures revokes { self.new.revokes ≡ self.old.revokes }
         ensures log { self.new.reach.room ≡ self.old.reach.room }
     {

@@ -2,12 +2,12 @@ ghost use Rattle.std.specs.Prelude.{◌≡◌, ◌==◌, ◌&&◌, ◌+◌, ◌^
 ghost use Rattle.rv_model.specs.Step.{environment_call};
 ghost use Rattle.nova_model.specs.Deeds.{signalled, deed, is_making};
 ghost use Rattle.nova_model.specs.State.{context_at, context, is_thread};
-ghost use Rattle.nova_kernel.specs.Parts.{shown};
+ghost use Rattle.nova_kernel.specs.Parts.{state_of};
 ghost use Rattle.nova_deeds.specs.Counted.{IsCounted};
-ghost use Rattle.nova_deeds.specs.Acts.{Fits, IsAsked, begun, is_executing};
+ghost use Rattle.nova_deeds.specs.Acts.{DeedFits, IsToBeDone, begun, is_executing};
 ghost use Rattle.nova_kernel.specs.Going.{HasRaised};
 ghost use Rattle.nova_kernel.specs.Revoking.{AreRunning};
-ghost use Rattle.nova_deeds.specs.Stirs.{written_by};
+ghost use Rattle.nova_deeds.specs.Stirs.{written_frame};
 
 use crate::parts::Parts;
 use nova_deeds::changes::RECALL;
@@ -22,11 +22,11 @@ impl Parts {
     /// The deed of an instruction that raises: an ECALL of a thread is a hypercall, and any other is
     /// an exit.
     pub(crate) fn signal(&self, ec: u32, reason: u32, q0: u32, q1: u32) -> Deed
-        requires there { IsSome (context_at (shown self.now) ec) }
-        requires counted { IsCounted (shown self.now) }
-        requires running { AreRunning (shown self.now) self.now.revokes }
-        ensures deed { result ≡ signalled (shown self.now) ec reason q0 q1 ((reason == environment_call) && is_thread (shown self.now) ec) }
-        ensures fits { IsAsked (shown self.now) ec result }
+        requires there { IsSome (context_at (state_of self.now) ec) }
+        requires counted { IsCounted (state_of self.now) }
+        requires running { AreRunning (state_of self.now) self.now.revokes }
+        ensures deed { result ≡ signalled (state_of self.now) ec reason q0 q1 ((reason == environment_call) && is_thread (state_of self.now) ec) }
+        ensures fits { IsToBeDone (state_of self.now) ec result }
     {
         if reason == ENVIRONMENT_CALL && self.is_thread(ec) {
             self.hypercall(ec)
@@ -37,8 +37,8 @@ impl Parts {
 
     /// Whether an instruction is next of an execution context: it is ready, and no recall is asked for.
     pub(crate) fn is_executing(&self, ec: u32) -> bool
-        requires { IsSome (context_at (shown self.now) ec) }
-        ensures { result ≡ is_executing (context (shown self.now) ec) }
+        requires { IsSome (context_at (state_of self.now) ec) }
+        ensures { result ≡ is_executing (context (state_of self.now) ec) }
     {
         let context = self.contexts.context(ec);
         matches!(context.state, State::Ready) && !context.recall
@@ -48,20 +48,20 @@ impl Parts {
     /// revoke are done at once, and nothing else is. It refuses as `decide`.
     #[tactic(auto, unfolding(nova_model::specs::Deeds::deed))]
     fn decide_in_state(&mut self, ec: u32) -> Result<Deed, AllocError>
-        requires there { IsSome (context_at (shown self.old) ec) }
-        requires counted { IsCounted (shown self.old) }
-        requires running { AreRunning (shown self.old) self.old.revokes }
+        requires there { IsSome (context_at (state_of self.old) ec) }
+        requires counted { IsCounted (state_of self.old) }
+        requires running { AreRunning (state_of self.old) self.old.revokes }
         requires turns { self.old.turns < 2 ^ 31 }
-        requires next { is_executing (context (shown self.old) ec) ≡ false }
-        ensures deed { IfOk result (λ d. d ≡ deed (shown self.old) ec) }
-        ensures begun { IfOk result (λ d. shown self.new ≡ begun (shown self.old) ec d) }
+        requires next { is_executing (context (state_of self.old) ec) ≡ false }
+        ensures deed { IfOk result (λ d. d ≡ deed (state_of self.old) ec) }
+        ensures begun { IfOk result (λ d. state_of self.new ≡ begun (state_of self.old) ec d) }
         ensures queues { self.new.queues ≡ self.old.queues }
         ensures revokes { self.new.revokes ≡ self.old.revokes }
-        ensures fits { IfOk result (Fits (shown self.old) ec) }
-        ensures written { IfOk result (λ d. d ≡ Deed.Steps → self.new.reach.written ≡ written_by (shown self.old) ec) }
+        ensures fits { IfOk result (DeedFits (state_of self.old) ec) }
+        ensures written { IfOk result (λ d. d ≡ Deed.Steps → self.new.reach.written ≡ written_frame (state_of self.old) ec) }
         ensures log { self.new.reach.room ≡ self.old.reach.room }
-        ensures memory { OnErr result (shown self.new ≡ shown self.old) }
-        ensures wanted { OnErr result (is_making (deed (shown self.old) ec) ≡ true) }
+        ensures memory { OnErr result (state_of self.new ≡ state_of self.old) }
+        ensures wanted { OnErr result (is_making (deed (state_of self.old) ec) ≡ true) }
     {
         let context = self.contexts.context(ec);
         let deed = match context.state {
@@ -93,21 +93,21 @@ impl Parts {
     /// of a revoke are done at once, and nothing else is. It refuses for want of memory alone, where a part makes a child,
     /// and then nothing has changed.
     pub fn decide(&mut self, ec: u32, reason: u32, q0: u32, q1: u32) -> Result<Deed, AllocError>
-        requires there { IsSome (context_at (shown self.old) ec) }
-        requires counted { IsCounted (shown self.old) }
-        requires running { AreRunning (shown self.old) self.old.revokes }
+        requires there { IsSome (context_at (state_of self.old) ec) }
+        requires counted { IsCounted (state_of self.old) }
+        requires running { AreRunning (state_of self.old) self.old.revokes }
         requires turns { self.old.turns < 2 ^ 31 }
-        requires raised { HasRaised (shown self.old) ec reason q0 q1 }
-        ensures deed { IfOk result (λ d. d ≡ deed (shown self.old) ec) }
-        ensures begun { IfOk result (λ d. shown self.new ≡ begun (shown self.old) ec d) }
+        requires raised { HasRaised (state_of self.old) ec reason q0 q1 }
+        ensures deed { IfOk result (λ d. d ≡ deed (state_of self.old) ec) }
+        ensures begun { IfOk result (λ d. state_of self.new ≡ begun (state_of self.old) ec d) }
         ensures queues { self.new.queues ≡ self.old.queues }
         ensures revokes { self.new.revokes ≡ self.old.revokes }
-        ensures fits { IfOk result (Fits (shown self.old) ec) }
-        ensures written { IfOk result (λ d. d ≡ Deed.Steps → self.new.reach.written ≡ written_by (shown self.old) ec) }
+        ensures fits { IfOk result (DeedFits (state_of self.old) ec) }
+        ensures written { IfOk result (λ d. d ≡ Deed.Steps → self.new.reach.written ≡ written_frame (state_of self.old) ec) }
         ensures log { self.old.reach.room ≤ self.new.reach.room + 1 }
         ensures making { IfOk result (λ d. is_making d ≡ true → self.new.reach.room ≡ self.old.reach.room) }
-        ensures memory { OnErr result ((shown self.new ≡ shown self.old) × (self.new.reach.room ≡ self.old.reach.room)) }
-        ensures wanted { OnErr result (is_making (deed (shown self.old) ec) ≡ true) }
+        ensures memory { OnErr result ((state_of self.new ≡ state_of self.old) × (self.new.reach.room ≡ self.old.reach.room)) }
+        ensures wanted { OnErr result (is_making (deed (state_of self.old) ec) ≡ true) }
     {
         if self.is_executing(ec) {
             return Ok(self.signal(ec, reason, q0, q1));

@@ -8,8 +8,8 @@ ghost use Rattle.nova_model.specs.Forest.{IsForest};
 ghost use Rattle.nova_model.specs.Transfers.{job_of, moved};
 ghost use Rattle.nova_model.specs.Translations.{translated};
 ghost use Rattle.nova_delegate.specs.Parts.{HasChild, IsUnderWay, MakesChild, done_of};
-ghost use Rattle.nova_deeds.specs.Acts.{Fits, IsGivenBy, begun, is_over, now_at, part_now, with_part};
-ghost use Rattle.nova_kernel.specs.Parts.{shown};
+ghost use Rattle.nova_deeds.specs.Acts.{DeedFits, IsGivenBy, begun, is_done_when_decided, now_at, part_now, with_part};
+ghost use Rattle.nova_kernel.specs.Parts.{state_of};
 ghost use Rattle.nova_deeds.specs.Counted.{IsCounted};
 ghost use Rattle.nova_kernel.specs.Revoking.{AreRunning};
 
@@ -23,7 +23,7 @@ use std::alloc::AllocError;
 impl Parts {
     /// How far an execution context is with the items that it gives.
     pub fn transfer(&self, ec: u32) -> Transfer
-        ensures { result ≡ transfer (shown self.now) ec }
+        ensures { result ≡ transfer (state_of self.now) ec }
     {
         match self.transfers.get(ec as usize) {
             Some(Some(transfer)) => *transfer,
@@ -33,8 +33,8 @@ impl Parts {
 
     /// How far an execution context is with its items changes.
     pub fn set_transfer(&mut self, ec: u32, transfer: Transfer)
-        requires { ec < length (shown self.old).transfers }
-        ensures transfer { shown self.new ≡ with_transfer (shown self.old) ec transfer }
+        requires { ec < length (state_of self.old).transfers }
+        ensures transfer { state_of self.new ≡ with_transfer (state_of self.old) ec transfer }
         ensures queues { self.new.queues ≡ self.old.queues }
         ensures revokes { self.new.revokes ≡ self.old.revokes }
         ensures log { self.new.reach.room ≡ self.old.reach.room }
@@ -44,13 +44,13 @@ impl Parts {
 
     /// A child of this id was made.
     fn note_child(&mut self, ec: u32, transfer: Transfer, id: u32, cursor: u32) -> Deed
-        requires there { ec < length (shown self.old).transfers }
-        requires child { IsSome (with_id (shown self.old).delegations.list id) }
+        requires there { ec < length (state_of self.old).transfers }
+        requires child { IsSome (with_id (state_of self.old).delegations.list id) }
         requires few { transfer.children < 2 ^ 31 }
-        ensures deed { IfSome (with_id (shown self.old).delegations.list id) (λ child. result ≡ Deed.Gives child cursor) }
-        ensures over { is_over result ≡ true }
-        ensures fits { (k : KernelState) → Fits k ec result }
-        ensures transfer { shown self.new ≡ with_transfer (shown self.old) ec (gave transfer cursor) }
+        ensures deed { IfSome (with_id (state_of self.old).delegations.list id) (λ child. result ≡ Deed.Gives child cursor) }
+        ensures over { is_done_when_decided result ≡ true }
+        ensures fits { (k : KernelState) → DeedFits k ec result }
+        ensures transfer { state_of self.new ≡ with_transfer (state_of self.old) ec (gave transfer cursor) }
         ensures queues { self.new.queues ≡ self.old.queues }
         ensures revokes { self.new.revokes ≡ self.old.revokes }
         ensures log { self.new.reach.room ≡ self.old.reach.room }
@@ -71,9 +71,9 @@ impl Parts {
         place: u32,
         cursor: u32,
     ) -> Deed
-        requires there { ec < length (shown self.old).transfers }
+        requires there { ec < length (state_of self.old).transfers }
         ensures deed { result ≡ Deed.Skips reason place cursor }
-        ensures transfer { shown self.new ≡ with_transfer (shown self.old) ec (skipped transfer cursor) }
+        ensures transfer { state_of self.new ≡ with_transfer (state_of self.old) ec (skipped transfer cursor) }
         ensures queues { self.new.queues ≡ self.old.queues }
         ensures revokes { self.new.revokes ≡ self.old.revokes }
         ensures log { self.new.reach.room ≡ self.old.reach.room }
@@ -89,16 +89,16 @@ impl Parts {
     /// Gives the next part of an item. It refuses for want of memory alone, where a child would be made,
     /// and then nothing has changed.
     fn give(&mut self, job: &mut Job) -> Result<PartDone, AllocError>
-        requires next { (shown self.old).delegations.next < 2 ^ 32 - 1 }
-        requires forest { IsForest (shown self.old).delegations }
+        requires next { (state_of self.old).delegations.next < 2 ^ 32 - 1 }
+        requires forest { IsForest (state_of self.old).delegations }
         requires job { IsUnderWay job.old }
-        requires running { AreRunning (shown self.old) self.old.revokes }
-        ensures done { IfOk result (λ r. r ≡ done_of job.old (part_now (shown self.old) job.old)) }
-        ensures given { OnOk result (shown self.new ≡ with_part (shown self.old) (part_now (shown self.old) job.old)) }
-        ensures job { OnOk result (job.new ≡ moved job.old (part_now (shown self.old) job.old)) }
-        ensures there { OnOk result (HasChild (shown self.new).delegations (part_now (shown self.old) job.old)) }
-        ensures refused { OnErr result (shown self.new ≡ shown self.old) }
-        ensures wanted { OnErr result (MakesChild (part_now (shown self.old) job.old)) }
+        requires running { AreRunning (state_of self.old) self.old.revokes }
+        ensures done { IfOk result (λ r. r ≡ done_of job.old (part_now (state_of self.old) job.old)) }
+        ensures given { OnOk result (state_of self.new ≡ with_part (state_of self.old) (part_now (state_of self.old) job.old)) }
+        ensures job { OnOk result (job.new ≡ moved job.old (part_now (state_of self.old) job.old)) }
+        ensures there { OnOk result (HasChild (state_of self.new).delegations (part_now (state_of self.old) job.old)) }
+        ensures refused { OnErr result (state_of self.new ≡ state_of self.old) }
+        ensures wanted { OnErr result (MakesChild (part_now (state_of self.old) job.old)) }
         ensures queues { self.new.queues ≡ self.old.queues }
         ensures revokes { self.new.revokes ≡ self.old.revokes }
         ensures log { self.new.reach.room ≡ self.old.reach.room }
@@ -116,20 +116,20 @@ impl Parts {
         delivery: Delivery,
         job: Job,
     ) -> Result<Deed, AllocError>
-        requires there { IsSome (context_at (shown self.old) ec) }
-        requires counted { IsCounted (shown self.old) }
-        requires running { AreRunning (shown self.old) self.old.revokes }
+        requires there { IsSome (context_at (state_of self.old) ec) }
+        requires counted { IsCounted (state_of self.old) }
+        requires running { AreRunning (state_of self.old) self.old.revokes }
         requires turns { self.old.turns < 2 ^ 31 }
-        requires transfer { transfer ≡ now_at (shown self.old) ec }
+        requires transfer { transfer ≡ now_at (state_of self.old) ec }
         requires item { transfer.item < 62 }
-        requires given { IsGivenBy (shown self.old) ec transfer.item delivery }
+        requires given { IsGivenBy (state_of self.old) ec transfer.item delivery }
         requires job { IsUnderWay job }
         requires rights { IsRights job.rights }
-        ensures deed { IfOk result (λ d. d ≡ part_deed delivery transfer job (part_now (shown self.old) job)) }
-        ensures begun { IfOk result (λ d. shown self.new ≡ begun (shown self.old) ec d) }
-        ensures fits { IfOk result (Fits (shown self.old) ec) }
-        ensures memory { OnErr result (shown self.new ≡ shown self.old) }
-        ensures wanted { OnErr result (is_making (part_deed delivery transfer job (part_now (shown self.old) job)) ≡ true) }
+        ensures deed { IfOk result (λ d. d ≡ part_deed delivery transfer job (part_now (state_of self.old) job)) }
+        ensures begun { IfOk result (λ d. state_of self.new ≡ begun (state_of self.old) ec d) }
+        ensures fits { IfOk result (DeedFits (state_of self.old) ec) }
+        ensures memory { OnErr result (state_of self.new ≡ state_of self.old) }
+        ensures wanted { OnErr result (is_making (part_deed delivery transfer job (part_now (state_of self.old) job)) ≡ true) }
         ensures queues { self.new.queues ≡ self.old.queues }
         ensures revokes { self.new.revokes ≡ self.old.revokes }
         ensures log { self.new.reach.room ≡ self.old.reach.room }
@@ -160,18 +160,18 @@ impl Parts {
         transfer: Transfer,
         delivery: Delivery,
     ) -> Result<Deed, AllocError>
-        requires there { IsSome (context_at (shown self.old) ec) }
-        requires counted { IsCounted (shown self.old) }
-        requires running { AreRunning (shown self.old) self.old.revokes }
+        requires there { IsSome (context_at (state_of self.old) ec) }
+        requires counted { IsCounted (state_of self.old) }
+        requires running { AreRunning (state_of self.old) self.old.revokes }
         requires turns { self.old.turns < 2 ^ 31 }
-        requires transfer { transfer ≡ now_at (shown self.old) ec }
+        requires transfer { transfer ≡ now_at (state_of self.old) ec }
         requires item { transfer.item < 62 }
-        requires given { IsGivenBy (shown self.old) ec transfer.item delivery }
-        ensures deed { IfOk result (λ d. d ≡ delegated (shown self.old) delivery transfer (job_of delivery.range_word delivery.second_word delivery.delegations delivery.giver delivery.receiver)) }
-        ensures begun { IfOk result (λ d. shown self.new ≡ begun (shown self.old) ec d) }
-        ensures fits { IfOk result (Fits (shown self.old) ec) }
-        ensures memory { OnErr result (shown self.new ≡ shown self.old) }
-        ensures wanted { OnErr result (is_making (delegated (shown self.old) delivery transfer (job_of delivery.range_word delivery.second_word delivery.delegations delivery.giver delivery.receiver)) ≡ true) }
+        requires given { IsGivenBy (state_of self.old) ec transfer.item delivery }
+        ensures deed { IfOk result (λ d. d ≡ delegated (state_of self.old) delivery transfer (job_of delivery.range_word delivery.second_word delivery.delegations delivery.giver delivery.receiver)) }
+        ensures begun { IfOk result (λ d. state_of self.new ≡ begun (state_of self.old) ec d) }
+        ensures fits { IfOk result (DeedFits (state_of self.old) ec) }
+        ensures memory { OnErr result (state_of self.new ≡ state_of self.old) }
+        ensures wanted { OnErr result (is_making (delegated (state_of self.old) delivery transfer (job_of delivery.range_word delivery.second_word delivery.delegations delivery.giver delivery.receiver)) ≡ true) }
         ensures queues { self.new.queues ≡ self.old.queues }
         ensures revokes { self.new.revokes ≡ self.old.revokes }
         ensures log { self.new.reach.room ≡ self.old.reach.room }
@@ -196,9 +196,9 @@ impl Parts {
     /// The deed that answers a translation.
     fn answer_item(&self, transfer: Transfer, delivery: Delivery) -> Deed
         requires { transfer.item < 62 }
-        ensures deed { result ≡ answered_by delivery transfer (translated (shown self.now).delegations.list delivery.range_word delivery.translations delivery.giver delivery.receiver) }
-        ensures fits { (k : KernelState) (ec : ℕ) → IsGivenBy k ec transfer.item delivery → Fits k ec result }
-        ensures later { is_over result ≡ false }
+        ensures deed { result ≡ answered_by delivery transfer (translated (state_of self.now).delegations.list delivery.range_word delivery.translations delivery.giver delivery.receiver) }
+        ensures fits { (k : KernelState) (ec : ℕ) → IsGivenBy k ec transfer.item delivery → DeedFits k ec result }
+        ensures later { is_done_when_decided result ≡ false }
     {
         let answer = self.reach.translate(
             delivery.range_word,
@@ -216,18 +216,18 @@ impl Parts {
         transfer: Transfer,
         delivery: Delivery,
     ) -> Result<Deed, AllocError>
-        requires there { IsSome (context_at (shown self.old) ec) }
-        requires counted { IsCounted (shown self.old) }
-        requires running { AreRunning (shown self.old) self.old.revokes }
+        requires there { IsSome (context_at (state_of self.old) ec) }
+        requires counted { IsCounted (state_of self.old) }
+        requires running { AreRunning (state_of self.old) self.old.revokes }
         requires turns { self.old.turns < 2 ^ 31 }
-        requires transfer { transfer ≡ now_at (shown self.old) ec }
+        requires transfer { transfer ≡ now_at (state_of self.old) ec }
         requires item { transfer.item < 62 }
-        requires given { IsGivenBy (shown self.old) ec transfer.item delivery }
-        ensures deed { IfOk result (λ d. d ≡ delivered (shown self.old) delivery transfer) }
-        ensures begun { IfOk result (λ d. shown self.new ≡ begun (shown self.old) ec d) }
-        ensures fits { IfOk result (Fits (shown self.old) ec) }
-        ensures memory { OnErr result (shown self.new ≡ shown self.old) }
-        ensures wanted { OnErr result (is_making (delivered (shown self.old) delivery transfer) ≡ true) }
+        requires given { IsGivenBy (state_of self.old) ec transfer.item delivery }
+        ensures deed { IfOk result (λ d. d ≡ delivered (state_of self.old) delivery transfer) }
+        ensures begun { IfOk result (λ d. state_of self.new ≡ begun (state_of self.old) ec d) }
+        ensures fits { IfOk result (DeedFits (state_of self.old) ec) }
+        ensures memory { OnErr result (state_of self.new ≡ state_of self.old) }
+        ensures wanted { OnErr result (is_making (delivered (state_of self.old) delivery transfer) ≡ true) }
         ensures queues { self.new.queues ≡ self.old.queues }
         ensures revokes { self.new.revokes ≡ self.old.revokes }
         ensures log { self.new.reach.room ≡ self.old.reach.room }
@@ -243,15 +243,15 @@ impl Parts {
     /// done at once, and nothing else is. It refuses for want of memory alone, where a child would be made,
     /// and then nothing has changed.
     pub fn deliver(&mut self, ec: u32) -> Result<Deed, AllocError>
-        requires there { IsSome (context_at (shown self.old) ec) }
-        requires counted { IsCounted (shown self.old) }
-        requires running { AreRunning (shown self.old) self.old.revokes }
+        requires there { IsSome (context_at (state_of self.old) ec) }
+        requires counted { IsCounted (state_of self.old) }
+        requires running { AreRunning (state_of self.old) self.old.revokes }
         requires turns { self.old.turns < 2 ^ 31 }
-        ensures deed { IfOk result (λ d. d ≡ delivers (shown self.old) (transfer (shown self.old) ec) (delivery (shown self.old) ec (context (shown self.old) ec).state)) }
-        ensures begun { IfOk result (λ d. shown self.new ≡ begun (shown self.old) ec d) }
-        ensures fits { IfOk result (Fits (shown self.old) ec) }
-        ensures memory { OnErr result (shown self.new ≡ shown self.old) }
-        ensures wanted { OnErr result (is_making (delivers (shown self.old) (transfer (shown self.old) ec) (delivery (shown self.old) ec (context (shown self.old) ec).state)) ≡ true) }
+        ensures deed { IfOk result (λ d. d ≡ delivers (state_of self.old) (transfer (state_of self.old) ec) (delivery (state_of self.old) ec (context (state_of self.old) ec).state)) }
+        ensures begun { IfOk result (λ d. state_of self.new ≡ begun (state_of self.old) ec d) }
+        ensures fits { IfOk result (DeedFits (state_of self.old) ec) }
+        ensures memory { OnErr result (state_of self.new ≡ state_of self.old) }
+        ensures wanted { OnErr result (is_making (delivers (state_of self.old) (transfer (state_of self.old) ec) (delivery (state_of self.old) ec (context (state_of self.old) ec).state)) ≡ true) }
         ensures queues { self.new.queues ≡ self.old.queues }
         ensures revokes { self.new.revokes ≡ self.old.revokes }
         ensures log { self.new.reach.room ≡ self.old.reach.room }

@@ -3,9 +3,9 @@ ghost use Rattle.nova_model.specs.Deeds.{done, performed, recalled};
 ghost use Rattle.nova_model.specs.Edges.{acts};
 ghost use Rattle.nova_model.specs.State.{context_at, pd_of};
 ghost use Rattle.nova_choice.specs.Schedules.{schedule_after};
-ghost use Rattle.nova_deeds.specs.Acts.{Fits, TakesFree, is_alone, is_over};
+ghost use Rattle.nova_deeds.specs.Acts.{DeedFits, TakesFree, changes_actor_only, is_done_when_decided};
 ghost use Rattle.nova_deeds.specs.Counted.{IsCounted};
-ghost use Rattle.nova_kernel.specs.Parts.{shown, HasRoomFor};
+ghost use Rattle.nova_kernel.specs.Parts.{state_of, HasRoomFor};
 ghost use Rattle.nova_kernel.specs.Revoking.{BeginsWithin, revokes_after};
 
 use crate::parts::Parts;
@@ -18,8 +18,8 @@ use nova_revoke::Revoke;
 impl Parts {
     /// The recall of an execution context is asked for.
     fn ask_recall(&mut self, ec: u32)
-        requires { ec < length (shown self.old).contexts }
-        ensures recalled { shown self.new ≡ recalled (shown self.old) ec (context_at (shown self.old) ec) }
+        requires { ec < length (state_of self.old).contexts }
+        ensures recalled { state_of self.new ≡ recalled (state_of self.old) ec (context_at (state_of self.old) ec) }
         ensures queues { self.new.queues ≡ self.old.queues }
         ensures revokes { self.new.revokes ≡ self.old.revokes }
         ensures log { self.new.reach.room ≡ self.old.reach.room }
@@ -31,17 +31,17 @@ impl Parts {
 
     /// The execution context does a deed that tells others nothing, in the room that was made.
     fn perform_alone(&mut self, ec: u32, deed: Deed)
-        requires there { IsSome (context_at (shown self.old) ec) }
-        requires counted { IsCounted (shown self.old) }
-        requires fits { Fits (shown self.old) ec deed }
-        requires alone { is_alone deed ≡ true }
-        requires free { TakesFree (shown self.old) (pd_of (shown self.old) ec) deed }
-        requires room { HasRoomFor (pd_of (shown self.old) ec) deed self.old }
+        requires there { IsSome (context_at (state_of self.old) ec) }
+        requires counted { IsCounted (state_of self.old) }
+        requires fits { DeedFits (state_of self.old) ec deed }
+        requires alone { changes_actor_only deed ≡ true }
+        requires free { TakesFree (state_of self.old) (pd_of (state_of self.old) ec) deed }
+        requires room { HasRoomFor (pd_of (state_of self.old) ec) deed self.old }
         requires few { length self.old.queues.all.entries ≤ length self.old.objects.items }
         requires places { BeginsWithin self.old.revokes deed }
-        ensures performed { shown self.new ≡ performed (shown self.old) ec deed }
-        ensures queues { self.new.queues.all ≡ schedule_after (shown self.old) ec self.old.queues.all deed }
-        ensures revokes { self.new.revokes.list ≡ revokes_after (pd_of (shown self.old) ec) ec deed self.old.revokes.list }
+        ensures performed { state_of self.new ≡ performed (state_of self.old) ec deed }
+        ensures queues { self.new.queues.all ≡ schedule_after (state_of self.old) ec self.old.queues.all deed }
+        ensures revokes { self.new.revokes.list ≡ revokes_after (pd_of (state_of self.old) ec) ec deed self.old.revokes.list }
         ensures places { self.new.revokes.places ≡ self.old.revokes.places }
         ensures log { self.new.reach.room ≡ self.old.reach.room }
     {
@@ -67,18 +67,18 @@ impl Parts {
 
     /// The execution context does a deed that is not over, in the room that was made.
     pub fn perform(&mut self, ec: u32, deed: Deed)
-        requires there { IsSome (context_at (shown self.old) ec) }
-        requires acts { acts (shown self.old).contexts ec ≡ true }
-        requires counted { IsCounted (shown self.old) }
-        requires fits { Fits (shown self.old) ec deed }
-        requires left { is_over deed ≡ false }
-        requires free { TakesFree (shown self.old) (pd_of (shown self.old) ec) deed }
-        requires room { HasRoomFor (pd_of (shown self.old) ec) deed self.old }
+        requires there { IsSome (context_at (state_of self.old) ec) }
+        requires acts { acts (state_of self.old).contexts ec ≡ true }
+        requires counted { IsCounted (state_of self.old) }
+        requires fits { DeedFits (state_of self.old) ec deed }
+        requires left { is_done_when_decided deed ≡ false }
+        requires free { TakesFree (state_of self.old) (pd_of (state_of self.old) ec) deed }
+        requires room { HasRoomFor (pd_of (state_of self.old) ec) deed self.old }
         requires few { length self.old.queues.all.entries ≤ length self.old.objects.items }
         requires places { BeginsWithin self.old.revokes deed }
-        ensures done { shown self.new ≡ done (shown self.old) ec deed }
-        ensures queues { self.new.queues.all ≡ schedule_after (shown self.old) ec self.old.queues.all deed }
-        ensures revokes { self.new.revokes.list ≡ revokes_after (pd_of (shown self.old) ec) ec deed self.old.revokes.list }
+        ensures done { state_of self.new ≡ done (state_of self.old) ec deed }
+        ensures queues { self.new.queues.all ≡ schedule_after (state_of self.old) ec self.old.queues.all deed }
+        ensures revokes { self.new.revokes.list ≡ revokes_after (pd_of (state_of self.old) ec) ec deed self.old.revokes.list }
         ensures places { self.new.revokes.places ≡ self.old.revokes.places }
         ensures log { self.new.reach.room ≡ self.old.reach.room }
     {

@@ -2,9 +2,9 @@ ghost use Rattle.std.specs.Prelude.{◌≡◌, ◌^◌, ◌<◌, ℕ, IfOk, IsSo
 ghost use Rattle.nova_calls.specs.SoundCalls.{IsSoundCall};
 ghost use Rattle.nova_model.specs.Hypercalls.{maker, unless_busy, new_domain, create_pd, create_ec, is_scheduled, create_sc, create_pt, create_sm, looked_up, ticks_in, row, asked, or_refuses, hypercall};
 ghost use Rattle.nova_model.specs.State.{budget_at, context_at, context, pd_of};
-ghost use Rattle.nova_kernel.specs.Parts.{shown};
+ghost use Rattle.nova_kernel.specs.Parts.{state_of};
 ghost use Rattle.nova_deeds.specs.Counted.{IsCharged, IsCounted};
-ghost use Rattle.nova_deeds.specs.Acts.{IsAsked};
+ghost use Rattle.nova_deeds.specs.Acts.{IsToBeDone};
 ghost use Rattle.nova_kernel.specs.Revoking.{AreRunning};
 
 use crate::capabilities::ObjectType;
@@ -40,7 +40,7 @@ impl Parts {
     /// The protection domain in which the object is to be made. `BadCap` where the capability names
     /// no protection domain with the right to create, or where the target is held.
     fn maker(&self, site: Site) -> Result<u32, Status>
-        ensures { result ≡ maker (shown self.now) site.domain site.target site.pd_selector }
+        ensures { result ≡ maker (state_of self.now) site.domain site.target site.pd_selector }
     {
         let owner = self.named(
             site.domain,
@@ -57,8 +57,8 @@ impl Parts {
     /// What comes last of the create rules: `Busy` where an execution context of the maker's domain revokes
     /// an object range that contains the target.
     fn unless_busy(&self, site: Site, deed: Deed) -> Result<Deed, Status>
-        requires { AreRunning (shown self.now) self.now.revokes }
-        ensures answer { result ≡ unless_busy (shown self.now) site.domain site.target deed }
+        requires { AreRunning (state_of self.now) self.now.revokes }
+        ensures answer { result ≡ unless_busy (state_of self.now) site.domain site.target deed }
         ensures same { IfOk result (λ d. d ≡ deed) }
     {
         if self.is_revoked(site.domain, site.target) {
@@ -69,10 +69,10 @@ impl Parts {
 
     /// A protection domain is made; it goes on where there is a first range to be given.
     fn new_domain(&self, target: u32, first: Option<(Range, Rights)>) -> Deed
-        requires counted { IsCounted (shown self.now) }
+        requires counted { IsCounted (state_of self.now) }
         requires target { target < 2 ^ 20 }
-        ensures deed { result ≡ new_domain (shown self.now) target first }
-        ensures fits { (ec : ℕ) → IsAsked (shown self.now) ec result }
+        ensures deed { result ≡ new_domain (state_of self.now) target first }
+        ensures fits { (ec : ℕ) → IsToBeDone (state_of self.now) ec result }
     {
         match first {
             None => Deed::Makes {
@@ -89,11 +89,11 @@ impl Parts {
 
     /// `CREATE_PD`: makes a protection domain, and goes on where there is a first range to be given.
     fn create_pd(&self, site: Site, first: Option<(Range, Rights)>) -> Result<Deed, Status>
-        requires counted { IsCounted (shown self.now) }
-        requires running { AreRunning (shown self.now) self.now.revokes }
+        requires counted { IsCounted (state_of self.now) }
+        requires running { AreRunning (state_of self.now) self.now.revokes }
         requires target { site.target < 2 ^ 20 }
-        ensures row { result ≡ create_pd (shown self.now) site.domain site.target site.pd_selector first }
-        ensures fits { (ec : ℕ) → IfOk result (IsAsked (shown self.now) ec) }
+        ensures row { result ≡ create_pd (state_of self.now) site.domain site.target site.pd_selector first }
+        ensures fits { (ec : ℕ) → IfOk result (IsToBeDone (state_of self.now) ec) }
     {
         self.maker(site)?;
         self.unless_busy(site, self.new_domain(site.target, first))
@@ -109,9 +109,9 @@ impl Parts {
         event: u32,
     ) -> Result<Deed, Status>
         requires target { site.target < 2 ^ 20 }
-        requires running { AreRunning (shown self.now) self.now.revokes }
-        ensures row { result ≡ create_ec (shown self.now) site.domain site.target site.pd_selector cpu kind sp event }
-        ensures fits { (ec : ℕ) → IfOk result (IsAsked (shown self.now) ec) }
+        requires running { AreRunning (state_of self.now) self.now.revokes }
+        ensures row { result ≡ create_ec (state_of self.now) site.domain site.target site.pd_selector cpu kind sp event }
+        ensures fits { (ec : ℕ) → IfOk result (IsToBeDone (state_of self.now) ec) }
     {
         let pd = self.maker(site)?;
         if cpu >= self.cpus {
@@ -135,7 +135,7 @@ impl Parts {
 
     /// Whether an execution context has a scheduling context.
     fn is_scheduled(&self, ec: u32) -> bool
-        ensures { result ≡ is_scheduled (shown self.now) ec }
+        ensures { result ≡ is_scheduled (state_of self.now) ec }
     {
         for object in self.objects.as_slice() {
             if matches!(object, Object::Sc { ec: its, .. } if *its == ec) {
@@ -155,9 +155,9 @@ impl Parts {
         priority: u8,
     ) -> Result<Deed, Status>
         requires target { site.target < 2 ^ 20 }
-        requires running { AreRunning (shown self.now) self.now.revokes }
-        ensures row { result ≡ create_sc (shown self.now) site.domain site.target site.pd_selector ec_selector quantum priority }
-        ensures fits { (ec : ℕ) → IfOk result (IsAsked (shown self.now) ec) }
+        requires running { AreRunning (state_of self.now) self.now.revokes }
+        ensures row { result ≡ create_sc (state_of self.now) site.domain site.target site.pd_selector ec_selector quantum priority }
+        ensures fits { (ec : ℕ) → IfOk result (IsToBeDone (state_of self.now) ec) }
     {
         self.maker(site)?;
         let ec = self.named(
@@ -187,9 +187,9 @@ impl Parts {
     /// `CREATE_PT`: makes a portal.
     fn create_pt(&self, site: Site, ec_selector: u32, mtd: u32, ip: u32) -> Result<Deed, Status>
         requires target { site.target < 2 ^ 20 }
-        requires running { AreRunning (shown self.now) self.now.revokes }
-        ensures row { result ≡ create_pt (shown self.now) site.domain site.target site.pd_selector ec_selector mtd ip }
-        ensures fits { (ec : ℕ) → IfOk result (IsAsked (shown self.now) ec) }
+        requires running { AreRunning (state_of self.now) self.now.revokes }
+        ensures row { result ≡ create_pt (state_of self.now) site.domain site.target site.pd_selector ec_selector mtd ip }
+        ensures fits { (ec : ℕ) → IfOk result (IsToBeDone (state_of self.now) ec) }
     {
         self.maker(site)?;
         let ec = self.named(site.domain, ObjectType::Local, Rights::BIND_PT, ec_selector)?;
@@ -206,9 +206,9 @@ impl Parts {
     /// `CREATE_SM`: makes a semaphore.
     fn create_sm(&self, site: Site, count: u32) -> Result<Deed, Status>
         requires target { site.target < 2 ^ 20 }
-        requires running { AreRunning (shown self.now) self.now.revokes }
-        ensures row { result ≡ create_sm (shown self.now) site.domain site.target site.pd_selector count }
-        ensures fits { (ec : ℕ) → IfOk result (IsAsked (shown self.now) ec) }
+        requires running { AreRunning (state_of self.now) self.now.revokes }
+        ensures row { result ≡ create_sm (state_of self.now) site.domain site.target site.pd_selector count }
+        ensures fits { (ec : ℕ) → IfOk result (IsToBeDone (state_of self.now) ec) }
     {
         self.maker(site)?;
         self.unless_busy(
@@ -224,7 +224,7 @@ impl Parts {
     /// `LOOKUP`: the word of the derivation that covers the base of a range, with its own base, order
     /// and rights; 0 where there is none.
     fn looked_up(&self, domain: u32, range: Range) -> u32
-        ensures { result ≡ looked_up (shown self.now) domain range }
+        ensures { result ≡ looked_up (state_of self.now) domain range }
     {
         match self.reach.covering(domain, range.kind, range.base) {
             Some(found) => word_of(Some((found.range(), found.rights))),
@@ -234,8 +234,8 @@ impl Parts {
 
     /// The turns that a scheduling context paid for before this one; 0 of another number.
     fn ticks_before(&self, sc: u32) -> u32
-        requires { IsCharged (shown self.now) }
-        ensures { result ≡ ticks_in (budget_at (shown self.now) sc) }
+        requires { IsCharged (state_of self.now) }
+        ensures { result ≡ ticks_in (budget_at (state_of self.now) sc) }
     {
         match self.ticks(sc) {
             Some(ticks) => ticks as u32,
@@ -245,12 +245,12 @@ impl Parts {
 
     /// The rows of the table of hypercalls.
     fn row(&self, ec: u32, domain: u32, call: Call) -> Result<Deed, Status>
-        requires there { IsSome (context_at (shown self.now) ec) }
-        requires counted { IsCounted (shown self.now) }
-        requires running { AreRunning (shown self.now) self.now.revokes }
+        requires there { IsSome (context_at (state_of self.now) ec) }
+        requires counted { IsCounted (state_of self.now) }
+        requires running { AreRunning (state_of self.now) self.now.revokes }
         requires sound { IsSoundCall call }
-        ensures row { result ≡ row (shown self.now) ec domain call }
-        ensures fits { IfOk result (IsAsked (shown self.now) ec) }
+        ensures row { result ≡ row (state_of self.now) ec domain call }
+        ensures fits { IfOk result (IsToBeDone (state_of self.now) ec) }
     {
         match call {
             Call::Call { portal, flag } => self.call(ec, domain, portal, flag),
@@ -309,22 +309,22 @@ impl Parts {
 
     /// What the hypercall of these registers asks for, in a protection domain.
     fn asked(&self, ec: u32, domain: u32, regs: &Regs) -> Result<Deed, Status>
-        requires there { IsSome (context_at (shown self.now) ec) }
-        requires counted { IsCounted (shown self.now) }
-        requires running { AreRunning (shown self.now) self.now.revokes }
-        ensures asked { result ≡ asked (shown self.now) ec domain regs.now }
-        ensures fits { IfOk result (IsAsked (shown self.now) ec) }
+        requires there { IsSome (context_at (state_of self.now) ec) }
+        requires counted { IsCounted (state_of self.now) }
+        requires running { AreRunning (state_of self.now) self.now.revokes }
+        ensures asked { result ≡ asked (state_of self.now) ec domain regs.now }
+        ensures fits { IfOk result (IsToBeDone (state_of self.now) ec) }
     {
         self.row(ec, domain, read_call(regs)?)
     }
 
     /// The deed of the hypercall that an execution context's registers ask for: a refusal is one too.
     pub fn hypercall(&self, ec: u32) -> Deed
-        requires there { IsSome (context_at (shown self.now) ec) }
-        requires counted { IsCounted (shown self.now) }
-        requires running { AreRunning (shown self.now) self.now.revokes }
-        ensures deed { result ≡ hypercall (shown self.now) ec (pd_of (shown self.now) ec) (context (shown self.now) ec).regs }
-        ensures fits { IsAsked (shown self.now) ec result }
+        requires there { IsSome (context_at (state_of self.now) ec) }
+        requires counted { IsCounted (state_of self.now) }
+        requires running { AreRunning (state_of self.now) self.now.revokes }
+        ensures deed { result ≡ hypercall (state_of self.now) ec (pd_of (state_of self.now) ec) (context (state_of self.now) ec).regs }
+        ensures fits { IsToBeDone (state_of self.now) ec result }
     {
         let regs = &self.contexts.context(ec).regs;
         match self.asked(ec, self.pd(ec), regs) {

@@ -2,7 +2,7 @@ ghost use Rattle.std.specs.Prelude.{◌≡◌, false, IfOk, IsSome, OnErr};
 ghost use Rattle.nova_deeds.specs.Acts.{is_executing};
 ghost use Rattle.nova_inputs.specs.Ahead.{GivesRange};
 ghost use Rattle.nova_inputs.specs.Given.{BringsBytes};
-ghost use Rattle.nova_kernel.specs.Parts.{shown};
+ghost use Rattle.nova_kernel.specs.Parts.{state_of};
 ghost use Rattle.nova_kernel.specs.Revoking.{AreRunning};
 ghost use Rattle.nova_deeds.specs.Counted.{IsCounted};
 ghost use Rattle.nova_model.specs.Deeds.{deed};
@@ -25,11 +25,11 @@ impl Parts {
     /// The deed of an execution context of which no instruction is next, by looking alone.
     #[tactic(auto, using(crate::proofs::Foreseen::asked_range), unfolding(nova_model::specs::Deeds::deed))]
     fn foresee_in_state(&self, ec: u32) -> Deed
-        requires there { IsSome (context_at (shown self.now) ec) }
-        requires counted { IsCounted (shown self.now) }
-        requires running { AreRunning (shown self.now) self.now.revokes }
-        requires next { is_executing (context (shown self.now) ec) ≡ false }
-        ensures deed { result ≡ deed (shown self.now) ec }
+        requires there { IsSome (context_at (state_of self.now) ec) }
+        requires counted { IsCounted (state_of self.now) }
+        requires running { AreRunning (state_of self.now) self.now.revokes }
+        requires next { is_executing (context (state_of self.now) ec) ≡ false }
+        ensures deed { result ≡ deed (state_of self.now) ec }
         ensures order { GivesRange result }
     {
         let context = self.contexts.context(ec);
@@ -64,10 +64,10 @@ impl Parts {
     /// The deed of an execution context, by looking alone.
     #[tactic(auto, using(crate::proofs::Foreseen::asked_range))]
     fn foresee(&self, ec: u32) -> Deed
-        requires there { IsSome (context_at (shown self.now) ec) }
-        requires counted { IsCounted (shown self.now) }
-        requires running { AreRunning (shown self.now) self.now.revokes }
-        ensures deed { result ≡ deed (shown self.now) ec }
+        requires there { IsSome (context_at (state_of self.now) ec) }
+        requires counted { IsCounted (state_of self.now) }
+        requires running { AreRunning (state_of self.now) self.now.revokes }
+        ensures deed { result ≡ deed (state_of self.now) ec }
         ensures order { GivesRange result }
     {
         if self.is_executing(ec) {
@@ -90,10 +90,10 @@ impl Parts {
         guest: u32,
         deed: Deed,
     ) -> Result<Option<Input>, AllocError>
-        requires there { IsSome (context_at (shown self.now) ec) }
+        requires there { IsSome (context_at (state_of self.now) ec) }
         requires order { GivesRange deed }
-        ensures input { IfOk result (λ i. i ≡ others_input (shown self.now) ec guest deed) }
-        ensures memory { OnErr result (BringsBytes (others_input (shown self.now) ec guest deed)) }
+        ensures input { IfOk result (λ i. i ≡ others_input (state_of self.now) ec guest deed) }
+        ensures memory { OnErr result (BringsBytes (others_input (state_of self.now) ec guest deed)) }
     {
         let pd = self.pd(guest);
         let input = match deed {
@@ -132,11 +132,11 @@ impl Parts {
     /// want of memory alone, where it gives the virtual CPU's domain memory with bytes.
     #[tactic(auto, unfolding(nova_model::specs::Inputs::input_of))]
     pub fn input_of(&self, alloc: Global, ec: u32, guest: u32) -> Result<Option<Input>, AllocError>
-        requires there { IsSome (context_at (shown self.now) ec) }
-        requires counted { IsCounted (shown self.now) }
-        requires running { AreRunning (shown self.now) self.now.revokes }
-        ensures input { IfOk result (λ i. i ≡ input_of (shown self.now) ec guest (deed (shown self.now) ec)) }
-        ensures memory { OnErr result (BringsBytes (input_of (shown self.now) ec guest (deed (shown self.now) ec))) }
+        requires there { IsSome (context_at (state_of self.now) ec) }
+        requires counted { IsCounted (state_of self.now) }
+        requires running { AreRunning (state_of self.now) self.now.revokes }
+        ensures input { IfOk result (λ i. i ≡ input_of (state_of self.now) ec guest (deed (state_of self.now) ec)) }
+        ensures memory { OnErr result (BringsBytes (input_of (state_of self.now) ec guest (deed (state_of self.now) ec))) }
     {
         let deed = self.foresee(ec);
         if ec == guest {

@@ -5,7 +5,7 @@ ghost use Rattle.nova_model.specs.State.{context_at, context, transfer};
 ghost use Rattle.nova_model.specs.declared.transfer.ItemEnd.{ItemEnd};
 ghost use Rattle.nova_deeds.specs.Acts.{IsGivenBy, IsSequel, IsToldThere};
 ghost use Rattle.nova_deeds.specs.Counted.{AreTables};
-ghost use Rattle.nova_kernel.specs.Parts.{shown};
+ghost use Rattle.nova_kernel.specs.Parts.{state_of};
 
 use crate::parts::Parts;
 use nova_deeds::changes::transfer_after;
@@ -21,8 +21,8 @@ impl Parts {
     /// What a creator gives: a delegation of the range whose word is in x12, to the window that is the
     /// range itself.
     fn first_delivery(&self, ec: u32, domain: u32) -> Delivery
-        requires { IsSome (context_at (shown self.now) ec) }
-        ensures { result ≡ first_delivery (shown self.now) ec domain }
+        requires { IsSome (context_at (state_of self.now) ec) }
+        ensures { result ≡ first_delivery (state_of self.now) ec domain }
     {
         let word = self.contexts.context(ec).regs.get(RANGE_REGISTER);
         Delivery {
@@ -41,7 +41,7 @@ impl Parts {
     /// The window of translations to an execution context: that in the message of a thread. A virtual CPU has
     /// none.
     fn translations_to(&self, to: u32) -> u32
-        ensures { result ≡ translations_to (shown self.now) to }
+        ensures { result ≡ translations_to (state_of self.now) to }
     {
         if self.is_thread(to) {
             self.message(to).translation_window()
@@ -53,7 +53,7 @@ impl Parts {
     /// The window of delegations to an execution context: that in the message of a thread, and for a virtual
     /// CPU the whole space of the item's own type.
     fn delegations_to(&self, to: u32, range_word: u32) -> u32
-        ensures { result ≡ delegations_to (shown self.now) to range_word }
+        ensures { result ≡ delegations_to (state_of self.now) to range_word }
     {
         if self.is_thread(to) {
             self.message(to).delegation_window()
@@ -72,7 +72,7 @@ impl Parts {
         last: Sequel,
     ) -> Delivery
         requires { item < 62 }
-        ensures delivery { result ≡ delivery_between (shown self.now) from to item told last }
+        ensures delivery { result ≡ delivery_between (state_of self.now) from to item told last }
         ensures items { result.items ≤ 62 }
     {
         let message = self.message(from);
@@ -92,10 +92,10 @@ impl Parts {
 
     /// What a handler takes: an item of its caller's message.
     fn taken_from(&self, ec: u32, item: u32, caller: Option<(u32, Mark)>) -> Option<Delivery>
-        requires there { IsSome (context_at (shown self.now) ec) }
+        requires there { IsSome (context_at (state_of self.now) ec) }
         requires item { item < 62 }
-        ensures delivery { result ≡ taken_from (shown self.now) ec item caller }
-        ensures given { IfSome result (IsGivenBy (shown self.now) ec item) }
+        ensures delivery { result ≡ taken_from (state_of self.now) ec item caller }
+        ensures given { IfSome result (IsGivenBy (state_of self.now) ec item) }
     {
         let (caller, _) = caller?;
         Some(self.delivery_between(caller, ec, item, Some(ec), Sequel::Taken))
@@ -103,11 +103,11 @@ impl Parts {
 
     /// What a handler gives its caller: an item of its own message.
     fn given_to(&self, ec: u32, item: u32, caller: Option<(u32, Mark)>) -> Option<Delivery>
-        requires there { IsSome (context_at (shown self.now) ec) }
+        requires there { IsSome (context_at (state_of self.now) ec) }
         requires item { item < 62 }
-        requires caller { caller ≡ (context (shown self.now) ec).caller }
-        ensures delivery { result ≡ given_to (shown self.now) ec item caller }
-        ensures given { IfSome result (IsGivenBy (shown self.now) ec item) }
+        requires caller { caller ≡ (context (state_of self.now) ec).caller }
+        ensures delivery { result ≡ given_to (state_of self.now) ec item caller }
+        ensures given { IfSome result (IsGivenBy (state_of self.now) ec item) }
     {
         self.contexts.keeps_callers();
         let (caller, mark) = caller?;
@@ -117,11 +117,11 @@ impl Parts {
 
     /// The present item of an execution context; none in a state in which no items are given.
     pub fn delivery(&self, ec: u32, item: u32) -> Option<Delivery>
-        requires there { IsSome (context_at (shown self.now) ec) }
+        requires there { IsSome (context_at (state_of self.now) ec) }
         requires item { item < 62 }
-        requires present { item ≡ (transfer (shown self.now) ec).item }
-        ensures delivery { result ≡ delivery (shown self.now) ec (context (shown self.now) ec).state }
-        ensures given { IfSome result (IsGivenBy (shown self.now) ec item) }
+        requires present { item ≡ (transfer (state_of self.now) ec).item }
+        ensures delivery { result ≡ delivery (state_of self.now) ec (context (state_of self.now) ec).state }
+        ensures given { IfSome result (IsGivenBy (state_of self.now) ec item) }
     {
         let context = self.contexts.context(ec);
         match context.state {
@@ -135,9 +135,9 @@ impl Parts {
     /// The words of an item that ended are written where they are to be found.
     fn tell(&mut self, item: u32, words: Option<ItemWords>)
         requires item { item < 62 }
-        requires there { IsToldThere (shown self.old) words }
-        requires tables { AreTables (shown self.old) }
-        ensures told { shown self.new ≡ told (shown self.old) item words }
+        requires there { IsToldThere (state_of self.old) words }
+        requires tables { AreTables (state_of self.old) }
+        ensures told { state_of self.new ≡ told (state_of self.old) item words }
         ensures queues { self.new.queues ≡ self.old.queues }
         ensures revokes { self.new.revokes ≡ self.old.revokes }
         ensures log { self.new.reach.room ≡ self.old.reach.room }
@@ -151,9 +151,9 @@ impl Parts {
 
     /// What follows an item that ended.
     fn follow(&mut self, ec: u32, item: u32, after: Sequel)
-        requires there { IsSome (context_at (shown self.old) ec) }
-        requires sequel { IsSequel (shown self.old) ec item after }
-        ensures followed { shown self.new ≡ followed (with_context (shown self.old) ec (after_item (context (shown self.old) ec) after)) ec after }
+        requires there { IsSome (context_at (state_of self.old) ec) }
+        requires sequel { IsSequel (state_of self.old) ec item after }
+        ensures followed { state_of self.new ≡ followed (with_context (state_of self.old) ec (after_item (context (state_of self.old) ec) after)) ec after }
         ensures queues { self.new.queues ≡ self.old.queues }
         ensures revokes { self.new.revokes ≡ self.old.revokes }
         ensures log { self.new.reach.room ≡ self.old.reach.room }
@@ -168,12 +168,12 @@ impl Parts {
 
     /// An item ended: its words are written, and then the next item follows, or what ends it all.
     pub fn finish(&mut self, ec: u32, item: u32, words: Option<ItemWords>, after: Sequel)
-        requires there { IsSome (context_at (shown self.old) ec) }
+        requires there { IsSome (context_at (state_of self.old) ec) }
         requires item { item < 62 }
-        requires words { IsToldThere (shown self.old) words }
-        requires sequel { IsSequel (shown self.old) ec item after }
-        requires tables { AreTables (shown self.old) }
-        ensures finished { (end : ItemEnd) → shown self.new ≡ done (shown self.old) ec (Deed.Finishes item end words after) }
+        requires words { IsToldThere (state_of self.old) words }
+        requires sequel { IsSequel (state_of self.old) ec item after }
+        requires tables { AreTables (state_of self.old) }
+        ensures finished { (end : ItemEnd) → state_of self.new ≡ done (state_of self.old) ec (Deed.Finishes item end words after) }
         ensures queues { self.new.queues ≡ self.old.queues }
         ensures revokes { self.new.revokes ≡ self.old.revokes }
         ensures log { self.new.reach.room ≡ self.old.reach.room }

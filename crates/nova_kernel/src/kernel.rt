@@ -43,17 +43,17 @@ impl Model for Kernel {
 
     ghost Value = { KernelView };
 
-    ghost use Rattle.nova_kernel.specs.Parts.{shown};
+    ghost use Rattle.nova_kernel.specs.Parts.{state_of};
     ghost use Rattle.nova_deeds.specs.Counted.{IsCounted};
 
-    ghost view = { λ k. record { state = shown k.parts; room = k.parts.reach.room } };
+    ghost view = { λ k. record { state = state_of k.parts; room = k.parts.reach.room } };
 
     ghost use Rattle.nova_choice.specs.Schedules.{AreQueued};
     ghost use Rattle.nova_kernel.specs.Revoking.{AreRunning};
     ghost use Rattle.nova_leases.specs.Commits.{IsReached};
     ghost use Rattle.nova_kernel.specs.Known.{AreKnown};
 
-    ghost invariant = { λ k. IsCounted (shown k.parts) × (AreQueued (shown k.parts) k.parts.queues.all × (AreRunning (shown k.parts) k.parts.revokes × (IsReached (shown k.parts) × AreKnown (shown k.parts) k.known))) };
+    ghost invariant = { λ k. IsCounted (state_of k.parts) × (AreQueued (state_of k.parts) k.parts.queues.all × (AreRunning (state_of k.parts) k.parts.revokes × (IsReached (state_of k.parts) × AreKnown (state_of k.parts) k.known))) };
 }
 
 impl Kernel {

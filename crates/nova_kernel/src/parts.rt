@@ -1,5 +1,5 @@
 ghost use Rattle.std.specs.Prelude.{◌≡◌, ◌≤◌, length, option_map, IfOk};
-ghost use Rattle.nova_kernel.specs.Parts.{shown};
+ghost use Rattle.nova_kernel.specs.Parts.{state_of};
 ghost use Rattle.nova_kernel.specs.Views.{semaphore_at};
 
 use crate::inventory::Inventory;
@@ -67,12 +67,7 @@ pub(crate) struct Rest {
 pub(crate) fn let_go<T: Drop>(_value: T) {}
 
 /// The parts of a kernel, of what they are made from.
-pub(crate) fn together(
-    reach: Reach,
-    rest: Rest,
-    turns: u64,
-    cpus: u32,
-) -> Parts
+pub(crate) fn together(reach: Reach, rest: Rest, turns: u64, cpus: u32) -> Parts
     ensures { result ≡ record { reach = reach; objects = rest.tables.objects; contexts = rest.tables.contexts; queues = rest.entries.queues; transfers = rest.tables.transfers; identifiers = rest.entries.identifiers; semaphores = rest.entries.semaphores; turns = turns; cpus = cpus; stirs = rest.counts.stirs; guests = rest.counts.guests; revokes = rest.counts.revokes } }
 {
     let Rest {
@@ -99,7 +94,7 @@ pub(crate) fn together(
 impl Parts {
     /// The counter of a semaphore and how many wait at it.
     pub fn semaphore(&self, sm: u32) -> Option<(u32, u32)>
-        ensures { result ≡ option_map (λ s. (s.count, length s.waiting)) (semaphore_at (shown self.now) sm) }
+        ensures { result ≡ option_map (λ s. (s.count, length s.waiting)) (semaphore_at (state_of self.now) sm) }
     {
         if !self.semaphores.contains(sm) {
             return None;
@@ -110,7 +105,7 @@ impl Parts {
     /// The same parts in memory of their own, with no room in the console log. It refuses for want of
     /// memory alone.
     pub fn copy(&self) -> Result<Parts, AllocError>
-        ensures shown { IfOk result (λ p. shown p ≡ shown self.now) }
+        ensures shown { IfOk result (λ p. state_of p ≡ state_of self.now) }
         ensures queues { IfOk result (λ p. p.queues.all ≡ self.now.queues.all) }
         ensures room { IfOk result (λ p. p.reach.room ≡ 0) }
         ensures revokes { IfOk result (λ p. p.revokes.list ≡ self.now.revokes.list) }

@@ -1,6 +1,6 @@
 ghost use Rattle.std.specs.Prelude.{◌≡◌};
 ghost use Rattle.nova_model.specs.Portals.{handler_of, ip_of, descriptor, identifier};
-ghost use Rattle.nova_kernel.specs.Parts.{shown};
+ghost use Rattle.nova_kernel.specs.Parts.{state_of};
 
 use crate::parts::Parts;
 use bitflags::Flags;
@@ -10,7 +10,7 @@ use nova_range::Mtd;
 impl Parts {
     /// The handler of a portal.
     pub fn handler_of(&self, pt: u32) -> u32
-        ensures { result ≡ handler_of (shown self.now) pt }
+        ensures { result ≡ handler_of (state_of self.now) pt }
     {
         match self.objects.get(pt) {
             Some(Object::Pt { ec, .. }) => *ec,
@@ -20,7 +20,7 @@ impl Parts {
 
     /// Where the handler of a portal begins.
     pub fn ip_of(&self, pt: u32) -> u32
-        ensures { result ≡ ip_of (shown self.now) pt }
+        ensures { result ≡ ip_of (state_of self.now) pt }
     {
         match self.objects.get(pt) {
             Some(Object::Pt { ip, .. }) => *ip,
@@ -30,7 +30,7 @@ impl Parts {
 
     /// Which groups of an exit message a portal fills.
     pub fn descriptor(&self, pt: u32) -> Mtd
-        ensures { result ≡ descriptor (shown self.now) pt }
+        ensures { result ≡ descriptor (state_of self.now) pt }
     {
         match self.objects.get(pt) {
             Some(Object::Pt { mtd, .. }) => Mtd::from_bits_retain(*mtd),
@@ -40,7 +40,7 @@ impl Parts {
 
     /// The identifier of a portal.
     pub fn identifier(&self, pt: u32) -> u32
-        ensures { result ≡ identifier (shown self.now) pt }
+        ensures { result ≡ identifier (state_of self.now) pt }
     {
         match self.identifiers.get(pt as usize) {
             Some(Some(identifier)) => *identifier,

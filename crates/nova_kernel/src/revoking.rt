@@ -3,8 +3,8 @@ ghost use Rattle.nova_model.specs.Deeds.{removes};
 ghost use Rattle.nova_model.specs.Revokes.{next_leaf};
 ghost use Rattle.nova_model.specs.Running.{is_revoked};
 ghost use Rattle.nova_running.specs.Runners.{revoke_in};
-ghost use Rattle.nova_deeds.specs.Acts.{Fits, begun, is_step};
-ghost use Rattle.nova_kernel.specs.Parts.{shown};
+ghost use Rattle.nova_deeds.specs.Acts.{DeedFits, begun, is_step};
+ghost use Rattle.nova_kernel.specs.Parts.{state_of};
 ghost use Rattle.nova_kernel.specs.Revoking.{AreRunning};
 
 use crate::parts::Parts;
@@ -14,8 +14,8 @@ use nova_revoke::RevokeDone;
 impl Parts {
     /// Whether an execution context of a protection domain revokes an object range that contains a selector.
     pub fn is_revoked(&self, domain: u32, target: u32) -> bool
-        requires { AreRunning (shown self.now) self.now.revokes }
-        ensures { result ≡ is_revoked (shown self.now) domain target }
+        requires { AreRunning (state_of self.now) self.now.revokes }
+        ensures { result ≡ is_revoked (state_of self.now) domain target }
     {
         self.revokes.forbids(domain, target)
     }
@@ -24,10 +24,10 @@ impl Parts {
     /// left the revoke returns, which is still to be done.
     pub fn take_leaf(&mut self, ec: u32) -> Deed
         requires running { IsSome (revoke_in ec self.old.revokes.list) }
-        ensures deed { IfSome (revoke_in ec self.old.revokes.list) (λ revoke. result ≡ removes (next_leaf revoke (shown self.old).delegations)) }
-        ensures begun { shown self.new ≡ begun (shown self.old) ec result }
+        ensures deed { IfSome (revoke_in ec self.old.revokes.list) (λ revoke. result ≡ removes (next_leaf revoke (state_of self.old).delegations)) }
+        ensures begun { state_of self.new ≡ begun (state_of self.old) ec result }
         ensures no_step { is_step result ≡ false }
-        ensures fits { Fits (shown self.old) ec result }
+        ensures fits { DeedFits (state_of self.old) ec result }
         ensures queues { self.new.queues ≡ self.old.queues }
         ensures revokes { self.new.revokes ≡ self.old.revokes }
         ensures log { self.new.reach.room ≡ self.old.reach.room }

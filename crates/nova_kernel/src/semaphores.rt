@@ -5,8 +5,8 @@ ghost use Rattle.nova_model.specs.Hypercalls.{sm_ctrl};
 ghost use Rattle.nova_model.specs.Semaphores.{answer_of, semaphore, woken};
 ghost use Rattle.nova_model.specs.State.{context_at};
 ghost use Rattle.nova_model.specs.declared.semaphore.Down.{Down};
-ghost use Rattle.nova_deeds.specs.Acts.{IsAsked};
-ghost use Rattle.nova_kernel.specs.Parts.{shown};
+ghost use Rattle.nova_deeds.specs.Acts.{IsToBeDone};
+ghost use Rattle.nova_kernel.specs.Parts.{state_of};
 ghost use Rattle.nova_deeds.specs.Counted.{IsCounted};
 
 use crate::capabilities::ObjectType;
@@ -21,8 +21,8 @@ impl Parts {
     /// capability names no semaphore with the right to up, `Overflow` at the greatest counter with nobody
     /// waiting.
     fn up(&self, domain: u32, selector: u32) -> Result<Deed, Status>
-        ensures row { result ≡ sm_ctrl (shown self.now) domain selector SmAction.Up }
-        ensures fits { (ec : ℕ) → IfOk result (IsAsked (shown self.now) ec) }
+        ensures row { result ≡ sm_ctrl (state_of self.now) domain selector SmAction.Up }
+        ensures fits { (ec : ℕ) → IfOk result (IsToBeDone (state_of self.now) ec) }
     {
         let sm = self.named(domain, ObjectType::Sm, Rights::UP, selector)?;
         match self.semaphores.peek_up(sm) {
@@ -34,8 +34,8 @@ impl Parts {
     /// A down of a semaphore: it lowers the counter, or waits. `BadCap` where the capability names no
     /// semaphore with the right to down.
     fn down(&self, domain: u32, selector: u32) -> Result<Deed, Status>
-        ensures row { result ≡ sm_ctrl (shown self.now) domain selector SmAction.Down }
-        ensures fits { (ec : ℕ) → IfOk result (IsAsked (shown self.now) ec) }
+        ensures row { result ≡ sm_ctrl (state_of self.now) domain selector SmAction.Down }
+        ensures fits { (ec : ℕ) → IfOk result (IsToBeDone (state_of self.now) ec) }
     {
         let sm = self.named(domain, ObjectType::Sm, Rights::DOWN, selector)?;
         Ok(match self.semaphores.peek_down(sm) {
@@ -46,8 +46,8 @@ impl Parts {
 
     /// `SM_CTRL`: an up or a down of a semaphore.
     pub fn sm_ctrl(&self, domain: u32, selector: u32, action: SmAction) -> Result<Deed, Status>
-        ensures row { result ≡ sm_ctrl (shown self.now) domain selector action }
-        ensures fits { (ec : ℕ) → IfOk result (IsAsked (shown self.now) ec) }
+        ensures row { result ≡ sm_ctrl (state_of self.now) domain selector action }
+        ensures fits { (ec : ℕ) → IfOk result (IsToBeDone (state_of self.now) ec) }
     {
         match action {
             SmAction::Up => self.up(domain, selector),
@@ -57,10 +57,10 @@ impl Parts {
 
     /// It ups a semaphore, and whom that wakes goes on too.
     pub fn raise_counter(&mut self, ec: u32, sm: u32, whom: Option<u32>)
-        requires there { IsSome (context_at (shown self.old) ec) }
-        requires counted { IsCounted (shown self.old) }
-        requires woken { woken (semaphore (shown self.old).semaphores sm) ≡ Ok whom }
-        ensures ups { shown self.new ≡ performed (shown self.old) ec (Deed.Ups sm whom) }
+        requires there { IsSome (context_at (state_of self.old) ec) }
+        requires counted { IsCounted (state_of self.old) }
+        requires woken { woken (semaphore (state_of self.old).semaphores sm) ≡ Ok whom }
+        ensures ups { state_of self.new ≡ performed (state_of self.old) ec (Deed.Ups sm whom) }
         ensures queues { self.new.queues ≡ self.old.queues }
         ensures revokes { self.new.revokes ≡ self.old.revokes }
         ensures log { self.new.reach.room ≡ self.old.reach.room }
@@ -74,11 +74,11 @@ impl Parts {
 
     /// It downs a semaphore whose counter is above 0, and goes on.
     pub fn lower_counter(&mut self, ec: u32, sm: u32)
-        requires there { IsSome (context_at (shown self.old) ec) }
-        requires counted { IsCounted (shown self.old) }
-        requires acts { acts (shown self.old).contexts ec ≡ true }
-        requires answer { answer_of (semaphore (shown self.old).semaphores sm) ≡ Down.Done }
-        ensures downs { shown self.new ≡ performed (shown self.old) ec (Deed.Downs sm) }
+        requires there { IsSome (context_at (state_of self.old) ec) }
+        requires counted { IsCounted (state_of self.old) }
+        requires acts { acts (state_of self.old).contexts ec ≡ true }
+        requires answer { answer_of (semaphore (state_of self.old).semaphores sm) ≡ Down.Done }
+        ensures downs { state_of self.new ≡ performed (state_of self.old) ec (Deed.Downs sm) }
         ensures queues { self.new.queues ≡ self.old.queues }
         ensures revokes { self.new.revokes ≡ self.old.revokes }
         ensures log { self.new.reach.room ≡ self.old.reach.room }
@@ -90,10 +90,10 @@ impl Parts {
 
     /// It waits at a semaphore whose counter is 0.
     pub fn block(&mut self, ec: u32, sm: u32)
-        requires there { IsSome (context_at (shown self.old) ec) }
-        requires counted { IsCounted (shown self.old) }
-        requires acts { acts (shown self.old).contexts ec ≡ true }
-        ensures blocks { shown self.new ≡ performed (shown self.old) ec (Deed.Blocks sm) }
+        requires there { IsSome (context_at (state_of self.old) ec) }
+        requires counted { IsCounted (state_of self.old) }
+        requires acts { acts (state_of self.old).contexts ec ≡ true }
+        ensures blocks { state_of self.new ≡ performed (state_of self.old) ec (Deed.Blocks sm) }
         ensures queues { self.new.queues ≡ self.old.queues }
         ensures revokes { self.new.revokes ≡ self.old.revokes }
         ensures log { self.new.reach.room ≡ self.old.reach.room }

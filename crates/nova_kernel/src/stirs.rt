@@ -2,7 +2,7 @@ ghost use Rattle.std.specs.Prelude.{◌≡◌, ◌-◌, ◌^◌, ◌<◌, ℕ, s
 ghost use Rattle.std.specs.Bool.{OnFalse};
 ghost use Rattle.nova_model.specs.State.{entry};
 ghost use Rattle.nova_kernel.specs.Homes.{AreAlone, HasCounts, IsForNone, IsUnseen};
-ghost use Rattle.nova_kernel.specs.Parts.{shown};
+ghost use Rattle.nova_kernel.specs.Parts.{state_of};
 ghost use Rattle.nova_deeds.specs.Stirs.{is_seen, is_stirring};
 ghost use Rattle.nova_running.specs.Guests.{risen_from};
 
@@ -13,7 +13,7 @@ use nova_model::{Deed, Mark, Sequel};
 impl Parts {
     /// Whether memory of a protection domain leads to the RAM frame that was stored to.
     fn is_seen(&self, pd: u32) -> bool
-        ensures { result ≡ is_seen (shown self.now) pd self.now.reach.written }
+        ensures { result ≡ is_seen (state_of self.now) pd self.now.reach.written }
     {
         match self.reach.stored_to() {
             Some(frame) => frame < self.reach.ram_frames() && self.reach.leads_to(pd, frame),
@@ -23,7 +23,7 @@ impl Parts {
 
     /// Whether a deed of an execution context is an input from outside for a virtual CPU.
     fn is_stirring(&self, ec: u32, deed: Deed, guest: u32) -> bool
-        ensures { result ≡ is_stirring (shown self.now) self.now.reach.written ec deed guest }
+        ensures { result ≡ is_stirring (state_of self.now) self.now.reach.written ec deed guest }
     {
         if ec == guest {
             return stirs_itself(deed);
@@ -49,7 +49,7 @@ impl Parts {
     /// Whether one of these protection domains may have a virtual CPU besides this one.
     #[tactic(auto, using(crate::proofs::Homes::none_yet, crate::proofs::Homes::one_alone, crate::proofs::Homes::all_alone))]
     fn have_other(&self, ec: u32, domains: &[u32]) -> bool
-        ensures { OnFalse result (AreAlone (shown self.now).objects ec domains.now) }
+        ensures { OnFalse result (AreAlone (state_of self.now).objects ec domains.now) }
     {
         for pd in domains {
             if self.objects.may_have_other(*pd, ec) {
@@ -63,7 +63,7 @@ impl Parts {
     /// known who sees the frame, too.
     #[tactic(auto, using(crate::proofs::Homes::unseen_none, crate::proofs::Homes::unseen_beyond, crate::proofs::Homes::unseen_alone))]
     fn may_be_seen(&self, ec: u32) -> bool
-        ensures { OnFalse result (IsUnseen (shown self.now) ec self.now.reach.written) }
+        ensures { OnFalse result (IsUnseen (state_of self.now) ec self.now.reach.written) }
     {
         let Some(frame) = self.reach.stored_to() else {
             return false;
@@ -80,7 +80,7 @@ impl Parts {
     /// Whether a deed of an execution context may be an input from outside for some virtual CPU.
     #[tactic(auto, using(crate::proofs::Homes::store_for_none))]
     fn may_stir(&self, ec: u32, deed: Deed) -> bool
-        ensures { OnFalse result (IsForNone (shown self.now) (is_stirring (shown self.now) self.now.reach.written ec deed)) }
+        ensures { OnFalse result (IsForNone (state_of self.now) (is_stirring (state_of self.now) self.now.reach.written ec deed)) }
     {
         match deed {
             Deed::Steps => self.may_be_seen(ec),
@@ -100,8 +100,8 @@ impl Parts {
 
     /// Counts a deed of an execution context for each virtual CPU for which it is an input from outside.
     fn stir_each(&mut self, ec: u32, deed: Deed)
-        requires { (g : ℕ) → IfSome (entry (slice_get (shown self.old).stirs.guests g)) (λ n. n < 2 ^ 64 - 1) }
-        ensures counts { self.new.guests.counts ≡ risen_from (is_stirring (shown self.old) self.old.reach.written ec deed) 0 self.old.guests.counts }
+        requires { (g : ℕ) → IfSome (entry (slice_get (state_of self.old).stirs.guests g)) (λ n. n < 2 ^ 64 - 1) }
+        ensures counts { self.new.guests.counts ≡ risen_from (is_stirring (state_of self.old) self.old.reach.written ec deed) 0 self.old.guests.counts }
         ensures rest { self.new ≡ record self.old { guests = self.new.guests } }
     {
         for i in 0..self.guests.numbers().len() {
@@ -114,11 +114,11 @@ impl Parts {
 
     /// Counts what a deed that an execution context did is for virtual CPUs.
     pub fn stir(&mut self, ec: u32, deed: Deed)
-        requires counted { HasCounts (shown self.old) }
-        requires few { (g : ℕ) → IfSome (entry (slice_get (shown self.old).stirs.guests g)) (λ n. n < 2 ^ 64 - 1) }
-        ensures shown { shown self.new ≡ record (shown self.old) {
-          stirs = record (shown self.old).stirs {
-            guests = risen_from (is_stirring (shown self.old) self.old.reach.written ec deed) 0 (shown self.old).stirs.guests;
+        requires counted { HasCounts (state_of self.old) }
+        requires few { (g : ℕ) → IfSome (entry (slice_get (state_of self.old).stirs.guests g)) (λ n. n < 2 ^ 64 - 1) }
+        ensures shown { state_of self.new ≡ record (state_of self.old) {
+          stirs = record (state_of self.old).stirs {
+            guests = risen_from (is_stirring (state_of self.old) self.old.reach.written ec deed) 0 (state_of self.old).stirs.guests;
           };
         } }
         ensures queues { self.new.queues ≡ self.old.queues }

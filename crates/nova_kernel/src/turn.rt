@@ -10,17 +10,17 @@ ghost use Rattle.nova_choice.specs.Choices.{chosen_of};
 ghost use Rattle.nova_kernel.specs.Homes.{HasCounts};
 ghost use Rattle.nova_kernel.specs.Known.{AreKnown};
 ghost use Rattle.nova_kernel.specs.Going.{HasRaised, Stays, WentOn};
-ghost use Rattle.nova_kernel.specs.Parts.{shown};
+ghost use Rattle.nova_kernel.specs.Parts.{state_of};
 ghost use Rattle.nova_deeds.specs.Counted.{IsCounted, IsToBeStirred, KeepsCounts};
-ghost use Rattle.nova_deeds.specs.Acts.{Fits, is_step};
+ghost use Rattle.nova_deeds.specs.Acts.{DeedFits, is_step};
 ghost use Rattle.nova_kernel.specs.Revoking.{AreRunning};
 ghost use Rattle.nova_choice.specs.Schedules.{AreQueued, schedule_after};
 ghost use Rattle.nova_running.specs.Guests.{numbers_from};
-ghost use Rattle.nova_deeds.specs.Stirs.{is_stirring, risen_in, written_by};
+ghost use Rattle.nova_deeds.specs.Stirs.{is_stirring, risen_in, written_frame};
 
 use crate::parts::Parts;
 use nova_choice::Chosen;
-use nova_deeds::changes::is_over;
+use nova_deeds::changes::is_done_when_decided;
 use nova_deeds::signs::{event, sign_of};
 use nova_laws::{running_revokes_are_their_runners, turns_keep_what_they_find};
 use nova_model::{Deed, EventKind, Turn};
@@ -31,24 +31,24 @@ impl Parts {
     /// The execution context does its deed, and the marks of the queues stay as they were. An instruction that is next raised this. It refuses
     /// for want of memory alone, where the deed makes an object or a derivation, and then nothing has changed.
     fn carry_out(&mut self, ec: u32, reason: u32, q0: u32, q1: u32) -> Result<Deed, AllocError>
-        requires there { IsSome (context_at (shown self.old) ec) }
-        requires acts { acts (shown self.old).contexts ec ≡ true }
-        requires counted { IsCounted (shown self.old) }
-        requires queued { AreQueued (shown self.old) self.old.queues.all }
-        requires running { AreRunning (shown self.old) self.old.revokes }
+        requires there { IsSome (context_at (state_of self.old) ec) }
+        requires acts { acts (state_of self.old).contexts ec ≡ true }
+        requires counted { IsCounted (state_of self.old) }
+        requires queued { AreQueued (state_of self.old) self.old.queues.all }
+        requires running { AreRunning (state_of self.old) self.old.revokes }
         requires turns { self.old.turns < 2 ^ 31 }
         requires log { 0 < self.old.reach.room }
-        requires raised { HasRaised (shown self.old) ec reason q0 q1 }
-        ensures deed { IfOk result (λ d. d ≡ deed (shown self.old) ec) }
-        ensures fits { IfOk result (Fits (shown self.old) ec) }
-        ensures done { IfOk result (λ d. shown self.new ≡ done (shown self.old) ec d) }
-        ensures queues { IfOk result (λ d. self.new.queues.all ≡ schedule_after (shown self.old) ec self.old.queues.all d) }
+        requires raised { HasRaised (state_of self.old) ec reason q0 q1 }
+        ensures deed { IfOk result (λ d. d ≡ deed (state_of self.old) ec) }
+        ensures fits { IfOk result (DeedFits (state_of self.old) ec) }
+        ensures done { IfOk result (λ d. state_of self.new ≡ done (state_of self.old) ec d) }
+        ensures queues { IfOk result (λ d. self.new.queues.all ≡ schedule_after (state_of self.old) ec self.old.queues.all d) }
         ensures refused { OnErr result (self.new.queues.all ≡ self.old.queues.all) }
-        ensures running { IfOk result (λ d. AreRunning (shown self.new) self.new.revokes) }
-        ensures stays { OnErr result (AreRunning (shown self.old) self.new.revokes) }
-        ensures memory { OnErr result ((shown self.new ≡ shown self.old) × (self.new.reach.room ≡ self.old.reach.room)) }
-        ensures making { OnErr result (is_making (deed (shown self.old) ec) ≡ true) }
-        ensures written { IfOk result (λ d. d ≡ Deed.Steps → self.new.reach.written ≡ written_by (shown self.old) ec) }
+        ensures running { IfOk result (λ d. AreRunning (state_of self.new) self.new.revokes) }
+        ensures stays { OnErr result (AreRunning (state_of self.old) self.new.revokes) }
+        ensures memory { OnErr result ((state_of self.new ≡ state_of self.old) × (self.new.reach.room ≡ self.old.reach.room)) }
+        ensures making { OnErr result (is_making (deed (state_of self.old) ec) ≡ true) }
+        ensures written { IfOk result (λ d. d ≡ Deed.Steps → self.new.reach.written ≡ written_frame (state_of self.old) ec) }
         ensures log { self.old.reach.room ≤ self.new.reach.room + 1 }
     {
         running_revokes_are_their_runners();
@@ -56,7 +56,7 @@ impl Parts {
         if let Deed::Steps = deed {
             return Ok(Deed::Steps);
         }
-        if !is_over(deed) {
+        if !is_done_when_decided(deed) {
             let domain = self.pd(ec);
             self.make_room(domain, deed)?;
             self.perform(ec, deed);
@@ -67,22 +67,22 @@ impl Parts {
     /// The execution context does its deed, and where somebody moves, the scheduling contexts of that one's
     /// processor are marked anew. It refuses as `carry_out`.
     fn act(&mut self, ec: u32, reason: u32, q0: u32, q1: u32) -> Result<Deed, AllocError>
-        requires there { IsSome (context_at (shown self.old) ec) }
-        requires acts { acts (shown self.old).contexts ec ≡ true }
-        requires counted { IsCounted (shown self.old) }
-        requires queued { AreQueued (shown self.old) self.old.queues.all }
-        requires running { AreRunning (shown self.old) self.old.revokes }
+        requires there { IsSome (context_at (state_of self.old) ec) }
+        requires acts { acts (state_of self.old).contexts ec ≡ true }
+        requires counted { IsCounted (state_of self.old) }
+        requires queued { AreQueued (state_of self.old) self.old.queues.all }
+        requires running { AreRunning (state_of self.old) self.old.revokes }
         requires turns { self.old.turns < 2 ^ 31 }
         requires log { 0 < self.old.reach.room }
-        requires raised { HasRaised (shown self.old) ec reason q0 q1 }
-        ensures deed { IfOk result (λ d. d ≡ deed (shown self.old) ec) }
-        ensures done { IfOk result (λ d. shown self.new ≡ done (shown self.old) ec d) }
-        ensures queued { AreQueued (shown self.new) self.new.queues.all }
-        ensures running { AreRunning (shown self.new) self.new.revokes }
-        ensures memory { OnErr result ((shown self.new ≡ shown self.old) × (self.new.reach.room ≡ self.old.reach.room)) }
-        ensures making { OnErr result (is_making (deed (shown self.old) ec) ≡ true) }
-        ensures kept { OnOk result (KeepsCounts (shown self.old) (shown self.new)) }
-        ensures written { IfOk result (λ d. d ≡ Deed.Steps → self.new.reach.written ≡ written_by (shown self.old) ec) }
+        requires raised { HasRaised (state_of self.old) ec reason q0 q1 }
+        ensures deed { IfOk result (λ d. d ≡ deed (state_of self.old) ec) }
+        ensures done { IfOk result (λ d. state_of self.new ≡ done (state_of self.old) ec d) }
+        ensures queued { AreQueued (state_of self.new) self.new.queues.all }
+        ensures running { AreRunning (state_of self.new) self.new.revokes }
+        ensures memory { OnErr result ((state_of self.new ≡ state_of self.old) × (self.new.reach.room ≡ self.old.reach.room)) }
+        ensures making { OnErr result (is_making (deed (state_of self.old) ec) ≡ true) }
+        ensures kept { OnOk result (KeepsCounts (state_of self.old) (state_of self.new)) }
+        ensures written { IfOk result (λ d. d ≡ Deed.Steps → self.new.reach.written ≡ written_frame (state_of self.old) ec) }
         ensures log { self.old.reach.room ≤ self.new.reach.room + 1 }
     {
         let deed = self.carry_out(ec, reason, q0, q1)?;
@@ -106,11 +106,11 @@ impl Parts {
 
     /// Counts what a deed is for virtual CPUs, and tells its sign.
     fn note(&mut self, ec: u32, deed: Deed) -> (EventKind, u32, u32)
-        requires counted { HasCounts (shown self.old) }
-        requires charged { IsToBeStirred (shown self.old) }
+        requires counted { HasCounts (state_of self.old) }
+        requires charged { IsToBeStirred (state_of self.old) }
         requires turns { self.old.turns < 2 ^ 31 }
         ensures sign { result ≡ sign_of deed }
-        ensures shown { shown self.new ≡ risen_in (shown self.old) (is_stirring (shown self.old) self.old.reach.written ec deed) }
+        ensures shown { state_of self.new ≡ risen_in (state_of self.old) (is_stirring (state_of self.old) self.old.reach.written ec deed) }
         ensures queues { self.new.queues ≡ self.old.queues }
         ensures revokes { self.new.revokes ≡ self.old.revokes }
         ensures turns { self.new.turns ≡ self.old.turns }
@@ -128,10 +128,10 @@ impl Parts {
     /// out of the code of each.
     #[inline(never)]
     fn note_store(&mut self, ec: u32)
-        requires counted { HasCounts (shown self.old) }
-        requires charged { IsToBeStirred (shown self.old) }
+        requires counted { HasCounts (state_of self.old) }
+        requires charged { IsToBeStirred (state_of self.old) }
         requires turns { self.old.turns < 2 ^ 31 }
-        ensures shown { shown self.new ≡ risen_in (shown self.old) (is_stirring (shown self.old) self.old.reach.written ec Deed.Steps) }
+        ensures shown { state_of self.new ≡ risen_in (state_of self.old) (is_stirring (state_of self.old) self.old.reach.written ec Deed.Steps) }
         ensures queues { self.new.queues ≡ self.old.queues }
         ensures revokes { self.new.revokes ≡ self.old.revokes }
         ensures turns { self.new.turns ≡ self.old.turns }
@@ -144,10 +144,10 @@ impl Parts {
     /// Counts what an instruction that went on is for virtual CPUs.
     #[inline(always)]
     fn note_step(&mut self, ec: u32)
-        requires counted { HasCounts (shown self.old) }
-        requires charged { IsToBeStirred (shown self.old) }
+        requires counted { HasCounts (state_of self.old) }
+        requires charged { IsToBeStirred (state_of self.old) }
         requires turns { self.old.turns < 2 ^ 31 }
-        ensures shown { shown self.new ≡ risen_in (shown self.old) (is_stirring (shown self.old) self.old.reach.written ec Deed.Steps) }
+        ensures shown { state_of self.new ≡ risen_in (state_of self.old) (is_stirring (state_of self.old) self.old.reach.written ec Deed.Steps) }
         ensures queues { self.new.queues ≡ self.old.queues }
         ensures revokes { self.new.revokes ≡ self.old.revokes }
         ensures turns { self.new.turns ≡ self.old.turns }
@@ -163,11 +163,11 @@ impl Parts {
     /// it raises this, or none is next, and then the raise is of no meaning.
     #[inline(always)]
     fn go_on(&mut self, ec: u32) -> Outcome
-        requires there { IsSome (context_at (shown self.old) ec) }
-        requires acts { acts (shown self.old).contexts ec ≡ true }
-        requires counted { IsCounted (shown self.old) }
-        requires queued { AreQueued (shown self.old) self.old.queues.all }
-        requires running { AreRunning (shown self.old) self.old.revokes }
+        requires there { IsSome (context_at (state_of self.old) ec) }
+        requires acts { acts (state_of self.old).contexts ec ≡ true }
+        requires counted { IsCounted (state_of self.old) }
+        requires queued { AreQueued (state_of self.old) self.old.queues.all }
+        requires running { AreRunning (state_of self.old) self.old.revokes }
         requires log { 0 < self.old.reach.room }
         ensures went { result ≡ Outcome.Next → WentOn self.old self.new ec }
         ensures raised { (reason q0 q1 : ℕ) → result ≡ Outcome.Raise reason q0 q1 → Stays self.old self.new ec reason q0 q1 }
@@ -199,23 +199,23 @@ impl Parts {
         q0: u32,
         q1: u32,
     ) -> Result<Turn, AllocError>
-        requires counted { IsCounted (shown self.old) }
-        requires queued { AreQueued (shown self.old) self.old.queues.all }
-        requires running { AreRunning (shown self.old) self.old.revokes }
+        requires counted { IsCounted (state_of self.old) }
+        requires queued { AreQueued (state_of self.old) self.old.queues.all }
+        requires running { AreRunning (state_of self.old) self.old.revokes }
         requires turns { self.old.turns < 2 ^ 31 }
         requires cpu { cpu < self.old.cpus }
         requires log { 0 < self.old.reach.room }
-        requires told { Some chosen ≡ option_map chosen_of (choice (shown self.old) cpu) }
-        requires there { IsSome (context_at (shown self.old) chosen.actor) }
+        requires told { Some chosen ≡ option_map chosen_of (choice (state_of self.old) cpu) }
+        requires there { IsSome (context_at (state_of self.old) chosen.actor) }
         requires pays { IsSome (queued_at self.old.queues.all chosen.sc) }
-        requires raised { HasRaised (shown self.old) chosen.actor reason q0 q1 }
-        ensures answer { IfOk result (λ t. t ≡ answer_of (turn (shown self.old) cpu)) }
-        ensures state { OnOk result (shown self.new ≡ state_after (shown self.old) (turn (shown self.old) cpu)) }
-        ensures memory { OnErr result ((shown self.new ≡ shown self.old) × (self.new.reach.room ≡ self.old.reach.room)) }
-        ensures making { OnErr result (IsMaking (shown self.old) cpu) }
-        ensures counted { IsCounted (shown self.new) }
-        ensures queued { AreQueued (shown self.new) self.new.queues.all }
-        ensures running { AreRunning (shown self.new) self.new.revokes }
+        requires raised { HasRaised (state_of self.old) chosen.actor reason q0 q1 }
+        ensures answer { IfOk result (λ t. t ≡ answer_of (turn (state_of self.old) cpu)) }
+        ensures state { OnOk result (state_of self.new ≡ state_after (state_of self.old) (turn (state_of self.old) cpu)) }
+        ensures memory { OnErr result ((state_of self.new ≡ state_of self.old) × (self.new.reach.room ≡ self.old.reach.room)) }
+        ensures making { OnErr result (IsMaking (state_of self.old) cpu) }
+        ensures counted { IsCounted (state_of self.new) }
+        ensures queued { AreQueued (state_of self.new) self.new.queues.all }
+        ensures running { AreRunning (state_of self.new) self.new.revokes }
         ensures log { self.old.reach.room ≤ self.new.reach.room + 1 }
         ensures idle { IfOk result (λ t. t ≡ Turn.Idle → self.new.reach.room ≡ self.old.reach.room) }
         ensures turns { IfOk result (λ t. self.new.turns ≡ self.old.turns + turns_taken t) }
@@ -233,20 +233,20 @@ impl Parts {
     /// an object or a derivation, and then nothing has changed.
     #[tactic(auto, unfolding(nova_model::specs::Turn::turn))]
     pub fn turn(&mut self, cpu: u32, known: &[Option<Chosen>]) -> Result<Turn, AllocError>
-        requires counted { IsCounted (shown self.old) }
-        requires queued { AreQueued (shown self.old) self.old.queues.all }
-        requires running { AreRunning (shown self.old) self.old.revokes }
+        requires counted { IsCounted (state_of self.old) }
+        requires queued { AreQueued (state_of self.old) self.old.queues.all }
+        requires running { AreRunning (state_of self.old) self.old.revokes }
         requires turns { self.old.turns < 2 ^ 31 }
         requires cpu { cpu < self.old.cpus }
         requires log { 0 < self.old.reach.room }
-        requires known { AreKnown (shown self.old) known.now }
-        ensures answer { IfOk result (λ t. t ≡ answer_of (turn (shown self.old) cpu)) }
-        ensures state { OnOk result (shown self.new ≡ state_after (shown self.old) (turn (shown self.old) cpu)) }
-        ensures memory { OnErr result ((shown self.new ≡ shown self.old) × (self.new.reach.room ≡ self.old.reach.room)) }
-        ensures making { OnErr result (IsMaking (shown self.old) cpu) }
-        ensures counted { IsCounted (shown self.new) }
-        ensures queued { AreQueued (shown self.new) self.new.queues.all }
-        ensures running { AreRunning (shown self.new) self.new.revokes }
+        requires known { AreKnown (state_of self.old) known.now }
+        ensures answer { IfOk result (λ t. t ≡ answer_of (turn (state_of self.old) cpu)) }
+        ensures state { OnOk result (state_of self.new ≡ state_after (state_of self.old) (turn (state_of self.old) cpu)) }
+        ensures memory { OnErr result ((state_of self.new ≡ state_of self.old) × (self.new.reach.room ≡ self.old.reach.room)) }
+        ensures making { OnErr result (IsMaking (state_of self.old) cpu) }
+        ensures counted { IsCounted (state_of self.new) }
+        ensures queued { AreQueued (state_of self.new) self.new.queues.all }
+        ensures running { AreRunning (state_of self.new) self.new.revokes }
         ensures log { self.old.reach.room ≤ self.new.reach.room + 1 }
         ensures idle { IfOk result (λ t. t ≡ Turn.Idle → self.new.reach.room ≡ self.old.reach.room) }
         ensures turns { IfOk result (λ t. self.new.turns ≡ self.old.turns + turns_taken t) }

@@ -1,7 +1,7 @@
 ghost use Rattle.std.specs.Prelude.{◌≡◌, IfOk, IsSome};
 ghost use Rattle.nova_model.specs.State.{context_at};
 ghost use Rattle.nova_model.specs.Views.{guest_state, view};
-ghost use Rattle.nova_kernel.specs.Parts.{shown};
+ghost use Rattle.nova_kernel.specs.Parts.{state_of};
 
 use crate::parts::Parts;
 use nova_guest::{Cells, Guest, GuestState, Maps};
@@ -29,8 +29,8 @@ impl Parts {
     /// alone.
     #[tactic(auto, unfolding(nova_model::specs::Views::view))]
     pub fn view(&self, alloc: Global, ec: u32) -> Result<Guest, AllocError>
-        requires { IsSome (context_at (shown self.now) ec) }
-        ensures { IfOk result (λ guest. guest ≡ view (shown self.now) ec) }
+        requires { IsSome (context_at (state_of self.now) ec) }
+        ensures { IfOk result (λ guest. guest ≡ view (state_of self.now) ec) }
     {
         let maps = self.reach.maps(alloc, self.pd(ec))?;
         let cells = self.reach.cells(alloc, &maps)?;

@@ -35,7 +35,7 @@ use Rattle.nova_laws.proofs.Serving.{IsActor, IsReached, awaited, is_blocked, of
 use Rattle.nova_laws.proofs.Setting.{entry_itself, entry_other}
 use Rattle.nova_forest.specs.Effects.{applied, effect, joined, made_by}
 use Rattle.nova_laws.proofs.Courses.{Courses, MayCome, deed_course}
-use Rattle.nova_laws.proofs.Tabling.{kinds_at}
+use Rattle.nova_laws.proofs.TablesKept.{kinds_at}
 
 -- ONE IS SET
 

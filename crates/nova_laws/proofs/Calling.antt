@@ -19,9 +19,9 @@ use Rattle.nova_laws.specs.Callers.{HasNoCaller, HasOneCaller}
 use Rattle.nova_laws.specs.Links.{IsWell}
 use Rattle.nova_laws.specs.Tables.{IsOf, Refers, tag, tag_of}
 use Rattle.nova_laws.specs.Virtual.{is_guest_state}
-use Rattle.nova_laws.proofs.Fitting.{Fits, boot_run_fits}
+use Rattle.nova_laws.proofs.TablesFit.{TablesFit, boot_run_fits}
 use Rattle.nova_laws.proofs.Serving.{number_in}
-use Rattle.nova_laws.proofs.Tabling.{all_get, tags_at}
+use Rattle.nova_laws.proofs.TablesKept.{all_get, tags_at}
 use Rattle.nova_laws.proofs.Virtual.{virtual_alone}
 
 -- a local thread is there
@@ -35,7 +35,7 @@ there_by n c (Some (Sc ec cpu priority quantum)) h local = absurd (cc)
 there_by n c (Some (Pt ec mtd ip)) h local = absurd (cc)
 there_by n c (Some Sm) h local = absurd (cc)
 
-local_there : (k : KernelState) (h : ℕ) → Fits k → is_local_thread k h ≡ true → IsSome (context_at k h)
+local_there : (k : KernelState) (h : ℕ) → TablesFit k → is_local_thread k h ≡ true → IsSome (context_at k h)
 local_there k h fits local = there_by (0 + h) (slice_get k.contexts h) (slice_get k.objects h) (tags_at k h fits.tables) local
 
 free_dead : (o : Option State) → is_free o ≡ false → is_dead o ≡ false
@@ -43,7 +43,7 @@ free_dead None h = refl
 free_dead (Some Dead) h = absurd (cc)
 free_dead (Some other) h = refl
 
-one_caller : (k : KernelState) (h : ℕ) → Fits k → is_local_thread k h ≡ true → is_free (state_in k.contexts h) ≡ false → HasOneCaller k.contexts h
+one_caller : (k : KernelState) (h : ℕ) → TablesFit k → is_local_thread k h ≡ true → is_free (state_in k.contexts h) ≡ false → HasOneCaller k.contexts h
 one_caller k h fits local works = by_caller (caller_in k.contexts h) refl (well.serving local (local_there k h fits local) works)
   where
     well : IsWell (is_local_thread k h) (ec_in k.contexts h)
@@ -61,7 +61,7 @@ one_caller k h fits local works = by_caller (caller_in k.contexts h) refl (well.
           only = λ other waits. ap number_in (sym ((fits.served.linked other h).known waits).1 ∙ keeps);
         }
 
-no_caller : (k : KernelState) (h : ℕ) → Fits k → state_in k.contexts h ≡ Some Parked → HasNoCaller k.contexts h
+no_caller : (k : KernelState) (h : ℕ) → TablesFit k → state_in k.contexts h ≡ Some Parked → HasNoCaller k.contexts h
 no_caller k h fits is =
     let none = ((fits.served.well h).parked (ap is_parked is)).0 in
     record { keeps = none; nobody = λ other waits. let kept = (fits.served.linked other h).known waits in absurd (let two : None ≡ Some (other, kept.0) = sym none ∙ kept.1 in cc) }
@@ -125,7 +125,7 @@ pub called_by_threads : (s : Scenario) (turns : List ℕ) (handler caller : ℕ)
 called_by_threads s turns handler caller keeps = (boot_run_fits s turns).guests.callers handler caller keeps
 
 -- a handler keeps who waits for it, and no virtual CPU came by a call
-exit_awaited : (k : KernelState) (g handler : ℕ) → Fits k → IsOf k.objects is_vcpu g → state_in k.contexts g ≡ Some (Calling handler) →
+exit_awaited : (k : KernelState) (g handler : ℕ) → TablesFit k → IsOf k.objects is_vcpu g → state_in k.contexts g ≡ Some (Calling handler) →
     caller_in k.contexts handler ≡ Some (g, Exit)
 exit_awaited k g handler fits virtual waits = let known = (fits.served.linked g handler).known waits in by_mark known.0 known.1
   where

@@ -17,7 +17,7 @@ use Rattle.nova_model.specs.Capabilities.{call_right, control_right, is_ec, is_s
 use Rattle.nova_model.specs.Choice.{Candidate, actor, candidate_with, candidate_of, candidates_from, candidates, choice, in_front}
 use Rattle.nova_model.specs.Deeds.{deed, deed_in, removes}
 use Rattle.nova_model.specs.Deliveries.{delivered, delivers, delivery, delivery_between, first_delivery, given_to, taken_from, told_by}
-use Rattle.nova_model.specs.Edges.{acts, acts_as, acts_by, edge_of, state_in}
+use Rattle.nova_model.specs.Edges.{acts, acts_as, acts_by, edge_of, state_in, is_asking}
 use Rattle.nova_model.specs.Exits.{raised_exit}
 use Rattle.nova_model.specs.Hypercalls.{and_then, called, new_domain, replied, row, ticks_in}
 use Rattle.nova_model.specs.Portals.{handler_of}
@@ -36,9 +36,9 @@ use Rattle.nova_model.specs.declared.delegation.Derivation.{Derivation}
 use Rattle.nova_model.specs.declared.new_object.NewObject.TheVariants.{Sm}
 use Rattle.nova_model.specs.declared.transfer.Delivery.{Delivery}
 use Rattle.nova_model.specs.declared.transfer.Sequel.TheVariants as sequel
-use Rattle.nova_laws.specs.Links.{IsWell, is_giving}
+use Rattle.nova_laws.specs.Links.{IsWell, handles_items}
 use Rattle.nova_laws.proofs.Rows.{makes_hold, named_holds, unless_holds, create_pd_holds}
-use Rattle.nova_forest.proofs.Walk.{Holds, IfDone, asking_holds, delivered_holds, exits_holds, is_asking, ready_holds, sm_ctrl_holds}
+use Rattle.nova_forest.proofs.Walk.{Holds, IfDone, asking_holds, delivered_holds, exits_holds, ready_holds, sm_ctrl_holds}
 
 -- WHO IS CHOSEN ACTS
 
@@ -158,7 +158,7 @@ removes_does None = refl
 removes_does (Some leaf) = refl
 
 state_does : (k : KernelState) (ec : ℕ) (s : State) → (context k ec).state ≡ s → acts_by s (option_and_then (state_in k.contexts) (edge_of s)) ≡ true →
-    (is_giving (Some s) ≡ true → IsSome (context k ec).caller) → Does (deed_in k ec s)
+    (handles_items (Some s) ≡ true → IsSome (context k ec).caller) → Does (deed_in k ec s)
 state_does k ec Fresh is acts giving = refl
 state_does k ec Ready is acts giving = ready_holds Does k ec (context k ec).recall (ap is_asking is) (own_does k ec)
 state_does k ec Parked is acts giving = absurd (cc)

@@ -24,9 +24,9 @@ use Rattle.nova_forest.specs.Effects.{applied, effect, joined, made_by, put, tra
 use Rattle.nova_forest.specs.Turns.{Acts, IsTurning, Turning, turned}
 use Rattle.nova_forest.proofs.Turning.{after_keeps, event_at, outcome}
 use Rattle.nova_laws.specs.Giving.{counted_after, counted_by}
-use Rattle.nova_laws.proofs.Fitting.{Fits, boot_fits, chosen_acts, entry_acts, gives_there}
+use Rattle.nova_laws.proofs.TablesFit.{TablesFit, boot_fits, chosen_acts, entry_acts, gives_there}
 use Rattle.nova_laws.proofs.Giving.{Sound, at, boot_for, new_transfer, quiet_own, transfers_by, turned_gives}
-use Rattle.nova_laws.proofs.Opening.{Wants, deed_wants, is_of_item}
+use Rattle.nova_laws.proofs.GivingPremises.{Wants, deed_wants, is_of_item}
 use Rattle.nova_laws.proofs.Setting.{more_at, set_at}
 
 -- HOW FAR THEY ARE
@@ -110,7 +110,7 @@ own_counts k ec other wants there h = ap (λ (t : Transfer). t.children) (quiet_
 
 -- TURNS
 
-deed_counts : (k : KernelState) (a e : ℕ) (d : Deed) → Wants k a d → is_some (context_at k a) ≡ true → Fits k → Sound k →
+deed_counts : (k : KernelState) (a e : ℕ) (d : Deed) → Wants k a d → is_some (context_at k a) ≡ true → TablesFit k → Sound k →
     (now_at k a d e).children ≡ (if a == e then counted_by (sign_of d).0 (sign_of d).1 (transfer k e).children else (transfer k e).children)
 deed_counts k a e d wants there fits sound = by_test (a == e) refl
   where
@@ -122,7 +122,7 @@ deed_counts k a e d wants there fits sound = by_test (a == e) refl
         (ap (λ (t : Transfer). t.children) (now_is k a d a) ∙ own_counts k a d wants (gives_there k a there fits) sound)
     by_test false is = ap (λ (t : Transfer). t.children) (others_stay k a e d (λ same. absurd (grind (arith, is, same))))
 
-turned_counts : (k : KernelState) (cpu e : ℕ) (rest : List Event) (t : Turning) (f : Event) → IsTurning k cpu t f → Fits k → Sound k →
+turned_counts : (k : KernelState) (cpu e : ℕ) (rest : List Event) (t : Turning) (f : Event) → IsTurning k cpu t f → TablesFit k → Sound k →
     counted_after e (transfer k e).children (f ∷ rest) ≡ counted_after e (transfer (turned k cpu t) e).children rest
 turned_counts k cpu e rest t f (Acts c chosen is event) fits sound =
     let there = entry_acts k.contexts (ec_in k.contexts c.actor) (chosen_acts k cpu c chosen) in
@@ -130,16 +130,16 @@ turned_counts k cpu e rest t f (Acts c chosen is event) fits sound =
     ∙ ap (λ (n : ℕ). counted_after e n rest) (sym (deed_counts k c.actor e (deed k c.actor) (deed_wants k c.actor) there fits sound))
     ∙ ap (λ (u : Turning). counted_after e (transfer (turned k cpu u) e).children rest) (sym is)
 
-turn_counts : (k : KernelState) (cpu e : ℕ) (rest : List Event) → Fits k × Sound k →
+turn_counts : (k : KernelState) (cpu e : ℕ) (rest : List Event) → TablesFit k × Sound k →
     counted_after e (transfer k e).children (in_front (event_at k cpu) rest) ≡ counted_after e (transfer (after k cpu) e).children rest
 turn_counts k cpu e rest h =
     outcome (λ s o. counted_after e (transfer k e).children (in_front o rest) ≡ counted_after e (transfer s e).children rest) k cpu
     (λ none. refl) (λ t f is. turned_counts k cpu e rest t f is h.0 h.1)
 
-run_counts : (k : KernelState) (turns : List ℕ) (e : ℕ) → Fits k × Sound k → (transfer (run k turns) e).children ≡ counted_after e (transfer k e).children (trace k turns)
+run_counts : (k : KernelState) (turns : List ℕ) (e : ℕ) → TablesFit k × Sound k → (transfer (run k turns) e).children ≡ counted_after e (transfer k e).children (trace k turns)
 run_counts k [] e h = refl
 run_counts k (cpu ∷ turns) e h =
-    run_counts (after k cpu) turns e (after_keeps (λ s. Fits s × Sound s) turned_gives k cpu h) ∙ sym (turn_counts k cpu e (trace (after k cpu) turns) h)
+    run_counts (after k cpu) turns e (after_keeps (λ s. TablesFit s × Sound s) turned_gives k cpu h) ∙ sym (turn_counts k cpu e (trace (after k cpu) turns) h)
 
 -- none is under way at first
 bare_none : (s : Scenario) (e : ℕ) → transfer (bare s.cpus s.ram s.consoles s.root) e ≡ no_transfer

@@ -5,8 +5,8 @@ use Rattle.rv_model.specs.Registers.{Registers}
 use Rattle.rv_model.specs.Step.{Once, Raised, Went}
 use Rattle.nova_range.specs.declared.status.Status.TheVariants.{Success}
 use Rattle.nova_model.specs.Capabilities.{is_sm}
-use Rattle.nova_model.specs.Deeds.{answered, changed, instruction, parked, resumed, serving}
-use Rattle.nova_model.specs.Edges.{IsNewEdge}
+use Rattle.nova_model.specs.Deeds.{answered, actor_after, instruction, parked, resumed, serving}
+use Rattle.nova_model.specs.Edges.{IsNewEdge, is_giving}
 use Rattle.nova_model.specs.Semaphores.{Semaphores, answer_of, downed, semaphore, upped, woken}
 use Rattle.nova_model.specs.State.{Contexts, KernelState, context, ec_in, ec_of, message, with_ec}
 use Rattle.nova_model.specs.declared.context.EcState.{EcState}
@@ -22,7 +22,6 @@ use Rattle.nova_model.specs.declared.transfer.ItemWords.{ItemWords}
 use Rattle.nova_model.specs.declared.transfer.Sequel.{Sequel}
 use Rattle.nova_model.specs.declared.transfer.Sequel.TheVariants as sequel
 use Rattle.nova_forest.specs.Effects.{Answers, Edits, all_edited, edit_at, edited, edits_by, follows_by, recalls_by, semaphore_by, semaphores_with, steps_by, wakes_by}
-use Rattle.nova_laws.specs.Giving.{is_giving}
 use Rattle.nova_laws.specs.Tables.{IsOf}
 use Rattle.nova_laws.proofs.Referring.{Asks, Follows, IsCallerOf}
 use Rattle.nova_laws.proofs.Serving.{IsActor, IsReached, exit_reaches, exit_waits_edge, help_edge, send_reaches}
@@ -40,7 +39,7 @@ itself x = record { id = refl; cpu = refl; caller = refl; regs = λ gives. refl 
 
 -- the state to which its deed brings it
 abbrev pub IsTo : KernelState → ℕ → Deed → State → Type 0
-IsTo k ec d s = (changed (context k ec) d).state ≡ s
+IsTo k ec d s = (actor_after (context k ec) d).state ≡ s
 
 -- it replies, and gives items first
 pub record IsReply (k : KernelState) (ec : ℕ) (d : Deed) : Type 0 where

@@ -1,6 +1,7 @@
 -- What creators give: a range to a protection domain.
 use Rattle.std.proofs.Common.{◌≡◌, ℕ, List, refl, ap, ◌∙◌, subst, arith}
 use Rattle.std.specs.Prelude.{Bool, true, false, nat_lt, min, slice_get, if◌then◌else◌, Option, Some, None, IsSome, IfOk, Result, Ok, Err}
+use Rattle.nova_model.specs.Edges.{is_giving}
 use Rattle.rv_model.specs.Registers.{reg}
 use Rattle.nova_objects.specs.declared.object.Object.{Object}
 use Rattle.nova_objects.specs.declared.object.Object.TheVariants.{Pd}
@@ -23,8 +24,8 @@ use Rattle.nova_range.specs.declared.word.WordFault.{WordFault}
 use Rattle.nova_model.specs.Delegations.{is_same_kind}
 use Rattle.nova_model.specs.Transfers.{hotspot_in, job_at, job_between, job_of, read_as}
 use Rattle.nova_model.specs.declared.transfer.Skip.TheVariants.{Window}
-use Rattle.nova_laws.specs.Giving.{GivesRange, is_giving, whole}
-use Rattle.nova_laws.proofs.Opening.{HasRange}
+use Rattle.nova_laws.specs.Giving.{GivesRange, whole}
+use Rattle.nova_laws.proofs.GivingPremises.{HasRange}
 use Rattle.nova_laws.proofs.Giving.{IsFor, IsForEntry, Sound, boot_run_for, entry_rests}
 
 same_kind : (kind : Kind) → is_same_kind kind kind ≡ true

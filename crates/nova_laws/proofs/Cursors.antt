@@ -23,7 +23,7 @@ use Rattle.nova_forest.proofs.Doing.{done_is}
 use Rattle.nova_forest.proofs.Turning.{of_event}
 use Rattle.nova_laws.specs.Giving.{HasMoved, MovesCursor}
 use Rattle.nova_laws.proofs.Chosen.{Acts, choice_acts}
-use Rattle.nova_laws.proofs.Fitting.{boot_run_fits, entry_acts, gives_there}
+use Rattle.nova_laws.proofs.TablesFit.{boot_run_fits, entry_acts, gives_there}
 use Rattle.nova_laws.proofs.Moving.{gives_move, skips_move}
 use Rattle.nova_laws.proofs.Setting.{entry_itself, entry_other}
 

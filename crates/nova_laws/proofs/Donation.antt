@@ -28,7 +28,7 @@ use Rattle.nova_laws.specs.Links.{state_at}
 use Rattle.nova_laws.specs.Keeping.{IsKept}
 use Rattle.nova_laws.proofs.Blocking.{woken_blocked}
 use Rattle.nova_laws.proofs.Chosen.{choice_acts, chosen_does}
-use Rattle.nova_laws.proofs.Fitting.{Fits, after_fits, boot_fits, boot_run_fits, caller_there, chosen_acts, turned_fits}
+use Rattle.nova_laws.proofs.TablesFit.{TablesFit, after_fits, boot_fits, boot_run_fits, caller_there, chosen_acts, turned_fits}
 use Rattle.nova_laws.proofs.Referring.{Asks, IsCallerOf, deed_asks}
 use Rattle.nova_laws.proofs.Serving.{IsActor, IsReached, actor_of, blocked_there, of_there, reached_there, resumed_is}
 use Rattle.nova_model.specs.Edges.{MayWait}
@@ -40,7 +40,7 @@ use Rattle.nova_forest.specs.Effects.{applied, effect, joined, made_by}
 use Rattle.nova_forest.specs.Turns.{Acts, IsTurning, Turning, turned}
 use Rattle.nova_forest.proofs.Turning.{after_keeps, along}
 use Rattle.nova_laws.proofs.Courses.{Courses, MayCome, deed_course}
-use Rattle.nova_laws.proofs.Tabling.{set_there, with_memory}
+use Rattle.nova_laws.proofs.TablesKept.{set_there, with_memory}
 use Rattle.nova_laws.proofs.Virtual.{among_of, guests_of}
 
 -- ONE OF A TABLE
@@ -68,7 +68,7 @@ new_free n (new.Pt ec mtd ip) = refl
 new_free n (new.Sm count) = refl
 
 -- a handler parks, and its caller goes on
-replied_edges : (k : KernelState) (ec caller : ℕ) (its : Mark) (m : List ℕ) → IsActor k.contexts ec → IsCallerOf k ec caller its → Fits k → AreEdges k.contexts →
+replied_edges : (k : KernelState) (ec caller : ℕ) (its : Mark) (m : List ℕ) → IsActor k.contexts ec → IsCallerOf k ec caller its → TablesFit k → AreEdges k.contexts →
     let one = with_ec k.contexts ec (parked (context k ec)) in AreEdges (with_ec one caller (resumed (ec_of one caller) its m))
 replied_edges k ec caller its m actor keeps fits sound =
     let one = with_ec k.contexts ec (parked (context k ec)) in
@@ -90,7 +90,7 @@ sent_edges k ec handler its ip identifier items actor reached sound =
     begins_free true = refl
     begins_free false = refl
 
-edges_courses : (k : KernelState) (ec : ℕ) (d : Deed) → IsActor k.contexts ec → Fits k → AreEdges k.contexts → Courses k ec d (λ cs all. AreEdges cs)
+edges_courses : (k : KernelState) (ec : ℕ) (d : Deed) → IsActor k.contexts ec → TablesFit k → AreEdges k.contexts → Courses k ec d (λ cs all. AreEdges cs)
 edges_courses k ec d actor fits sound = record {
   rests = λ to. sound;
   steps = λ regs is. keeps_on k.contexts ec (record (context k ec) { regs = regs }) (ap is_some actor.there) refl refl sound;
@@ -122,7 +122,7 @@ joined_edges : (n : ℕ) (cs : Contexts) (made : Option NewObject) → AreEdges 
 joined_edges n cs None sound = sound
 joined_edges n cs (Some made) sound = edges_more cs (context_of n made) sound (new_free n made)
 
-applied_edges : (k : KernelState) (ec : ℕ) (d : Deed) → IsActor k.contexts ec → Asks k ec d → Fits k → AreEdges k.contexts → AreEdges (applied k (effect k ec d)).contexts
+applied_edges : (k : KernelState) (ec : ℕ) (d : Deed) → IsActor k.contexts ec → Asks k ec d → TablesFit k → AreEdges k.contexts → AreEdges (applied k (effect k ec d)).contexts
 applied_edges k ec d actor asks fits sound =
     joined_edges (length k.objects) _ (made_by d) (deed_course k ec (λ cs all. AreEdges cs) d actor asks (edges_courses k ec d actor fits sound))
 
@@ -130,7 +130,7 @@ applied_edges k ec d actor asks fits sound =
 
 -- tables that fit, with sound edges, are kept
 abbrev Sound : KernelState → Type 0
-Sound k = Fits k × AreEdges k.contexts
+Sound k = TablesFit k × AreEdges k.contexts
 
 turned_sound : (k : KernelState) (cpu : ℕ) (t : Turning) (e : Event) → IsTurning k cpu t e → Sound k → Sound (turned k cpu t)
 turned_sound k cpu t e (Acts c chosen is event) h = (
@@ -169,7 +169,7 @@ acting s turns cpu = chosen_does (run (boot s) turns) cpu _ (boot_run_fits s tur
 -- what turns keep
 pub keeps : (k : KernelState) (cpu : ℕ) → IsKept k → IsKept (after k cpu)
 keeps k cpu h =
-    let fits : Fits k = record { tables = h.tables; served = h.served; blocked = h.blocked; guests = h.guests } in
+    let fits : TablesFit k = record { tables = h.tables; served = h.served; blocked = h.blocked; guests = h.guests } in
     let now = after_fits k cpu fits in
     record { tables = now.tables; served = now.served; edges = (after_keeps Sound turned_sound k cpu (fits, h.edges)).1; blocked = now.blocked; guests = now.guests }
 

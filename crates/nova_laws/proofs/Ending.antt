@@ -1,6 +1,7 @@
 -- The event at the end of an item tells what its execution context counted.
 use Rattle.std.proofs.Common.{◌≡◌, ℕ, List, ap, ◌∙◌, subst, refl}
 use Rattle.std.specs.Prelude.{true, false, Option, Some}
+use Rattle.nova_model.specs.Edges.{is_giving}
 use Rattle.nova_model.specs.Boot.{Scenario, boot}
 use Rattle.nova_model.specs.Choice.{Candidate}
 use Rattle.nova_model.specs.Deeds.{deed, sign_of}
@@ -23,7 +24,7 @@ use Rattle.nova_model.specs.declared.transfer.ItemWords.{ItemWords}
 use Rattle.nova_model.specs.declared.transfer.Sequel.{Sequel}
 use Rattle.nova_forest.proofs.Walk as walk
 use Rattle.nova_forest.proofs.Turning.{of_event}
-use Rattle.nova_laws.specs.Giving.{IsEndOfItem, is_giving}
+use Rattle.nova_laws.specs.Giving.{IsEndOfItem}
 use Rattle.nova_laws.proofs.Counting.{counts_children}
 use Rattle.nova_laws.proofs.Rows.{IsWhole, done_weaker, is_part, row_whole}
 

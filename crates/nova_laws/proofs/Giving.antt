@@ -10,7 +10,7 @@ use Rattle.nova_range.specs.declared.status.Status.TheVariants.{Success}
 use Rattle.nova_model.specs.Boot.{Scenario, Image, boot, bare, with_image, with_images}
 use Rattle.nova_model.specs.Calls.{is_parked}
 use Rattle.nova_model.specs.Creation.{context_of, first_registers, first_state, object_of, transfer_of}
-use Rattle.nova_model.specs.Deeds.{answered, changed, deed, parked, resumed, serving}
+use Rattle.nova_model.specs.Deeds.{answered, actor_after, deed, parked, resumed, serving}
 use Rattle.nova_model.specs.Deliveries.{delivery, given_to, taken_from}
 use Rattle.nova_model.specs.Runs.{run}
 use Rattle.nova_model.specs.State.{KernelState, Contexts, context, context_in, ec_in, ec_of, entry, is_local_thread, no_transfer, transfer, transfer_in, with_ec}
@@ -21,7 +21,7 @@ use Rattle.nova_model.specs.declared.context.Mark.{Mark}
 use Rattle.nova_model.specs.declared.context.Mark.TheVariants as mark
 use Rattle.nova_model.specs.declared.event.Event.{Event}
 use Rattle.nova_model.specs.declared.transfer.Sequel.TheVariants as sequel
-use Rattle.nova_model.specs.Edges.{state_in}
+use Rattle.nova_model.specs.Edges.{state_in, is_giving}
 use Rattle.nova_model.specs.declared.deed.Deed.{Deed}
 use Rattle.nova_model.specs.declared.deed.Deed.TheVariants.{Rests, Gives, Skips, Finishes}
 use Rattle.nova_model.specs.declared.new_object.NewObject.{NewObject}
@@ -30,13 +30,12 @@ use Rattle.nova_model.specs.declared.transfer.Transfer.{Transfer}
 use Rattle.nova_forest.specs.Effects.{applied, effect, joined, made_by, put, transfer_by}
 use Rattle.nova_forest.specs.Turns.{Acts, IsTurning, Turning, turned}
 use Rattle.nova_forest.proofs.Turning.{along}
-use Rattle.nova_laws.specs.Giving.{is_giving}
 use Rattle.nova_laws.specs.Links.{state_at}
 use Rattle.nova_laws.proofs.Awaiting.{Serves, serves_of}
 use Rattle.nova_laws.proofs.Blocking.{woken_blocked}
 use Rattle.nova_laws.proofs.Courses.{Courses, IsOpening, IsSelf, IsTo, MayCome, deed_course, has_caller}
-use Rattle.nova_laws.proofs.Fitting.{Fits, boot_fits, chosen_acts, turned_fits}
-use Rattle.nova_laws.proofs.Opening.{HasRange, Wants, deed_wants, is_of_item, wants_quiet}
+use Rattle.nova_laws.proofs.TablesFit.{TablesFit, boot_fits, chosen_acts, turned_fits}
+use Rattle.nova_laws.proofs.GivingPremises.{HasRange, Wants, deed_wants, is_of_item, wants_quiet}
 use Rattle.nova_laws.proofs.Referring.{Asks, deed_asks}
 use Rattle.nova_laws.proofs.Serving.{IsActor, actor_of, awaited}
 use Rattle.nova_laws.proofs.Setting.{get_kept, more_at, set_at}
@@ -245,7 +244,7 @@ quiet_own k ec (Finishes item end words after) apart wants h = absurd cc
 quiet_own k ec other apart wants h = entry_rests k.objects (ec_in k.contexts ec) (transfer k ec) (wants_quiet k ec other refl wants) (h ec)
 
 -- and so is one that gives no more
-own_rests : (k : KernelState) (ec : ℕ) (d : Deed) → Wants k ec d → Sound k → is_giving (changed (context k ec) d).state ≡ false → at (transfers_by k ec d) ec ≡ no_transfer
+own_rests : (k : KernelState) (ec : ℕ) (d : Deed) → Wants k ec d → Sound k → is_giving (actor_after (context k ec) d).state ≡ false → at (transfers_by k ec d) ec ≡ no_transfer
 own_rests k ec (Gives child cursor) wants h quiet = absurd cc
 own_rests k ec (Skips reason place cursor) wants h quiet = absurd cc
 own_rests k ec (Finishes item end words sequel.Item) wants h quiet = absurd (let gives = wants.0 in cc)
@@ -269,13 +268,13 @@ begins_for : (os : List Object) (items : Bool) (r : Registers) (c : ℕ × Mark)
 begins_for os true r c t none = refl
 begins_for os false r c t none = none
 
-for_courses : (k : KernelState) (ec : ℕ) (d : Deed) → IsActor k.contexts ec → Wants k ec d → Fits k → Sound k →
+for_courses : (k : KernelState) (ec : ℕ) (d : Deed) → IsActor k.contexts ec → Wants k ec d → TablesFit k → Sound k →
     Courses k ec d (λ cs all. AreFor (joined k.objects (option_map object_of (made_by d))) cs (transfers_by k ec d))
 for_courses k ec d actor wants fits h =
     let os = joined k.objects (option_map object_of (made_by d)) in
     let ts = transfers_by k ec d in record {
       rests = λ to. base;
-      steps = λ regs is. quiet (record (context k ec) { regs = regs }) (ap (λ (e : Deed). (changed (context k ec) e).state) is) (subst (Wants k ec) is wants);
+      steps = λ regs is. quiet (record (context k ec) { regs = regs }) (ap (λ (e : Deed). (actor_after (context k ec) e).state) is) (subst (Wants k ec) is wants);
       stays = λ cs all w x y is self same now. set_for os cs ts w y (same_for os x y _ self same (entry_at os (ec_in cs w) x _ is (now w))) now;
       goes = λ y self to may. goes y self to may;
       sends = λ handler its ip identifier items to of reached.
@@ -327,18 +326,18 @@ for_courses k ec d actor wants fits h =
             set_for (joined k.objects (option_map object_of (made_by d))) k.contexts (transfers_by k ec d) ec y (given y.state y self gives may gives) base
         by_test false still = quiet y to still
 
-applied_for : (k : KernelState) (ec : ℕ) (d : Deed) → IsActor k.contexts ec → Asks k ec d → Wants k ec d → Fits k → Sound k → Sound (applied k (effect k ec d))
+applied_for : (k : KernelState) (ec : ℕ) (d : Deed) → IsActor k.contexts ec → Asks k ec d → Wants k ec d → TablesFit k → Sound k → Sound (applied k (effect k ec d))
 applied_for k ec d actor asks wants fits h =
     joined_for (joined k.objects (option_map object_of (made_by d))) (length k.objects) _ (transfers_by k ec d) (made_by d)
     (deed_course k ec (λ cs all. AreFor (joined k.objects (option_map object_of (made_by d))) cs (transfers_by k ec d)) d actor asks (for_courses k ec d actor wants fits h))
 
 -- whom each serves
-pub serves_in : (k : KernelState) → Fits k → Serves k.contexts
+pub serves_in : (k : KernelState) → TablesFit k → Serves k.contexts
 serves_in k fits = serves_of (is_local_thread k) k.contexts fits.served
 
 -- TURNS
 
-pub turned_gives : (k : KernelState) (cpu : ℕ) (t : Turning) (e : Event) → IsTurning k cpu t e → Fits k × Sound k → Fits (turned k cpu t) × Sound (turned k cpu t)
+pub turned_gives : (k : KernelState) (cpu : ℕ) (t : Turning) (e : Event) → IsTurning k cpu t e → TablesFit k × Sound k → TablesFit (turned k cpu t) × Sound (turned k cpu t)
 turned_gives k cpu t e (Acts c chosen is event) h = (
   turned_fits k cpu t e (Acts c chosen is event) h.0,
   subst (λ (u : Turning). Sound (turned k cpu u)) (sym is)
@@ -359,4 +358,4 @@ pub boot_for : (s : Scenario) → Sound (boot s)
 boot_for s = images_for (bare s.cpus s.ram s.consoles s.root) s.images (bare_for s)
 
 pub boot_run_for : (s : Scenario) (turns : List ℕ) → Sound (run (boot s) turns)
-boot_run_for s turns = (along (λ k. Fits k × Sound k) (record { begins = λ b. (boot_fits b, boot_for b); turns = turned_gives }) s turns).1
+boot_run_for s turns = (along (λ k. TablesFit k × Sound k) (record { begins = λ b. (boot_fits b, boot_for b); turns = turned_gives }) s turns).1

@@ -7,7 +7,7 @@ use Rattle.nova_objects.specs.declared.object.Object.{Object}
 use Rattle.nova_utcb.specs.Messages.{counted_items}
 use Rattle.nova_model.specs.Creation.{context_of, transfer_of, words_of}
 use Rattle.nova_model.specs.Deliveries.{delivery, given_to, taken_from, words_for}
-use Rattle.nova_model.specs.Edges.{acts, state_in}
+use Rattle.nova_model.specs.Edges.{acts, state_in, is_giving}
 use Rattle.nova_model.specs.Runs.{after}
 use Rattle.nova_model.specs.State.{KernelState, Contexts, context, context_in, ec_in, ec_of, transfer, transfer_in, with_ec}
 use Rattle.nova_model.specs.declared.context.EcState.{EcState}
@@ -20,7 +20,7 @@ use Rattle.nova_model.specs.declared.new_object.NewObject.TheVariants as new
 use Rattle.nova_model.specs.declared.transfer.ItemWords.{ItemWords}
 use Rattle.nova_model.specs.declared.transfer.Sequel.{Sequel}
 use Rattle.nova_model.specs.declared.transfer.Transfer.{Transfer}
-use Rattle.nova_laws.specs.Giving.{is_giving, source_in}
+use Rattle.nova_laws.specs.Giving.{source_in}
 use Rattle.nova_laws.proofs.Giving.{at, new_transfer}
 use Rattle.nova_laws.proofs.Setting.{more_at, set_at}
 use Rattle.nova_laws.proofs.Messages.{IsFinish, NoSource, actor_none, more_words, no_source, words_in}
@@ -119,15 +119,15 @@ new_quiet n (new.Sm count) ms e t = tt
 
 -- WHO WRITES WHERE
 
-pub state_of : (cs : Contexts) (e : ℕ) (s : State) → state_in cs e ≡ Some s → (ec_of cs e).state ≡ s
-state_of cs e s is = by_entry (ec_in cs e) is
+pub context_state : (cs : Contexts) (e : ℕ) (s : State) → state_in cs e ≡ Some s → (ec_of cs e).state ≡ s
+context_state cs e s is = by_entry (ec_in cs e) is
   where
     by_entry : (o : Option EcState) → option_map (λ y. y.state) o ≡ Some s → (context_in o).state ≡ s
     by_entry None h = absurd (cc)
     by_entry (Some x) h = cc
 
 pub quiet_replies : (k : KernelState) (ec : ℕ) → is_giving (context k ec).state ≡ false → state_in k.contexts ec ≡ Some Replying → ⊥
-quiet_replies k ec quiet is = let gives = ap is_giving (state_of k.contexts ec Replying is) in absurd (cc)
+quiet_replies k ec quiet is = let gives = ap is_giving (context_state k.contexts ec Replying is) in absurd (cc)
 
 -- one that acts and gives nothing, one that is parked, and one that waits for such a handler
 pub own_none : (k : KernelState) (ec : ℕ) → acts k.contexts ec ≡ true → Serves k.contexts → is_giving (context k ec).state ≡ false → NoSource k.contexts ec

@@ -4,6 +4,7 @@ use Rattle.std.specs.Prelude.{◌↔◌, ◌==◌, ◌&&◌, Bool, true, false, 
 use Rattle.std.specs.List.{cons_option, filter_map, range_with_len}
 use Rattle.std.proofs.lemmas.Bool.{and_from, and_parts, eqb-true, eq-eqb}
 use Rattle.std.proofs.lemmas.Bool.Decides.{nat_tests}
+use Rattle.nova_model.specs.Edges.{is_giving}
 use Rattle.nova_range.specs.Ranges.{SharesPlace, overlaps}
 use Rattle.nova_range.specs.declared.range.Kind.{Kind}
 use Rattle.nova_range.specs.declared.range.Kind.TheVariants.{Mem, Obj}
@@ -33,7 +34,7 @@ use Rattle.nova_model.specs.declared.transfer.Skip.{Skip}
 use Rattle.nova_forest.proofs.Extremes.{any_in, before_facts, least, none_before, none_passes}
 use Rattle.nova_forest.proofs.Members.{IsIn, contains_from_in, filtered_in, in_filtered, in_from_contains}
 use Rattle.nova_forest.proofs.Transfers.{judged_facts}
-use Rattle.nova_forest.proofs.Walk.{IsGiving, IsSkipping, deed_holds, is_giving, job_in, own_holds, resumed}
+use Rattle.nova_forest.proofs.Walk.{IsGiving, IsSkipping, deed_holds, job_in, own_holds, job_at_cursor}
 use Rattle.nova_laws.specs.Left.{HasGivenAll, HasReason, IsFirstLeft, IsGivenOf, IsLeft, IsSkippedFor, NothingIsLeft}
 use Rattle.nova_laws.proofs.Rows.{IsWhole, done_weaker, is_part, row_whole}
 
@@ -116,19 +117,19 @@ parted_ends k ec j d (Err why) = tt
 delegated_ends : (k : KernelState) (ec : ℕ) (v : Delivery) → delivery k ec (context k ec).state ≡ Some v → Ends k ec (delegated k v (transfer k ec) (job_in v))
 delegated_ends k ec v present = by_job (job_in v) refl
   where
-    by_source : (j : Job) → job_in v ≡ Ok j → (o : Option Derivation) → next_source k.delegations.list (resumed k ec j) ≡ o →
-        Ends k ec (part_deed v (transfer k ec) (resumed k ec j) (option_map (part_of (is_busy k) k.delegations (resumed k ec j)) o))
+    by_source : (j : Job) → job_in v ≡ Ok j → (o : Option Derivation) → next_source k.delegations.list (job_at_cursor k ec j) ≡ o →
+        Ends k ec (part_deed v (transfer k ec) (job_at_cursor k ec j) (option_map (part_of (is_busy k) k.delegations (job_at_cursor k ec j)) o))
     by_source j reads None next = record {
-      job = resumed k ec j;
+      job = job_at_cursor k ec j;
       is_with = record { item = v; present = present; job = j; reads = reads; on = refl };
-      nothing = none_left k.delegations.list (resumed k ec j) next;
+      nothing = none_left k.delegations.list (job_at_cursor k ec j) next;
     }
     by_source j reads (Some d) next =
-        parted_ends k ec (resumed k ec j) d (judged (is_busy k) k.delegations.list (child_of (resumed k ec j) k.delegations.next d))
+        parted_ends k ec (job_at_cursor k ec j) d (judged (is_busy k) k.delegations.list (child_of (job_at_cursor k ec j) k.delegations.next d))
 
     by_job : (r : Result Job Skip) → job_in v ≡ r → Ends k ec (delegated k v (transfer k ec) r)
     by_job (Err skip) reads = tt
-    by_job (Ok j) reads = by_source j reads (next_source k.delegations.list (resumed k ec j)) refl
+    by_job (Ok j) reads = by_source j reads (next_source k.delegations.list (job_at_cursor k ec j)) refl
 
 delivered_ends : (k : KernelState) (ec : ℕ) (v : Delivery) → delivery k ec (context k ec).state ≡ Some v → Ends k ec (delivered k v (transfer k ec))
 delivered_ends k ec v present = by_flag (flag v == 1)
@@ -220,20 +221,20 @@ judged_reason k x why h = by_tests (x.rights.0 == 0) refl (is_held_in k.delegati
 
 given_of : (k : KernelState) (ec : ℕ) (d x : Derivation) → IsGiving k ec d x → IsGivenOf k ec x
 given_of k ec d x g = record {
-  job = resumed k ec g.job;
+  job = job_at_cursor k ec g.job;
   is_with = record { item = g.item; present = g.of_item.present; job = g.job; reads = g.reads; on = refl };
   source = d;
-  first = first_left k.delegations.list (resumed k ec g.job) d g.next;
-  parent = ap (λ (y : Derivation). y.parent) (judged_facts (is_busy k) k.delegations.list (child_of (resumed k ec g.job) k.delegations.next d) x g.good).same;
+  first = first_left k.delegations.list (job_at_cursor k ec g.job) d g.next;
+  parent = ap (λ (y : Derivation). y.parent) (judged_facts (is_busy k) k.delegations.list (child_of (job_at_cursor k ec g.job) k.delegations.next d) x g.good).same;
 }
 
 skipped_for : (k : KernelState) (ec : ℕ) (d : Derivation) (why : Reason) → IsSkipping k ec d why → IsSkippedFor k ec why
 skipped_for k ec d why g = record {
-  job = resumed k ec g.job;
+  job = job_at_cursor k ec g.job;
   is_with = record { item = g.item; present = g.of_item.present; job = g.job; reads = g.reads; on = refl };
   source = d;
-  first = first_left k.delegations.list (resumed k ec g.job) d g.next;
-  because = judged_reason k (child_of (resumed k ec g.job) k.delegations.next d) why g.bad;
+  first = first_left k.delegations.list (job_at_cursor k ec g.job) d g.next;
+  because = judged_reason k (child_of (job_at_cursor k ec g.job) k.delegations.next d) why g.bad;
 }
 
 abbrev Parts : KernelState → ℕ → Deed → Type 0

@@ -8,7 +8,7 @@ use Rattle.nova_model.specs.declared.context.EcState.{EcState}
 use Rattle.nova_model.specs.declared.context.Mark.{Mark}
 use Rattle.nova_model.specs.declared.context.State.{State}
 use Rattle.nova_model.specs.declared.context.State.TheVariants.{Calling, Granting}
-use Rattle.nova_laws.specs.Links.{AreServed, IsLinked, IsWell, caller_at, cpu_at, is_giving, state_at}
+use Rattle.nova_laws.specs.Links.{AreServed, IsLinked, IsWell, caller_at, cpu_at, handles_items, state_at}
 use Rattle.nova_laws.proofs.Setting.{entry_itself, entry_other, get_last, joined_other}
 
 pub place : (x y : ℕ) → (x ≡ y) ⊎ (x ≢ y)
@@ -64,7 +64,7 @@ pub record GoesOn (cs : Contexts) (odd : Option ℕ) (x y : EcState) : Type 0 wh
   pub lives : is_dead (Some y.state) ≡ false → is_dead (Some x.state) ≡ false
   pub works : is_free (Some y.state) ≡ false → is_free (Some x.state) ≡ false
   pub parks : is_parked (Some y.state) ≡ true → is_parked (Some x.state) ≡ true
-  pub gives : is_giving (Some y.state) ≡ true → IsSome x.caller
+  pub gives : handles_items (Some y.state) ≡ true → IsSome x.caller
   pub takes : Some y.state ≡ Some (Granting None) → Some x.state ≡ Some (Granting None)
 
 abbrev IsOdd : ℕ → Option ℕ → ℕ → ℕ → Type 0

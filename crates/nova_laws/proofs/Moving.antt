@@ -15,7 +15,7 @@ use Rattle.nova_model.specs.declared.transfer.Job.{Job}
 use Rattle.nova_model.specs.declared.transfer.Reason.{Reason}
 use Rattle.nova_forest.proofs.Jobs.{job_ranges}
 use Rattle.nova_forest.proofs.Transfers.{left_facts, next_facts}
-use Rattle.nova_forest.proofs.Walk.{deed_holds, job_in, resumed}
+use Rattle.nova_forest.proofs.Walk.{deed_holds, job_in, job_at_cursor}
 use Rattle.nova_laws.specs.Giving.{MovesOn}
 use Rattle.nova_laws.proofs.Rows.{IsWhole, done_weaker, row_whole}
 
@@ -30,11 +30,11 @@ whole_moves k ec (Skips reason place cursor) whole = absurd (cc)
 whole_moves k ec other whole = tt
 
 -- after the derivation that is next, which is at or after the cursor and begins in the source
-next_moves : (k : KernelState) (ec : ℕ) (v : Delivery) (j : Job) (d : Derivation) → job_in v ≡ Ok j → next_source k.delegations.list (resumed k ec j) ≡ Some d →
+next_moves : (k : KernelState) (ec : ℕ) (v : Delivery) (j : Job) (d : Derivation) → job_in v ≡ Ok j → next_source k.delegations.list (job_at_cursor k ec j) ≡ Some d →
     MovesOn k ec (d.base + 2 ^ d.order)
 next_moves k ec v j d reads next =
     let source = (job_ranges v.range_word v.second_word v.delegations v.giver v.receiver j reads).source in
-    let left = left_facts (resumed k ec j) d (next_facts k.delegations.list (resumed k ec j) d next).left in
+    let left = left_facts (job_at_cursor k ec j) d (next_facts k.delegations.list (job_at_cursor k ec j) d next).left in
     let from = left.at_cursor in
     let first = left.first in
     let end = end_within j.source j.order source.order source.aligned source.base in

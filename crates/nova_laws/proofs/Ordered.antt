@@ -1,6 +1,7 @@
 -- Items in order along runs.
 use Rattle.std.proofs.Common.{◌≡◌, ℕ, zero, suc, List, [], ◌∷◌, refl, ap, ◌∙◌, sym, subst, arith}
 use Rattle.std.specs.Prelude.{◌≢◌, true, false, Option, Some, None, IsSome}
+use Rattle.nova_model.specs.Edges.{is_giving}
 use Rattle.nova_model.specs.Boot.{Scenario, Image, boot, bare, with_image, with_images}
 use Rattle.nova_model.specs.Deeds.{deed}
 use Rattle.nova_model.specs.Deliveries.{delivery, delivery_between, first_delivery, told_by}
@@ -17,14 +18,14 @@ use Rattle.nova_model.specs.declared.transfer.Sequel.TheVariants as sequel
 use Rattle.nova_model.specs.declared.transfer.Transfer.{Transfer}
 use Rattle.nova_forest.specs.Turns.{Acts, IsTurning, Turning, acting, turned}
 use Rattle.nova_forest.proofs.Turning.{along, outcome}
-use Rattle.nova_laws.specs.Giving.{IsAtItem, is_giving, source, source_in}
+use Rattle.nova_laws.specs.Giving.{IsAtItem, source, source_in}
 use Rattle.nova_laws.proofs.Awaiting.{same_or_not}
 use Rattle.nova_laws.proofs.Counting.{leaves, now_at, others_stay}
-use Rattle.nova_laws.proofs.Fitting.{Fits, boot_fits, boot_run_fits, chosen_acts}
+use Rattle.nova_laws.proofs.TablesFit.{TablesFit, boot_fits, boot_run_fits, chosen_acts}
 use Rattle.nova_laws.proofs.Giving.{IsFor, IsForEntry, Sound, boot_for, entry_rests, serves_in, turned_gives}
 use Rattle.nova_laws.proofs.Items.{Bound, Bounded, BoundedEntry}
 use Rattle.nova_laws.proofs.Messages.{deed_shows, few_items}
-use Rattle.nova_laws.proofs.Opening.{Wants, deed_wants, is_of_item}
+use Rattle.nova_laws.proofs.GivingPremises.{Wants, deed_wants, is_of_item}
 use Rattle.nova_laws.proofs.Progress.{applied_bound, applied_keeps}
 use Rattle.nova_laws.proofs.Referring.{deed_asks}
 
@@ -32,7 +33,7 @@ use Rattle.nova_laws.proofs.Referring.{deed_asks}
 
 -- what always holds
 pub record Stands (k : KernelState) : Type 0 where
-  pub fits : Fits k
+  pub fits : TablesFit k
   pub sound : Sound k
   pub bound : Bound k
 
@@ -103,7 +104,7 @@ items_present s turns ec gives = stands_at (run (boot s) turns) ec gives (boot_r
 
 -- WORDS STAY
 
-turned_words : (k : KernelState) (cpu ec thread : ℕ) (t : Turning) (e : Event) → IsTurning k cpu t e → source k ec ≡ Some thread → Fits k →
+turned_words : (k : KernelState) (cpu ec thread : ℕ) (t : Turning) (e : Event) → IsTurning k cpu t e → source k ec ≡ Some thread → TablesFit k →
     message (turned k cpu t) thread ≡ message k thread
 turned_words k cpu ec thread t e (Acts c chosen is event) of fits =
     ap (λ (u : Turning). message (turned k cpu u) thread) is ∙ by_entry (ec_in k.contexts ec) refl
@@ -115,7 +116,7 @@ turned_words k cpu ec thread t e (Acts c chosen is event) of fits =
         applied_keeps k c.actor (deed k c.actor) (deed_wants k c.actor) (deed_shows k c.actor) (chosen_acts k cpu c chosen) (serves_in k fits) ec thread x is
         (sym (ap (λ (y : Option EcState). source_in ec (context_in y).state (context_in y).caller) is) ∙ of)
 
-words_of_turn : (k : KernelState) (cpu ec thread : ℕ) → source k ec ≡ Some thread → Fits k → message (after k cpu) thread ≡ message k thread
+words_of_turn : (k : KernelState) (cpu ec thread : ℕ) → source k ec ≡ Some thread → TablesFit k → message (after k cpu) thread ≡ message k thread
 words_of_turn k cpu ec thread of fits =
     outcome (λ s o. message s thread ≡ message k thread) k cpu (λ none. refl) (λ t e is. turned_words k cpu ec thread t e is of fits)
 

@@ -18,7 +18,7 @@ use Rattle.nova_model.specs.declared.new_object.NewObject.{NewObject}
 use Rattle.nova_model.specs.declared.new_object.NewObject.TheVariants as new
 use Rattle.nova_forest.proofs.Turning.{of_event}
 use Rattle.nova_laws.specs.Scheduling.{GoesOn, IsPaidBy, IsUsed, Renewed, is_on, turns_paid_by}
-use Rattle.nova_laws.proofs.Fitting.{boot_run_fits}
+use Rattle.nova_laws.proofs.TablesFit.{boot_run_fits}
 use Rattle.nova_laws.proofs.Paying.{Adds, AddsNone, AddsOne, Comes, Idles, IsTurn, Takes, comes, spent_ticks, still_budget, turn_is}
 use Rattle.nova_laws.proofs.Ticks.{event_is, front_passes, lengths, one_if}
 use Rattle.nova_laws.proofs.Setting.{entry_itself, entry_joined, entry_other, get_last}

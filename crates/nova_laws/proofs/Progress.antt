@@ -9,7 +9,7 @@ use Rattle.nova_model.specs.AddressSpaces.{words_at}
 use Rattle.nova_model.specs.Creation.{context_of, object_of, transfer_of, words_of}
 use Rattle.nova_model.specs.Deeds.{address_space, answered, instruction, parked, resumed, serving, transfer_after}
 use Rattle.nova_model.specs.Deliveries.{delivery, given_to, sequel_of, taken_from}
-use Rattle.nova_model.specs.Edges.{acts}
+use Rattle.nova_model.specs.Edges.{acts, is_giving}
 use Rattle.nova_model.specs.Inputs.{store_of}
 use Rattle.nova_model.specs.State.{KernelState, Contexts, context, context_in, ec_in, ec_of, is_local_thread, message, no_transfer, transfer, with_ec}
 use Rattle.nova_model.specs.declared.context.EcState.{EcState}
@@ -26,15 +26,15 @@ use Rattle.nova_model.specs.declared.transfer.Sequel.{Sequel}
 use Rattle.nova_model.specs.declared.transfer.Sequel.TheVariants as sequel
 use Rattle.nova_model.specs.declared.transfer.Transfer.{Transfer}
 use Rattle.nova_forest.specs.Effects.{applied, effect, item_words, joined, made_by, put, store_words, words_by, words_stored}
-use Rattle.nova_laws.specs.Giving.{is_giving, source_in}
+use Rattle.nova_laws.specs.Giving.{source_in}
 use Rattle.nova_laws.proofs.Awaiting.{Serves, served_waits}
 use Rattle.nova_laws.proofs.Counting.{apart_stays}
 use Rattle.nova_laws.proofs.Courses.{Courses, IsCall, IsReply, IsSelf, MayCome, deed_course}
-use Rattle.nova_laws.proofs.Fitting.{Fits}
+use Rattle.nova_laws.proofs.TablesFit.{TablesFit}
 use Rattle.nova_laws.proofs.Giving.{Sound, at, entry_rests, parked_quiet, quiet_own, resumed_quiet, serves_in, transfers_by, transfers_for}
-use Rattle.nova_laws.proofs.Items.{AreBounded, Bound, Bounded, BoundedEntry, entry_item, give_bounded, joins_bounded, new_quiet, own_none, parked_none, rests_bounded, reword, set_bounded, state_of, told_none, waiting_none}
+use Rattle.nova_laws.proofs.Items.{AreBounded, Bound, Bounded, BoundedEntry, entry_item, give_bounded, joins_bounded, new_quiet, own_none, parked_none, rests_bounded, reword, set_bounded, context_state, told_none, waiting_none}
 use Rattle.nova_laws.proofs.Messages.{IsFinish, NoSource, Shows, more_words, other_words, some_items, words_in}
-use Rattle.nova_laws.proofs.Opening.{Wants, is_of_item}
+use Rattle.nova_laws.proofs.GivingPremises.{Wants, is_of_item}
 use Rattle.nova_laws.proofs.Referring.{Asks}
 use Rattle.nova_laws.proofs.Serving.{IsActor, IsReached, actor_of, awaited, reached_apart}
 
@@ -64,7 +64,7 @@ caller_none : (k : KernelState) (ec caller : ℕ) (mark : Mark) → acts k.conte
     (context k ec).caller ≡ Some (caller, mark) → NoSource k.contexts caller
 caller_none k ec caller mark able serves quiet has =
     waiting_none k.contexts ec caller serves (served_waits k ec caller mark able serves has)
-    (λ taking. (let gives = ap is_giving (state_of k.contexts ec (Granting None) taking) in absurd (cc)))
+    (λ taking. (let gives = ap is_giving (context_state k.contexts ec (Granting None) taking) in absurd (cc)))
 
 -- nobody gives from where a deed writes
 written_none : (k : KernelState) (ec : ℕ) (d : Deed) → Wants k ec d → Shows k ec d → acts k.contexts ec ≡ true → Serves k.contexts →
@@ -185,7 +185,7 @@ reply_words k ec caller mark.Exit apart = refl
 first_item : (k : KernelState) (ec : ℕ) (d : Deed) → is_of_item d ≡ false → Wants k ec d → Sound k → (at (transfers_by k ec d) ec).item ≡ 0
 first_item k ec d apart wants sound = ap (λ (t : Transfer). t.item) (apart_stays k ec ec d apart ∙ quiet_own k ec d apart wants sound)
 
-replies_some : (k : KernelState) (ec : ℕ) (d : Deed) → IsActor k.contexts ec → Wants k ec d → Shows k ec d → Fits k → Sound k → IsReply k ec d →
+replies_some : (k : KernelState) (ec : ℕ) (d : Deed) → IsActor k.contexts ec → Wants k ec d → Shows k ec d → TablesFit k → Sound k → IsReply k ec d →
     (at (transfers_by k ec d) ec).item < counted_items (words_in (words_after k ec d) ec)
 replies_some k ec d actor wants shows fits sound is =
     let shown = subst (Shows k ec) is.deed shows in
@@ -209,7 +209,7 @@ takes_some k ec handler ip identifier true mark.Call d actor wants shows sound r
     let some = some_items (message k ec) shown.0 (sym shown.1) in
     subst (λ (m : List ℕ). (at (transfers_by k ec d) handler).item < counted_items m) (sym words) (omega (arith, none, some))
 
-bound_courses : (k : KernelState) (ec : ℕ) (d : Deed) → IsActor k.contexts ec → Wants k ec d → Shows k ec d → Fits k → Sound k → Keeps k (words_after k ec d) → Bound k →
+bound_courses : (k : KernelState) (ec : ℕ) (d : Deed) → IsActor k.contexts ec → Wants k ec d → Shows k ec d → TablesFit k → Sound k → Keeps k (words_after k ec d) → Bound k →
     Courses k ec d (λ cs all. AreBounded (words_after k ec d) cs (transfers_by k ec d))
 bound_courses k ec d actor wants shows fits sound keeps h =
     let ns = words_after k ec d in
@@ -259,7 +259,7 @@ joined_bound : (ms : List (Option (List ℕ))) (cs : Contexts) (ts : List (Optio
 joined_bound ms cs ts n None h = h
 joined_bound ms cs ts n (Some made) h = joins_bounded ms cs ts (object_of made) (context_of n made) (new_quiet n made _) h
 
-pub applied_bound : (k : KernelState) (ec : ℕ) (d : Deed) → acts k.contexts ec ≡ true → Asks k ec d → Wants k ec d → Shows k ec d → Fits k → Sound k → Bound k →
+pub applied_bound : (k : KernelState) (ec : ℕ) (d : Deed) → acts k.contexts ec ≡ true → Asks k ec d → Wants k ec d → Shows k ec d → TablesFit k → Sound k → Bound k →
     Bound (applied k (effect k ec d))
 applied_bound k ec d able asks wants shows fits sound h =
     let actor = actor_of k.contexts ec able in

@@ -13,11 +13,11 @@ use Rattle.nova_model.specs.declared.deed.Deed.TheVariants.{Sends}
 use Rattle.nova_model.specs.declared.event.Event.{Event}
 use Rattle.nova_model.specs.declared.event.Turn.TheVariants.{Stepped}
 use Rattle.nova_forest.proofs.Turning.{of_event}
-use Rattle.nova_laws.specs.Words.{words_at, written_by}
+use Rattle.nova_laws.specs.Words.{words_at, whose_words}
 use Rattle.nova_laws.proofs.Awaiting.{not_parked}
 use Rattle.nova_laws.proofs.Chosen.{choice_acts}
-use Rattle.nova_laws.proofs.Opening.{Wants, deed_wants}
-use Rattle.nova_laws.proofs.Wording.{others_keep}
+use Rattle.nova_laws.proofs.GivingPremises.{Wants, deed_wants}
+use Rattle.nova_laws.proofs.MessageWriters.{others_keep}
 
 -- who is chosen acts, and so the event names one that acts
 named_acts : (k : KernelState) (cpu : ℕ) (e : Event) → answer_of (turn k cpu) ≡ Stepped e → acts k.contexts e.ec ≡ true
@@ -31,6 +31,6 @@ raised_keep k cpu e handler ip identifier mtd reason q0 q1 words steps sends the
     let idle : state_in k.contexts handler ≡ Some Parked = (subst (Wants k e.ec) sends (deed_wants k e.ec)).1 in
     let able = named_acts k cpu e steps in
     let apart : handler ≢ e.ec = λ same. absurd (not_parked k.contexts e.ec able (subst (λ (n : ℕ). state_in k.contexts n ≡ Some Parked) same idle)) in
-    let writer : written_by e.ec (deed k e.ec) ≡ Some handler = ap (written_by e.ec) sends in
-    let differs : written_by e.ec (deed k e.ec) ≢ Some e.ec = λ writes. absurd (apart (let both : Some handler ≡ Some e.ec = sym writer ∙ writes in cc)) in
+    let writer : whose_words e.ec (deed k e.ec) ≡ Some handler = ap (whose_words e.ec) sends in
+    let differs : whose_words e.ec (deed k e.ec) ≢ Some e.ec = λ writes. absurd (apart (let both : Some handler ≡ Some e.ec = sym writer ∙ writes in cc)) in
     others_keep k cpu e e.ec words steps differs there

@@ -1,6 +1,7 @@
 -- A turn whose event answers a hypercall with another status than SUCCESS is that of a refusal.
 use Rattle.std.proofs.Common.{◌≡◌, ℕ, ap, ◌∙◌, sym, subst, refl}
 use Rattle.std.specs.Prelude.{◌≢◌, ◌==◌, Bool, true, false, if◌then◌else◌, slice_index, slice_set, Option, Some, None, IsSome, Result, Ok, Err}
+use Rattle.nova_model.specs.Edges.{is_asking}
 use Rattle.nova_range.specs.Statuses.{status_code}
 use Rattle.nova_range.specs.declared.status.Status.{Status}
 use Rattle.nova_model.specs.Choice.{choice}
@@ -30,7 +31,7 @@ use Rattle.nova_model.specs.declared.transfer.Delivery.{Delivery}
 use Rattle.nova_model.specs.declared.transfer.ItemEnd.TheVariants.{Given}
 use Rattle.nova_forest.proofs.Stirred.{acted, refusal_stirred}
 use Rattle.nova_forest.proofs.Turning.{acting_is, chosen_turn, of_event}
-use Rattle.nova_laws.specs.Refusals.{IsAnswered, IsRefusal, LeavesRest, is_asking}
+use Rattle.nova_laws.specs.Refusals.{IsAnswered, IsRefusal, LeavesRest}
 use Rattle.nova_forest.proofs.Walk.{delivers_holds}
 use Rattle.nova_laws.proofs.Charges.{charge_leaves}
 use Rattle.nova_laws.proofs.Setting.{entry_itself, entry_other, index_itself, index_other}

@@ -14,7 +14,7 @@ use Rattle.nova_range.specs.declared.rights.Rights.{Rights}
 use Rattle.nova_model.specs.Capabilities.{control_right, is_ec, is_pt, is_sc, named}
 use Rattle.nova_model.specs.Choice.{Candidate, choice}
 use Rattle.nova_model.specs.Creation.{context_of, object_of}
-use Rattle.nova_model.specs.Deeds.{changed, deed, deed_in, done, removes}
+use Rattle.nova_model.specs.Deeds.{actor_after, deed, deed_in, done, removes}
 use Rattle.nova_model.specs.Edges.{acts}
 use Rattle.nova_model.specs.Hypercalls.{new_domain, row, ticks_in}
 use Rattle.nova_model.specs.Revokes.{Revocation, next_leaf}
@@ -42,13 +42,13 @@ use Rattle.nova_laws.specs.Keeping.{IsKept}
 use Rattle.nova_laws.specs.Revoking.{AsksRevoke, HasRevoked, revoke_after, revoke_in_turn, running_after}
 use Rattle.nova_laws.proofs.Awaiting.{acts_there, same_or_not}
 use Rattle.nova_laws.proofs.Courses.{edited_length}
-use Rattle.nova_laws.proofs.Fitting.{Fits, chosen_acts}
+use Rattle.nova_laws.proofs.TablesFit.{TablesFit, chosen_acts}
 use Rattle.nova_laws.proofs.Rows.{call_holds, create_pd_holds, makes_hold, named_holds, reply_holds}
 use Rattle.nova_laws.proofs.Referring.{Asks, deed_asks}
 use Rattle.nova_laws.proofs.Serving.{IsActor, actor_of}
 use Rattle.nova_laws.proofs.Setting.{entry_below, joined_length, joined_other, more_at}
 use Rattle.nova_laws.proofs.States.{Moves, has_begun, is_waiting, others_move, own_state}
-use Rattle.nova_laws.proofs.Tabling.{contexts_length}
+use Rattle.nova_laws.proofs.TablesKept.{contexts_length}
 
 -- IN A TABLE OF EXECUTION CONTEXTS
 
@@ -148,7 +148,7 @@ moves_none : (pd : ℕ) (s t : State) → Moves s t → revoke_by pd t ≡ revok
 moves_none pd s t (inl same) = ap (revoke_by pd) same
 moves_none pd s t (inr goes) = begun_none pd t goes.1 ∙ sym (waiting_none pd s goes.0)
 
-others_run : (k : KernelState) (ec e : ℕ) (d : Deed) → IsActor k.contexts ec → Asks k ec d → Fits k → e ≢ ec →
+others_run : (k : KernelState) (ec e : ℕ) (d : Deed) → IsActor k.contexts ec → Asks k ec d → TablesFit k → e ≢ ec →
     among k.objects (all_edited k.contexts (edits_by k ec d)) e ≡ revoke_of k e
 others_run k ec e d actor asks fits other =
     let now = all_edited k.contexts (edits_by k ec d) in
@@ -165,25 +165,25 @@ abbrev is_beginning : Deed → Bool
 is_beginning (Revokes range own) = true
 is_beginning other = false
 
-changed_quiet : (x : EcState) (d : Deed) → is_beginning d ≡ false → is_revoking x.state ≡ false → is_revoking (changed x d).state ≡ false
+changed_quiet : (x : EcState) (d : Deed) → is_beginning d ≡ false → is_revoking x.state ≡ false → is_revoking (actor_after x d).state ≡ false
 changed_quiet x (Revokes range own) none quiet = absurd cc
 changed_quiet x (Finishes item end words sequel.Item) none quiet = quiet
 changed_quiet x (Replies caller its true) none quiet = refl
 changed_quiet x (Aborts handler mark.Call) none quiet = refl
 changed_quiet x other none quiet = search quiet
 
-own_after : (k : KernelState) (ec : ℕ) (d : Deed) → Idle k ec d → revoke_by (pd_of k ec) (changed (context k ec) d).state ≡ revoke_after k ec d ec
+own_after : (k : KernelState) (ec : ℕ) (d : Deed) → Idle k ec d → revoke_by (pd_of k ec) (actor_after (context k ec) d).state ≡ revoke_after k ec d ec
 own_after k ec (Revokes range own) idle = rw (eq-eqb ec ec refl) refl
 own_after k ec Returns idle = rw (eq-eqb ec ec refl) refl
 own_after k ec (Removes leaf) idle = sym (revoke_is (pd_of k ec) (context_at k ec))
-own_after k ec other idle = quiet_none (pd_of k ec) (changed (context k ec) other).state (changed_quiet (context k ec) other refl idle) ∙ sym (own_none k ec idle)
+own_after k ec other idle = quiet_none (pd_of k ec) (actor_after (context k ec) other).state (changed_quiet (context k ec) other refl idle) ∙ sym (own_none k ec idle)
 
-own_runs : (k : KernelState) (ec : ℕ) (d : Deed) → IsActor k.contexts ec → Asks k ec d → Idle k ec d → Fits k →
+own_runs : (k : KernelState) (ec : ℕ) (d : Deed) → IsActor k.contexts ec → Asks k ec d → Idle k ec d → TablesFit k →
     among k.objects (all_edited k.contexts (edits_by k ec d)) ec ≡ revoke_after k ec d ec
 own_runs k ec d actor asks idle fits =
     revoke_is (pd_of k ec) (ec_in (all_edited k.contexts (edits_by k ec d)) ec) ∙ ap (revoke_by (pd_of k ec)) (own_state k ec d actor asks fits) ∙ own_after k ec d idle
 
-applied_runs : (k : KernelState) (ec e : ℕ) (d : Deed) → IsActor k.contexts ec → Asks k ec d → Idle k ec d → Fits k →
+applied_runs : (k : KernelState) (ec e : ℕ) (d : Deed) → IsActor k.contexts ec → Asks k ec d → Idle k ec d → TablesFit k →
     revoke_of (applied k (effect k ec d)) e ≡ revoke_after k ec d e
 applied_runs k ec e d actor asks idle fits =
     let now = all_edited k.contexts (edits_by k ec d) in
@@ -192,10 +192,10 @@ applied_runs k ec e d actor asks idle fits =
     (λ same. subst (λ (n : ℕ). among k.objects now n ≡ revoke_after k ec d n) (sym same) (own_runs k ec d actor asks idle fits))
     (λ other. others_run k ec e d actor asks fits other ∙ sym (other_after k ec e d other))
 
-chosen_runs : (k : KernelState) (ec e : ℕ) → acts k.contexts ec ≡ true → Fits k → revoke_of (applied k (effect k ec (deed k ec))) e ≡ revoke_after k ec (deed k ec) e
+chosen_runs : (k : KernelState) (ec e : ℕ) → acts k.contexts ec ≡ true → TablesFit k → revoke_of (applied k (effect k ec (deed k ec))) e ≡ revoke_after k ec (deed k ec) e
 chosen_runs k ec e able fits = applied_runs k ec e (deed k ec) (actor_of k.contexts ec able) (deed_asks k ec) (deed_idle k ec) fits
 
-deed_runs : (k : KernelState) (ec : ℕ) → acts k.contexts ec ≡ true → Fits k → (e : ℕ) → revoke_of (done k ec (deed k ec)) e ≡ revoke_after k ec (deed k ec) e
+deed_runs : (k : KernelState) (ec : ℕ) → acts k.contexts ec ≡ true → TablesFit k → (e : ℕ) → revoke_of (done k ec (deed k ec)) e ≡ revoke_after k ec (deed k ec) e
 deed_runs k ec able fits e = ap (λ (s : KernelState). revoke_of s e) (done_is k ec (deed k ec)) ∙ chosen_runs k ec e able fits
 
 -- ALL OF THEM
@@ -254,7 +254,7 @@ stays_long k ec d =
     let more = longer (all_edited k.contexts (edits_by k ec d)) (option_map (context_of (length k.objects)) (made_by d)) in
     let all = edited_length k.contexts (edits_by k ec d) in omega (arith, same, more, all)
 
-all_run : (k : KernelState) (ec : ℕ) → acts k.contexts ec ≡ true → Fits k → running (done k ec (deed k ec)) ≡ running_after k ec (deed k ec)
+all_run : (k : KernelState) (ec : ℕ) → acts k.contexts ec ≡ true → TablesFit k → running (done k ec (deed k ec)) ≡ running_after k ec (deed k ec)
 all_run k ec able fits =
     picked_same (λ e. running_of e (revoke_of new e)) now (range_with_len 0 (length new.contexts)) (λ e. ap (running_of e) (deed_runs k ec able fits e))
     ∙ ap (λ (n : ℕ). filter_map now (range_with_len 0 n)) many
@@ -317,7 +317,7 @@ deed_told k ec =
 
 -- THE LAWS
 
-fits_of : (k : KernelState) → IsKept k → Fits k
+fits_of : (k : KernelState) → IsKept k → TablesFit k
 fits_of k h = record { tables = h.tables; served = h.served; blocked = h.blocked; guests = h.guests }
 
 pub deeds_leave : (k : KernelState) (ec : ℕ) → IsKept k → acts k.contexts ec ≡ true → (e : ℕ) → revoke_of (done k ec (deed k ec)) e ≡ revoke_after k ec (deed k ec) e
@@ -329,7 +329,7 @@ all_after k ec h able = all_run k ec able (fits_of k h)
 pub none_goes : (k : KernelState) (ec : ℕ) → IsKept k → acts k.contexts ec ≡ true → length k.contexts ≤ length (done k ec (deed k ec)).contexts
 none_goes k ec h able = stays_long k ec (deed k ec)
 
-turned_runs : (k : KernelState) (cpu e : ℕ) (t : Turning) (f : Event) → IsTurning k cpu t f → Fits k → revoke_of (turned k cpu t) e ≡ revoke_in_turn k (choice k cpu) e
+turned_runs : (k : KernelState) (cpu e : ℕ) (t : Turning) (f : Event) → IsTurning k cpu t f → TablesFit k → revoke_of (turned k cpu t) e ≡ revoke_in_turn k (choice k cpu) e
 turned_runs k cpu e t f (Acts c chosen is event) fits =
     ap (λ (u : Turning). revoke_of (turned k cpu u) e) is ∙ chosen_runs k c.actor e (chosen_acts k cpu c chosen) fits
     ∙ ap (λ (o : Option Candidate). revoke_in_turn k o e) (sym chosen)

@@ -16,7 +16,7 @@ use Rattle.nova_forest.proofs.Members.{none_any}
 use Rattle.nova_laws.specs.Tables.{IsOf}
 use Rattle.nova_laws.proofs.Paying.{IsNew, Lasts, boot_run_holds}
 use Rattle.nova_laws.proofs.Setting.{get_joined, get_kept}
-use Rattle.nova_laws.proofs.Tabling.{all_get}
+use Rattle.nova_laws.proofs.TablesKept.{all_get}
 
 pub record AreAlone (os : List Object) (bs : List (Option Budget)) (next : ℕ) : Type 0 where
   pub one : (ec m n : ℕ) → IsOf os (schedules ec) m → IsOf os (schedules ec) n → m ≡ n

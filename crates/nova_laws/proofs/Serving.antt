@@ -13,7 +13,7 @@ use Rattle.nova_model.specs.declared.context.Mark.{Mark}
 use Rattle.nova_model.specs.declared.context.Mark.TheVariants as came
 use Rattle.nova_model.specs.declared.context.State.{State}
 use Rattle.nova_model.specs.declared.context.State.TheVariants.{Blocked, Calling, Dead, Granting, Parked, Ready}
-use Rattle.nova_laws.specs.Links.{AreServed, IsLinked, IsWell, caller_at, cpu_at, is_giving, state_at}
+use Rattle.nova_laws.specs.Links.{AreServed, IsLinked, IsWell, caller_at, cpu_at, handles_items, state_at}
 use Rattle.nova_laws.proofs.Admitting.{admits_edge, exit_edge, exit_parked, send_parked}
 use Rattle.nova_laws.proofs.Links.{GoesOn, is_taking, place, served_exchange, served_on}
 use Rattle.nova_laws.proofs.Setting.{entry_itself, entry_other}
@@ -86,7 +86,7 @@ actor_of cs ec does = record {
 
 -- it goes on in another state, in which it waits for this one at most
 goes : (cs : Contexts) (ec : ℕ) (odd : Option ℕ) (y : EcState) → IsActor cs ec → y.caller ≡ (ec_of cs ec).caller → y.cpu ≡ (ec_of cs ec).cpu →
-    ((h : ℕ) → y.state ≡ Calling h → odd ≡ Some h) → is_parked (Some y.state) ≡ false → (is_giving (Some y.state) ≡ true → IsSome (ec_of cs ec).caller) →
+    ((h : ℕ) → y.state ≡ Calling h → odd ≡ Some h) → is_parked (Some y.state) ≡ false → (handles_items (Some y.state) ≡ true → IsSome (ec_of cs ec).caller) →
     is_taking (Some y.state) ≡ false → GoesOn cs odd (ec_of cs ec) y
 goes cs ec odd y actor caller cpu calls works gives takes = record {
   caller = caller;
@@ -110,7 +110,7 @@ remains is_local cs x y well caller cpu same = record {
   lives = λ lives. ap (λ (s : State). is_dead (Some s)) (sym same) ∙ lives;
   works = λ works. ap (λ (s : State). is_free (Some s)) (sym same) ∙ works;
   parks = λ is. ap (λ (s : State). is_parked (Some s)) (sym same) ∙ is;
-  gives = λ gives. well.giving (ap (λ (s : State). is_giving (Some s)) (sym same) ∙ gives);
+  gives = λ gives. well.giving (ap (λ (s : State). handles_items (Some s)) (sym same) ∙ gives);
   takes = λ is. ap Some (sym same) ∙ is;
 }
 
@@ -118,7 +118,7 @@ well_of : (is_local : ℕ → Bool) (cs : Contexts) (e : ℕ) → is_some (ec_in
 well_of is_local cs e there served = subst (λ (o : Option EcState). IsWell (is_local e) o) (of_there cs e there) (served.well e)
 
 pub acts_on : (is_local : ℕ → Bool) (cs : Contexts) (ec : ℕ) (y : EcState) → IsActor cs ec → y.caller ≡ (ec_of cs ec).caller → y.cpu ≡ (ec_of cs ec).cpu →
-    ((h : ℕ) → y.state ≢ Calling h) → is_parked (Some y.state) ≡ false → (is_giving (Some y.state) ≡ true → IsSome (ec_of cs ec).caller) →
+    ((h : ℕ) → y.state ≢ Calling h) → is_parked (Some y.state) ≡ false → (handles_items (Some y.state) ≡ true → IsSome (ec_of cs ec).caller) →
     is_taking (Some y.state) ≡ false → AreServed is_local cs → AreServed is_local (with_ec cs ec y)
 acts_on is_local cs ec y actor caller cpu calls works gives takes served =
     served_on is_local cs ec (ec_of cs ec) y actor.there (goes cs ec None y actor caller cpu (λ h is. absurd (calls h is)) works gives takes) served
@@ -311,7 +311,7 @@ replies_on is_local cs ec caller mark m actor keeps served =
         lives = λ lives. ap (λ (s : State). is_dead (Some s)) await.waits;
         works = λ works. ap (λ (s : State). is_free (Some s)) await.waits;
         parks = λ is. absurd (let no = ap (λ (s : State). is_parked (Some s)) on.ready in cc);
-        gives = λ gives. absurd (let none = ap (λ (s : State). is_giving (Some s)) on.ready in cc);
+        gives = λ gives. absurd (let none = ap (λ (s : State). handles_items (Some s)) on.ready in cc);
         takes = λ is. absurd (let both : Some Ready ≡ Some (Granting None) = sym (ap Some on.ready) ∙ is in cc);
       };
       serves = record {

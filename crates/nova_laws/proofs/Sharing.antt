@@ -29,7 +29,7 @@ use Rattle.nova_forest.proofs.Changes.{boot_run_forest}
 use Rattle.nova_forest.proofs.Members.{all_at, contains_from_in}
 use Rattle.nova_forest.proofs.Multiples.{nested}
 use Rattle.nova_forest.proofs.Transfers.{child_rights, judged_facts, left_facts, next_facts}
-use Rattle.nova_forest.proofs.Walk.{IsGiving, deed_holds, job_in, resumed}
+use Rattle.nova_forest.proofs.Walk.{IsGiving, deed_holds, job_in, job_at_cursor}
 use Rattle.nova_laws.specs.Giving.{IsShared}
 use Rattle.nova_laws.proofs.Rows.{IsWhole, done_weaker, is_part, row_whole}
 
@@ -123,12 +123,12 @@ job_reads v j is = by_words (read_as (meaning_of v.range_word)) refl (read_as (m
 
 -- the child of the derivation that is next
 child_shared : (k : KernelState) (ec : ℕ) (v : Delivery) (j : Job) (d : Derivation) → delivery k ec (context k ec).state ≡ Some v → job_in v ≡ Ok j → IsForest k.delegations →
-    next_source k.delegations.list (resumed k ec j) ≡ Some d → IsShared k ec (child_of (resumed k ec j) k.delegations.next d)
+    next_source k.delegations.list (job_at_cursor k ec j) ≡ Some d → IsShared k ec (child_of (job_at_cursor k ec j) k.delegations.next d)
 child_shared k ec v j d present is forest next_is =
     let read = job_reads v j is in
     let of_job = read.job in
-    let next = next_facts k.delegations.list (resumed k ec j) d next_is in
-    let left = left_facts (resumed k ec j) d next.left in
+    let next = next_facts k.delegations.list (job_at_cursor k ec j) d next_is in
+    let left = left_facts (job_at_cursor k ec j) d next.left in
     let aligned = all_at IsAligned k.delegations.list d forest.aligned next.there in
     let ranges = job_ranges v.range_word v.second_word v.delegations v.giver v.receiver j is in
     let common = common_places d.base d.order j.source j.order aligned.base ranges.source.aligned left.first left.second in
@@ -174,7 +174,7 @@ child_shared k ec v j d present is forest next_is =
 
 giving_shared : (k : KernelState) (ec : ℕ) (d x : Derivation) → IsGiving k ec d x → IsForest k.delegations → IsShared k ec x
 giving_shared k ec d x g forest =
-    let child = judged_facts (is_busy k) k.delegations.list (child_of (resumed k ec g.job) k.delegations.next d) x g.good in
+    let child = judged_facts (is_busy k) k.delegations.list (child_of (job_at_cursor k ec g.job) k.delegations.next d) x g.good in
     subst (IsShared k ec) (sym child.same) (child_shared k ec g.item g.job d g.of_item.present g.reads forest g.next)
 
 -- of each deed

@@ -3,7 +3,7 @@ use Rattle.std.proofs.Common.{◌≡◌, ℕ, refl, ap, ◌∙◌, sym, subst, i
 use Rattle.std.specs.Prelude.{◌≢◌, ◌⊎◌, Bool, true, false, if◌then◌else◌, Option, Some, None, is_some}
 use Rattle.nova_range.specs.declared.status.Status.TheVariants.{Success}
 use Rattle.nova_model.specs.Calls.{is_parked}
-use Rattle.nova_model.specs.Deeds.{answered, changed, parked, resumed}
+use Rattle.nova_model.specs.Deeds.{answered, actor_after, parked, resumed}
 use Rattle.nova_model.specs.State.{Contexts, KernelState, context, context_in, ec_in, ec_of, is_local_thread, with_ec}
 use Rattle.nova_model.specs.declared.context.EcState.{EcState}
 use Rattle.nova_model.specs.declared.context.State.{State}
@@ -13,7 +13,7 @@ use Rattle.nova_forest.specs.Effects.{all_edited, edits_by}
 use Rattle.nova_laws.specs.Links.{state_at}
 use Rattle.nova_laws.proofs.Blocking.{woken_blocked}
 use Rattle.nova_laws.proofs.Courses.{Courses, IsTo, deed_course}
-use Rattle.nova_laws.proofs.Fitting.{Fits, woken_apart}
+use Rattle.nova_laws.proofs.TablesFit.{TablesFit, woken_apart}
 use Rattle.nova_laws.proofs.Referring.{Asks}
 use Rattle.nova_laws.proofs.Serving.{IsActor, awaited, reached_apart, resumed_is}
 use Rattle.nova_laws.proofs.Setting.{entry_itself, entry_other, set_at}
@@ -26,10 +26,10 @@ itself k ec d y actor to = to ∙ sym (ap (λ (o : Option EcState). (context_in 
 apart : (k : KernelState) (ec : ℕ) (d : Deed) (cs : Contexts) (w : ℕ) (y : EcState) → ec ≢ w → IsTo k ec d (ec_of cs ec).state → IsTo k ec d (ec_of (with_ec cs w y) ec).state
 apart k ec d cs w y other to = to ∙ sym (ap (λ (o : Option EcState). (context_in o).state) (entry_other cs w ec y other))
 
-own_courses : (k : KernelState) (ec : ℕ) (d : Deed) → IsActor k.contexts ec → Fits k → Courses k ec d (λ cs all. IsTo k ec d (ec_of cs ec).state)
+own_courses : (k : KernelState) (ec : ℕ) (d : Deed) → IsActor k.contexts ec → TablesFit k → Courses k ec d (λ cs all. IsTo k ec d (ec_of cs ec).state)
 own_courses k ec d actor fits = record {
   rests = λ to. to;
-  steps = λ regs is. itself k ec d (record (context k ec) { regs = regs }) actor (ap (λ (e : Deed). (changed (context k ec) e).state) is);
+  steps = λ regs is. itself k ec d (record (context k ec) { regs = regs }) actor (ap (λ (e : Deed). (actor_after (context k ec) e).state) is);
   stays = λ cs all w x y is self same to. set_at (λ o. IsTo k ec d (context_in o).state) cs w ec y to
       (λ one. to ∙ ap (λ (n : ℕ). (ec_of cs n).state) one ∙ ap (λ (o : Option EcState). (context_in o).state) is ∙ sym same);
   goes = λ y self to may. itself k ec d y actor to;
@@ -47,8 +47,8 @@ own_courses k ec d actor fits = record {
   blocks = λ sm to is answer. itself k ec d (record (context k ec) { state = Blocked sm }) actor to;
 }
 
-pub own_state : (k : KernelState) (ec : ℕ) (d : Deed) → IsActor k.contexts ec → Asks k ec d → Fits k →
-    (ec_of (all_edited k.contexts (edits_by k ec d)) ec).state ≡ (changed (context k ec) d).state
+pub own_state : (k : KernelState) (ec : ℕ) (d : Deed) → IsActor k.contexts ec → Asks k ec d → TablesFit k →
+    (ec_of (all_edited k.contexts (edits_by k ec d)) ec).state ≡ (actor_after (context k ec) d).state
 own_state k ec d actor asks fits = sym (deed_course k ec (λ cs all. IsTo k ec d (ec_of cs ec).state) d actor asks (own_courses k ec d actor fits))
 
 -- ANOTHER
@@ -95,7 +95,7 @@ parked_waits (Some x) is = by_state x.state is
     by_state Parked parks = refl
     by_state other parks = absurd cc
 
-moves_courses : (k : KernelState) (ec : ℕ) (d : Deed) → IsActor k.contexts ec → Fits k → Courses k ec d (λ cs all. OthersMove k ec cs)
+moves_courses : (k : KernelState) (ec : ℕ) (d : Deed) → IsActor k.contexts ec → TablesFit k → Courses k ec d (λ cs all. OthersMove k ec cs)
 moves_courses k ec d actor fits = record {
   rests = λ to e other. inl refl;
   steps = λ regs is. own_moves k ec (record (context k ec) { regs = regs });
@@ -118,6 +118,6 @@ moves_courses k ec d actor fits = record {
   blocks = λ sm to is answer. own_moves k ec (record (context k ec) { state = Blocked sm });
 }
 
-pub others_move : (k : KernelState) (ec : ℕ) (d : Deed) → IsActor k.contexts ec → Asks k ec d → Fits k → (e : ℕ) → e ≢ ec →
+pub others_move : (k : KernelState) (ec : ℕ) (d : Deed) → IsActor k.contexts ec → Asks k ec d → TablesFit k → (e : ℕ) → e ≢ ec →
     Moves (context k e).state (ec_of (all_edited k.contexts (edits_by k ec d)) e).state
 others_move k ec d actor asks fits = deed_course k ec (λ cs all. OthersMove k ec cs) d actor asks (moves_courses k ec d actor fits)

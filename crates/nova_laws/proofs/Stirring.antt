@@ -29,7 +29,7 @@ use Rattle.nova_forest.proofs.Stirred.{calm_by}
 use Rattle.nova_forest.proofs.Turning.{after_keeps, outcome}
 use Rattle.nova_laws.specs.Stirs.{AreWithinTurns, stirs_of}
 use Rattle.nova_laws.specs.Tables.{HasTables}
-use Rattle.nova_laws.proofs.Fitting.{boot_run_fits}
+use Rattle.nova_laws.proofs.TablesFit.{boot_run_fits}
 use Rattle.nova_laws.proofs.Setting.{entry_joined, entry_kept, get_joined, get_last}
 
 -- A DEED

@@ -11,8 +11,8 @@ use Rattle.nova_model.specs.Runs.{run}
 use Rattle.nova_model.specs.State.{KernelState, budget_at, context_at, entry, is_thread_kind}
 use Rattle.nova_model.specs.declared.context.EcState.{EcState}
 use Rattle.nova_laws.specs.Tables.{HasTables, IsContext, IsOf, Refers, Suits, cpu_of, has_words, tag, tag_of}
-use Rattle.nova_laws.proofs.Fitting.{boot_run_fits}
-use Rattle.nova_laws.proofs.Tabling.{all_get, kinds_at, tags_at}
+use Rattle.nova_laws.proofs.TablesFit.{boot_run_fits}
+use Rattle.nova_laws.proofs.TablesKept.{all_get, kinds_at, tags_at}
 
 -- a table at a number
 tagged_at : (k : KernelState) (n : ℕ) → HasTables k → option_map tag (slice_get k.contexts n) ≡ option_map (tag_of n) (slice_get k.objects n)

@@ -22,7 +22,7 @@ use Rattle.nova_model.specs.declared.event.Event.{Event}
 use Rattle.nova_model.specs.declared.new_object.NewObject.{NewObject}
 use Rattle.nova_model.specs.declared.new_object.NewObject.TheVariants as new
 use Rattle.nova_laws.specs.Scheduling.{is_on, paid_on, ticks_on, turns_of}
-use Rattle.nova_laws.proofs.Fitting.{Fits, after_fits, boot_fits}
+use Rattle.nova_laws.proofs.TablesFit.{TablesFit, after_fits, boot_fits}
 use Rattle.nova_laws.proofs.Paying.{Adds, AddsNone, AddsOne, Comes, Idles, IsTurn, Takes, comes, spent_ticks}
 use Rattle.nova_laws.proofs.Setting.{index_itself, index_other, set_length}
 
@@ -79,7 +79,7 @@ new_ticks cpu stamp (new.Sm count) = refl
 
 -- A TURN
 
-pub lengths : (k : KernelState) → Fits k → length k.budgets ≡ length k.objects
+pub lengths : (k : KernelState) → TablesFit k → length k.budgets ≡ length k.objects
 lengths k h = sym (length-map k.budgets is_some) ∙ ap length h.tables.budgets ∙ length-map k.objects _
 
 adds_ticks : (k s : KernelState) (ec cpu : ℕ) → Adds k s ec → length k.budgets ≡ length k.objects → paid_on s cpu ≡ paid_on k cpu
@@ -136,7 +136,7 @@ index_more xs by cpu there = by_test (by == cpu) refl
         let none : slice_index xs cpu ≡ slice_index xs cpu + 0 = omega arith in
         index_other xs by cpu (slice_index xs by + 1) differs ∙ none
 
-counted_on : (k : KernelState) (by cpu : ℕ) (es : List Event) → Fits k → IsCountedOn k (after k by) by cpu es
+counted_on : (k : KernelState) (by cpu : ℕ) (es : List Event) → TablesFit k → IsCountedOn k (after k by) by cpu es
 counted_on k by cpu es h = by_turn (after k by) (comes k by)
   where
     by_turn : (s : KernelState) → Comes k s by → IsCountedOn k s by cpu es
@@ -161,18 +161,18 @@ counted_on k by cpu es h = by_turn (after k by) (comes k by)
 
 -- TURNS
 
-run_ticks : (k : KernelState) (turns : List ℕ) (cpu : ℕ) → Fits k → paid_on (run k turns) cpu ≡ paid_on k cpu + turns_of cpu (trace k turns)
+run_ticks : (k : KernelState) (turns : List ℕ) (cpu : ℕ) → TablesFit k → paid_on (run k turns) cpu ≡ paid_on k cpu + turns_of cpu (trace k turns)
 run_ticks k [] cpu h = omega arith
 run_ticks k (by ∷ turns) cpu h = run_ticks (after k by) turns cpu (after_fits k by h) ∙ (counted_on k by cpu (trace (after k by) turns) h).ticks
 
-run_counts : (k : KernelState) (turns : List ℕ) (cpu : ℕ) → Fits k → cpu < length k.stirs.processors →
+run_counts : (k : KernelState) (turns : List ℕ) (cpu : ℕ) → TablesFit k → cpu < length k.stirs.processors →
     slice_index (run k turns).stirs.processors cpu ≡ slice_index k.stirs.processors cpu + turns_of cpu (trace k turns)
 run_counts k [] cpu h below = omega arith
 run_counts k (by ∷ turns) cpu h below =
     let counts = counted_on k by cpu (trace (after k by) turns) h in
     run_counts (after k by) turns cpu (after_fits k by h) (rw counts.there below) ∙ counts.counts below
 
-run_turns : (k : KernelState) (turns : List ℕ) → Fits k → (run k turns).turns ≡ k.turns + length (trace k turns)
+run_turns : (k : KernelState) (turns : List ℕ) → TablesFit k → (run k turns).turns ≡ k.turns + length (trace k turns)
 run_turns k [] h = omega arith
 run_turns k (by ∷ turns) h = run_turns (after k by) turns (after_fits k by h) ∙ (counted_on k by 0 (trace (after k by) turns) h).all
 

@@ -10,7 +10,7 @@ use Rattle.nova_model.specs.Boot.{root_context, root_objects}
 use Rattle.nova_model.specs.Calls.{exit_admitted}
 use Rattle.nova_model.specs.Capabilities.{is_ec, is_vcpu}
 use Rattle.nova_model.specs.Creation.{context_of, object_of}
-use Rattle.nova_model.specs.Deeds.{answered, changed, deed, deed_in, instruction, parked, ready, resumed, serving, signalled, stepping}
+use Rattle.nova_model.specs.Deeds.{answered, actor_after, deed, deed_in, instruction, parked, ready, resumed, serving, signalled, stepping}
 use Rattle.nova_model.specs.Exits.{exit_at, exit_portal, exit_to}
 use Rattle.nova_model.specs.Portals.{handler_of}
 use Rattle.nova_model.specs.State.{Contexts, KernelState, context, context_at, context_in, ec_in, ec_of, is_local_in, is_local_thread, is_thread, is_thread_in, nobody, with_ec}
@@ -35,7 +35,7 @@ use Rattle.nova_laws.proofs.Referring.{Asks, IsCallerOf}
 use Rattle.nova_laws.proofs.Courses.{Courses, IsCall, IsSelf, IsTo, deed_course, edited_length}
 use Rattle.nova_laws.proofs.Serving.{IsActor, IsReached, mark_in, number_in}
 use Rattle.nova_laws.proofs.Setting.{entry_below, entry_joined, entry_set, get_kept, get_last, joined_other}
-use Rattle.nova_laws.proofs.Tabling.{context_is, contexts_length}
+use Rattle.nova_laws.proofs.TablesKept.{context_is, contexts_length}
 
 -- KINDS
 
@@ -205,7 +205,7 @@ born_entry os n (new.Sm count) = none_entry _ _
 
 -- ONE THAT ACTS
 
-changed_state : (x : EcState) (d : Deed) → is_guest_deed d ≡ true → is_guest_state x.state ≡ true → is_guest_state (changed x d).state ≡ true
+changed_state : (x : EcState) (d : Deed) → is_guest_deed d ≡ true → is_guest_state x.state ≡ true → is_guest_state (actor_after x d).state ≡ true
 changed_state x Rests guest h = h
 changed_state x Steps guest h = h
 changed_state x (Raises reason q0 q1) guest h = refl
@@ -256,7 +256,7 @@ guest_courses : (k : KernelState) (ec : ℕ) (d : Deed) → IsActor k.contexts e
     AreAmong k.objects k.contexts → Courses k ec d (λ cs all. AreAmong k.objects cs)
 guest_courses k ec d actor thread served h = record {
   rests = λ to. h;
-  steps = λ regs is. own (record (context k ec) { regs = regs }) (λ p is. is) (ap (λ (e : Deed). (changed (context k ec) e).state) is);
+  steps = λ regs is. own (record (context k ec) { regs = regs }) (λ p is. is) (ap (λ (e : Deed). (actor_after (context k ec) e).state) is);
   stays = λ cs all w x y is self same now. stays cs w x y is self same now;
   goes = λ y self to may. own y (λ p is. sym self.caller ∙ is) to;
   sends = λ handler its ip identifier items to of reached.

@@ -2,6 +2,7 @@
 use Rattle.std.proofs.Common.{◌≡◌, ℕ, List, refl, ap, ◌∙◌, subst, arith}
 use Rattle.std.proofs.lemmas.Bool.Decides.{nat_tests}
 use Rattle.std.specs.Prelude.{◌≢◌, ◌<◌, ◌≤◌, ◌+◌, ◌%◌, ◌==◌, nat_lt, slice_get, Bool, true, false, if◌then◌else◌, Option, Some, None, Result, Ok, Err, IfOk}
+use Rattle.nova_model.specs.Edges.{is_giving}
 use Rattle.nova_utcb.specs.Messages.{has_counts, item_at, items}
 use Rattle.nova_range.proofs.Words.{again, sound}
 use Rattle.nova_range.specs.RangeWords.{HasWord, meaning_of, word_of}
@@ -36,10 +37,9 @@ use Rattle.nova_model.specs.declared.transfer.Sequel.{Sequel}
 use Rattle.nova_model.specs.declared.transfer.Sequel.TheVariants.{Item, Replied, Taken}
 use Rattle.nova_model.specs.declared.transfer.Skip.{Skip}
 use Rattle.nova_forest.proofs.Walk as walk
-use Rattle.nova_forest.proofs.Walk.{is_giving}
 use Rattle.nova_laws.specs.Links.{caller_at}
 use Rattle.nova_laws.specs.Windows.{EndsItem, GoesBetween, GoesToItself, IsWholeSpace, Tells, TellsOfItem}
-use Rattle.nova_laws.proofs.Fitting.{Fits, boot_run_fits}
+use Rattle.nova_laws.proofs.TablesFit.{TablesFit, boot_run_fits}
 use Rattle.nova_laws.proofs.Virtual.{local_thread}
 use Rattle.nova_laws.proofs.Rows.{IsWhole, done_weaker, is_part, row_whole}
 
@@ -142,7 +142,7 @@ told_at None = None
 told_at (Some v) = v.told
 
 -- who takes items has a caller, and so is a local thread; and who called is a thread
-thread_told : (k : KernelState) (ec whom : ℕ) (v : Delivery) → Fits k → delivery k ec (context k ec).state ≡ Some v → v.told ≡ Some whom → is_thread k whom ≡ true
+thread_told : (k : KernelState) (ec whom : ℕ) (v : Delivery) → TablesFit k → delivery k ec (context k ec).state ≡ Some v → v.told ≡ Some whom → is_thread k whom ≡ true
 thread_told k ec whom v fits present told = by_state (context k ec).state present
   where
     by_taker : (o : Option (ℕ × Mark)) → (context k ec).caller ≡ o → taken_from k ec (transfer k ec).item o ≡ Some v → is_thread k whom ≡ true

@@ -1,5 +1,6 @@
 -- Execution contexts that give items: what, to whom, and how far they are.
 use Rattle.std.specs.Prelude.{◌≡◌, ◌≢◌, ◌<◌, ◌≤◌, ℕ, ◌+◌, ◌-◌, ◌^◌, bit_and, Contains, ◌==◌, ◌&&◌, Bool, true, false, if◌then◌else◌, nat_lt, List, [], ◌∷◌, Option, Some, None, Ok, slice_get}
+use Rattle.nova_model.specs.Edges.{is_giving}
 use Rattle.rv_model.specs.Registers.{reg}
 use Rattle.nova_objects.specs.declared.object.Object.TheVariants.{Pd}
 use Rattle.nova_range.specs.Clamps.{clamp_of}
@@ -22,12 +23,6 @@ use Rattle.nova_model.specs.declared.event.EventKind.{EventKind}
 use Rattle.nova_model.specs.declared.event.EventKind.TheVariants.{Made, Skip}
 use Rattle.nova_model.specs.declared.transfer.Delivery.{Delivery}
 use Rattle.nova_model.specs.declared.transfer.Job.{Job}
-
--- a creator gives a first range; a handler takes the items of a call; it gives those of its reply
-abbrev pub is_giving : State → Bool
-is_giving (Granting new) = true
-is_giving Replying = true
-is_giving other = false
 
 -- a range of one protection domain, given to another at the same places
 abbrev pub whole : Range → Rights → ℕ → ℕ → Job

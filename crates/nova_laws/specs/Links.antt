@@ -20,10 +20,10 @@ abbrev pub cpu_at : Option EcState → Option ℕ
 cpu_at o = option_map (λ (x : EcState). x.cpu) o
 
 -- a handler that takes the items of a call, or gives those of its reply
-abbrev pub is_giving : Option State → Bool
-is_giving (Some (Granting None)) = true
-is_giving (Some Replying) = true
-is_giving other = false
+abbrev pub handles_items : Option State → Bool
+handles_items (Some (Granting None)) = true
+handles_items (Some Replying) = true
+handles_items other = false
 
 -- one and another: who waits for a reply of the other is kept as its caller, whom a handler keeps waits for it while it lives, and both are on one
 -- processor
@@ -38,7 +38,7 @@ pub record IsWell (is_local : Bool) (y : Option EcState) : Type 0 where
   pub parked : is_parked (state_at y) ≡ true → (caller_at y ≡ None) × (is_local ≡ true)
   pub serving : is_local ≡ true → IsSome y → is_free (state_at y) ≡ false → IsSome (caller_at y)
   pub kept : (c : ℕ) (mark : Mark) → caller_at y ≡ Some (c, mark) → is_local ≡ true
-  pub giving : is_giving (state_at y) ≡ true → IsSome (caller_at y)
+  pub giving : handles_items (state_at y) ≡ true → IsSome (caller_at y)
   pub taking : (c : ℕ) (mark : Mark) → caller_at y ≡ Some (c, mark) → state_at y ≡ Some (Granting None) → mark ≡ Call
 
 -- so each with each, where these numbers are of local threads

@@ -1,5 +1,6 @@
 -- A turn in which a hypercall is refused.
 use Rattle.std.specs.Prelude.{◌≡◌, ◌≢◌, ◌<◌, ℕ, Bool, true, false, ◌+◌, ◌%◌, ◌^◌, length, slice_get, IsSome, None}
+use Rattle.nova_model.specs.Edges.{is_asking}
 use Rattle.rv_model.specs.Registers.{reg}
 use Rattle.nova_range.specs.Statuses.{status_code}
 use Rattle.nova_range.specs.declared.status.Status.{Status}
@@ -11,12 +12,6 @@ use Rattle.nova_model.specs.declared.context.EcState.{EcState}
 use Rattle.nova_model.specs.declared.context.State.{State}
 use Rattle.nova_model.specs.declared.context.State.TheVariants.{Helping, Ready}
 use Rattle.nova_model.specs.declared.event.Event.{Event}
-
--- it was about to do an instruction, or helped, and made its call again
-abbrev pub is_asking : State → Bool
-is_asking Ready = true
-is_asking (Helping handler) = true
-is_asking other = false
 
 -- the caller has the status in x10, where it has that register, and its pc is after the instruction; one that helped is ready; all else of it is
 -- as before

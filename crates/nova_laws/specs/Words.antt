@@ -15,13 +15,13 @@ words_at k n = entry (slice_get k.messages n)
 
 -- whose a deed of this execution context writes: an instruction its own, a call or an exit that is sent its handler's, a reply to a call its caller's, and
 -- the end of an item those of the one who is told. A reply to an exit writes nobody's.
-abbrev pub written_by : ℕ → Deed → Option ℕ
-written_by ec Steps = Some ec
-written_by ec (Calls handler ip identifier items) = Some handler
-written_by ec (Sends handler ip identifier mtd reason q0 q1) = Some handler
-written_by ec (Replies caller mark.Call items) = Some caller
-written_by ec (Finishes item end (Some words) follows) = Some words.ec
-written_by ec other = None
+abbrev pub whose_words : ℕ → Deed → Option ℕ
+whose_words ec Steps = Some ec
+whose_words ec (Calls handler ip identifier items) = Some handler
+whose_words ec (Sends handler ip identifier mtd reason q0 q1) = Some handler
+whose_words ec (Replies caller mark.Call items) = Some caller
+whose_words ec (Finishes item end (Some words) follows) = Some words.ec
+whose_words ec other = None
 
 -- a store of a thread's among the 512 bytes of its message words, with which its page 0xfffff begins
 pub record IsAmongWords (k : KernelState) (ec : ℕ) (s : Store) : Type 0 where

@@ -1,5 +1,6 @@
 // Laws of transfers.
 ghost use Rattle.std.specs.Prelude.{◌≡◌, ◌<◌, ◌↔◌, ℕ, List, IsSome, None, Option, Some, false, true};
+ghost use Rattle.nova_model.specs.Edges.{is_giving};
 ghost use Rattle.nova_model.specs.Boot.{Scenario, boot};
 ghost use Rattle.nova_model.specs.Deeds.{deed, done};
 ghost use Rattle.nova_model.specs.Deliveries.{delivery};
@@ -23,7 +24,7 @@ ghost use Rattle.nova_model.specs.declared.transfer.Job.{Job};
 ghost use Rattle.nova_model.specs.declared.transfer.Reason.{Reason};
 ghost use Rattle.nova_model.specs.declared.transfer.Sequel.{Sequel};
 ghost use Rattle.nova_model.specs.declared.transfer.Sequel.TheVariants.{Replied, Taken};
-ghost use Rattle.nova_laws.specs.Giving.{GivesRange, GoesOn, HasMoved, IsAtItem, IsEndOfItem, IsShared, MovesCursor, MovesOn, counted_after, is_giving, source};
+ghost use Rattle.nova_laws.specs.Giving.{GivesRange, GoesOn, HasMoved, IsAtItem, IsEndOfItem, IsShared, MovesCursor, MovesOn, counted_after, source};
 ghost use Rattle.nova_laws.specs.Left.{HasGivenAll, IsFirstLeft, IsGivenOf, IsSkippedFor, NothingIsLeft};
 ghost use Rattle.nova_laws.specs.Windows.{EndsItem, GoesBetween, GoesToItself, TellsOfItem};
 

@@ -13,7 +13,7 @@ ghost use Rattle.nova_model.specs.declared.event.Turn.TheVariants.{Stepped};
 ghost use Rattle.nova_model.specs.declared.transfer.ItemEnd.{ItemEnd};
 ghost use Rattle.nova_model.specs.declared.transfer.ItemWords.{ItemWords};
 ghost use Rattle.nova_model.specs.declared.transfer.Sequel.{Sequel};
-ghost use Rattle.nova_laws.specs.Words.{HasWritten, words_at, written_by};
+ghost use Rattle.nova_laws.specs.Words.{HasWritten, words_at, whose_words};
 
 /// A turn changes the message words of one thread at most. They are those of the one who acts, where it
 /// does an instruction: its store is done to them where it is a thread and the store lies among the first
@@ -27,12 +27,12 @@ ghost use Rattle.nova_laws.specs.Words.{HasWritten, words_at, written_by};
 pub fn a_turn_writes_the_words_of_one()
     ensures others { (k : KernelState) (cpu : ℕ) (e : Event) (n : ℕ) (words : List ℕ)
         → answer_of (turn k cpu) ≡ Stepped e
-        → written_by e.ec (deed k e.ec) ≢ Some n
+        → whose_words e.ec (deed k e.ec) ≢ Some n
         → words_at k n ≡ Some words
         → words_at (after k cpu) n ≡ Some words }
     ensures writes { (k : KernelState) (cpu : ℕ) (e : Event) (n : ℕ) (words : List ℕ)
         → answer_of (turn k cpu) ≡ Stepped e
-        → written_by e.ec (deed k e.ec) ≡ Some n
+        → whose_words e.ec (deed k e.ec) ≡ Some n
         → words_at k n ≡ Some words
         → HasWritten k (after k cpu) e.ec n (deed k e.ec) words }
     ensures raised { (k : KernelState) (cpu : ℕ) (e : Event) (handler ip identifier : ℕ) (mtd : Mtd) (reason q0 q1 : ℕ) (words : List ℕ)

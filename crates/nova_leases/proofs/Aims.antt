@@ -13,7 +13,7 @@ use Rattle.nova_range.specs.declared.rights.Rights.{Rights}
 use Rattle.nova_forest.proofs.Walk.{IfDone, deed_holds, sm_ctrl_holds}
 use Rattle.nova_model.specs.Capabilities.{call_right, control_right, event_right, is_ec, is_local, is_pt, is_sc, named}
 use Rattle.nova_model.specs.Creation.{context_of, object_of}
-use Rattle.nova_model.specs.Deeds.{answered, changed, deed, parked, resumed, serving}
+use Rattle.nova_model.specs.Deeds.{answered, actor_after, deed, parked, resumed, serving}
 use Rattle.nova_model.specs.Edges.{edge_of}
 use Rattle.nova_model.specs.Hypercalls.{new_domain, row, ticks_in}
 use Rattle.nova_model.specs.Portals.{handler_in, handler_of}
@@ -35,13 +35,13 @@ use Rattle.nova_forest.specs.Turns.{Acts, IsTurning, Turning, turned}
 use Rattle.nova_forest.proofs.Turning.{outcome}
 use Rattle.nova_laws.specs.Tables.{HasTables, IsOf, Refers}
 use Rattle.nova_laws.proofs.Courses.{Courses, IsTo, deed_course}
-use Rattle.nova_laws.proofs.Fitting.{chosen_acts}
+use Rattle.nova_laws.proofs.TablesFit.{chosen_acts}
 use Rattle.nova_laws.proofs.Holding.{IsNamedAt, named_at}
 use Rattle.nova_laws.proofs.Referring.{deed_asks}
 use Rattle.nova_laws.proofs.Serving.{actor_of}
 use Rattle.nova_laws.proofs.Rows.{call_holds, create_pd_holds, makes_hold, named_holds, reply_holds}
 use Rattle.nova_laws.proofs.Setting.{entry_joined, entry_set, get_kept}
-use Rattle.nova_laws.proofs.Tabling.{all_get}
+use Rattle.nova_laws.proofs.TablesKept.{all_get}
 use Rattle.nova_leases.specs.Aims.{AreAimed, IsAimed}
 
 -- THE HANDLERS OF DEEDS
@@ -153,7 +153,7 @@ new_free n (new.Sm count) = refl
 -- A DEED
 
 -- the one that acts
-changed_aimed : (k : KernelState) (x : EcState) (d : Deed) → Aims k d → IsAimed k.objects x → IsAimed k.objects (changed x d)
+changed_aimed : (k : KernelState) (x : EcState) (d : Deed) → Aims k d → IsAimed k.objects x → IsAimed k.objects (actor_after x d)
 changed_aimed k x (Waits handler reason q0 q1) aims aimed h leads = subst (IsOf k.objects is_local) (same_Some handler h leads) aims
 changed_aimed k x (Sends handler ip identifier mtd reason q0 q1) aims aimed h leads = subst (IsOf k.objects is_local) (same_Some handler h leads) aims
 changed_aimed k x (Calls handler ip identifier items) aims aimed h leads = subst (IsOf k.objects is_local) (same_Some handler h leads) aims

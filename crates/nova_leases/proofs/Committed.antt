@@ -23,7 +23,7 @@ use Rattle.nova_laws.proofs.Candidates.{HasSchedule, schedule_of, the_chosen}
 use Rattle.nova_laws.proofs.Paying.{after_holds}
 use Rattle.nova_laws.proofs.Schedules.{AreAlone, alone_lasts, run_alone}
 use Rattle.nova_isolation.specs.Sound.{IsSound, IsVirtual}
-use Rattle.nova_isolation.proofs.OwnTurns.{state_of}
+use Rattle.nova_isolation.proofs.OwnTurns.{state_in_there}
 use Rattle.nova_isolation.proofs.Premises.{guest as virtual_guest}
 use Rattle.nova_isolation.proofs.Runs.{boot_sound, turn_sound}
 use Rattle.nova_isolation.proofs.Seen.{view_is}
@@ -194,7 +194,7 @@ still_busy k turns lease stems same =
     let its : HasSchedule k lease.cpu stems.chosen = schedule_of k lease.cpu stems.chosen (the_chosen k lease.cpu stems.chosen stems.may.chosen) in
     let virtual = virtual_guest l g f.state.sound (on_virtual l g lease.cpu f.on) in
     not_idle l lease.cpu stems.chosen.sc g its.priority its.quantum stems.budget f.state.sound
-    (state_of l g virtual.there ∙ ap Some (still_ready k l g f.same.view stems.may.ready))
+    (state_in_there l g virtual.there ∙ ap Some (still_ready k l g f.same.view stems.may.ready))
     (f.same.payers stems.chosen.sc g its.priority its.quantum stems.budget (own_payer k lease.cpu stems.chosen stems.budget stems.state stems.may its))
 
 pub may_commit : (k : KernelState) (turns : List ℕ) (lease : LeaseRun) (d : Candidate) → (stems : Stems lease k) →

@@ -12,7 +12,7 @@ use Rattle.nova_model.specs.declared.context.EcState.{EcState}
 use Rattle.nova_ec.proofs.Ends.{chases_end}
 use Rattle.nova_laws.specs.Tables.{HasTables, Refers, cpu_of, tag, tag_of}
 use Rattle.nova_laws.proofs.Candidates.{HasSchedule, IsCandidate, schedule_of, the_chosen}
-use Rattle.nova_laws.proofs.Tabling.{all_get}
+use Rattle.nova_laws.proofs.TablesKept.{all_get}
 use Rattle.nova_laws.proofs.Tags.{get_map, get_tags}
 use Rattle.nova_isolation.specs.Sound.{IsSound}
 

@@ -1,5 +1,6 @@
 -- A turn decides a deed by looking alone, and then does it.
 use Rattle.std.specs.Prelude.{ℕ, ◌+◌, ◌==◌, ◌&&◌, Bool, true, false, not, if◌then◌else◌, List, slice_set, Option, Some, None}
+use Rattle.nova_model.specs.Numbers.{PdId, EcId}
 use Rattle.rv_model.specs.Registers.{Registers, with_reg}
 use Rattle.rv_model.specs.Step.{Once, Raised, Went, Store, one, next, environment_call}
 use Rattle.nova_calls.specs.declared.numbers.TheConstants.{CALL, REPLY, CREATE_PD, REVOKE, EC_CTRL, PT_CTRL, SM_CTRL}
@@ -48,31 +49,31 @@ abbrev pub recall : ℕ
 recall = 8
 
 -- what the addresses of an execution context lead to
-abbrev pub address_space : KernelState → ℕ → AddressSpace
+abbrev pub address_space : KernelState → EcId → AddressSpace
 address_space k ec = space_through k.delegations.list k.memory (pd_of k ec) (own_words k ec)
 
 -- what its next instruction comes to
-abbrev pub instruction : KernelState → ℕ → Once
+abbrev pub instruction : KernelState → EcId → Once
 instruction k ec = one (context k ec).regs (space (address_space k ec))
 
 -- DECIDING
 
 -- ECALL of a thread is a hypercall, any other raise is an exit
-abbrev pub signalled : KernelState → ℕ → ℕ → ℕ → ℕ → Bool → Deed
+abbrev pub signalled : KernelState → EcId → ℕ → ℕ → ℕ → Bool → Deed
 signalled k ec reason q0 q1 true = hypercall k ec (pd_of k ec) (context k ec).regs
 signalled k ec reason q0 q1 false = Raises reason q0 q1
 
-abbrev pub stepping : KernelState → ℕ → Once → Deed
+abbrev pub stepping : KernelState → EcId → Once → Deed
 stepping k ec (Raised reason q0 q1) = signalled k ec reason q0 q1 ((reason == environment_call) && is_thread k ec)
 stepping k ec (Went regs store) = Steps
 
 -- a recall comes before the next instruction
-abbrev pub ready : KernelState → ℕ → Bool → Deed
+abbrev pub ready : KernelState → EcId → Bool → Deed
 ready k ec true = Raises recall 0 0
 ready k ec false = stepping k ec (instruction k ec)
 
 -- the mark with which a handler keeps its caller; one without a caller has none, and reads as that of a call
-abbrev pub mark_in : Option (ℕ × Mark) → Mark
+abbrev pub mark_in : Option (EcId × Mark) → Mark
 mark_in (Some (caller, mark)) = mark
 mark_in None = mark.Call
 
@@ -83,7 +84,7 @@ removes (Some leaf) = Removes leaf
 
 -- the deed of an execution context that acts in its state. One that helps makes its call again from its registers, and an exit that waits is looked up
 -- again. One that waits for a reply acts where its handler is dead, which keeps it as its caller.
-abbrev pub deed_in : KernelState → ℕ → State → Deed
+abbrev pub deed_in : KernelState → EcId → State → Deed
 deed_in k ec Fresh = Raises startup 0 0
 deed_in k ec Ready = ready k ec (context k ec).recall
 deed_in k ec (Exiting reason q0 q1) = exits k ec reason q0 q1
@@ -97,7 +98,7 @@ deed_in k ec (Calling handler) = Aborts handler (mark_in (context k handler).cal
 deed_in k ec (Helping handler) = hypercall k ec (pd_of k ec) (context k ec).regs
 deed_in k ec (Sending reason q0 q1 handler) = exits k ec reason q0 q1
 
-unfoldable pub deed : KernelState → ℕ → Deed
+unfoldable pub deed : KernelState → EcId → Deed
 deed k ec = deed_in k ec (context k ec).state
 
 -- DOING
@@ -131,59 +132,59 @@ aborted x mark.Exit = record x { state = Dead }
 
 -- what a deed other than an instruction makes of the execution context itself. An exit leaves the registers, and a recall is answered by
 -- its exit.
-abbrev pub changed : EcState → Deed → EcState
-changed x Rests = x
-changed x Steps = x
-changed x (Raises reason q0 q1) = record x { state = Exiting reason q0 q1; recall = x.recall && not (reason == recall) }
-changed x (Dies reason q0) = record x { state = Dead }
-changed x (Waits handler reason q0 q1) = record x { state = Sending reason q0 q1 handler }
-changed x (Sends handler ip identifier mtd reason q0 q1) = record x { state = Calling handler }
-changed x (Refuses call status) = answered x status None
-changed x (Makes call target new) = answered x Success None
-changed x (Recalls ec) = answered x Success None
-changed x (Tells call value) = answered x Success (Some value)
-changed x (Names pt identifier) = answered x Success None
-changed x (Opens target domain) = record x { state = Granting (Some domain) }
-changed x (Gives child cursor) = x
-changed x (Skips reason place cursor) = x
-changed x (Finishes item end words after) = after_item x after
-changed x (Calls handler ip identifier items) = record x { state = Calling handler }
-changed x (Helps handler) = record x { state = Helping handler }
-changed x (Replies caller mark true) = record x { state = Replying }
-changed x (Replies caller mark false) = parked x
-changed x (Aborts handler mark) = aborted x mark
-changed x (Revokes range own) = record x { state = Revoking range own }
-changed x (Removes leaf) = x
-changed x Returns = answered x Success None
-changed x (Ups sm woken) = answered x Success None
-changed x (Downs sm) = answered x Success None
-changed x (Blocks sm) = record x { state = Blocked sm }
+abbrev pub actor_after : EcState → Deed → EcState
+actor_after x Rests = x
+actor_after x Steps = x
+actor_after x (Raises reason q0 q1) = record x { state = Exiting reason q0 q1; recall = x.recall && not (reason == recall) }
+actor_after x (Dies reason q0) = record x { state = Dead }
+actor_after x (Waits handler reason q0 q1) = record x { state = Sending reason q0 q1 handler }
+actor_after x (Sends handler ip identifier mtd reason q0 q1) = record x { state = Calling handler }
+actor_after x (Refuses call status) = answered x status None
+actor_after x (Makes call target new) = answered x Success None
+actor_after x (Recalls ec) = answered x Success None
+actor_after x (Tells call value) = answered x Success (Some value)
+actor_after x (Names pt identifier) = answered x Success None
+actor_after x (Opens target domain) = record x { state = Granting (Some domain) }
+actor_after x (Gives child cursor) = x
+actor_after x (Skips reason place cursor) = x
+actor_after x (Finishes item end words after) = after_item x after
+actor_after x (Calls handler ip identifier items) = record x { state = Calling handler }
+actor_after x (Helps handler) = record x { state = Helping handler }
+actor_after x (Replies caller mark true) = record x { state = Replying }
+actor_after x (Replies caller mark false) = parked x
+actor_after x (Aborts handler mark) = aborted x mark
+actor_after x (Revokes range own) = record x { state = Revoking range own }
+actor_after x (Removes leaf) = x
+actor_after x Returns = answered x Success None
+actor_after x (Ups sm woken) = answered x Success None
+actor_after x (Downs sm) = answered x Success None
+actor_after x (Blocks sm) = record x { state = Blocked sm }
 
-abbrev pub with_context : KernelState → ℕ → EcState → KernelState
+abbrev pub with_context : KernelState → EcId → EcState → KernelState
 with_context k ec x = record k { contexts = with_ec k.contexts ec x }
 
-abbrev pub recalled : KernelState → ℕ → Option EcState → KernelState
+abbrev pub recalled : KernelState → EcId → Option EcState → KernelState
 recalled k ec None = k
 recalled k ec (Some x) = with_context k ec (record x { recall = true })
 
 -- a message is copied from one execution context to another
-abbrev pub passed : KernelState → ℕ → ℕ → KernelState
+abbrev pub passed : KernelState → EcId → EcId → KernelState
 passed k from to = with_message k to (copied (message k from) (message k to))
 
 -- a handler at the beginning of a call or an exit: where its portal says, with the portal's identifier in x10; it takes items first, where there are any
 abbrev pub entered : Registers → ℕ → ℕ → Registers
 entered r ip identifier = record (with_reg r 10 identifier) { pc = ip }
 
-abbrev pub serving : EcState → ℕ → Mark → ℕ → ℕ → Bool → EcState
+abbrev pub serving : EcState → EcId → Mark → ℕ → ℕ → Bool → EcState
 serving x caller mark ip identifier items =
     record x { state = if items then Granting None else Ready; regs = entered x.regs ip identifier; caller = Some (caller, mark) }
 
-abbrev pub sent : KernelState → ℕ → ℕ → ℕ → ℕ → Bool → KernelState
+abbrev pub sent : KernelState → EcId → EcId → ℕ → ℕ → Bool → KernelState
 sent k caller handler ip identifier items =
     with_context (passed k caller handler) handler (serving (context k handler) caller mark.Call ip identifier items)
 
 -- an exit is sent: its handler finds the message of the groups that the portal's descriptor names
-abbrev pub exit_sent : KernelState → ℕ → ℕ → ℕ → ℕ → Mtd → ℕ → ℕ → KernelState
+abbrev pub exit_sent : KernelState → EcId → EcId → ℕ → ℕ → Mtd → ℕ → ℕ → KernelState
 exit_sent k ec handler ip identifier mtd q0 q1 =
     with_context (with_message k handler (exited mtd q0 q1 (context k ec).regs (message k handler))) handler
     (serving (context k handler) ec mark.Exit ip identifier false)
@@ -194,15 +195,15 @@ resumed x mark.Call m = answered x Success None
 resumed x mark.Exit m = record x { regs = written_back m x.regs; state = Ready }
 
 -- a reply of one execution context to another completes
-abbrev pub completed : KernelState → ℕ → ℕ → Mark → KernelState
+abbrev pub completed : KernelState → EcId → EcId → Mark → KernelState
 completed k ec caller mark = with_context k caller (resumed (context k caller) mark (message k ec))
 
 -- a reply to a call brings the caller its message, and one to an exit doesn't; without items it completes at once
-abbrev pub brought : KernelState → ℕ → ℕ → Mark → KernelState
+abbrev pub brought : KernelState → EcId → EcId → Mark → KernelState
 brought k ec caller mark.Call = passed k ec caller
 brought k ec caller mark.Exit = k
 
-abbrev pub replied_to : KernelState → ℕ → ℕ → Mark → Bool → KernelState
+abbrev pub replied_to : KernelState → EcId → EcId → Mark → Bool → KernelState
 replied_to k ec caller mark true = brought k ec caller mark
 replied_to k ec caller mark false = completed (brought k ec caller mark) ec caller mark
 
@@ -211,40 +212,40 @@ abbrev pub told : KernelState → ℕ → Option ItemWords → KernelState
 told k item None = k
 told k item (Some w) = with_message k w.ec (with_item (message k w.ec) item w.first w.second)
 
-abbrev pub followed : KernelState → ℕ → Sequel → KernelState
+abbrev pub followed : KernelState → EcId → Sequel → KernelState
 followed k ec (sequel.Replied caller mark) = completed k ec caller mark
 followed k ec other = k
 
 -- who is woken at a semaphore has done its call
-abbrev pub woken_in : KernelState → Option ℕ → KernelState
+abbrev pub woken_in : KernelState → Option EcId → KernelState
 woken_in k None = k
 woken_in k (Some ec) = with_context k ec (answered (context k ec) Success None)
 
 -- what it does to the rest, where the execution context is of protection domain `domain`
-abbrev pub spread : KernelState → ℕ → ℕ → Deed → KernelState
-spread k ec domain (Makes call target new) = with_object k domain target new
-spread k ec domain (Recalls whose) = recalled k whose (context_at k whose)
-spread k ec domain (Names pt identifier) = record k { identifiers = slice_set k.identifiers pt (Some identifier) }
-spread k ec domain (Opens target number) = with_object k domain target new.Pd
-spread k ec domain (Calls handler ip identifier items) = sent k ec handler ip identifier items
-spread k ec domain (Replies caller mark items) = replied_to k ec caller mark items
-spread k ec domain (Sends handler ip identifier mtd reason q0 q1) = exit_sent k ec handler ip identifier mtd q0 q1
-spread k ec domain (Ups sm woken) = woken_in (record k { semaphores = upped k.semaphores sm }) woken
-spread k ec domain (Downs sm) = record k { semaphores = downed k.semaphores sm ec }
-spread k ec domain (Blocks sm) = record k { semaphores = downed k.semaphores sm ec }
-spread k ec domain (Finishes item end words after) = followed (told k item words) ec after
-spread k ec domain other = k
+abbrev pub effect_on_others : KernelState → EcId → PdId → Deed → KernelState
+effect_on_others k ec domain (Makes call target new) = with_object k domain target new
+effect_on_others k ec domain (Recalls whose) = recalled k whose (context_at k whose)
+effect_on_others k ec domain (Names pt identifier) = record k { identifiers = slice_set k.identifiers pt (Some identifier) }
+effect_on_others k ec domain (Opens target number) = with_object k domain target new.Pd
+effect_on_others k ec domain (Calls handler ip identifier items) = sent k ec handler ip identifier items
+effect_on_others k ec domain (Replies caller mark items) = replied_to k ec caller mark items
+effect_on_others k ec domain (Sends handler ip identifier mtd reason q0 q1) = exit_sent k ec handler ip identifier mtd q0 q1
+effect_on_others k ec domain (Ups sm woken) = woken_in (record k { semaphores = upped k.semaphores sm }) woken
+effect_on_others k ec domain (Downs sm) = record k { semaphores = downed k.semaphores sm ec }
+effect_on_others k ec domain (Blocks sm) = record k { semaphores = downed k.semaphores sm ec }
+effect_on_others k ec domain (Finishes item end words after) = followed (told k item words) ec after
+effect_on_others k ec domain other = k
 
 -- an instruction that goes on: the next registers, and at most one store
 abbrev pub memory_after : AddressSpace → Option Store → Memory → Memory
 memory_after a None m = m
 memory_after a (Some s) m = after_store a s m
 
-abbrev pub messages_after : AddressSpace → ℕ → Option Store → List (Option (List ℕ)) → List (Option (List ℕ))
+abbrev pub messages_after : AddressSpace → EcId → Option Store → List (Option (List ℕ)) → List (Option (List ℕ))
 messages_after a ec None messages = messages
 messages_after a ec (Some s) messages = words_after_store a ec s messages
 
-abbrev pub stepped : KernelState → ℕ → Once → KernelState
+abbrev pub stepped : KernelState → EcId → Once → KernelState
 stepped k ec (Raised reason q0 q1) = k
 stepped k ec (Went regs store) =
     with_context (record k {
@@ -252,11 +253,11 @@ stepped k ec (Went regs store) =
       messages = messages_after (address_space k ec) ec store k.messages;
     }) ec (record (context k ec) { regs = regs })
 
-abbrev pub performed : KernelState → ℕ → Deed → KernelState
-performed k ec d = spread (with_context k ec (changed (context k ec) d)) ec (pd_of k ec) d
+abbrev pub performed : KernelState → EcId → Deed → KernelState
+performed k ec d = effect_on_others (with_context k ec (actor_after (context k ec) d)) ec (pd_of k ec) d
 
 -- how far it is with its items
-abbrev pub with_transfer : KernelState → ℕ → Transfer → KernelState
+abbrev pub with_transfer : KernelState → EcId → Transfer → KernelState
 with_transfer k ec t = record k { transfers = slice_set k.transfers ec (Some t) }
 
 abbrev pub gave : Transfer → ℕ → Transfer
@@ -270,7 +271,7 @@ transfer_after item sequel.Item = record no_transfer { item = item + 1 }
 transfer_after item other = no_transfer
 
 -- the state after a deed
-abbrev pub done : KernelState → ℕ → Deed → KernelState
+abbrev pub done : KernelState → EcId → Deed → KernelState
 done k ec Rests = k
 done k ec Steps = stepped k ec (instruction k ec)
 done k ec (Gives child cursor) = with_transfer (record k { delegations = added k.delegations child }) ec (gave (transfer k ec) cursor)

@@ -1,6 +1,7 @@
 -- Items that are given: a first range by the creator of a protection domain, those of a call by the handler that takes it, and those of a reply by
 -- the handler. One part of the present item is given in a turn. (NOVA specification, typed items.)
 use Rattle.std.specs.Prelude.{ℕ, ◌+◌, ◌%◌, ◌==◌, nat_lt, if◌then◌else◌, Option, Some, None, Result, Ok, Err}
+use Rattle.nova_model.specs.Numbers.{PdId, EcId}
 use Rattle.rv_model.specs.Registers.{reg}
 use Rattle.nova_utcb.specs.Messages.{item_at, counted_items, translation_window, delegation_window}
 use Rattle.nova_range.specs.RangeWords.{meaning_of, word_of}
@@ -33,7 +34,7 @@ use Rattle.nova_model.specs.declared.transfer.Transfer.{Transfer}
 -- WHAT IS GIVEN
 
 -- a creator's: one delegation, of the range whose word is in its x12. The window is the range itself, and nobody is told.
-abbrev pub first_delivery : KernelState → ℕ → ℕ → Delivery
+abbrev pub first_delivery : KernelState → EcId → PdId → Delivery
 first_delivery k ec new = record {
   range_word = reg (context k ec).regs 12;
   second_word = 1;
@@ -53,14 +54,14 @@ whole_of (Some (range, rights)) = word_of (Some (record { kind = range.kind; bas
 
 -- the windows of the one who receives: those in the message of a thread. A virtual CPU has none for translations, and for delegations the whole space of
 -- the item's own type.
-abbrev pub translations_to : KernelState → ℕ → ℕ
+abbrev pub translations_to : KernelState → EcId → ℕ
 translations_to k to = if is_thread k to then translation_window (message k to) else 0
 
-abbrev pub delegations_to : KernelState → ℕ → ℕ → ℕ
+abbrev pub delegations_to : KernelState → EcId → ℕ → ℕ
 delegations_to k to range_word = if is_thread k to then delegation_window (message k to) else whole_of (read_as (meaning_of range_word))
 
 -- from one to another: an item of the message of `from`
-abbrev pub delivery_between : KernelState → ℕ → ℕ → ℕ → Option ℕ → Sequel → Delivery
+abbrev pub delivery_between : KernelState → EcId → EcId → ℕ → Option EcId → Sequel → Delivery
 delivery_between k from to item told last = record {
   range_word = (item_at (message k from) item).0;
   second_word = (item_at (message k from) item).1;
@@ -74,20 +75,20 @@ delivery_between k from to item told last = record {
 }
 
 -- a handler takes the items of its caller's message, and gives those of its own. One who came by an exit is told nothing of the items of the reply.
-abbrev pub taken_from : KernelState → ℕ → ℕ → Option (ℕ × Mark) → Option Delivery
+abbrev pub taken_from : KernelState → EcId → ℕ → Option (EcId × Mark) → Option Delivery
 taken_from k ec item None = None
 taken_from k ec item (Some (caller, mark)) = Some (delivery_between k caller ec item (Some ec) sequel.Taken)
 
-abbrev pub told_by : ℕ → Mark → Option ℕ
+abbrev pub told_by : EcId → Mark → Option EcId
 told_by caller mark.Call = Some caller
 told_by caller mark.Exit = None
 
-abbrev pub given_to : KernelState → ℕ → ℕ → Option (ℕ × Mark) → Option Delivery
+abbrev pub given_to : KernelState → EcId → ℕ → Option (EcId × Mark) → Option Delivery
 given_to k ec item None = None
 given_to k ec item (Some (caller, mark)) = Some (delivery_between k ec caller item (told_by caller mark) (sequel.Replied caller mark))
 
 -- the present item of an execution context in a state in which items are given
-abbrev pub delivery : KernelState → ℕ → State → Option Delivery
+abbrev pub delivery : KernelState → EcId → State → Option Delivery
 delivery k ec (Granting (Some new)) = Some (first_delivery k ec new)
 delivery k ec (Granting None) = taken_from k ec (transfer k ec).item (context k ec).caller
 delivery k ec Replying = given_to k ec (transfer k ec).item (context k ec).caller
@@ -100,7 +101,7 @@ abbrev pub flag : Delivery → ℕ
 flag v = v.second_word % 2
 
 -- the words that tell what came of an item: the answer, and its flag
-abbrev pub words_for : Option ℕ → ℕ → ℕ → Option ItemWords
+abbrev pub words_for : Option EcId → ℕ → ℕ → Option ItemWords
 words_for None first second = None
 words_for (Some ec) first second = Some (record { ec = ec; first = first; second = second })
 

@@ -2,25 +2,26 @@
 -- (Steinberg and Kauer, NOVA, EuroSys 2010, for donation; that one helps a handler that is busy is this project's own rule.)
 use Rattle.std.specs.Prelude.{ℕ, zero, suc, ⊤, ◌≡◌, ◌≢◌, ◌==◌, ◌||◌, Bool, true, false, List, [], ◌∷◌, length, Option, Some, None, is_none, option_map, option_and_then}
 use Rattle.std.specs.List.{find, list_any}
+use Rattle.nova_model.specs.Numbers.{EcId, CpuId}
 use Rattle.nova_model.specs.State.{Contexts, ec_in}
 use Rattle.nova_model.specs.declared.context.Mark.{Mark}
 use Rattle.nova_model.specs.declared.context.State.{State}
 use Rattle.nova_model.specs.declared.context.State.TheVariants.{Fresh, Ready, Parked, Calling, Helping, Exiting, Sending, Granting, Replying, Revoking, Blocked, Dead}
 
-abbrev pub state_in : Contexts → ℕ → Option State
+abbrev pub state_in : Contexts → EcId → Option State
 state_in cs e = option_map (λ x. x.state) (ec_in cs e)
 
-abbrev pub cpu_in : Contexts → ℕ → Option ℕ
+abbrev pub cpu_in : Contexts → EcId → Option CpuId
 cpu_in cs e = option_map (λ x. x.cpu) (ec_in cs e)
 
 -- the handler that an execution context in this state waits for
-abbrev pub edge_of : State → Option ℕ
+abbrev pub edge_of : State → Option EcId
 edge_of (Calling h) = Some h
 edge_of (Helping h) = Some h
 edge_of (Sending reason q0 q1 h) = Some h
 edge_of other = None
 
-abbrev pub edge : Contexts → ℕ → Option ℕ
+abbrev pub edge : Contexts → EcId → Option EcId
 edge cs e = option_and_then edge_of (state_in cs e)
 
 -- a handler of which nothing more will come; one that takes a message, or of which nothing more will come
@@ -48,47 +49,59 @@ acts_by (Revoking range own) handler = true
 acts_by (Blocked sm) handler = false
 acts_by Dead handler = false
 
+-- the states in which items are given: a creator gives a first range; a handler takes the items of a call, and gives those of its reply
+abbrev pub is_giving : State → Bool
+is_giving (Granting new) = true
+is_giving Replying = true
+is_giving other = false
+
+-- the states in which a hypercall is made: before an instruction, and while helping, when the call is made again
+abbrev pub is_asking : State → Bool
+is_asking Ready = true
+is_asking (Helping handler) = true
+is_asking other = false
+
 abbrev pub acts_as : Contexts → Option State → Bool
 acts_as cs None = false
 acts_as cs (Some s) = acts_by s (option_and_then (state_in cs) (edge_of s))
 
-abbrev pub acts : Contexts → ℕ → Bool
+abbrev pub acts : Contexts → EcId → Bool
 acts cs e = acts_as cs (state_in cs e)
 
 -- those that are met by following edges from this one, itself first; at most so many
-abbrev pub met_within : ℕ → (ℕ → Option ℕ) → Option ℕ → List ℕ
+abbrev pub met_within : ℕ → (EcId → Option EcId) → Option EcId → List EcId
 met_within zero edges e = []
 met_within (suc n) edges None = []
 met_within (suc n) edges (Some e) = e ∷ met_within n edges (edges e)
 
 -- all that are met: no circle, so never more than there are
-abbrev pub met : Contexts → ℕ → List ℕ
+abbrev pub met : Contexts → EcId → List EcId
 met cs e = met_within (length cs) (edge cs) (Some e)
 
 -- following edges from `h` meets `e`; `h` itself counts as met
-abbrev pub circle : Contexts → ℕ → ℕ → Bool
+abbrev pub circle : Contexts → EcId → EcId → Bool
 circle cs h e = list_any (λ x. e == x) (met cs h)
 
 -- turns stay with one that acts, and with one that has no edge
-abbrev pub stays : Contexts → ℕ → Bool
+abbrev pub stays : Contexts → EcId → Bool
 stays cs e = acts cs e || is_none (edge cs e)
 
-abbrev pub or_itself : ℕ → Option ℕ → ℕ
+abbrev pub or_itself : EcId → Option EcId → EcId
 or_itself e None = e
 or_itself e (Some f) = f
 
 -- the first that is met with which turns stay
-abbrev pub chase : Contexts → ℕ → ℕ
+abbrev pub chase : Contexts → EcId → EcId
 chase cs e = or_itself e (find (stays cs) (met cs e))
 
 -- who is met after so many edges
-abbrev pub after_edges : ℕ → (ℕ → Option ℕ) → ℕ → Option ℕ
+abbrev pub after_edges : ℕ → (EcId → Option EcId) → EcId → Option EcId
 after_edges zero edges e = Some e
 after_edges (suc n) edges e = option_and_then (after_edges n edges) (edges e)
 
 -- edges join execution contexts of one processor, and never lead back to where they began
 pub record AreEdges (cs : Contexts) : Type 0 where
-  pub one_processor : (e h : ℕ) → edge cs e ≡ Some h → cpu_in cs h ≡ cpu_in cs e
+  pub one_processor : (e h : EcId) → edge cs e ≡ Some h → cpu_in cs h ≡ cpu_in cs e
   pub no_circle : (e n : ℕ) → after_edges (suc n) (edge cs) e ≢ Some e
 
 -- a new edge stays on one processor and closes no circle
@@ -97,12 +110,12 @@ pub record IsNewEdge (cs : Contexts) (e h : ℕ) : Type 0 where
   pub no_circle : circle cs h e ≡ false
 
 -- an edge to be of one that is there
-abbrev pub MayWait : Contexts → ℕ → Option ℕ → Type 0
+abbrev pub MayWait : Contexts → EcId → Option EcId → Type 0
 MayWait cs e None = ⊤
 MayWait cs e (Some h) = IsNewEdge cs e h
 
 -- the caller that an execution context serves, with its mark
-abbrev pub caller_in : Contexts → ℕ → Option (ℕ × Mark)
+abbrev pub caller_in : Contexts → EcId → Option (EcId × Mark)
 caller_in cs e = option_and_then (λ x. x.caller) (ec_in cs e)
 
 -- callers are there, and on one processor with those who serve them
@@ -110,6 +123,6 @@ abbrev pub AreCallers : Contexts → Type 0
 AreCallers cs = (e c : ℕ) (mark : Mark) → caller_in cs e ≡ Some (c, mark) → cpu_in cs c ≡ cpu_in cs e
 
 -- a caller to be of one that is there
-abbrev pub MayServe : Contexts → ℕ → Option (ℕ × Mark) → Type 0
+abbrev pub MayServe : Contexts → EcId → Option (EcId × Mark) → Type 0
 MayServe cs e None = ⊤
 MayServe cs e (Some (c, mark)) = cpu_in cs c ≡ cpu_in cs e

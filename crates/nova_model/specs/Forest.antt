@@ -1,6 +1,7 @@
 -- The sound forest: what always holds of delegations. (NOVA's mapping database.)
 use Rattle.std.specs.Prelude.{◌≡◌, ℕ, ◌+◌, ◌%◌, ◌^◌, ◌<◌, ◌≤◌, List, [], ◌∷◌, Contains, true, false, Option, Some, None}
 use Rattle.std.specs.List.{AllByRecursion}
+use Rattle.nova_model.specs.Numbers.{DerivationId}
 use Rattle.nova_range.specs.declared.range.Kind.{Kind}
 use Rattle.nova_range.specs.declared.range.Kind.TheVariants.{Mem, Obj}
 use Rattle.nova_range.specs.Ranges.{overlaps}
@@ -35,7 +36,7 @@ pub record IsWithin (child parent : Derivation) : Type 0 where
   pub rights : (right : ℕ) → allows child.rights right ≡ true → allows parent.rights right ≡ true
 
 -- a derivation with a parent has it in the list, and does not exceed it
-abbrev pub HasParentIn : List Derivation → Derivation → Option ℕ → Type 0
+abbrev pub HasParentIn : List Derivation → Derivation → Option DerivationId → Type 0
 HasParentIn list d None = Unit {0}
 HasParentIn list d (Some id) = (parent : Derivation) × Contains list parent × (parent.id ≡ id) × IsWithin d parent
 
@@ -54,5 +55,5 @@ pub record IsFitting (f : Delegations) (x : Derivation) : Type 0 where
   pub apart : AllByRecursion (λ a. a.pd ≡ x.pd → a.kind ≡ x.kind → AreApart a x) f.list
 
 -- no derivation of the list is a child of this id
-abbrev pub IsChildless : List Derivation → ℕ → Type 0
+abbrev pub IsChildless : List Derivation → DerivationId → Type 0
 IsChildless list id = AllByRecursion (λ d. is_child_of id d ≡ false) list

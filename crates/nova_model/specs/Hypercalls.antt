@@ -2,6 +2,7 @@
 -- (NOVA specification, hypercalls; the numbers and statuses are this project's.)
 use Rattle.std.specs.Prelude.{ℕ, ◌==◌, Bool, true, false, not, nat_lt, length, Option, Some, None, option_map, Result, Ok, Err}
 use Rattle.std.specs.List.{find, list_any}
+use Rattle.nova_model.specs.Numbers.{PdId, EcId, PtId, SmId, CpuId, Selector}
 use Rattle.rv_model.specs.Registers.{Registers, reg}
 use Rattle.nova_calls.specs.Hypercalls.{call_of}
 use Rattle.nova_calls.specs.declared.call.Call.{Call}
@@ -50,56 +51,56 @@ unless false status rest = rest
 
 -- the create rules, for a maker of protection domain `domain`: BAD_CAP where `pd_selector` names no protection domain with create, or where the
 -- target is held; else the domain in which the object is made
-abbrev pub maker : KernelState → ℕ → ℕ → ℕ → Result ℕ Status
+abbrev pub maker : KernelState → PdId → Selector → Selector → Result PdId Status
 maker k domain target pd_selector =
     and_then (named k domain is_pd create_right pd_selector) (λ owner.
     unless (is_held k domain target) BadCap (Ok owner))
 
 -- and last BUSY, where an execution context of that domain revokes an object range that contains the target
-abbrev pub unless_busy : KernelState → ℕ → ℕ → Deed → Result Deed Status
+abbrev pub unless_busy : KernelState → PdId → Selector → Deed → Result Deed Status
 unless_busy k domain target deed = unless (is_revoked k domain target) Busy (Ok deed)
 
 -- the object that is made in the named domain, by rules of its own between them
-abbrev pub makes : KernelState → ℕ → ℕ → ℕ → ℕ → (ℕ → Result NewObject Status) → Result Deed Status
+abbrev pub makes : KernelState → PdId → ℕ → Selector → Selector → (PdId → Result NewObject Status) → Result Deed Status
 makes k domain call target pd_selector new =
     and_then (maker k domain target pd_selector) (λ owner.
     and_then (new owner) (λ made. unless_busy k domain target (Makes call target made)))
 
 -- create_pd: the create rules; it goes on where there is a first range to be given
-abbrev pub new_domain : KernelState → ℕ → Option (Range × Rights) → Deed
+abbrev pub new_domain : KernelState → Selector → Option (Range × Rights) → Deed
 new_domain k target None = Makes CREATE_PD target new.Pd
 new_domain k target (Some range) = Opens target (length k.objects)
 
-abbrev pub create_pd : KernelState → ℕ → ℕ → ℕ → Option (Range × Rights) → Result Deed Status
+abbrev pub create_pd : KernelState → PdId → Selector → Selector → Option (Range × Rights) → Result Deed Status
 create_pd k domain target pd_selector first = and_then (maker k domain target pd_selector) (λ owner. unless_busy k domain target (new_domain k target first))
 
 -- create_ec: the create rules; BAD_CPU where there is no such processor
-abbrev pub create_ec : KernelState → ℕ → ℕ → ℕ → ℕ → EcKind → ℕ → ℕ → Result Deed Status
+abbrev pub create_ec : KernelState → PdId → Selector → Selector → CpuId → EcKind → ℕ → Selector → Result Deed Status
 create_ec k domain target pd_selector cpu kind sp event =
     makes k domain CREATE_EC target pd_selector (λ owner. unless (not (nat_lt cpu k.cpus)) BadCpu (Ok (new.Ec owner cpu kind sp event)))
 
 -- an execution context has a scheduling context
-abbrev pub schedules : ℕ → Object → Bool
+abbrev pub schedules : EcId → Object → Bool
 schedules ec (Sc its cpu priority quantum) = its == ec
 schedules ec other = false
 
-abbrev pub is_scheduled : KernelState → ℕ → Bool
+abbrev pub is_scheduled : KernelState → EcId → Bool
 is_scheduled k ec = list_any (schedules ec) k.objects
 
 -- create_sc: the create rules, and BAD_CAP where `ec_selector` names no execution context with bind SC, or a local thread, or one that has a
 -- scheduling context already. The new one is of its processor.
-abbrev pub create_sc : KernelState → ℕ → ℕ → ℕ → ℕ → ℕ → ℕ → Result Deed Status
+abbrev pub create_sc : KernelState → PdId → Selector → Selector → Selector → ℕ → ℕ → Result Deed Status
 create_sc k domain target pd_selector ec_selector quantum priority =
     makes k domain CREATE_SC target pd_selector (λ owner. and_then (named k domain is_schedulable bind_scheduling_right ec_selector) (λ ec.
     unless (is_scheduled k ec) BadCap (Ok (new.Sc ec (processor_of k ec) priority quantum))))
 
 -- create_pt: the create rules, and BAD_CAP where `ec_selector` names no local thread with bind PT
-abbrev pub create_pt : KernelState → ℕ → ℕ → ℕ → ℕ → ℕ → ℕ → Result Deed Status
+abbrev pub create_pt : KernelState → PdId → Selector → Selector → Selector → ℕ → ℕ → Result Deed Status
 create_pt k domain target pd_selector ec_selector mtd ip =
     makes k domain CREATE_PT target pd_selector (λ owner. and_then (named k domain is_local bind_portal_right ec_selector) (λ handler. Ok (new.Pt handler mtd ip)))
 
 -- create_sm: the create rules
-abbrev pub create_sm : KernelState → ℕ → ℕ → ℕ → ℕ → Result Deed Status
+abbrev pub create_sm : KernelState → PdId → Selector → Selector → ℕ → Result Deed Status
 create_sm k domain target pd_selector count = makes k domain CREATE_SM target pd_selector (λ owner. Ok (new.Sm count))
 
 -- the ticks of a scheduling context, before this turn
@@ -108,48 +109,48 @@ ticks_in None = 0
 ticks_in (Some b) = b.ticks
 
 -- the word of the derivation that covers the base of a range, with its own base, order and rights, or 0
-abbrev pub looked_up : KernelState → ℕ → Range → ℕ
+abbrev pub looked_up : KernelState → PdId → Range → ℕ
 looked_up k domain range = word_of (option_map (λ d. (range_of d, d.rights)) (find (covers range.kind domain range.base) k.delegations.list))
 
 -- call: BAD_PAR where the caller's message counts more words than there are; BAD_CAP where the selector names no portal with call; then what comes
 -- of it at the handler
-abbrev pub called : KernelState → ℕ → ℕ → Admit → Result Deed Status
+abbrev pub called : KernelState → EcId → PtId → Admit → Result Deed Status
 called k ec pt (Refused status) = Err status
 called k ec pt Help = Ok (Helps (handler_of k pt))
 called k ec pt Send = Ok (Calls (handler_of k pt) (ip_of k pt) (identifier k pt) (has_items (message k ec)))
 
-abbrev pub call : KernelState → ℕ → ℕ → ℕ → Bool → Result Deed Status
+abbrev pub call : KernelState → EcId → PdId → Selector → Bool → Result Deed Status
 call k ec domain selector flag =
     unless (not (has_counts (message k ec))) BadPar (
     and_then (named k domain is_pt call_right selector) (λ pt. called k ec pt (admitted k.contexts ec (handler_of k pt) flag)))
 
 -- reply: BAD_PAR where a local thread doesn't ask, or where its message counts more words than there are; else it goes to the caller, whom a local
 -- thread that is at work has
-abbrev pub replied : KernelState → ℕ → Option (ℕ × Mark) → Result Deed Status
+abbrev pub replied : KernelState → EcId → Option (EcId × Mark) → Result Deed Status
 replied k ec (Some (caller, mark)) = Ok (Replies caller mark (has_items (message k ec)))
 replied k ec None = Err BadPar
 
-abbrev pub reply : KernelState → ℕ → Result Deed Status
+abbrev pub reply : KernelState → EcId → Result Deed Status
 reply k ec =
     unless (not (is_local_thread k ec)) BadPar (
     unless (not (has_counts (message k ec))) BadPar (replied k ec (context k ec).caller))
 
 -- sm_ctrl: BAD_CAP where the selector names no semaphore with the right to it. An up is OVERFLOW at the greatest counter with nobody waiting; a down
 -- lowers the counter, or waits.
-abbrev pub upped_by : ℕ → Result (Option ℕ) too.Overflow → Result Deed Status
+abbrev pub upped_by : SmId → Result (Option EcId) too.Overflow → Result Deed Status
 upped_by sm (Ok whom) = Ok (Ups sm whom)
 upped_by sm (Err e) = Err Overflow
 
-abbrev pub downed_by : ℕ → Down → Deed
+abbrev pub downed_by : SmId → Down → Deed
 downed_by sm Done = Downs sm
 downed_by sm Blocked = Blocks sm
 
-abbrev pub sm_ctrl : KernelState → ℕ → ℕ → SmAction → Result Deed Status
+abbrev pub sm_ctrl : KernelState → PdId → Selector → SmAction → Result Deed Status
 sm_ctrl k domain selector act.Up = and_then (named k domain is_sm up_right selector) (λ sm. upped_by sm (woken (semaphore k.semaphores sm)))
 sm_ctrl k domain selector act.Down = and_then (named k domain is_sm down_right selector) (λ sm. Ok (downed_by sm (answer_of (semaphore k.semaphores sm))))
 
 -- the rows. revoke and lookup have no refusal. ec_ctrl, sc_ctrl, pt_ctrl: BAD_CAP where the selector names no such object with control.
-abbrev pub row : KernelState → ℕ → ℕ → Call → Result Deed Status
+abbrev pub row : KernelState → EcId → PdId → Call → Result Deed Status
 row k ec domain (asks.Call portal flag) = call k ec domain portal flag
 row k ec domain asks.Reply = reply k ec
 row k ec domain (CreatePd target pd first) = create_pd k domain target pd first
@@ -165,7 +166,7 @@ row k ec domain (PtCtrl pt identifier) = and_then (named k domain is_pt control_
 row k ec domain (SmCtrl sm action) = sm_ctrl k domain sm action
 
 -- the arguments are read, and the row of the number says what is asked for
-abbrev pub asked : KernelState → ℕ → ℕ → Registers → Result Deed Status
+abbrev pub asked : KernelState → EcId → PdId → Registers → Result Deed Status
 asked k ec domain r = and_then (call_of r) (row k ec domain)
 
 -- a refusal is a deed too
@@ -174,5 +175,5 @@ or_refuses call (Ok deed) = deed
 or_refuses call (Err status) = Refuses call status
 
 -- the hypercall of an execution context of this protection domain, whose number is in x17
-abbrev pub hypercall : KernelState → ℕ → ℕ → Registers → Deed
+abbrev pub hypercall : KernelState → EcId → PdId → Registers → Deed
 hypercall k ec domain r = or_refuses (reg r 17) (asked k ec domain r)

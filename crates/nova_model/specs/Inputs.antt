@@ -1,6 +1,7 @@
 -- What a turn is for a virtual CPU: one input, or nothing.
 use Rattle.std.specs.Prelude.{ℕ, ◌+◌, ◌%◌, ◌^◌, ◌==◌, ◌&&◌, Bool, true, false, nat_le, nat_lt, bit_and, List, [], ◌∷◌, take, drop, slice_get, Option, Some, None, is_some, option_map, option_and_then, if◌then◌else◌}
 use Rattle.std.specs.List.{concat, list_any}
+use Rattle.nova_model.specs.Numbers.{PdId, EcId, FrameNumber}
 use Rattle.rv_model.specs.Step.{Once, Raised, Went, Store}
 use Rattle.nova_guest.specs.declared.input.Input.{Input}
 use Rattle.nova_guest.specs.declared.input.Input.TheVariants as input
@@ -31,10 +32,10 @@ own_input other = None
 -- TURNS OF OTHERS
 
 -- a memory derivation of the protection domain leads to the frame
-abbrev pub leads_to : ℕ → ℕ → Derivation → Bool
+abbrev pub leads_to : PdId → FrameNumber → Derivation → Bool
 leads_to pd frame d = is_memory_of pd d && (nat_le d.target frame && nat_lt frame (d.target + 2 ^ d.order))
 
-abbrev pub is_covered_for : KernelState → ℕ → ℕ → Bool
+abbrev pub is_covered_for : KernelState → PdId → FrameNumber → Bool
 is_covered_for k pd frame = list_any (leads_to pd frame) k.delegations.list
 
 -- the frame that the store of an instruction goes to, where it is one of RAM, with the store
@@ -42,21 +43,21 @@ abbrev pub store_of : Once → Option Store
 store_of (Raised reason q0 q1) = None
 store_of (Went regs store) = store
 
-abbrev pub in_ram : KernelState → ℕ → Option ℕ
+abbrev pub in_ram : KernelState → FrameNumber → Option FrameNumber
 in_ram k frame = if is_some (slice_get k.memory.ram frame) then Some frame else None
 
-abbrev pub frame_of_store : KernelState → ℕ → Store → Option ℕ
+abbrev pub frame_of_store : KernelState → EcId → Store → Option FrameNumber
 frame_of_store k ec s = option_and_then (in_ram k) (frame_for (address_space k ec) write_right s.address)
 
 -- another stores to a RAM frame that the view covers
-abbrev pub foreign_at : KernelState → ℕ → Store → ℕ → Option Input
+abbrev pub foreign_at : KernelState → PdId → Store → FrameNumber → Option Input
 foreign_at k pd s frame =
     if is_covered_for k pd frame then Some (input.Foreign frame (s.address % 4096) s.width s.value) else None
 
-abbrev pub foreign_by : KernelState → ℕ → ℕ → Store → Option Input
+abbrev pub foreign_by : KernelState → EcId → PdId → Store → Option Input
 foreign_by k ec pd s = option_and_then (foreign_at k pd s) (frame_of_store k ec s)
 
-abbrev pub foreign : KernelState → ℕ → ℕ → Option Input
+abbrev pub foreign : KernelState → EcId → EcId → Option Input
 foreign k ec g = option_and_then (foreign_by k ec (pd_of k g)) (store_of (instruction k ec))
 
 -- the groups that a reply names, but for the qualifications; and of the message words 7 to 39 those of these groups, where the others and word 8 are 0
@@ -81,7 +82,7 @@ abbrev pub reply_of : List ℕ → Input
 reply_of m = input.Reply (reply_groups m) (reply_words m)
 
 -- the bytes of the RAM frames of a derivation, one after another; a console has none
-abbrev pub contents_of : List (List ℕ) → ℕ → ℕ → List ℕ
+abbrev pub contents_of : List (List ℕ) → FrameNumber → ℕ → List ℕ
 contents_of ram frame order = concat (take (2 ^ order) (drop frame ram))
 
 abbrev pub given_of : KernelState → Derivation → Input
@@ -92,7 +93,7 @@ only_if true i = Some i
 only_if false i = None
 
 -- a store to its memory; a recall of it; a reply to its exit that completes; a memory derivation that is made in its domain, or taken from it
-abbrev pub others_input : KernelState → ℕ → ℕ → Deed → Option Input
+abbrev pub others_input : KernelState → EcId → EcId → Deed → Option Input
 others_input k ec g Steps = foreign k ec g
 others_input k ec g (Recalls whose) = only_if (whose == g) input.Recall
 others_input k ec g (Replies caller mark.Exit false) = only_if (caller == g) (reply_of (message k ec))
@@ -102,7 +103,7 @@ others_input k ec g (Removes leaf) = only_if (is_memory_of (pd_of k g) leaf) (in
 others_input k ec g other = None
 
 -- a deed of an execution context, for the virtual CPU g, which is there
-unfoldable pub input_of : KernelState → ℕ → ℕ → Deed → Option Input
+unfoldable pub input_of : KernelState → EcId → EcId → Deed → Option Input
 input_of k ec g d = if ec == g then own_input d else others_input k ec g d
 
 -- STIR COUNTS
@@ -112,17 +113,17 @@ abbrev pub is_outside : Input → Bool
 is_outside input.Own = false
 is_outside other = true
 
-abbrev pub is_stirred : KernelState → ℕ → Deed → ℕ → Bool
+abbrev pub is_stirred : KernelState → EcId → Deed → EcId → Bool
 is_stirred k ec d g = is_some (option_and_then (λ i. only_if (is_outside i) i) (input_of k ec g d))
 
-abbrev pub stirred_count : KernelState → ℕ → Deed → ℕ → ℕ → ℕ
+abbrev pub stirred_count : KernelState → EcId → Deed → EcId → ℕ → ℕ
 stirred_count k ec d g count = if is_stirred k ec d g then count + 1 else count
 
 -- of the virtual CPUs from number g on
-abbrev pub stirred_from : KernelState → ℕ → Deed → ℕ → List (Option ℕ) → List (Option ℕ)
+abbrev pub stirred_from : KernelState → EcId → Deed → EcId → List (Option ℕ) → List (Option ℕ)
 stirred_from k ec d g [] = []
 stirred_from k ec d g (count ∷ counts) = option_map (stirred_count k ec d g) count ∷ stirred_from k ec d (g + 1) counts
 
 -- the state that a deed leaves, with what it stirs counted: the second state, after a deed in the first
-abbrev pub stirred : KernelState → ℕ → Deed → KernelState → KernelState
+abbrev pub stirred : KernelState → EcId → Deed → KernelState → KernelState
 stirred k ec d after = record after { stirs = record after.stirs { guests = stirred_from k ec d 0 after.stirs.guests } }

@@ -1,3 +1,4 @@
+pub mod Numbers
 pub mod Memory
 pub mod Delegations
 pub mod AddressSpaces

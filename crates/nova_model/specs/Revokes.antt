@@ -2,6 +2,7 @@
 -- leaf by leaf, and what is busy, are this project's own rules.)
 use Rattle.std.specs.Prelude.{◌≡◌, ℕ, zero, suc, ◌+◌, ◌-◌, ◌^◌, ◌==◌, ◌&&◌, ◌||◌, Bool, true, false, nat_lt, min, max, List, [], ◌∷◌, ◌++◌, filter, Option, Some, None, option_map}
 use Rattle.std.specs.List.{list_any}
+use Rattle.nova_model.specs.Numbers.{PdId, DerivationId}
 use Rattle.nova_range.specs.Ranges.{end_of, is_inside}
 use Rattle.nova_range.specs.declared.range.Range.{Range}
 use Rattle.nova_model.specs.Delegations.{Delegations, range_of, meets, parent_of, is_child_of, newest_child, id_of, base_of, least_by, greatest_by, without}
@@ -10,7 +11,7 @@ use Rattle.nova_model.specs.declared.delegation.Derivation.{Derivation}
 
 -- a revoke: the revoker, the range, and whether derivations of the revoker's own go too
 pub record Revocation : Type 0 where
-  pub pd : ℕ
+  pub pd : PdId
   pub range : Range
   pub own : Bool
 
@@ -62,18 +63,18 @@ busy r list x = in_scope r (list ++ x ∷ []) x || is_met r x
 -- THE NEXT LEAF
 
 -- the newest child that is in the scope
-abbrev pub is_child_in : Revocation → List Derivation → ℕ → Derivation → Bool
+abbrev pub is_child_in : Revocation → List Derivation → DerivationId → Derivation → Bool
 is_child_in r list id d = is_child_of id d && in_scope r list d
 
-abbrev pub newest_in : Revocation → List Derivation → ℕ → Option Derivation
+abbrev pub newest_in : Revocation → List Derivation → DerivationId → Option Derivation
 newest_in r list id = greatest_by id_of (filter (is_child_in r list id) list)
 
 -- the way begins at the revoker's derivation of least base that is in the scope or has a child in it
 abbrev pub is_entry : Revocation → List Derivation → Derivation → Bool
 is_entry r list d = d.pd == r.pd && (in_scope r list d || list_any (is_child_in r list d.id) list)
 
-abbrev pub entry : Revocation → List Derivation → Option Derivation
-entry r list = least_by base_of (filter (is_entry r list) list)
+abbrev pub scope_entry : Revocation → List Derivation → Option Derivation
+scope_entry r list = least_by base_of (filter (is_entry r list) list)
 
 -- it goes on with a child, or ends where there is none
 abbrev pub onward : (Derivation → Derivation) → Derivation → Option Derivation → Derivation
@@ -90,7 +91,7 @@ abbrev pub leaf_from : Revocation → Delegations → Derivation → Derivation
 leaf_from r f d = onward (leaf_by f.next f.list) d (newest_in r f.list d.id)
 
 abbrev pub next_leaf : Revocation → Delegations → Option Derivation
-next_leaf r f = option_map (leaf_from r f) (entry r f.list)
+next_leaf r f = option_map (leaf_from r f) (scope_entry r f.list)
 
 -- one part: the next leaf goes, and nothing where there is none
 abbrev pub taken_away : Delegations → Option Derivation → Delegations

@@ -2,6 +2,7 @@
 use Rattle.std.specs.Prelude.{ℕ, ◌+◌, ◌-◌, ◌^◌, ◌==◌, eqb, Bool, if◌then◌else◌, List, [], ◌∷◌, ◌++◌, slice_get, slice_set, Option, Some, None, Result}
 use Rattle.std.specs.List.{list_any}
 use Rattle.std.specs.declared.result.Result.TheVariants.{Ok, Err}
+use Rattle.nova_model.specs.Numbers.{EcId, SmId}
 use Rattle.nova_model.specs.State.{Semaphore, entry}
 use Rattle.nova_model.specs.declared.semaphore.Overflow.{Overflow}
 use Rattle.nova_model.specs.declared.semaphore.Down.{Down}
@@ -12,7 +13,7 @@ abbrev pub Semaphores : Type 0
 Semaphores = List (Option Semaphore)
 
 -- the semaphore of a number
-abbrev pub semaphore_at : Semaphores → ℕ → Option Semaphore
+abbrev pub semaphore_at : Semaphores → SmId → Option Semaphore
 semaphore_at all sm = entry (slice_get all sm)
 
 -- where there is none the counter is 0, and nobody waits
@@ -20,15 +21,15 @@ abbrev pub semaphore_in : Option Semaphore → Semaphore
 semaphore_in (Some s) = s
 semaphore_in None = record { count = 0; waiting = [] }
 
-abbrev pub semaphore : Semaphores → ℕ → Semaphore
+abbrev pub semaphore : Semaphores → SmId → Semaphore
 semaphore all sm = semaphore_in (semaphore_at all sm)
 
 -- whether an execution context is one of these
-abbrev pub has : List ℕ → ℕ → Bool
+abbrev pub has : List EcId → EcId → Bool
 has ecs ec = list_any (eqb ec) ecs
 
 -- whether it waits at a semaphore
-abbrev pub waits : Semaphores → ℕ → ℕ → Bool
+abbrev pub waits : Semaphores → SmId → EcId → Bool
 waits all sm ec = has (semaphore all sm).waiting ec
 
 -- the greatest counter
@@ -36,41 +37,41 @@ abbrev pub greatest : ℕ
 greatest = 2 ^ 32 - 1
 
 -- one semaphore changes
-abbrev pub changed_by : (Semaphore → Semaphore) → Semaphores → ℕ → Option Semaphore → Semaphores
+abbrev pub changed_by : (Semaphore → Semaphore) → Semaphores → SmId → Option Semaphore → Semaphores
 changed_by change all sm None = all
 changed_by change all sm (Some s) = slice_set all sm (Some (change s))
 
-abbrev pub changed : (Semaphore → Semaphore) → Semaphores → ℕ → Semaphores
+abbrev pub changed : (Semaphore → Semaphore) → Semaphores → SmId → Semaphores
 changed change all sm = changed_by change all sm (semaphore_at all sm)
 
 -- UP
 
 -- the first that waits goes; where nobody waits the counter rises by one, unless it is at its greatest
-abbrev pub raised_with : ℕ → List ℕ → Semaphore
+abbrev pub raised_with : ℕ → List EcId → Semaphore
 raised_with count [] = record { count = if count == greatest then count else count + 1; waiting = [] }
 raised_with count (ec ∷ ecs) = record { count = count; waiting = ecs }
 
 abbrev pub raised : Semaphore → Semaphore
 raised s = raised_with s.count s.waiting
 
-abbrev pub upped : Semaphores → ℕ → Semaphores
+abbrev pub upped : Semaphores → SmId → Semaphores
 upped = changed raised
 
 -- who is woken: the first that waits. Nobody is where nobody waits, and that at the greatest counter is an overflow
-abbrev pub woken_of : ℕ → List ℕ → Result (Option ℕ) Overflow
+abbrev pub woken_of : ℕ → List EcId → Result (Option EcId) Overflow
 woken_of count [] = if count == greatest then Err (record {}) else Ok None
 woken_of count (ec ∷ ecs) = Ok (Some ec)
 
-abbrev pub woken : Semaphore → Result (Option ℕ) Overflow
+abbrev pub woken : Semaphore → Result (Option EcId) Overflow
 woken s = woken_of s.count s.waiting
 
 -- DOWN
 
 -- a counter above 0 is lowered by one; at 0 the execution context waits, last of all
-abbrev pub lowered : ℕ → Semaphore → Semaphore
+abbrev pub lowered : EcId → Semaphore → Semaphore
 lowered ec s = if s.count == 0 then record s { waiting = s.waiting ++ ec ∷ [] } else record s { count = s.count - 1 }
 
-abbrev pub downed : Semaphores → ℕ → ℕ → Semaphores
+abbrev pub downed : Semaphores → SmId → EcId → Semaphores
 downed all sm ec = changed (lowered ec) all sm
 
 abbrev pub answer_of : Semaphore → Down

@@ -1,6 +1,7 @@
 -- Transfers: a delegation item is given part by part, each a derivation of the giver. (NOVA specification, typed items; that a turn does
 -- one part is this project's own rule.)
 use Rattle.std.specs.Prelude.{ℕ, ◌+◌, ◌-◌, ◌/◌, ◌^◌, ◌==◌, ◌&&◌, Bool, nat_le, min, max, bit_and, if◌then◌else◌, List, filter, Option, Some, None, option_map, Result, Ok, Err}
+use Rattle.nova_model.specs.Numbers.{PdId, DerivationId}
 use Rattle.nova_range.specs.Clamps.{clamp_of}
 use Rattle.nova_range.specs.RangeWords.{meaning_of}
 use Rattle.nova_range.specs.Ranges.{end_of, overlaps}
@@ -28,7 +29,7 @@ abbrev pub hotspot_in : ℕ → ℕ
 hotspot_in word = word / 2 ^ 12
 
 -- a clamped item, from its first place on
-abbrev pub job_at : Range → Rights → Clamped → ℕ → ℕ → Job
+abbrev pub job_at : Range → Rights → Clamped → PdId → PdId → Job
 job_at sent rights c giver receiver = record {
   giver = giver;
   receiver = receiver;
@@ -41,7 +42,7 @@ job_at sent rights c giver receiver = record {
 }
 
 -- Empty: the range or the window doesn't read or is null; Window: they are of different types; else the item is clamped
-abbrev pub job_between : Option (Range × Rights) → Option (Range × Rights) → ℕ → ℕ → ℕ → Result Job Skip
+abbrev pub job_between : Option (Range × Rights) → Option (Range × Rights) → ℕ → PdId → PdId → Result Job Skip
 job_between None window hotspot giver receiver = Err Empty
 job_between (Some sent) None hotspot giver receiver = Err Empty
 job_between (Some sent) (Some window) hotspot giver receiver =
@@ -49,7 +50,7 @@ job_between (Some sent) (Some window) hotspot giver receiver =
     then Ok (job_at sent.0 sent.1 (clamp_of sent.0 window.0 hotspot) giver receiver)
     else Err Window
 
-abbrev pub job_of : ℕ → ℕ → ℕ → ℕ → ℕ → Result Job Skip
+abbrev pub job_of : ℕ → ℕ → ℕ → PdId → PdId → Result Job Skip
 job_of word second window giver receiver =
     job_between (read_as (meaning_of word)) (read_as (meaning_of window)) (hotspot_in second) giver receiver
 
@@ -81,7 +82,7 @@ common_rights a b = record { 0 = bit_and a.0 b.0 }
 abbrev pub child_range : Job → Derivation → Range
 child_range j d = record { kind = j.kind; base = j.dest + (overlap_base j d - j.source); order = min d.order j.order }
 
-abbrev pub child_of : Job → ℕ → Derivation → Derivation
+abbrev pub child_of : Job → DerivationId → Derivation → Derivation
 child_of j id d = derived id (Some d.id) j.receiver (child_range j d) (common_rights d.rights j.rights) (d.target + (overlap_base j d - d.base))
 
 -- Rights: none is left; Taken: the receiver holds one of the places; Busy: a revoke forbids it; else it is made

@@ -76,7 +76,7 @@ written_is_read blocks cpus most few is within =
     read_back cpus most few [] blocks (grind arith) is.counted is.merged (grind arith) (omega (arith, is.fits))
 
 -- a block that is found fits after those before
-pub record Fits (cpus most : ℕ) (before : List Block) (o : Option Block) (b : Block) : Type 0 where
+pub record BlockFits (cpus most : ℕ) (before : List Block) (o : Option Block) (b : Block) : Type 0 where
   pub said : o ≡ Some b
   pub cpu : nat_lt b.cpu cpus ≡ true
   pub count : nat_lt 0 b.count ≡ true
@@ -86,17 +86,17 @@ pub record Fits (cpus most : ℕ) (before : List Block) (o : Option Block) (b : 
 module _ (cpus most : ℕ) (before : List Block) (x b : Block) where
   tests_fit : (one two three four : Bool) → nat_le cpus x.cpu ≡ one → (x.count == 0) ≡ two → is_of (last_or None before) x.cpu ≡ three → nat_lt most (total before + x.count) ≡ four
       → cond one (Err (BadCpu (next_line before))) (cond two (Err (ZeroCount (next_line before))) (cond three (Err (NotMerged (next_line before))) (cond four (Err (TooMany (next_line before))) (Ok x)))) ≡ Ok b
-      → Fits cpus most before (Some x) b
+      → BlockFits cpus most before (Some x) b
   tests_fit true two three four is_one is_two is_three is_four is = absurd cc
   tests_fit false true three four is_one is_two is_three is_four is = absurd cc
   tests_fit false false true four is_one is_two is_three is_four is = absurd cc
   tests_fit false false false true is_one is_two is_three is_four is = absurd cc
   tests_fit false false false false is_one is_two is_three is_four is =
       let same : x ≡ b = cc in
-      let P : Block → Type 0 = λ y. Fits cpus most before (Some x) y in
+      let P : Block → Type 0 = λ y. BlockFits cpus most before (Some x) y in
       subst P same (record { said = refl; cpu = grind arith; count = grind arith; other = is_three; within = grind arith })
 
-judged_ok : (cpus most : ℕ) (before : List Block) (o : Option Block) (b : Block) → judged cpus most before o ≡ Ok b → Fits cpus most before o b
+judged_ok : (cpus most : ℕ) (before : List Block) (o : Option Block) (b : Block) → judged cpus most before o ≡ Ok b → BlockFits cpus most before o b
 judged_ok cpus most before None b is = absurd cc
 judged_ok cpus most before (Some x) b is = tests_fit cpus most before x b _ _ _ _ refl refl refl refl is
 
@@ -108,7 +108,7 @@ pub record AreRead (cpus most : ℕ) (blocks : List Block) : Type 0 where
   pub within : total blocks ≤ most
 
 module _ (cpus most : ℕ) where
-  read_push : (before : List Block) (o : Option Block) (b : Block) → AreRead cpus most before → Fits cpus most before o b → AreRead cpus most (before ++ b ∷ [])
+  read_push : (before : List Block) (o : Option Block) (b : Block) → AreRead cpus most before → BlockFits cpus most before o b → AreRead cpus most (before ++ b ∷ [])
   read_push before o b are fits = record {
     cpu = grind (arith, list_all-append (λ block. nat_lt block.cpu cpus) before (b ∷ []), are.cpu, fits.cpu);
     counted = grind (arith, counted_push before b, are.counted, fits.count);

@@ -8,7 +8,7 @@ use Rattle.nova_forest.proofs.Turning.{comes}
 use Rattle.nova_guest.specs.declared.input.Input.{Input}
 use Rattle.nova_isolation.specs.Sound.{IsSound, IsVirtual}
 use Rattle.nova_forest.proofs.Actors.{chosen_input, of_input, who_acts}
-use Rattle.nova_laws.proofs.Fitting.{chosen_acts}
+use Rattle.nova_laws.proofs.TablesFit.{chosen_acts}
 use Rattle.nova_laws.proofs.Serving.{IsActor, actor_of}
 use Rattle.nova_model.specs.Capabilities.{is_vcpu}
 use Rattle.nova_model.specs.Choice.{Candidate}

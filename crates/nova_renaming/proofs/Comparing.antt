@@ -9,7 +9,7 @@ use Rattle.nova_guest.specs.declared.cell.Cell.{Cell}
 use Rattle.nova_guest.specs.declared.guest.Guest.{Guest}
 use Rattle.nova_guest.specs.declared.input.Input.{Input}
 use Rattle.nova_renaming.specs.Forced.{agree, alike, alike_inputs, alike_maps, among, forced, has_same_bytes, inputs_pairs, is_one_to_one, is_pair, maps_pairs, new_pairs, once, same_flag, same_registers, same_state, same_bytes, suits}
-use Rattle.nova_renaming.specs.Renamings.{CellsAgree, Fits, GuestsAgree, InputsAgree, IsOneToOne, Renames}
+use Rattle.nova_renaming.specs.Renamings.{CellsAgree, InputFits, GuestsAgree, InputsAgree, IsOneToOne, Renames}
 use Rattle.nova_renaming.specs.Verdicts.{AreDifferent, AreEqual, CantAgree, IsAgreement, IsVerdict, Verdict, Equal, Views, Differ, agree_first, compared, most}
 use Rattle.nova_renaming.proofs.Forcing.{AreIn, both_in, bytes_same, bytes_self, eq_self, flags_same, flags_self, inputs_alike, inputs_forced, inputs_made, left_in, maps_alike, maps_forced, maps_made, or_left, or_parts, or_right, registers_same, registers_self, right_in, states_same, states_self}
 use Rattle.nova_renaming.proofs.Runs.{EndsAgree, alone_agrees}
@@ -226,7 +226,7 @@ verdict_holds u v is js = by_tests (agree u v [] []) refl (agree u v is js) refl
     by_tests true holds false h = differ_holds u v is js holds h
 
 -- EQUAL SIDES END EQUAL
-pub equal_ends : (u v : Guest) (is js : List Input) (inputs : ℕ) (pairs : List (ℕ × ℕ)) → compared u v is js ≡ Equal inputs pairs → All Fits is → EndsAgree (among pairs) u v is js
+pub equal_ends : (u v : Guest) (is js : List Input) (inputs : ℕ) (pairs : List (ℕ × ℕ)) → compared u v is js ≡ Equal inputs pairs → All InputFits is → EndsAgree (among pairs) u v is js
 equal_ends u v is js inputs pairs h fit =
     let equal : AreEqual u v is js inputs pairs = subst (λ (x : Verdict). IsVerdict u v is js x) h (verdict_holds u v is js) in
     alone_agrees (among pairs) equal.agreement.one u v equal.agreement.guests is js fit equal.agreement.inputs

@@ -21,7 +21,7 @@ use Rattle.nova_isolation.specs.Sound.{IsSound, IsVirtual}
 use Rattle.nova_isolation.proofs.Exchanges.{covered_for}
 use Rattle.nova_isolation.proofs.Runs.{turn_is_one, turn_sound, turn_virtual}
 use Rattle.nova_renaming.specs.Forced.{all_given, among, forced, given_pairs, input_pairs, inputs_pairs, is_pair, maps_pairs, named, new_pairs, once, paired}
-use Rattle.nova_renaming.specs.Renamings.{Fits, GuestsAgree, InputAgrees, InputsAgree, IsOneToOne, MapsAgree, Renames}
+use Rattle.nova_renaming.specs.Renamings.{InputFits, GuestsAgree, InputAgrees, InputsAgree, IsOneToOne, MapsAgree, Renames}
 use Rattle.nova_renaming.specs.Verdicts.{IsAgreement}
 use Rattle.nova_renaming.proofs.Forcing.{AreIn, both_in, in_paired, left_in, maps_alike, maps_forced, maps_made, none_in, or_left, or_parts, or_right, paired_in, right_in}
 use Rattle.nova_renaming.proofs.Passing.{input_passes}
@@ -168,7 +168,7 @@ input_met r u v (Reply mtd words) j xs rest one same covered part maps = refl
 input_met r u v (Taken base order) j xs rest one same covered part maps = refl
 
 -- ALL INPUTS
-inputs_met : (r : ℕ → ℕ → Bool) (u v : Guest) (is js : List Input) (xs : List (ℕ × ℕ)) → IsOneToOne r → GuestsAgree r u v → InputsAgree r is js → All Fits is → AreCovered u is → AreIn r xs →
+inputs_met : (r : ℕ → ℕ → Bool) (u v : Guest) (is js : List Input) (xs : List (ℕ × ℕ)) → IsOneToOne r → GuestsAgree r u v → InputsAgree r is js → All InputFits is → AreCovered u is → AreIn r xs →
     MapsAgree (among xs) u.maps v.maps → once (xs ++ inputs_pairs is js) ≡ once (xs ++ all_given is js)
 inputs_met r u v [] [] xs one guests same fit covered part maps = refl
 inputs_met r u v [] (j ∷ js) xs one guests same fit covered part maps = absurd same
@@ -177,12 +177,12 @@ inputs_met r u v (i ∷ is) (j ∷ js) xs one guests same fit covered part maps 
     let ys : List (ℕ × ℕ) = xs ++ given_pairs i j in
     let more : AreIn r ys = both_in r xs (given_pairs i j) part (given_in r i j same.0) in
     let wider : MapsAgree (among ys) u.maps v.maps = more_maps (among xs) (among ys) u.maps v.maps (left_in (among ys) xs (given_pairs i j) (all_in ys)) maps in
-    let fits : Fits i = first_is Fits i is fit in
+    let fits : InputFits i = first_is InputFits i is fit in
     let whole = apply_agrees r one u v guests i j fits same.0 in
     let next = apply_agrees (among ys) (part_one r (among ys) one more) u v (part_guests r (among ys) u v guests more wider) i j fits (named_agrees r u v i j xs one same.0 covered.0 part maps) in
     input_met r u v i j xs (inputs_pairs is js) one same.0 covered.0 part maps
     ∙ (ap once (sym (append_assoc xs (given_pairs i j) (inputs_pairs is js)))
-    ∙ (inputs_met r (applied u i).guest (applied v j).guest is js ys one whole.guest same.1 (All-tail Fits i is fit) covered.1 more next.guest.maps
+    ∙ (inputs_met r (applied u i).guest (applied v j).guest is js ys one whole.guest same.1 (All-tail InputFits i is fit) covered.1 more next.guest.maps
     ∙ ap once (append_assoc xs (given_pairs i j) (all_given is js))))
 
 pub forced_named : (r : ℕ → ℕ → Bool) (k : KernelState) (turns : List ℕ) (g : ℕ) (v : Guest) (js : List Input) → IsSound k → IsVirtual k g →

@@ -19,7 +19,7 @@ use Rattle.nova_model.specs.State.{KernelState}
 use Rattle.nova_isolation.specs.Sound.{AreWhole, IsSound}
 use Rattle.nova_isolation.proofs.Exchanges.{all_drop, all_take, length_concat}
 use Rattle.nova_isolation.proofs.Runs.{turn_sound}
-use Rattle.nova_renaming.specs.Renamings.{Fits, GuestsAgree, InputsAgree, IsOneToOne, OutsAgree}
+use Rattle.nova_renaming.specs.Renamings.{InputFits, GuestsAgree, InputsAgree, IsOneToOne, OutsAgree}
 use Rattle.nova_renaming.proofs.Contents.{contents_fit}
 use Rattle.nova_renaming.proofs.Passing.{input_passes}
 use Rattle.nova_renaming.proofs.Steps.{PutsAgree, apply_agrees}
@@ -39,19 +39,19 @@ pub record EndsAgree (r : ℕ → ℕ → Bool) (u v : Guest) (is js : List Inpu
   pub guests : GuestsAgree r (alone u is) (alone v js)
   pub outs : OutsAgree r (outputs u is) (outputs v js)
 
-pub alone_agrees : (r : ℕ → ℕ → Bool) → IsOneToOne r → (u v : Guest) → GuestsAgree r u v → (is js : List Input) → All Fits is → InputsAgree r is js → EndsAgree r u v is js
+pub alone_agrees : (r : ℕ → ℕ → Bool) → IsOneToOne r → (u v : Guest) → GuestsAgree r u v → (is js : List Input) → All InputFits is → InputsAgree r is js → EndsAgree r u v is js
 alone_agrees r one u v same [] [] fit h = record { guests = same; outs = tt }
 alone_agrees r one u v same [] (j ∷ js) fit h = absurd h
 alone_agrees r one u v same (i ∷ is) [] fit h = absurd h
 alone_agrees r one u v same (i ∷ is) (j ∷ js) fit h =
-    let once = apply_agrees r one u v same i j (first_is Fits i is fit) h.0 in
-    let rest = alone_agrees r one (applied u i).guest (applied v j).guest once.guest is js (All-tail Fits i is fit) h.1 in record {
+    let once = apply_agrees r one u v same i j (first_is InputFits i is fit) h.0 in
+    let rest = alone_agrees r one (applied u i).guest (applied v j).guest once.guest is js (All-tail InputFits i is fit) h.1 in record {
       guests = rest.guests;
       outs = puts_before r (applied u i).out (applied v j).out (outputs (applied u i).guest is) (outputs (applied v j).guest js) once.out rest.outs;
     }
 
 -- inputs that `alone` takes
-pub input_fits : (i : Input) → IsInput i → Fits i
+pub input_fits : (i : Input) → IsInput i → InputFits i
 input_fits (input_as.Given base order rights frame contents) is = contents_fit order contents is.1
 input_fits other is = tt
 
@@ -65,8 +65,8 @@ given_fits frame order ram whole =
     length_concat 4096 some (all_take (λ p. length p ≡ 4096) (2 ^ order) (drop frame ram) (all_drop (λ p. length p ≡ 4096) frame ram whole)) in
     let short = length-take (2 ^ order) (drop frame ram) in grind (arith, count, short)
 
-turn_fits : (k : KernelState) (cpu g : ℕ) → IsSound k → IfSome (input k cpu g) Fits
-turn_fits k cpu g sound = input_passes k cpu g Fits (record {
+turn_fits : (k : KernelState) (cpu g : ℕ) → IsSound k → IfSome (input k cpu g) InputFits
+turn_fits k cpu g sound = input_passes k cpu g InputFits (record {
   own = tt;
   sent = tt;
   died = tt;
@@ -81,7 +81,7 @@ pub front_each : (P : Input → Type 0) (i : Option Input) (is : List Input) →
 front_each P None is first rest = rest
 front_each P (Some i) is first rest = All-cons P i is first rest
 
-pub inputs_fit : (k : KernelState) (turns : List ℕ) (g : ℕ) → IsSound k → All Fits (inputs k turns g)
-inputs_fit k [] g sound = All-nil Fits
+pub inputs_fit : (k : KernelState) (turns : List ℕ) (g : ℕ) → IsSound k → All InputFits (inputs k turns g)
+inputs_fit k [] g sound = All-nil InputFits
 inputs_fit k (cpu ∷ turns) g sound =
-    front_each Fits (input k cpu g) (inputs (after k cpu) turns g) (turn_fits k cpu g sound) (inputs_fit (after k cpu) turns g (turn_sound k cpu sound))
+    front_each InputFits (input k cpu g) (inputs (after k cpu) turns g) (turn_fits k cpu g sound) (inputs_fit (after k cpu) turns g (turn_sound k cpu sound))

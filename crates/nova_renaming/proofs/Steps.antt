@@ -18,7 +18,7 @@ use Rattle.nova_guest.specs.declared.input.Input.TheVariants.{Own, Reply, Recall
 use Rattle.nova_guest.specs.declared.input.Out.{Out}
 use Rattle.nova_guest.specs.declared.input.Out.TheVariants as out
 use Rattle.nova_guest.specs.declared.map.Map.{Map}
-use Rattle.nova_renaming.specs.Renamings.{Fits, GuestsAgree, InputAgrees, IsOneToOne, MapAgrees, MapsAgree, OutAgrees, Renames}
+use Rattle.nova_renaming.specs.Renamings.{InputFits, GuestsAgree, InputAgrees, IsOneToOne, MapAgrees, MapsAgree, OutAgrees, Renames}
 use Rattle.nova_renaming.proofs.Contents.{filtered_agrees, given_agrees, stored_agrees}
 use Rattle.nova_renaming.proofs.Spaces.{FramesAgree, covered_agrees, frame_agrees, space_agrees}
 
@@ -183,7 +183,7 @@ by_state r u v F same h = record { guest = subst (λ (s : GuestState). GuestsAgr
 to_input : (r : ℕ → ℕ → Bool) (a : Told) (v : Guest) (i j : Input) → j ≡ i → ToldAgrees r a (applied v i) → ToldAgrees r a (applied v j)
 to_input r a v i j e h = subst (λ (k : Input). ToldAgrees r a (applied v k)) (sym e) h
 
-pub apply_agrees : (r : ℕ → ℕ → Bool) → IsOneToOne r → (u v : Guest) → GuestsAgree r u v → (i j : Input) → Fits i → InputAgrees r i j → ToldAgrees r (applied u i) (applied v j)
+pub apply_agrees : (r : ℕ → ℕ → Bool) → IsOneToOne r → (u v : Guest) → GuestsAgree r u v → (i j : Input) → InputFits i → InputAgrees r i j → ToldAgrees r (applied u i) (applied v j)
 unfolding applied
 apply_agrees r one u v same Own j is h =
     to_input r (applied u Own) v Own j h (subst (λ (s : GuestState). ToldAgrees r (acted u u.state) (acted v s)) (sym same.state) (act_agrees r one u v same u.state))

@@ -58,9 +58,9 @@ InputsAgree r (i ∷ is) (j ∷ js) = InputAgrees r i j × InputsAgree r is js
 InputsAgree r is js = ⊥
 
 -- a map comes with the bytes of no more frames than it has
-abbrev pub Fits : Input → Type 0
-Fits (Given base order rights frame contents) = length contents / page_size ≤ 2 ^ order
-Fits other = Unit {0}
+abbrev pub InputFits : Input → Type 0
+InputFits (Given base order rights frame contents) = length contents / page_size ≤ 2 ^ order
+InputFits other = Unit {0}
 
 -- WHAT IS PUT OUT: exits are equal, and bytes are but for the console
 abbrev pub OutAgrees : (ℕ → ℕ → Bool) → Out → Out → Type 0

@@ -19,7 +19,7 @@ ghost use Rattle.nova_model.specs.State.{KernelState};
 ghost use Rattle.nova_model.specs.Views.{view};
 ghost use Rattle.nova_isolation.specs.Sound.{AreRanges, IsSound, IsVirtual};
 ghost use Rattle.nova_renaming.specs.Forced.{agree, among, forced, named, once};
-ghost use Rattle.nova_renaming.specs.Renamings.{Fits, GuestsAgree, InputsAgree, IsOneToOne, OutsAgree, Renames, bytes_behind};
+ghost use Rattle.nova_renaming.specs.Renamings.{InputFits, GuestsAgree, InputsAgree, IsOneToOne, OutsAgree, Renames, bytes_behind};
 ghost use Rattle.nova_renaming.specs.Twins.{AreTwins, EndAsTwins, IsRenaming, ViewsAgree};
 ghost use Rattle.nova_renaming.specs.Verdicts.{Equal, IsAgreement, IsVerdict, SayTheSame, Verdict, compared};
 ghost use Rattle.nova_renaming.specs.Walks.{walk};
@@ -38,16 +38,16 @@ pub fn renamed_guests_read_the_same()
 /// and put out the same: equal exits, and equal bytes, to consoles that stand for each other. Maps that are
 /// given come with the bytes of no more frames than they have, as each input of a guest alone does.
 pub fn renamed_inputs_end_renamed()
-    ensures guests { (r : ℕ → ℕ → Bool) (u v : Guest) (is js : List Input) → IsOneToOne r → GuestsAgree r u v → All Fits is → InputsAgree r is js
+    ensures guests { (r : ℕ → ℕ → Bool) (u v : Guest) (is js : List Input) → IsOneToOne r → GuestsAgree r u v → All InputFits is → InputsAgree r is js
         → GuestsAgree r (alone u is) (alone v js) }
-    ensures outs { (r : ℕ → ℕ → Bool) (u v : Guest) (is js : List Input) → IsOneToOne r → GuestsAgree r u v → All Fits is → InputsAgree r is js
+    ensures outs { (r : ℕ → ℕ → Bool) (u v : Guest) (is js : List Input) → IsOneToOne r → GuestsAgree r u v → All InputFits is → InputsAgree r is js
         → OutsAgree r (outputs u is) (outputs v js) }
-    ensures fit { (i : Input) → IsInput i → Fits i }
+    ensures fit { (i : Input) → IsInput i → InputFits i }
 {}
 
 /// What turns are for a virtual CPU fits.
 pub fn inputs_of_turns_fit()
-    ensures { (k : KernelState) (turns : List ℕ) (g : ℕ) → IsSound k → All Fits (inputs k turns g) }
+    ensures { (k : KernelState) (turns : List ℕ) (g : ℕ) → IsSound k → All InputFits (inputs k turns g) }
 {}
 
 /// Two virtual CPUs, of whatever kernels and in whatever turns, whose views agree under a one-to-one
@@ -99,9 +99,9 @@ pub fn one_pass_compares()
 /// Guests that are found equal end so under the pairs that are given: their ends agree, their exits are
 /// equal, and their bytes are but for the consoles.
 pub fn equal_guests_end_renamed()
-    ensures guests { (u v : Guest) (is js : List Input) (inputs : ℕ) (pairs : List (ℕ × ℕ)) → compared u v is js ≡ Equal inputs pairs → All Fits is
+    ensures guests { (u v : Guest) (is js : List Input) (inputs : ℕ) (pairs : List (ℕ × ℕ)) → compared u v is js ≡ Equal inputs pairs → All InputFits is
         → GuestsAgree (among pairs) (alone u is) (alone v js) }
-    ensures outs { (u v : Guest) (is js : List Input) (inputs : ℕ) (pairs : List (ℕ × ℕ)) → compared u v is js ≡ Equal inputs pairs → All Fits is
+    ensures outs { (u v : Guest) (is js : List Input) (inputs : ℕ) (pairs : List (ℕ × ℕ)) → compared u v is js ≡ Equal inputs pairs → All InputFits is
         → OutsAgree (among pairs) (outputs u is) (outputs v js) }
 {}
 

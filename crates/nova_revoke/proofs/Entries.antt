@@ -8,7 +8,7 @@ use Rattle.nova_range.specs.Ranges.{IsRange, end_of, overlaps}
 use Rattle.nova_range.proofs.Multiples.{end_within}
 use Rattle.nova_model.specs.Delegations.{Delegations, range_of, parent_of, is_child_of, holds_from, first_from, least_by, base_of}
 use Rattle.nova_model.specs.Forest.{IsForest}
-use Rattle.nova_model.specs.Revokes.{Revocation, is_met, is_made_of, is_own, in_scope, IsInScope, Top, Below, is_child_in, newest_in, is_entry, entry}
+use Rattle.nova_model.specs.Revokes.{Revocation, is_met, is_made_of, is_own, in_scope, IsInScope, Top, Below, is_child_in, newest_in, is_entry, scope_entry}
 use Rattle.nova_model.specs.declared.delegation.Derivation.{Derivation}
 use Rattle.nova_forest.proofs.Extremes.{any_in, any_from, none_passes, none_kept, before_facts, none_before, least}
 use Rattle.nova_forest.proofs.Leaves.{newest_in_is, no_newest_in}
@@ -117,7 +117,7 @@ passed r f forest place d before next out a i h = by_place (cases_lt a.base (end
         absurd (cc)
 
 -- one that is an entry is the one of least base
-pub found : (r : Revocation) (f : Delegations) → IsForest f → (place : ℕ) (d : Derivation) → IsNext r f place d → is_entry r f.list d ≡ true → Some d ≡ entry r f.list
+pub found : (r : Revocation) (f : Delegations) → IsForest f → (place : ℕ) (d : Derivation) → IsNext r f place d → is_entry r f.list d ≡ true → Some d ≡ scope_entry r f.list
 found r f forest place d next h =
     sym (least_only base_of (filter (is_entry r f.list) f.list) d (in_filtered (is_entry r f.list) f.list d next.there h)
     (λ a i. let k = filtered_in (is_entry r f.list) f.list a i in next.least a k.0 k.1)
@@ -127,7 +127,7 @@ found r f forest place d next h =
     beside r f forest a d k.0 next.there (entry_of r f forest a k.0 k.1) (of_next r f place d next) (omega arith) (omega arith)))
 
 -- where the search ends there is none
-pub ended : (r : Revocation) (f : Delegations) → IsForest f → (place : ℕ) → NoneBefore r f place → first_from f.list r.range.kind r.pd place ≡ None → None ≡ entry r f.list
+pub ended : (r : Revocation) (f : Delegations) → IsForest f → (place : ℕ) → NoneBefore r f place → first_from f.list r.range.kind r.pd place ≡ None → None ≡ scope_entry r f.list
 ended r f forest place before none = sym (ap (least_by base_of) (none_kept (is_entry r f.list) f.list (λ a i. false_from_ne_true (is_entry r f.list a) (λ h.
     let empty = none_before (λ a b. nat_le a.base b.base) (least base_of) (filter (holds_from r.range.kind r.pd place) f.list) none in
     let out = none_passes (holds_from r.range.kind r.pd place) f.list empty a i in

@@ -1,7 +1,7 @@
 ghost use Rattle.std.specs.Prelude.{◌≡◌, ◌↔◌, ◌≤◌, ℕ, [], Contains, IfSome};
 ghost use Rattle.nova_model.specs.Delegations.{first_from};
 ghost use Rattle.nova_model.specs.Forest.{IsChildless};
-ghost use Rattle.nova_model.specs.Revokes.{scope, newest_in, is_entry, entry, leaf_by, next_leaf, revoked};
+ghost use Rattle.nova_model.specs.Revokes.{scope, newest_in, is_entry, scope_entry, leaf_by, next_leaf, revoked};
 ghost use Rattle.nova_nodes.specs.NodesStates.{IsPlaced, IsSound, room};
 ghost use Rattle.nova_revoke.specs.Done.{done_of, IsPart};
 ghost use Rattle.nova_revoke.specs.declared.leaves.RevokeDone.TheVariants.{Ended};
@@ -60,8 +60,8 @@ fn next_held<I: Index>(nodes: &Nodes<I>, revoke: &Revoke, place: u32) -> Option<
 }
 
 /// Where the way to the next leaf begins.
-pub(crate) fn entry<I: Index>(nodes: &Nodes<I>, revoke: &Revoke) -> Option<Derivation>
-    ensures found { result ≡ entry revoke.now nodes.now.delegations.list }
+pub(crate) fn scope_entry<I: Index>(nodes: &Nodes<I>, revoke: &Revoke) -> Option<Derivation>
+    ensures found { result ≡ scope_entry revoke.now nodes.now.delegations.list }
     ensures sound { IsSound nodes.now.delegations }
 {
     let mut place = 0;
@@ -81,7 +81,7 @@ fn next_leaf<I: Index>(nodes: &mut Nodes<I>, revoke: &Revoke) -> Option<Derivati
     ensures sound { IsSound nodes.old.delegations }
     ensures kept { nodes.new ≡ nodes.old }
 {
-    let d = entry(nodes, revoke)?;
+    let d = scope_entry(nodes, revoke)?;
     match newest_in(nodes, revoke, d.id) {
         None => Some(d),
         Some(c) => Some(nodes.leaf_below(c)),

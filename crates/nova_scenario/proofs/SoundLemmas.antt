@@ -20,7 +20,7 @@ use Rattle.nova_scenario.specs.Settings.{within, entered, with_setting, frames_s
 use Rattle.nova_scenario.specs.Sound.{IsIn, ShareNone, AreApart, IsSound}
 use Rattle.nova_scenario.specs.Statement.{number_of, one_number, root_of as root_line, start_of, start_and_numbers, address_and_form, keyword_named, statement_of, said_by, said_in, said}
 use Rattle.nova_elf.specs.Executable.{program}
-use Rattle.nova_elf.specs.Fits.{Fits}
+use Rattle.nova_elf.specs.SegmentFits.{SegmentFits}
 use Rattle.nova_elf.specs.declared.fault.ElfFault.{ElfFault}
 use Rattle.nova_elf.specs.declared.program.Program.{Program}
 use Rattle.nova_elf.specs.declared.program.Segment.{Segment}
@@ -118,7 +118,7 @@ images_kept d e (image ∷ images) sound all is =
     images_kept a.0 e images k.0 (subst (λ s. AllByRecursion (λ i. end_of i ≤ ram_size s) images) (sym k.1) all.1) a.2
 
 -- the segments of an executable end in RAM
-segment_size : (file : List ℕ) (address : ℕ) (s : Segment) → Fits (length file) s → length (segment_image address file s).bytes ≤ s.memory
+segment_size : (file : List ℕ) (address : ℕ) (s : Segment) → SegmentFits (length file) s → length (segment_image address file s).bytes ≤ s.memory
 segment_size file address s fits =
     let room = fits.room in
     let laid : List ℕ = slice_range file s.offset (s.offset + s.file) in
@@ -127,7 +127,7 @@ segment_size file address s fits =
     let count : (s.offset + s.file) - s.offset ≡ s.file = omega arith in
     omega (arith, length-append laid zeros, length-take ((s.offset + s.file) - s.offset) (drop s.offset file), length-replicate (s.memory - s.file) none)
 
-segments_within : (ram address : ℕ) (file : List ℕ) (segments : List Segment) → AllByRecursion (Fits (length file)) segments → list_any (reaches_past ram address) segments ≡ false → AllByRecursion (λ image. end_of image ≤ ram) (map (segment_image address file) segments)
+segments_within : (ram address : ℕ) (file : List ℕ) (segments : List Segment) → AllByRecursion (SegmentFits (length file)) segments → list_any (reaches_past ram address) segments ≡ false → AllByRecursion (λ image. end_of image ≤ ram) (map (segment_image address file) segments)
 segments_within ram address file [] fit none = tt
 segments_within ram address file (s ∷ segments) fit none =
     let both = or_false (reaches_past ram address s) (list_any (reaches_past ram address) segments) none in
@@ -135,7 +135,7 @@ segments_within ram address file (s ∷ segments) fit none =
     let ends : address + s.address + s.memory ≤ ram = let h = both.0 in grind (arith, nat_tests) in
     (omega arith, segments_within ram address file segments fit.1 both.1)
 
-segments_kept : (d e : Draft) (address : ℕ) (file : List ℕ) (segments : List Segment) → IsSoundDraft d → AllByRecursion (Fits (length file)) segments → with_segments address file segments d ≡ Ok e → IsSoundDraft e
+segments_kept : (d e : Draft) (address : ℕ) (file : List ℕ) (segments : List Segment) → IsSoundDraft d → AllByRecursion (SegmentFits (length file)) segments → with_segments address file segments d ≡ Ok e → IsSoundDraft e
 segments_kept d e address file segments sound fit is = go (list_any (reaches_past (ram_size d.settings) address) segments) refl where
   go : (past : Bool) → list_any (reaches_past (ram_size d.settings) address) segments ≡ past → IsSoundDraft e
   go true p = let same : Err Range ≡ Ok e = rw p at is in cc

@@ -3,7 +3,7 @@ use Rattle.std.proofs.Common.{◌≡◌, ℕ, zero, suc, ◌<◌, List, [], ◌�
 use Rattle.std.specs.Prelude.{◌≤◌, Bool, max, map, slice_set, slice_index, slice_index_or, Option, Some, Result, OnOk, OnErr, option_map}
 use Rattle.std.specs.declared.result.Result.TheVariants.{Ok, Err}
 use Rattle.nova_model.specs.Turn.{is_spent, stamp_after}
-use Rattle.nova_sched.specs.Queues.{Schedule, queued_at, next, choose, members, marked, charged}
+use Rattle.nova_sched.specs.Queues.{Schedule, queued_at, next, choose, members, marked, charged_schedule}
 use Rattle.nova_sched.specs.Lists.{QueueState, foremost_among, paid}
 use Rattle.nova_sched.specs.Best.{foremost}
 use Rattle.nova_sched.specs.declared.queued.Queued.{Queued}
@@ -20,7 +20,7 @@ pub marked_is : (s : Schedule) (sc : ℕ) (runnable : Bool) (e : Queued) → que
 marked_is s sc runnable e is = rw is refl
 
 pub charged_is : (s : Schedule) (sc : ℕ) (e after : Queued) (t : Bool) → queued_at s sc ≡ Some e → after ≡ paid e s.next_stamp → is_spent e.budget ≡ t →
-    record s { entries = slice_set s.entries sc (Some after); next_stamp = stamp_after t s.next_stamp } ≡ charged s sc
+    record s { entries = slice_set s.entries sc (Some after); next_stamp = stamp_after t s.next_stamp } ≡ charged_schedule s sc
 charged_is s sc e after t is paying spent = rw (is, paying, ← spent) refl
 
 room_set : (queues : List QueueState) (cpu : ℕ) (q : QueueState) → cpu < length queues → 0 < q.spare → 0 < slice_index (map (λ (x : QueueState). x.spare) (slice_set queues cpu q)) cpu

@@ -1,6 +1,6 @@
 -- Who may run, who runs first, and whom a change is of, in plain terms.
 use Rattle.std.specs.Prelude.{◌≡◌, ◌<◌, ◌≤◌, ◌⊎◌, ℕ, Bool, true, [], length, Some, MatchOption}
-use Rattle.nova_sched.specs.Queues.{Schedule, queued_at, choose, marked, charged, added}
+use Rattle.nova_sched.specs.Queues.{Schedule, queued_at, choose, marked, charged_schedule, added}
 use Rattle.nova_sched.specs.declared.queued.Queued.{Queued}
 
 -- one of the processor that is runnable
@@ -34,7 +34,7 @@ abbrev pub MarkedChangesOne : Type 0
 MarkedChangesOne = (s : Schedule) (sc : ℕ) (runnable : Bool) → ChangesOne s sc (marked s sc runnable)
 
 abbrev pub ChargedChangesOne : Type 0
-ChargedChangesOne = (s : Schedule) (sc : ℕ) → ChangesOne s sc (charged s sc)
+ChargedChangesOne = (s : Schedule) (sc : ℕ) → ChangesOne s sc (charged_schedule s sc)
 
 abbrev pub AddedChangesOne : Type 0
 AddedChangesOne = (s : Schedule) (sc cpu priority quantum : ℕ) → length s.entries ≤ sc → ChangesOne s sc (added s sc cpu priority quantum)
@@ -49,7 +49,7 @@ pub record StampsAreGivenOnce : Type 0 where
   pub none : (cpus : ℕ) → AreStamped (record { entries = []; next_stamp = 0; cpus = cpus })
   pub add : (s : Schedule) (sc cpu priority quantum : ℕ) → length s.entries ≤ sc → AreStamped s → AreStamped (added s sc cpu priority quantum)
   pub mark : (s : Schedule) (sc : ℕ) (runnable : Bool) → AreStamped s → AreStamped (marked s sc runnable)
-  pub charge : (s : Schedule) (sc : ℕ) → AreStamped s → AreStamped (charged s sc)
+  pub charge : (s : Schedule) (sc : ℕ) → AreStamped s → AreStamped (charged_schedule s sc)
 
 -- then only one is foremost
 abbrev pub ForemostIsAlone : Type 0

@@ -101,5 +101,5 @@ charged_by s sc (Some e) = record s {
 }
 
 -- one pays a turn
-abbrev pub charged : Schedule → ℕ → Schedule
-charged s sc = charged_by s sc (queued_at s sc)
+abbrev pub charged_schedule : Schedule → ℕ → Schedule
+charged_schedule s sc = charged_by s sc (queued_at s sc)

@@ -1,6 +1,6 @@
 ghost use Rattle.std.specs.Prelude.{◌≡◌, ℕ, true, false, ◌+◌, ◌^◌, ◌<◌, ◌≤◌, ◌-◌, [], length, max, is_some, replicate, vec_len, vec_capacity, IsSome, IfSome, IfOk, IsOk, OnOk, OnErr, Some, slice_get};
 ghost use Rattle.nova_model.specs.Turn.{is_spent};
-ghost use Rattle.nova_sched.specs.Queues.{HasRoom, queued_at, choose, members, padded, added, marked, charged};
+ghost use Rattle.nova_sched.specs.Queues.{HasRoom, queued_at, choose, members, padded, added, marked, charged_schedule};
 ghost use Rattle.nova_model.specs.Forest.{ArePairs};
 ghost use Rattle.nova_sched.specs.Lists.{unroomed};
 ghost use Rattle.nova_sched.specs.Ready.{IsBehind, as_runnable, dropped, items_at, placed, renewed, requeued, room_at};
@@ -308,7 +308,7 @@ impl Queues {
         requires ticks { IfSome (queued_at self.old.all sc) (λ e. e.budget.ticks < 2 ^ 64 - 1) }
         requires stamp { self.old.all.next_stamp < 2 ^ 64 - 1 }
         requires last { IfSome (queued_at self.old.all sc) (λ e. is_spent e.budget ≡ true) }
-        ensures charged { self.new.all ≡ charged self.old.all sc }
+        ensures charged { self.new.all ≡ charged_schedule self.old.all sc }
         ensures numbers { self.new.numbers ≡ self.old.numbers }
         ensures rooms { self.new.rooms ≡ self.old.rooms }
     {
@@ -327,7 +327,7 @@ impl Queues {
         requires there { IsSome (queued_at self.old.all sc) }
         requires ticks { IfSome (queued_at self.old.all sc) (λ e. e.budget.ticks < 2 ^ 64 - 1) }
         requires left { IfSome (queued_at self.old.all sc) (λ e. is_spent e.budget ≡ false) }
-        ensures charged { self.new.all ≡ charged self.old.all sc }
+        ensures charged { self.new.all ≡ charged_schedule self.old.all sc }
         ensures numbers { self.new.numbers ≡ self.old.numbers }
         ensures rooms { self.new.rooms ≡ self.old.rooms }
     {
@@ -344,7 +344,7 @@ impl Queues {
         requires there { IsSome (queued_at self.old.all sc) }
         requires ticks { IfSome (queued_at self.old.all sc) (λ e. e.budget.ticks < 2 ^ 64 - 1) }
         requires stamp { self.old.all.next_stamp < 2 ^ 64 - 1 }
-        ensures charged { self.new.all ≡ charged self.old.all sc }
+        ensures charged { self.new.all ≡ charged_schedule self.old.all sc }
         ensures numbers { self.new.numbers ≡ self.old.numbers }
         ensures rooms { self.new.rooms ≡ self.old.rooms }
     {

@@ -11,7 +11,7 @@ use Rattle.nova_model.specs.Guests.{inputs}
 use Rattle.nova_model.specs.State.{KernelState}
 use Rattle.nova_model.specs.Views.{view}
 use Rattle.nova_renaming.specs.Forced.{agree, among, forced, named, once}
-use Rattle.nova_renaming.specs.Renamings.{Fits, GuestsAgree, InputsAgree, IsOneToOne, OutsAgree}
+use Rattle.nova_renaming.specs.Renamings.{InputFits, GuestsAgree, InputsAgree, IsOneToOne, OutsAgree}
 use Rattle.nova_renaming.specs.Twins.{IsRenaming}
 use Rattle.nova_renaming.specs.Verdicts.{IsAgreement, IsVerdict}
 use Rattle.nova_renaming.specs.Verdicts as renaming
@@ -39,13 +39,13 @@ Stores = (r : ℕ → ℕ → Bool) (k : KernelState) (turns : List ℕ) (g : �
     → IsAgreement r (view k g) v (inputs k turns g) js → once (forced (view k g) v (inputs k turns g) js) ≡ once (named (view k g) v (inputs k turns g) js)
 
 abbrev pub Fit : Type 0
-Fit = (k : KernelState) (turns : List ℕ) (g : ℕ) → IsSound k → All Fits (inputs k turns g)
+Fit = (k : KernelState) (turns : List ℕ) (g : ℕ) → IsSound k → All InputFits (inputs k turns g)
 
 abbrev pub EndRenamed : Type 0
-EndRenamed = (r : ℕ → ℕ → Bool) (u v : Guest) (is js : List Input) → IsOneToOne r → GuestsAgree r u v → All Fits is → InputsAgree r is js → GuestsAgree r (alone u is) (alone v js)
+EndRenamed = (r : ℕ → ℕ → Bool) (u v : Guest) (is js : List Input) → IsOneToOne r → GuestsAgree r u v → All InputFits is → InputsAgree r is js → GuestsAgree r (alone u is) (alone v js)
 
 abbrev pub PutOut : Type 0
-PutOut = (r : ℕ → ℕ → Bool) (u v : Guest) (is js : List Input) → IsOneToOne r → GuestsAgree r u v → All Fits is → InputsAgree r is js → OutsAgree r (outputs u is) (outputs v js)
+PutOut = (r : ℕ → ℕ → Bool) (u v : Guest) (is js : List Input) → IsOneToOne r → GuestsAgree r u v → All InputFits is → InputsAgree r is js → OutsAgree r (outputs u is) (outputs v js)
 
 abbrev pub Met : Type 0
 Met = (u v : Guest) (is js : List Input) (count : ℕ) (pairs : List (ℕ × ℕ)) → walk u v is js ≡ renaming.Equal count pairs → pairs ≡ once (forced u v is js)
@@ -141,7 +141,7 @@ module _ (a b : Side) (ram others : ℕ) (x : Known a ram) (y : Known b others) 
   pub side_ends : Fit → EndRenamed → PutOut → (verdict : Verdict) → IsSo verdict → EndsSo a b verdict
   side_ends fit ends puts (Equal count pairs) holds =
       let same = holds.agreement in
-      let fits : All Fits a.inputs.items = subst (All Fits) (sym x.inputs) (fit x.state x.turns x.guest x.reached.sound) in
+      let fits : All InputFits a.inputs.items = subst (All InputFits) (sym x.inputs) (fit x.state x.turns x.guest x.reached.sound) in
       record {
         ends = subst₂ (GuestsAgree (among pairs.items)) (sym x.last) (sym y.last) (ends (among pairs.items) a.start b.start a.inputs.items b.inputs.items same.one same.guests fits same.inputs);
         outs = subst₂ (OutsAgree (among pairs.items)) (sym x.outs) (sym y.outs) (puts (among pairs.items) a.start b.start a.inputs.items b.inputs.items same.one same.guests fits same.inputs);

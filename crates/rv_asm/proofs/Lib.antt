@@ -2,7 +2,7 @@ pub mod Scans
 pub mod Cuts
 pub mod Passes
 pub mod Ranges
-pub mod Fits
+pub mod OperandFits
 pub mod ProgramRead
 pub mod Odd
 pub mod Parts

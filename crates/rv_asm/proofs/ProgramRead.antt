@@ -24,7 +24,7 @@ use Rattle.rv_asm.specs.declared.name.Name.{Name}
 use Rattle.rv_asm.specs.declared.name.Name.TheVariants.{Instruction, Short}
 use Rattle.rv_asm.specs.declared.name.ShortForm.TheVariants.{Nop, Mv, J, Ret, Li, Word}
 use Rattle.rv_asm.proofs.Ranges.{IsWithin}
-use Rattle.rv_asm.proofs.Fits.{AreSmall, FitAll, all_fit, row_small, encodable, signed21}
+use Rattle.rv_asm.proofs.OperandFits.{AreSmall, FitAll, all_fit, row_small, encodable, signed21}
 
 zero_below : 0 < 32
 zero_below = lit< tt

@@ -1,5 +1,5 @@
 use Rattle.nova_laws.proofs.Ordered.{items_present, items_begin, items_stay}
-use Rattle.nova_laws.proofs.Advancing.{items_go_on}
+use Rattle.nova_laws.proofs.ItemsInOrder.{items_go_on}
 use Rattle.nova_laws.proofs.transfers.items_are_given_in_order.Goals as goal
 
 pub returns-clause-present : goal.returns-clause-present

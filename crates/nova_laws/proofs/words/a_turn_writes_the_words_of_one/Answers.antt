@@ -1,5 +1,5 @@
 use Rattle.nova_laws.proofs.Raising.{raised_keep}
-use Rattle.nova_laws.proofs.Wording.{others_keep, one_writes, told_own, sized}
+use Rattle.nova_laws.proofs.MessageWriters.{others_keep, one_writes, told_own, sized}
 use Rattle.nova_laws.proofs.words.a_turn_writes_the_words_of_one.Goals as goal
 
 pub returns-clause-others : goal.returns-clause-others

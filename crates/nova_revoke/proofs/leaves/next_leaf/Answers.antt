@@ -15,10 +15,10 @@ pub returns-in-None-clause-childless : goal.returns-in-None-clause-childless
 returns-in-None-clause-childless g c =
     let f = c.args.nodes.now.delegations in
     let is : next_leaf c.args.revoke.now f ≡ Some c.in_ok-d.d = search rules in
-    (leaf_facts c.args.revoke.now f c.in_ok-d.d c.entry.ensures.sound.forest is).childless
+    (leaf_facts c.args.revoke.now f c.in_ok-d.d c.scope_entry.ensures.sound.forest is).childless
 
 pub returns-in-Some-clause-childless : goal.returns-in-Some-clause-childless
 returns-in-Some-clause-childless g c =
     let f = c.args.nodes.now.delegations in
     let is : next_leaf c.args.revoke.now f ≡ Some c.leaf_below.result = search rules in
-    (leaf_facts c.args.revoke.now f c.leaf_below.result c.entry.ensures.sound.forest is).childless
+    (leaf_facts c.args.revoke.now f c.leaf_below.result c.scope_entry.ensures.sound.forest is).childless

@@ -3,7 +3,7 @@ use Rattle.nova_model.specs.Boot.{Scenario, bare}
 use Rattle.nova_model.specs.declared.root.Root.{Root}
 use Rattle.nova_leases.specs.Commits.{IsReached}
 use Rattle.nova_deeds.specs.Counted.{IsCounted}
-use Rattle.nova_kernel.specs.Parts.{shown}
+use Rattle.nova_kernel.specs.Parts.{state_of}
 use Rattle.nova_choice.specs.Schedules.{root_schedule}
 use Rattle.nova_deeds.proofs.Booted.{IsCounted_bare}
 use Rattle.nova_deeds.proofs.Moves.{queued_same}
@@ -20,14 +20,14 @@ invariant_of-result c = (
   subst IsCounted (sym c.in_ok-parts.ensures.shown) (IsCounted_bare c.args.cpus c.args.ram c.args.consoles c.args.root c.requires.consoles
       (c.turns_keep_what_they_find.ensures.begins c.args.cpus c.args.ram c.args.consoles c.args.root)),
   (
-    queued_same (bare c.args.cpus c.args.ram c.args.consoles c.args.root) (shown c.in_ok-parts.parts) (root_schedule c.args.cpus c.args.root)
+    queued_same (bare c.args.cpus c.args.ram c.args.consoles c.args.root) (state_of c.in_ok-parts.parts) (root_schedule c.args.cpus c.args.root)
         c.in_ok-parts.parts.queues.all (queued_bare c.args.cpus c.args.ram c.args.consoles c.args.root) c.in_ok-parts.ensures.shown c.in_ok-parts.ensures.queues,
     (
-      bare_runs c.args.cpus c.args.ram c.args.consoles c.args.root (shown c.in_ok-parts.parts) c.in_ok-parts.parts.revokes c.in_ok-parts.ensures.shown
+      bare_runs c.args.cpus c.args.ram c.args.consoles c.args.root (state_of c.in_ok-parts.parts) c.in_ok-parts.parts.revokes c.in_ok-parts.ensures.shown
           c.in_ok-parts.ensures.revokes,
       (
         subst IsReached (sym c.in_ok-parts.ensures.shown) (c.what_bursts_stand_on_is_kept.ensures.begins (bare_scenario c.args.cpus c.args.ram c.args.consoles c.args.root)),
-        none_known (shown c.in_ok-parts.parts) 8,
+        none_known (state_of c.in_ok-parts.parts) 8,
       ),
     ),
   ),

@@ -3,14 +3,14 @@ use Rattle.nova_model.specs.State.{KernelState, budget_at}
 use Rattle.nova_model.specs.Turn.{charged}
 use Rattle.nova_leases.specs.Paging.{charged_times}
 use Rattle.nova_deeds.specs.Counted.{IsToBeCharged}
-use Rattle.nova_kernel.specs.Parts.{shown}
+use Rattle.nova_kernel.specs.Parts.{state_of}
 use Rattle.nova_choice.proofs.Budgets.{still_queued}
 use Rattle.nova_deeds.proofs.Bursts.{still_charged, still_there}
 use Rattle.nova_kernel.proofs.parts.Parts.charge_times.Goals as goal
 
 pub loop-i-preserved : goal.loop-i-preserved
 loop-i-preserved c =
-    let mid : KernelState = shown c.loop-i.self in
+    let mid : KernelState = state_of c.loop-i.self in
     let turns = c.requires.turns in
     let so_far = c.loop-i.invariant.turns in
     let before = c.loop-i-test.true in
@@ -18,7 +18,7 @@ loop-i-preserved c =
     let is = c.charge.ensures.charged in
     record {
       state = let e : suc c.loop-i._i ≡ c.loop-i._i + 1 = omega arith in
-          is ∙ (ap (λ (k : KernelState). charged k c.args.cpu c.args.sc) c.loop-i.invariant.state ∙ ap (λ (n : ℕ). charged_times n (shown c.args.self.now) c.args.cpu c.args.sc) e);
+          is ∙ (ap (λ (k : KernelState). charged k c.args.cpu c.args.sc) c.loop-i.invariant.state ∙ ap (λ (n : ℕ). charged_times n (state_of c.args.self.now) c.args.cpu c.args.sc) e);
       bounds = subst IsToBeCharged (sym is) (still_charged mid c.args.cpu c.args.sc few c.loop-i.invariant.bounds);
       queued = c.charge.ensures.queued;
       turns = omega (arith, c.charge.ensures.turns, so_far);

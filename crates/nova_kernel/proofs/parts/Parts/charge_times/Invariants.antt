@@ -1,7 +1,7 @@
 use Rattle.std.proofs.Common.{◌≡◌, ◌+◌, IsSome}
 use Rattle.nova_leases.specs.Paging.{charged_times}
 use Rattle.nova_sched.specs.Queues as queues
-use Rattle.nova_kernel.specs.Parts.{shown}
+use Rattle.nova_kernel.specs.Parts.{state_of}
 use Rattle.nova_deeds.specs.Counted.{IsToBeCharged}
 use Rattle.nova_choice.specs.Schedules.{AreQueued}
 use Rattle.nova_kernel.proofs.parts.Parts.charge_times.Given as goal
@@ -9,9 +9,9 @@ use Rattle.nova_kernel.proofs.parts.Parts.charge_times.Given as goal
 -- the turns that are charged so far
 abbrev pub invariant-loop-i : goal.invariant-loop-i
 invariant-loop-i l = record {
-  state : shown l.self ≡ charged_times l._i (shown l.fn.self) l.cpu l.sc;
-  bounds : IsToBeCharged (shown l.self);
-  queued : AreQueued (shown l.self) l.self.queues.all;
+  state : state_of l.self ≡ charged_times l._i (state_of l.fn.self) l.cpu l.sc;
+  bounds : IsToBeCharged (state_of l.self);
+  queued : AreQueued (state_of l.self) l.self.queues.all;
   turns : l.self.turns ≡ l.fn.self.turns + l._i;
   cpus : l.self.cpus ≡ l.fn.self.cpus;
   there : IsSome (queues.queued_at l.self.queues.all l.sc);

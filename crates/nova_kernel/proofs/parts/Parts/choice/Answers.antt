@@ -6,20 +6,20 @@ use Rattle.nova_model.specs.State.{KernelState}
 use Rattle.nova_sched.specs.Queues as queues
 use Rattle.nova_choice.proofs.Choosing.{led_chosen}
 use Rattle.nova_choice.specs.Choices.{led}
-use Rattle.nova_kernel.specs.Parts.{shown}
+use Rattle.nova_kernel.specs.Parts.{state_of}
 use Rattle.nova_kernel.proofs.Known.{known_at, known_chosen}
 use Rattle.nova_kernel.proofs.parts.Parts.choice.Goals as goal
 
 pub returns-in_err-sc-clause-choice : goal.returns-in_err-sc-clause-choice
 returns-in_err-sc-clause-choice c =
-    let k : KernelState = shown c.args.self.now in
+    let k : KernelState = state_of c.args.self.now in
     let s = c.args.self.now.queues.all in
     let found : c.from_residual.result ≡ led k (queues.choose s c.args.cpu) = search rules in
     found ∙ led_chosen k s c.args.cpu c.requires.queued
 
 pub returns-then-last-sc-clause-choice : goal.returns-then-last-sc-clause-choice
 returns-then-last-sc-clause-choice c =
-    let k : KernelState = shown c.args.self.now in
+    let k : KernelState = state_of c.args.self.now in
     let s = c.args.self.now.queues.all in
     let first : Some c.in_ok-sc.sc ≡ queues.choose s c.args.cpu = search rules in
     let passes = c.if-last-sc.true in
@@ -32,14 +32,14 @@ returns-then-last-sc-clause-choice c =
 
 pub returns-in_err-actor-clause-choice : goal.returns-in_err-actor-clause-choice
 returns-in_err-actor-clause-choice c =
-    let k : KernelState = shown c.args.self.now in
+    let k : KernelState = state_of c.args.self.now in
     let s = c.args.self.now.queues.all in
     let found : c.from_residual-in_err-actor.result ≡ led k (queues.choose s c.args.cpu) = search rules in
     found ∙ led_chosen k s c.args.cpu c.requires.queued
 
 pub returns-clause-choice : goal.returns-clause-choice
 returns-clause-choice c =
-    let k : KernelState = shown c.args.self.now in
+    let k : KernelState = state_of c.args.self.now in
     let s = c.args.self.now.queues.all in
     let found : Some (record { sc = c.in_ok-sc.sc; actor = c.in_ok-actor.actor }) ≡ led k (queues.choose s c.args.cpu) = search rules in
     found ∙ led_chosen k s c.args.cpu c.requires.queued

@@ -4,7 +4,7 @@ use Rattle.nova_leases.specs.Paging.{stores_seen}
 use Rattle.nova_model.specs.Inputs.{is_covered_for}
 use Rattle.nova_model.specs.State.{KernelState, pd_of}
 use Rattle.nova_running.specs.Guests.{GuestTable, numbers_from}
-use Rattle.nova_kernel.specs.Parts.{shown}
+use Rattle.nova_kernel.specs.Parts.{state_of}
 use Rattle.nova_kernel.specs.declared.parts.Parts.{Parts}
 use Rattle.nova_kernel.proofs.Alone.{tables_alone}
 use Rattle.nova_kernel.proofs.Stores.{all_seen, but, but_all, but_none, fewer_seen, next_fits, next_left, next_raised, none_for, numbers_now, some_for, stores_for}
@@ -12,7 +12,7 @@ use Rattle.nova_kernel.proofs.parts.Parts.count_stores.Goals.{then-guest-ec, els
 use Rattle.nova_kernel.proofs.parts.Parts.count_stores.Goals as goal
 
 pub loop-i-init : goal.loop-i-init
-loop-i-init c = record { counts = but_all (stores_for (shown c.args.self.now) c.args.ec c.args.pages.now) c.args.self.now.guests.counts; rest = refl }
+loop-i-init c = record { counts = but_all (stores_for (state_of c.args.self.now) c.args.ec c.args.pages.now) c.args.self.now.guests.counts; rest = refl }
 
 pub bounds-numbers-i : goal.bounds-numbers-i
 bounds-numbers-i c =
@@ -23,21 +23,21 @@ bounds-numbers-i c =
 pub raise-requires : goal.raise-requires
 raise-requires c =
     let all = c.args.self.now.guests.counts in
-    let more = stores_for (shown c.args.self.now) c.args.ec c.args.pages.now in
+    let more = stores_for (state_of c.args.self.now) c.args.ec c.args.pages.now in
     let seen = stores_seen (λ f. true) c.args.pages.now in
     let is = c.numbers.ensures ∙ numbers_now (but more (drop c.loop-i.i (numbers_from 0 all))) all c.loop-i.self.guests.counts c.loop-i.invariant.counts in
     let same = ap (λ (ns : List ℕ). length ns) (is ∙ sym c.numbers-i-end.ensures) in
     let before = c.loop-i-test.true in
     let low : c.loop-i.i < length c.numbers.result.now = grind (arith, same, before) in
     let less : c.stores_seen-count.result ≤ seen =
-    subst (λ (n : ℕ). n ≤ seen) (sym c.stores_seen-count.ensures) (fewer_seen (is_covered_for (shown c.loop-i.self) c.pd.result) c.args.pages.now) in
+    subst (λ (n : ℕ). n ≤ seen) (sym c.stores_seen-count.ensures) (fewer_seen (is_covered_for (state_of c.loop-i.self) c.pd.result) c.args.pages.now) in
     next_fits more all c.loop-i.self.guests.counts c.numbers.result.now c.loop-i.i c.stores_seen-count.result seen is low c.loop-i.invariant.counts less c.requires.stores
     (c.requires.counts (slice_index_or c.numbers.result.now c.loop-i.i 0))
 
 pub loop-i-preserved : goal.loop-i-preserved
 loop-i-preserved c =
     let all = c.args.self.now.guests.counts in
-    let k : KernelState = shown c.args.self.now in
+    let k : KernelState = state_of c.args.self.now in
     let more = stores_for k c.args.ec c.args.pages.now in
     let m = slice_index_or c.numbers.result.now c.loop-i.i 0 in
     let is = c.numbers.ensures ∙ numbers_now (but more (drop c.loop-i.i (numbers_from 0 all))) all c.loop-i.self.guests.counts c.loop-i.invariant.counts in
@@ -50,8 +50,8 @@ loop-i-preserved c =
           let other : (m == c.args.ec) ≡ false = grind (arith, test) in
           let seen : w.stores_seen-count.result ≡ more m =
           w.stores_seen-count.ensures
-          ∙ (ap (λ (n : ℕ). stores_seen (is_covered_for (shown c.loop-i.self) n) c.args.pages.now) w.pd.ensures
-          ∙ (ap (λ (p : Parts). stores_seen (is_covered_for (shown p) (pd_of (shown p) m)) c.args.pages.now) c.loop-i.invariant.rest ∙ some_for k c.args.ec c.args.pages.now m other)) in
+          ∙ (ap (λ (n : ℕ). stores_seen (is_covered_for (state_of c.loop-i.self) n) c.args.pages.now) w.pd.ensures
+          ∙ (ap (λ (p : Parts). stores_seen (is_covered_for (state_of p) (pd_of (state_of p) m)) c.args.pages.now) c.loop-i.invariant.rest ∙ some_for k c.args.ec c.args.pages.now m other)) in
           record {
             counts = ap (λ (p : Parts). p.guests.counts) w.self-is ∙ ap (λ (t : GuestTable). t.counts) w.raise.ensures
                 ∙ next_raised more all c.loop-i.self.guests.counts c.numbers.result.now c.loop-i.i w.stores_seen-count.result is low c.loop-i.invariant.counts seen;
@@ -70,8 +70,8 @@ loop-i-preserved c =
 pub returns-clause-counts : goal.returns-clause-counts
 returns-clause-counts c =
     let all = c.args.self.now.guests.counts in
-    let more = stores_for (shown c.args.self.now) c.args.ec c.args.pages.now in
+    let more = stores_for (state_of c.args.self.now) c.args.ec c.args.pages.now in
     let same = ap (λ (ns : List ℕ). length ns) c.numbers-i-end.ensures in
     let after = c.loop-i-test.false in
     c.loop-i.invariant.counts
-    ∙ (but_none more all c.loop-i.i (grind (arith, same, after)) ∙ all_seen (shown c.args.self.now) c.args.ec c.args.pages.now 0 all)
+    ∙ (but_none more all c.loop-i.i (grind (arith, same, after)) ∙ all_seen (state_of c.args.self.now) c.args.ec c.args.pages.now 0 all)

@@ -1,15 +1,15 @@
 use Rattle.std.proofs.Common.{sym, ◌∙◌}
-use Rattle.nova_kernel.specs.Parts.{shown}
+use Rattle.nova_kernel.specs.Parts.{state_of}
 use Rattle.nova_kernel.proofs.Going.{raised_begun, raised_deed, raised_goes}
 use Rattle.nova_kernel.proofs.parts.Parts.decide.Goals as goal
 
 pub returns-then-is_executing-clause-deed : goal.returns-then-is_executing-clause-deed
 returns-then-is_executing-clause-deed c =
-    raised_deed (shown c.args.self.now) c.args.ec c.args.reason c.args.q0 c.args.q1 c.signal.result (sym c.is_executing.ensures ∙ c.if-is_executing.true)
+    raised_deed (state_of c.args.self.now) c.args.ec c.args.reason c.args.q0 c.args.q1 c.signal.result (sym c.is_executing.ensures ∙ c.if-is_executing.true)
     c.requires.raised c.signal.ensures.deed
 
 pub returns-then-is_executing-clause-begun : goal.returns-then-is_executing-clause-begun
-returns-then-is_executing-clause-begun c = raised_begun (shown c.args.self.now) c.args.ec c.signal.result c.signal.ensures.fits.1
+returns-then-is_executing-clause-begun c = raised_begun (state_of c.args.self.now) c.args.ec c.signal.result c.signal.ensures.fits.1
 
 pub returns-then-is_executing-clause-written : goal.returns-then-is_executing-clause-written
-returns-then-is_executing-clause-written c = λ is. raised_goes (shown c.args.self.now) c.args.ec c.signal.result _ c.signal.ensures.fits.1 is
+returns-then-is_executing-clause-written c = λ is. raised_goes (state_of c.args.self.now) c.args.ec c.signal.result _ c.signal.ensures.fits.1 is

@@ -3,13 +3,13 @@ use Rattle.std.specs.Prelude.{Option, Some}
 use Rattle.nova_model.specs.Deliveries.{delivery_between}
 use Rattle.nova_model.specs.State.{KernelState}
 use Rattle.nova_model.specs.declared.transfer.Sequel.TheVariants.{Replied}
-use Rattle.nova_kernel.specs.Parts.{shown}
+use Rattle.nova_kernel.specs.Parts.{state_of}
 use Rattle.nova_deeds.proofs.Told.{given_to_caller}
 use Rattle.nova_kernel.proofs.parts.Parts.given_to.Goals as goal
 
 pub returns-clause-given : goal.returns-clause-given
 returns-clause-given c =
-    let k : KernelState = shown c.args.self.now in
+    let k : KernelState = state_of c.args.self.now in
     let is : c.args.caller ≡ Some (c.in_ok-caller.caller, c.in_ok-caller.mark) = search rules in
     given_to_caller k c.args.ec c.args.item c.in_ok-caller.caller c.in_ok-caller.mark c.delivery_between.result c.requires.there c.keeps_callers.ensures
     (sym c.requires.caller ∙ is) c.delivery_between.ensures.items

@@ -4,14 +4,14 @@ use Rattle.nova_model.specs.State.{KernelState, context}
 use Rattle.nova_model.specs.declared.deed.Deed.TheVariants.{Steps}
 use Rattle.nova_deeds.specs.Acts.{is_executing}
 use Rattle.nova_deeds.proofs.Steps.{raise-stays}
-use Rattle.nova_kernel.specs.Parts.{shown}
+use Rattle.nova_kernel.specs.Parts.{state_of}
 use Rattle.nova_kernel.proofs.Going.{goes_deed, went_on}
 use Rattle.nova_kernel.proofs.Ongoing.{IsDecided}
 use Rattle.nova_kernel.proofs.parts.Parts.go_on.Goals as goal
 
 pub returns-then-is_executing-clause-went : goal.returns-then-is_executing-clause-went
 returns-then-is_executing-clause-went c = λ goes.
-    let k : KernelState = shown c.args.self.now in
+    let k : KernelState = state_of c.args.self.now in
     let law = c.running_revokes_are_their_runners.ensures in
     let next : is_executing (context k c.args.ec) ≡ true = sym c.is_executing.ensures ∙ c.if-is_executing.true in
     let decided : IsDecided k c.args.ec Steps = record {
@@ -26,7 +26,7 @@ returns-then-is_executing-clause-went c = λ goes.
 pub returns-then-is_executing-clause-raised : goal.returns-then-is_executing-clause-raised
 returns-then-is_executing-clause-raised c = λ reason q0 q1 is. record {
   raised = λ next. sym is ∙ c.execute.ensures.outcome;
-  state = raise-stays (shown c.args.self.now) (shown c.execute.new.self) c.args.ec reason q0 q1 (sym c.execute.ensures.outcome ∙ is) c.execute.ensures.done;
+  state = raise-stays (state_of c.args.self.now) (state_of c.execute.new.self) c.args.ec reason q0 q1 (sym c.execute.ensures.outcome ∙ is) c.execute.ensures.done;
   log = c.execute.ensures.raised reason q0 q1 is;
 }
 

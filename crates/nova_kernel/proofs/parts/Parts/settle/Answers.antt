@@ -1,7 +1,7 @@
 use Rattle.std.proofs.Common.{IsSome, length, ap, subst, sym, ◌∙◌}
 use Rattle.nova_model.specs.State.{KernelState}
 use Rattle.nova_model.specs.Turn.{charged}
-use Rattle.nova_kernel.specs.Parts.{shown}
+use Rattle.nova_kernel.specs.Parts.{state_of}
 use Rattle.nova_deeds.specs.Counted.{IsToBeCharged}
 use Rattle.nova_choice.specs.Schedules.{AreQueued}
 use Rattle.nova_deeds.specs.Stirs.{is_stirring, risen_in}
@@ -16,29 +16,29 @@ use Rattle.nova_deeds.proofs.Taken.{IsSettled, settled_counts, settled_state, to
 use Rattle.nova_kernel.proofs.parts.Parts.settle.Goals as goal
 
 pub act-requires-clause-acts : goal.act-requires-clause-acts
-act-requires-clause-acts c = told_acts (shown c.args.self.now) c.args.cpu c.args.chosen c.requires.told
+act-requires-clause-acts c = told_acts (state_of c.args.self.now) c.args.cpu c.args.chosen c.requires.told
 
 pub returns-in_err-deed-clause-making : goal.returns-in_err-deed-clause-making
 returns-in_err-deed-clause-making c =
-    making-wants (shown c.args.self.now) c.args.cpu c.args.chosen c.from_residual.result c.requires.told
+    making-wants (state_of c.args.self.now) c.args.cpu c.args.chosen c.from_residual.result c.requires.told
     c.in_err-deed.ensures.making
 
 pub note-sign-requires-clause-charged : goal.note-sign-requires-clause-charged
-note-sign-requires-clause-charged c = IsCharged-kept (shown c.args.self.now) (shown c.act.new.self) c.in_ok-deed.ensures.kept c.requires.counted.charged
+note-sign-requires-clause-charged c = IsCharged-kept (state_of c.args.self.now) (state_of c.act.new.self) c.in_ok-deed.ensures.kept c.requires.counted.charged
 
 pub note-sign-requires-clause-counted : goal.note-sign-requires-clause-counted
 note-sign-requires-clause-counted c =
-    still_counted (shown c.args.self.now) (shown c.act.new.self) c.args.chosen.actor c.in_ok-deed.deed c.in_ok-deed.ensures.done c.requires.counted.kept.tables.guests
+    still_counted (state_of c.args.self.now) (state_of c.act.new.self) c.args.chosen.actor c.in_ok-deed.deed c.in_ok-deed.ensures.done c.requires.counted.kept.tables.guests
 
 pub charge-requires-clause-charged : goal.charge-requires-clause-charged
 charge-requires-clause-charged c =
-    let mid : KernelState = shown c.act.new.self in
+    let mid : KernelState = state_of c.act.new.self in
     subst IsToBeCharged (sym c.note-sign.ensures.shown)
-    (IsCharged-risen mid _ (IsCharged-kept (shown c.args.self.now) mid c.in_ok-deed.ensures.kept c.requires.counted.charged))
+    (IsCharged-risen mid _ (IsCharged-kept (state_of c.args.self.now) mid c.in_ok-deed.ensures.kept c.requires.counted.charged))
 
 pub charge-requires-clause-queued : goal.charge-requires-clause-queued
 charge-requires-clause-queued c =
-    let mid : KernelState = shown c.act.new.self in
+    let mid : KernelState = state_of c.act.new.self in
     let rises = is_stirring mid c.act.new.self.reach.written c.args.chosen.actor c.in_ok-deed.deed in
     subst (λ (s : KernelState). AreQueued s c.note-sign.new.self.queues.all) (sym c.note-sign.ensures.shown)
     (subst (λ (q : QueuesState). AreQueued (risen_in mid rises) q.all) (sym c.note-sign.ensures.queues)
@@ -53,33 +53,33 @@ charge-requires-clause-there c =
 
 pub returns-clause-state : goal.returns-clause-state
 returns-clause-state c =
-    let k : KernelState = shown c.args.self.now in
-    let settled : IsSettled k (shown c.act.new.self) (shown c.charge.new.self) c.args.cpu c.args.chosen c.in_ok-deed.deed c.act.new.self.reach.written = record {
+    let k : KernelState = state_of c.args.self.now in
+    let settled : IsSettled k (state_of c.act.new.self) (state_of c.charge.new.self) c.args.cpu c.args.chosen c.in_ok-deed.deed c.act.new.self.reach.written = record {
       told = c.requires.told;
       decided = c.in_ok-deed.ensures.deed;
       does = c.in_ok-deed.ensures.done;
       wrote = c.in_ok-deed.ensures.written;
       settled = c.charge.ensures.charged ∙ ap (λ (s : KernelState). charged s c.args.cpu c.args.chosen.sc) c.note-sign.ensures.shown;
     } in
-    settled_state k (shown c.act.new.self) (shown c.charge.new.self) c.args.cpu c.args.chosen c.in_ok-deed.deed c.act.new.self.reach.written settled
+    settled_state k (state_of c.act.new.self) (state_of c.charge.new.self) c.args.cpu c.args.chosen c.in_ok-deed.deed c.act.new.self.reach.written settled
 
 pub returns-clause-counted : goal.returns-clause-counted
 returns-clause-counted c =
-    let k : KernelState = shown c.args.self.now in
-    let settled : IsSettled k (shown c.act.new.self) (shown c.charge.new.self) c.args.cpu c.args.chosen c.in_ok-deed.deed c.act.new.self.reach.written = record {
+    let k : KernelState = state_of c.args.self.now in
+    let settled : IsSettled k (state_of c.act.new.self) (state_of c.charge.new.self) c.args.cpu c.args.chosen c.in_ok-deed.deed c.act.new.self.reach.written = record {
       told = c.requires.told;
       decided = c.in_ok-deed.ensures.deed;
       does = c.in_ok-deed.ensures.done;
       wrote = c.in_ok-deed.ensures.written;
       settled = c.charge.ensures.charged ∙ ap (λ (s : KernelState). charged s c.args.cpu c.args.chosen.sc) c.note-sign.ensures.shown;
     } in
-    settled_counts k (shown c.act.new.self) (shown c.charge.new.self) c.args.cpu c.args.chosen c.in_ok-deed.deed c.act.new.self.reach.written settled
+    settled_counts k (state_of c.act.new.self) (state_of c.charge.new.self) c.args.cpu c.args.chosen c.in_ok-deed.deed c.act.new.self.reach.written settled
     c.in_ok-deed.ensures.kept c.requires.turns (c.turns_keep_what_they_find.ensures.turns k c.args.cpu c.requires.counted.kept) c.requires.counted
 
 pub returns-clause-running : goal.returns-clause-running
 returns-clause-running c =
-    let mid : KernelState = shown c.act.new.self in
-    settled_runs mid (shown c.note-sign.new.self) (shown c.charge.new.self)
+    let mid : KernelState = state_of c.act.new.self in
+    settled_runs mid (state_of c.note-sign.new.self) (state_of c.charge.new.self)
     (is_stirring mid c.act.new.self.reach.written c.args.chosen.actor c.in_ok-deed.deed) c.args.cpu c.args.chosen.sc c.act.new.self.revokes
     c.note-sign.new.self.revokes c.charge.new.self.revokes c.in_ok-deed.ensures.running c.note-sign.ensures.shown c.note-sign.ensures.revokes
     c.charge.ensures.charged c.charge.ensures.revokes

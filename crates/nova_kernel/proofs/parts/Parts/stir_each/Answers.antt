@@ -1,6 +1,6 @@
 use Rattle.std.proofs.Common.{arith, ◌-◌, ◌^◌, ◌<◌, ℕ, List, length, refl, ap, sym, ◌∙◌}
 use Rattle.std.specs.Prelude.{drop, slice_index_or}
-use Rattle.nova_kernel.specs.Parts.{shown}
+use Rattle.nova_kernel.specs.Parts.{state_of}
 use Rattle.nova_running.specs.Guests.{GuestTable}
 use Rattle.nova_deeds.specs.Stirs.{is_stirring}
 use Rattle.nova_running.specs.Guests.{numbers_from}
@@ -12,7 +12,7 @@ use Rattle.nova_kernel.proofs.parts.Parts.stir_each.Goals as goal
 
 pub loop-i-init : goal.loop-i-init
 loop-i-init c = record {
-  counts = but_all (is_stirring (shown c.args.self.now) c.args.self.now.reach.written c.args.ec c.args.deed) c.args.self.now.guests.counts;
+  counts = but_all (is_stirring (state_of c.args.self.now) c.args.self.now.reach.written c.args.ec c.args.deed) c.args.self.now.guests.counts;
   rest = refl;
 }
 
@@ -25,7 +25,7 @@ bounds-numbers-i c =
 pub rise-requires : goal.rise-requires
 rise-requires c =
     let all = c.args.self.now.guests.counts in
-    let s = is_stirring (shown c.args.self.now) c.args.self.now.reach.written c.args.ec c.args.deed in
+    let s = is_stirring (state_of c.args.self.now) c.args.self.now.reach.written c.args.ec c.args.deed in
     let is = c.numbers.ensures ∙ numbers_now (but s (drop c.loop-i.i (numbers_from 0 all))) all c.loop-i.self.guests.counts c.loop-i.invariant.counts in
     let same = ap (λ (ns : List ℕ). length ns) (is ∙ sym c.numbers-i-end.ensures) in
     let before = c.loop-i-test.true in
@@ -35,13 +35,13 @@ rise-requires c =
 pub loop-i-preserved : goal.loop-i-preserved
 loop-i-preserved c =
     let all = c.args.self.now.guests.counts in
-    let s = is_stirring (shown c.args.self.now) c.args.self.now.reach.written c.args.ec c.args.deed in
+    let s = is_stirring (state_of c.args.self.now) c.args.self.now.reach.written c.args.ec c.args.deed in
     let m = slice_index_or c.numbers.result.now c.loop-i.i 0 in
     let is = c.numbers.ensures ∙ numbers_now (but s (drop c.loop-i.i (numbers_from 0 all))) all c.loop-i.self.guests.counts c.loop-i.invariant.counts in
     let same = ap (λ (ns : List ℕ). length ns) (is ∙ sym c.numbers-i-end.ensures) in
     let before = c.loop-i-test.true in
     let low : c.loop-i.i < length c.numbers.result.now = grind (arith, same, before) in
-    let asked = c.is_stirring.ensures ∙ ap (λ (p : Parts). is_stirring (shown p) p.reach.written c.args.ec c.args.deed m) c.loop-i.invariant.rest in
+    let asked = c.is_stirring.ensures ∙ ap (λ (p : Parts). is_stirring (state_of p) p.reach.written c.args.ec c.args.deed m) c.loop-i.invariant.rest in
     elim c.if-is_stirring.branch [
       | then-is_stirring w ↦ record {
         counts = ap (λ (p : Parts). p.guests.counts) w.self-is ∙ ap (λ (t : GuestTable). t.counts) w.rise.ensures
@@ -58,7 +58,7 @@ loop-i-preserved c =
 pub returns-clause-counts : goal.returns-clause-counts
 returns-clause-counts c =
     let all = c.args.self.now.guests.counts in
-    let s = is_stirring (shown c.args.self.now) c.args.self.now.reach.written c.args.ec c.args.deed in
+    let s = is_stirring (state_of c.args.self.now) c.args.self.now.reach.written c.args.ec c.args.deed in
     let same = ap (λ (ns : List ℕ). length ns) c.numbers-i-end.ensures in
     let after = c.loop-i-test.false in
     c.loop-i.invariant.counts ∙ but_none s all c.loop-i.i (grind (arith, same, after))

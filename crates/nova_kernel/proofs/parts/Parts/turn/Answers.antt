@@ -2,7 +2,7 @@ use Rattle.std.proofs.Common.{◌≡◌, length, rules, ap, subst, sym, ◌∙�
 use Rattle.std.specs.Prelude.{Some, IfOk, OnOk, OnErr, IsSome, option_map}
 use Rattle.nova_model.specs.State.{KernelState, context_at}
 use Rattle.nova_model.specs.Turn.{answer_of, charged, state_after, turn}
-use Rattle.nova_kernel.specs.Parts.{shown}
+use Rattle.nova_kernel.specs.Parts.{state_of}
 use Rattle.nova_kernel.specs.Revoking.{AreRunning}
 use Rattle.nova_kernel.specs.Views.{IsMaking}
 use Rattle.nova_model.specs.Choice.{choice}
@@ -22,29 +22,29 @@ use Rattle.nova_deeds.proofs.Taken.{IsSettled, settled_counts, settled_state, to
 use Rattle.nova_kernel.proofs.parts.Parts.turn.Goals as goal
 
 pub go_on-requires-clause-acts : goal.go_on-requires-clause-acts
-go_on-requires-clause-acts c = told_acts (shown c.args.self.now) c.args.cpu c.in-Some.chosen (sym c.in-Some.is ∙ c.choice.ensures.choice)
+go_on-requires-clause-acts c = told_acts (state_of c.args.self.now) c.args.cpu c.in-Some.chosen (sym c.in-Some.is ∙ c.choice.ensures.choice)
 
 pub note_step-requires-clause-charged : goal.note_step-requires-clause-charged
 note_step-requires-clause-charged c =
     let went : WentOn c.args.self.now c.go_on.new.self c.in-Some.chosen.actor = c.go_on.ensures.went c.in-Next.is in
-    IsCharged-kept (shown c.args.self.now) (shown c.go_on.new.self) went.kept c.requires.counted.charged
+    IsCharged-kept (state_of c.args.self.now) (state_of c.go_on.new.self) went.kept c.requires.counted.charged
 
 pub note_step-requires-clause-counted : goal.note_step-requires-clause-counted
 note_step-requires-clause-counted c =
     let went : WentOn c.args.self.now c.go_on.new.self c.in-Some.chosen.actor = c.go_on.ensures.went c.in-Next.is in
-    still_counted (shown c.args.self.now) (shown c.go_on.new.self) c.in-Some.chosen.actor Steps went.does c.requires.counted.kept.tables.guests
+    still_counted (state_of c.args.self.now) (state_of c.go_on.new.self) c.in-Some.chosen.actor Steps went.does c.requires.counted.kept.tables.guests
 
 pub charge-requires-clause-charged : goal.charge-requires-clause-charged
 charge-requires-clause-charged c =
     let went : WentOn c.args.self.now c.go_on.new.self c.in-Some.chosen.actor = c.go_on.ensures.went c.in-Next.is in
-    let mid : KernelState = shown c.go_on.new.self in
+    let mid : KernelState = state_of c.go_on.new.self in
     subst IsToBeCharged (sym c.note_step.ensures.shown)
-    (IsCharged-risen mid _ (IsCharged-kept (shown c.args.self.now) mid went.kept c.requires.counted.charged))
+    (IsCharged-risen mid _ (IsCharged-kept (state_of c.args.self.now) mid went.kept c.requires.counted.charged))
 
 pub charge-requires-clause-queued : goal.charge-requires-clause-queued
 charge-requires-clause-queued c =
     let went : WentOn c.args.self.now c.go_on.new.self c.in-Some.chosen.actor = c.go_on.ensures.went c.in-Next.is in
-    let mid : KernelState = shown c.go_on.new.self in
+    let mid : KernelState = state_of c.go_on.new.self in
     let rises = is_stirring mid c.go_on.new.self.reach.written c.in-Some.chosen.actor Steps in
     subst (λ (s : KernelState). AreQueued s c.note_step.new.self.queues.all) (sym c.note_step.ensures.shown)
     (subst (λ (q : QueuesState). AreQueued (risen_in mid rises) q.all) (sym c.note_step.ensures.queues)
@@ -62,35 +62,35 @@ charge-requires-clause-there c =
 pub returns-in-Next-clause-state : goal.returns-in-Next-clause-state
 returns-in-Next-clause-state c =
     let went : WentOn c.args.self.now c.go_on.new.self c.in-Some.chosen.actor = c.go_on.ensures.went c.in-Next.is in
-    let k : KernelState = shown c.args.self.now in
-    let settled : IsSettled k (shown c.go_on.new.self) (shown c.charge.new.self) c.args.cpu c.in-Some.chosen Steps c.go_on.new.self.reach.written = record {
+    let k : KernelState = state_of c.args.self.now in
+    let settled : IsSettled k (state_of c.go_on.new.self) (state_of c.charge.new.self) c.args.cpu c.in-Some.chosen Steps c.go_on.new.self.reach.written = record {
       told = sym c.in-Some.is ∙ c.choice.ensures.choice;
       decided = went.decided;
       does = went.does;
       wrote = λ _. went.wrote;
       settled = c.charge.ensures.charged ∙ ap (λ (s : KernelState). charged s c.args.cpu c.in-Some.chosen.sc) c.note_step.ensures.shown;
     } in
-    settled_state k (shown c.go_on.new.self) (shown c.charge.new.self) c.args.cpu c.in-Some.chosen Steps c.go_on.new.self.reach.written settled
+    settled_state k (state_of c.go_on.new.self) (state_of c.charge.new.self) c.args.cpu c.in-Some.chosen Steps c.go_on.new.self.reach.written settled
 
 pub returns-in-Next-clause-counted : goal.returns-in-Next-clause-counted
 returns-in-Next-clause-counted c =
     let went : WentOn c.args.self.now c.go_on.new.self c.in-Some.chosen.actor = c.go_on.ensures.went c.in-Next.is in
-    let k : KernelState = shown c.args.self.now in
-    let settled : IsSettled k (shown c.go_on.new.self) (shown c.charge.new.self) c.args.cpu c.in-Some.chosen Steps c.go_on.new.self.reach.written = record {
+    let k : KernelState = state_of c.args.self.now in
+    let settled : IsSettled k (state_of c.go_on.new.self) (state_of c.charge.new.self) c.args.cpu c.in-Some.chosen Steps c.go_on.new.self.reach.written = record {
       told = sym c.in-Some.is ∙ c.choice.ensures.choice;
       decided = went.decided;
       does = went.does;
       wrote = λ _. went.wrote;
       settled = c.charge.ensures.charged ∙ ap (λ (s : KernelState). charged s c.args.cpu c.in-Some.chosen.sc) c.note_step.ensures.shown;
     } in
-    settled_counts k (shown c.go_on.new.self) (shown c.charge.new.self) c.args.cpu c.in-Some.chosen Steps c.go_on.new.self.reach.written settled
+    settled_counts k (state_of c.go_on.new.self) (state_of c.charge.new.self) c.args.cpu c.in-Some.chosen Steps c.go_on.new.self.reach.written settled
     went.kept c.requires.turns (c.turns_keep_what_they_find.ensures.turns k c.args.cpu c.requires.counted.kept) c.requires.counted
 
 pub returns-in-Next-clause-running : goal.returns-in-Next-clause-running
 returns-in-Next-clause-running c =
     let went : WentOn c.args.self.now c.go_on.new.self c.in-Some.chosen.actor = c.go_on.ensures.went c.in-Next.is in
-    let mid : KernelState = shown c.go_on.new.self in
-    settled_runs mid (shown c.note_step.new.self) (shown c.charge.new.self)
+    let mid : KernelState = state_of c.go_on.new.self in
+    settled_runs mid (state_of c.note_step.new.self) (state_of c.charge.new.self)
     (is_stirring mid c.go_on.new.self.reach.written c.in-Some.chosen.actor Steps) c.args.cpu c.in-Some.chosen.sc c.go_on.new.self.revokes
     c.note_step.new.self.revokes c.charge.new.self.revokes went.running c.note_step.ensures.shown c.note_step.ensures.revokes
     c.charge.ensures.charged c.charge.ensures.revokes
@@ -105,13 +105,13 @@ pub settle-requires-clause-queued : goal.settle-requires-clause-queued
 settle-requires-clause-queued c =
     let stays : Stays c.args.self.now c.go_on.new.self c.in-Some.chosen.actor c.in-Raise.reason c.in-Raise.q0 c.in-Raise.q1 = c.go_on.ensures.raised c.in-Raise.reason c.in-Raise.q0 c.in-Raise.q1 c.in-Raise.is in
     let same = stays.state in
-    subst (λ (s : KernelState). AreQueued s c.go_on.new.self.queues.all) (sym same) (subst (λ (q : QueuesState). AreQueued (shown c.args.self.now) q.all) (sym c.go_on.ensures.queues) c.requires.queued)
+    subst (λ (s : KernelState). AreQueued s c.go_on.new.self.queues.all) (sym same) (subst (λ (q : QueuesState). AreQueued (state_of c.args.self.now) q.all) (sym c.go_on.ensures.queues) c.requires.queued)
 
 pub settle-requires-clause-running : goal.settle-requires-clause-running
 settle-requires-clause-running c =
     let stays : Stays c.args.self.now c.go_on.new.self c.in-Some.chosen.actor c.in-Raise.reason c.in-Raise.q0 c.in-Raise.q1 = c.go_on.ensures.raised c.in-Raise.reason c.in-Raise.q0 c.in-Raise.q1 c.in-Raise.is in
     let same = stays.state in
-    subst (λ (s : KernelState). AreRunning s c.go_on.new.self.revokes) (sym same) (subst (AreRunning (shown c.args.self.now)) (sym c.go_on.ensures.revokes) c.requires.running)
+    subst (λ (s : KernelState). AreRunning s c.go_on.new.self.revokes) (sym same) (subst (AreRunning (state_of c.args.self.now)) (sym c.go_on.ensures.revokes) c.requires.running)
 
 pub settle-requires-clause-told : goal.settle-requires-clause-told
 settle-requires-clause-told c =
@@ -140,7 +140,7 @@ pub returns-in-Raise-clause-state : goal.returns-in-Raise-clause-state
 returns-in-Raise-clause-state c =
     let stays : Stays c.args.self.now c.go_on.new.self c.in-Some.chosen.actor c.in-Raise.reason c.in-Raise.q0 c.in-Raise.q1 = c.go_on.ensures.raised c.in-Raise.reason c.in-Raise.q0 c.in-Raise.q1 c.in-Raise.is in
     let same = stays.state in
-    subst (λ (s : KernelState). OnOk c.settle.result (shown c.settle.new.self ≡ state_after s (turn s c.args.cpu))) same c.settle.ensures.state
+    subst (λ (s : KernelState). OnOk c.settle.result (state_of c.settle.new.self ≡ state_after s (turn s c.args.cpu))) same c.settle.ensures.state
 
 pub returns-in-Raise-clause-making : goal.returns-in-Raise-clause-making
 returns-in-Raise-clause-making c =

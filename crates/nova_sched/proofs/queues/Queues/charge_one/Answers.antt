@@ -1,7 +1,7 @@
 use Rattle.std.proofs.Common.{rules, refl, ◌≡◌, ◌∙◌, length, ap, sym, subst}
 use Rattle.std.specs.Prelude.{false, Option, slice_set, Some, IsSome, IfSome}
 use Rattle.nova_model.specs.Turn.{is_spent, budget_after}
-use Rattle.nova_sched.specs.Queues.{Schedule, QueuesState, queued_at, charged}
+use Rattle.nova_sched.specs.Queues.{Schedule, QueuesState, queued_at, charged_schedule}
 use Rattle.nova_sched.specs.Lists.{entry_in}
 use Rattle.nova_sched.specs.declared.queued.Queued.{Queued}
 use Rattle.nova_sched.proofs.Tables.{entry_at, queues_set}
@@ -44,5 +44,5 @@ returns-clause-charged c =
     let left : IfSome (entry_in c.self.inside.entries.items c.args.sc) (λ (e : Queued). is_spent e.budget ≡ false) =
     subst (λ (q : QueuesState). IfSome (queued_at q.all c.args.sc) (λ (e : Queued). is_spent e.budget ≡ false)) (sym c.self.view_is) c.requires.left in
     let spent : is_spent c.in-Some.payer.budget ≡ false = subst (λ (o : Option Queued). IfSome o (λ (e : Queued). is_spent e.budget ≡ false)) is left in
-    subst (λ (q : QueuesState). ◌≡◌ {A = Schedule} (record { entries = slice_set c.self.inside.entries.items c.args.sc (Some c.tick.new.entry); next_stamp = c.self.inside.next_stamp; cpus = length c.self.inside.queues.items }) (charged q.all c.args.sc)) c.self.view_is
+    subst (λ (q : QueuesState). ◌≡◌ {A = Schedule} (record { entries = slice_set c.self.inside.entries.items c.args.sc (Some c.tick.new.entry); next_stamp = c.self.inside.next_stamp; cpus = length c.self.inside.queues.items }) (charged_schedule q.all c.args.sc)) c.self.view_is
     (charged_is (record { entries = c.self.inside.entries.items; next_stamp = c.self.inside.next_stamp; cpus = length c.self.inside.queues.items }) c.args.sc c.in-Some.payer c.tick.new.entry false is (c.tick.ensures c.self.inside.next_stamp) spent)

@@ -37,7 +37,7 @@ use Rattle.nova_forest.specs.Effects.{all_edited, joined, Answers, Becomes, Edit
 use Rattle.nova_forest.specs.Turns.{Acts, IsTurning, Turning, acting, settled, turned}
 use Rattle.nova_forest.proofs.Turning.{after_keeps, along}
 use Rattle.nova_laws.specs.Tables.{IsOf, Refers}
-use Rattle.nova_laws.specs.Links.{AreServed, IsLinked, is_giving, state_at}
+use Rattle.nova_laws.specs.Links.{AreServed, IsLinked, handles_items, state_at}
 use Rattle.nova_laws.specs.Tables.{HasTables}
 use Rattle.nova_laws.specs.Virtual.{AreGuests}
 use Rattle.nova_laws.specs.Waiting.{AreBlocked}
@@ -48,13 +48,13 @@ use Rattle.nova_laws.proofs.Links.{IsNewborn, is_taking, served_more}
 use Rattle.nova_laws.proofs.Referring.{Asks, Follows, IsCallerOf, TellsIn, deed_asks}
 use Rattle.nova_laws.proofs.Serving.{IsActor, acts_on, actor_of, awaited, blocked_there, exit_reaches, is_blocked, replies_on, reached_there, send_reaches, sends_on, stays_on, wakes_on}
 use Rattle.nova_laws.proofs.Setting.{entry_other, get_last, joined_other}
-use Rattle.nova_laws.proofs.Tabling.{AreThere, IsPlaced, applied_tables, contexts_length, owner_thread, set_there, settled_tables, transfer_there, with_memory}
+use Rattle.nova_laws.proofs.TablesKept.{AreThere, IsPlaced, applied_tables, contexts_length, owner_thread, set_there, settled_tables, transfer_there, with_memory}
 use Rattle.nova_laws.proofs.Virtual.{among_of, applied_guests, caller_thread, guests_of, is_guest_deed, reached_thread, root_among, thread_does}
 
 abbrev Served : KernelState → Type 0
 Served k = AreServed (is_local_thread k) k.contexts
 
-pub record Fits (k : KernelState) : Type 0 where
+pub record TablesFit (k : KernelState) : Type 0 where
   pub tables : HasTables k
   pub served : AreServed (is_local_thread k) k.contexts
   pub blocked : AreBlocked k.contexts k.semaphores
@@ -73,13 +73,13 @@ stored_thread k ec (Some s) = by_words (words_at (address_space k ec) s.address)
     by_words None is = tt
     by_words (Some m) is = owner_thread (is_thread k ec) (message k ec) _ m is
 
-item_thread : (k : KernelState) (ec item : ℕ) (words : Option ItemWords) → is_thread k ec ≡ true → Fits k → TellsIn k ec words →
+item_thread : (k : KernelState) (ec item : ℕ) (words : Option ItemWords) → is_thread k ec ≡ true → TablesFit k → TellsIn k ec words →
     IfSome (item_words k item words) (λ w. is_thread k w.0 ≡ true)
 item_thread k ec item None thread h tells = tt
 item_thread k ec item (Some w) thread h (inl same) = rw same thread
 item_thread k ec item (Some w) thread h (inr calls) = caller_thread k ec w.ec mark.Call h.guests calls refl
 
-words_placed : (k : KernelState) (ec : ℕ) (d : Deed) → (is_guest_deed d ≡ false → is_thread k ec ≡ true) → Asks k ec d → Fits k → IfSome (words_by k ec d) (λ w. is_thread k w.0 ≡ true)
+words_placed : (k : KernelState) (ec : ℕ) (d : Deed) → (is_guest_deed d ≡ false → is_thread k ec ≡ true) → Asks k ec d → TablesFit k → IfSome (words_by k ec d) (λ w. is_thread k w.0 ≡ true)
 words_placed k ec Steps thread asks h = stored_thread k ec (store_of (instruction k ec))
 words_placed k ec (Calls handler ip identifier items) thread asks h = reached_thread k ec handler (send_reaches k.contexts ec handler asks.flag asks.admits) h.served
 words_placed k ec (Sends handler ip identifier mtd reason q0 q1) thread asks h = reached_thread k ec handler (exit_reaches k.contexts ec handler asks.admits) h.served
@@ -100,16 +100,16 @@ recalls_there : (cs : Contexts) (whose : ℕ) (o : Option EcState) → ec_in cs 
 recalls_there cs whose None is = tt
 recalls_there cs whose (Some x) is = (ap is_some is, tt)
 
-wakes_there : (k : KernelState) (ec sm : ℕ) (whom : Option ℕ) → is_some (context_at k ec) ≡ true → woken (semaphore k.semaphores sm) ≡ Ok whom → Fits k →
+wakes_there : (k : KernelState) (ec sm : ℕ) (whom : Option ℕ) → is_some (context_at k ec) ≡ true → woken (semaphore k.semaphores sm) ≡ Ok whom → TablesFit k →
     AreThere k.contexts ((ec, Answers Success None) ∷ wakes_by whom)
 wakes_there k ec sm None there is h = (there, tt)
 wakes_there k ec sm (Some w) there is h = then_there k.contexts ec w (Answers Success None) there (ap is_some (blocked_there k.contexts w sm (woken_blocked k sm w is h.blocked)))
 
-follows_there : (k : KernelState) (ec : ℕ) (m : List ℕ) (after : Sequel) → IsActor k.contexts ec → Follows k ec after → Fits k → AreThere k.contexts (follows_by ec m after)
+follows_there : (k : KernelState) (ec : ℕ) (m : List ℕ) (after : Sequel) → IsActor k.contexts ec → Follows k ec after → TablesFit k → AreThere k.contexts (follows_by ec m after)
 follows_there k ec m (sequel.Replied caller came) actor follows h = then_there k.contexts ec caller Parks (ap is_some actor.there) (caller_there k ec caller came actor follows h.served)
 follows_there k ec m other actor follows h = (ap is_some actor.there, tt)
 
-edits_placed : (k : KernelState) (ec : ℕ) (d : Deed) → IsActor k.contexts ec → Asks k ec d → Fits k → AreThere k.contexts (edits_by k ec d)
+edits_placed : (k : KernelState) (ec : ℕ) (d : Deed) → IsActor k.contexts ec → Asks k ec d → TablesFit k → AreThere k.contexts (edits_by k ec d)
 edits_placed k ec Rests actor asks h = tt
 edits_placed k ec (Gives child cursor) actor asks h = tt
 edits_placed k ec (Skips reason place cursor) actor asks h = tt
@@ -140,7 +140,7 @@ identifier_placed : (k : KernelState) (ec : ℕ) (d : Deed) → Asks k ec d → 
 identifier_placed k ec (Names pt identifier) asks = asks
 identifier_placed k ec other asks = tt
 
-pub effect_placed : (k : KernelState) (ec : ℕ) (d : Deed) → IsActor k.contexts ec → (is_guest_deed d ≡ false → is_thread k ec ≡ true) → Asks k ec d → Fits k → IsPlaced k (effect k ec d)
+pub effect_placed : (k : KernelState) (ec : ℕ) (d : Deed) → IsActor k.contexts ec → (is_guest_deed d ≡ false → is_thread k ec ≡ true) → Asks k ec d → TablesFit k → IsPlaced k (effect k ec d)
 effect_placed k ec d actor thread asks h = record {
   made = made_placed k ec d asks;
   edits = edits_placed k ec d actor asks h;
@@ -168,7 +168,7 @@ state_same : (s t : State) → Some s ≡ Some t → s ≡ t
 state_same s t same = cc
 
 -- one without a caller, that begins by itself
-alone_born : (x : EcState) (s : State) → x.caller ≡ None → x.state ≡ s → ((h : ℕ) → s ≢ Calling h) → is_parked (Some s) ≡ false → is_giving (Some s) ≡ false →
+alone_born : (x : EcState) (s : State) → x.caller ≡ None → x.state ≡ s → ((h : ℕ) → s ≢ Calling h) → is_parked (Some s) ≡ false → handles_items (Some s) ≡ false →
     is_taking (Some s) ≡ false → IsNewborn false (Some x)
 alone_born x s none is calls works gives takes = record {
   caller = none;
@@ -177,7 +177,7 @@ alone_born x s none is calls works gives takes = record {
     parked = λ parks. absurd (let not : is_parked (Some x.state) ≡ false = ap (λ (t : State). is_parked (Some t)) is ∙ works in cc);
     serving = λ local there working. absurd (cc);
     kept = λ c mark keeps. absurd (cc);
-    giving = λ giving. absurd (let not : is_giving (Some x.state) ≡ false = ap (λ (t : State). is_giving (Some t)) is ∙ gives in cc);
+    giving = λ giving. absurd (let not : handles_items (Some x.state) ≡ false = ap (λ (t : State). handles_items (Some t)) is ∙ gives in cc);
     taking = λ c its keeps takes. absurd (cc);
   };
 }
@@ -218,7 +218,7 @@ joined_served os cs (Some made) as_many served =
 record IsPlain (k : KernelState) (ec : ℕ) (s : State) : Type 0 where
   calls : (h : ℕ) → s ≢ Calling h
   works : is_parked (Some s) ≡ false
-  gives : is_giving (Some s) ≡ true → IsSome (context k ec).caller
+  gives : handles_items (Some s) ≡ true → IsSome (context k ec).caller
   takes : is_taking (Some s) ≡ false
 
 plain : (k : KernelState) (ec : ℕ) (d : Deed) (s : State) → MayCome k ec d s → IsPlain k ec s
@@ -274,10 +274,10 @@ applied_served k ec d actor asks blocked h served =
 
 -- A TURN
 
-pub gives_there : (k : KernelState) (ec : ℕ) → is_some (context_at k ec) ≡ true → Fits k → option_map is_some (slice_get k.transfers ec) ≡ Some true
+pub gives_there : (k : KernelState) (ec : ℕ) → is_some (context_at k ec) ≡ true → TablesFit k → option_map is_some (slice_get k.transfers ec) ≡ Some true
 gives_there k ec there h = transfer_there k ec there h.tables
 
-applied_fits : (k : KernelState) (ec : ℕ) → IsActor k.contexts ec → Fits k → Fits (applied k (effect k ec (deed k ec)))
+applied_fits : (k : KernelState) (ec : ℕ) → IsActor k.contexts ec → TablesFit k → TablesFit (applied k (effect k ec (deed k ec)))
 applied_fits k ec actor h =
     let asks = deed_asks k ec in
     let thread = thread_does k ec (ap is_some actor.there) h.tables h.guests in record {
@@ -287,7 +287,7 @@ applied_fits k ec actor h =
       guests = applied_guests k ec (deed k ec) actor thread asks h.tables h.served h.guests;
     }
 
-settled_fits : (s : KernelState) (cpu : ℕ) (t : Turning) → Fits s → Fits (settled s cpu t)
+settled_fits : (s : KernelState) (cpu : ℕ) (t : Turning) → TablesFit s → TablesFit (settled s cpu t)
 settled_fits s cpu t h = record {
   tables = settled_tables s cpu t h.tables;
   served = h.served;
@@ -302,15 +302,15 @@ pub entry_acts : (cs : Contexts) (o : Option EcState) → acts_as cs (option_map
 entry_acts cs None h = absurd (cc)
 entry_acts cs (Some x) h = refl
 
-pub turned_fits : (k : KernelState) (cpu : ℕ) (t : Turning) (e : Event) → IsTurning k cpu t e → Fits k → Fits (turned k cpu t)
+pub turned_fits : (k : KernelState) (cpu : ℕ) (t : Turning) (e : Event) → IsTurning k cpu t e → TablesFit k → TablesFit (turned k cpu t)
 turned_fits k cpu t e (Acts c chosen is event) h =
-    subst (λ (u : Turning). Fits (turned k cpu u)) (sym is)
+    subst (λ (u : Turning). TablesFit (turned k cpu u)) (sym is)
     (settled_fits _ cpu (acting k c) (applied_fits k c.actor (actor_of k.contexts c.actor (chosen_acts k cpu c chosen)) h))
 
-pub after_fits : (k : KernelState) (cpu : ℕ) → Fits k → Fits (after k cpu)
-after_fits k cpu h = after_keeps Fits turned_fits k cpu h
+pub after_fits : (k : KernelState) (cpu : ℕ) → TablesFit k → TablesFit (after k cpu)
+after_fits k cpu h = after_keeps TablesFit turned_fits k cpu h
 
-images_fit : (k : KernelState) (images : List Image) → Fits k → Fits (with_images k images)
+images_fit : (k : KernelState) (images : List Image) → TablesFit k → TablesFit (with_images k images)
 images_fit k [] h = h
 images_fit k (image ∷ images) h = images_fit (with_image k image) images (record {
   tables = with_memory k _ h.tables;
@@ -330,7 +330,7 @@ root_served root =
     (served_more local local (None ∷ []) (Some (root_context root)) (served_more local local [] None none (none_born false) (λ h other. refl)) (alone_born (root_context root) Ready refl refl (λ h is. cc) refl refl refl) (λ h other. refl))
     (none_born false) (λ h other. refl)
 
-pub boot_fits : (s : Scenario) → Fits (boot s)
+pub boot_fits : (s : Scenario) → TablesFit (boot s)
 boot_fits s = images_fit (bare s.cpus s.ram s.consoles s.root) s.images (record {
   tables = record { contexts = refl; messages = refl; transfers = refl; budgets = refl; identifiers = refl; semaphores = refl; guests = refl; refer = (tt, (refl, (refl, tt))) };
   served = root_served s.root;
@@ -338,5 +338,5 @@ boot_fits s = images_fit (bare s.cpus s.ram s.consoles s.root) s.images (record 
   guests = guests_of (bare s.cpus s.ram s.consoles s.root) (root_among s.root);
 })
 
-pub boot_run_fits : (s : Scenario) (turns : List ℕ) → Fits (run (boot s) turns)
-boot_run_fits s turns = along Fits (record { begins = boot_fits; turns = turned_fits }) s turns
+pub boot_run_fits : (s : Scenario) (turns : List ℕ) → TablesFit (run (boot s) turns)
+boot_run_fits s turns = along TablesFit (record { begins = boot_fits; turns = turned_fits }) s turns

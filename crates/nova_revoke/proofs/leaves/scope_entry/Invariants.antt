@@ -1,6 +1,6 @@
 use Rattle.std.proofs.Common.{◌-◌, ◌^◌, ◌≤◌}
 use Rattle.nova_revoke.proofs.Entries.{NoneBefore}
-use Rattle.nova_revoke.proofs.leaves.entry.Given as goal
+use Rattle.nova_revoke.proofs.leaves.scope_entry.Given as goal
 
 abbrev pub invariant-loop-d : goal.invariant-loop-d
 invariant-loop-d g l = record {

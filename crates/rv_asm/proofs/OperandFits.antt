@@ -53,7 +53,7 @@ LeaveAll [] before n = n ≡ before
 LeaveAll (slot ∷ []) before n = Leaves slot before n
 LeaveAll (slot ∷ next ∷ slots) before n = (middle : ℕ) × Leaves slot before middle × LeaveAll (next ∷ slots) middle n
 
-pub record Fits (slot : Slot) (o more : Operands) : Type 0 where
+pub record OperandFits (slot : Slot) (o more : Operands) : Type 0 where
   pub registers : HasRegisters more
   pub immediate : Leaves slot o.imm more.imm
 
@@ -70,55 +70,55 @@ register_fits text n e = go (bytes_eq text (codes "fp")) e where
   go false e = place_below (position_or_len (is_of text) names) 32 n e
 
 module _ (o more : Operands) (h : HasRegisters o) where
-  rd_fits : (r : Option ℕ) → ((n : ℕ) → r ≡ Some n → n < 32) → with_rd o r ≡ Ok more → Fits Rd o more
+  rd_fits : (r : Option ℕ) → ((n : ℕ) → r ≡ Some n → n < 32) → with_rd o r ≡ Ok more → OperandFits Rd o more
   rd_fits None below e = cc
   rd_fits (Some n) below e =
       let same : record o { rd = n } ≡ more = cc in
-      let P : Operands → Type 0 = λ x. Fits Rd o x in
+      let P : Operands → Type 0 = λ x. OperandFits Rd o x in
       subst P same (record { registers = record { rd = below n refl; rs1 = h.rs1; rs2 = h.rs2 }; immediate = refl })
 
-  rs1_fits : (r : Option ℕ) → ((n : ℕ) → r ≡ Some n → n < 32) → with_rs1 o r ≡ Ok more → Fits Rs1 o more
+  rs1_fits : (r : Option ℕ) → ((n : ℕ) → r ≡ Some n → n < 32) → with_rs1 o r ≡ Ok more → OperandFits Rs1 o more
   rs1_fits None below e = cc
   rs1_fits (Some n) below e =
       let same : record o { rs1 = n } ≡ more = cc in
-      let P : Operands → Type 0 = λ x. Fits Rs1 o x in
+      let P : Operands → Type 0 = λ x. OperandFits Rs1 o x in
       subst P same (record { registers = record { rd = h.rd; rs1 = below n refl; rs2 = h.rs2 }; immediate = refl })
 
-  rs2_fits : (r : Option ℕ) → ((n : ℕ) → r ≡ Some n → n < 32) → with_rs2 o r ≡ Ok more → Fits Rs2 o more
+  rs2_fits : (r : Option ℕ) → ((n : ℕ) → r ≡ Some n → n < 32) → with_rs2 o r ≡ Ok more → OperandFits Rs2 o more
   rs2_fits None below e = cc
   rs2_fits (Some n) below e =
       let same : record o { rs2 = n } ≡ more = cc in
-      let P : Operands → Type 0 = λ x. Fits Rs2 o x in
+      let P : Operands → Type 0 = λ x. OperandFits Rs2 o x in
       subst P same (record { registers = record { rd = h.rd; rs1 = h.rs1; rs2 = below n refl }; immediate = refl })
 
-  imm_fits : (slot : Slot) (r : Result ℕ OperandFault) → ((n : ℕ) → r ≡ Ok n → Leaves slot o.imm n) → with_imm o r ≡ Ok more → Fits slot o more
+  imm_fits : (slot : Slot) (r : Result ℕ OperandFault) → ((n : ℕ) → r ≡ Ok n → Leaves slot o.imm n) → with_imm o r ≡ Ok more → OperandFits slot o more
   imm_fits slot (Err why) within e = cc
   imm_fits slot (Ok n) within e =
       let same : record o { imm = n } ≡ more = cc in
-      let P : Operands → Type 0 = λ x. Fits slot o x in
+      let P : Operands → Type 0 = λ x. OperandFits slot o x in
       subst P same (record { registers = record { rd = h.rd; rs1 = h.rs1; rs2 = h.rs2 }; immediate = within n refl })
 
-  base_fits : (r : Option ℕ) (imm : Result ℕ OperandFault) → ((n : ℕ) → r ≡ Some n → n < 32) → ((n : ℕ) → imm ≡ Ok n → IsWithin 2048 2047 n) → with_base o r imm ≡ Ok more → Fits Address o more
+  base_fits : (r : Option ℕ) (imm : Result ℕ OperandFault) → ((n : ℕ) → r ≡ Some n → n < 32) → ((n : ℕ) → imm ≡ Ok n → IsWithin 2048 2047 n) → with_base o r imm ≡ Ok more → OperandFits Address o more
   base_fits None imm below within e = cc
   base_fits (Some n) (Err why) below within e = cc
   base_fits (Some n) (Ok k) below within e =
       let same : record o { rs1 = n; imm = k } ≡ more = cc in
-      let P : Operands → Type 0 = λ x. Fits Address o x in
+      let P : Operands → Type 0 = λ x. OperandFits Address o x in
       subst P same (record { registers = record { rd = h.rd; rs1 = below n refl; rs2 = h.rs2 }; immediate = within k refl })
 
-  inner_fits : (imm : Result ℕ OperandFault) → ((n : ℕ) → imm ≡ Ok n → IsWithin 2048 2047 n) → (inner : List ℕ) (n : ℕ) → base_in o imm inner n ≡ Ok more → Fits Address o more
+  inner_fits : (imm : Result ℕ OperandFault) → ((n : ℕ) → imm ≡ Ok n → IsWithin 2048 2047 n) → (inner : List ℕ) (n : ℕ) → base_in o imm inner n ≡ Ok more → OperandFits Address o more
   inner_fits imm within inner n e = go (bytes_eq (drop n inner) (codes ")")) e where
-    go : (b : Bool) → (if b then with_base o (number_named (take n inner)) imm else Err Bad) ≡ Ok more → Fits Address o more
+    go : (b : Bool) → (if b then with_base o (number_named (take n inner)) imm else Err Bad) ≡ Ok more → OperandFits Address o more
     go true f = base_fits (number_named (take n inner)) imm (register_fits (take n inner)) within f
     go false f = cc
 
-  address_fits : (text : List ℕ) (n : ℕ) → address_at o text n ≡ Ok more → Fits Address o more
+  address_fits : (text : List ℕ) (n : ℕ) → address_at o text n ≡ Ok more → OperandFits Address o more
   address_fits text n e = go (starts_with nat_eq (drop n text) (codes "(")) e where
-    go : (b : Bool) → (if b then base_in o (number_in 2048 2047 (take n text)) (drop 1 (drop n text)) (position_or_len is_closing (drop 1 (drop n text))) else Err Bad) ≡ Ok more → Fits Address o more
+    go : (b : Bool) → (if b then base_in o (number_in 2048 2047 (take n text)) (drop 1 (drop n text)) (position_or_len is_closing (drop 1 (drop n text))) else Err Bad) ≡ Ok more → OperandFits Address o more
     go true f = inner_fits (number_in 2048 2047 (take n text)) (λ k. number_ok 2048 2047 (take n text) k (lit≤ tt)) (drop 1 (drop n text)) (position_or_len is_closing (drop 1 (drop n text))) f
     go false f = cc
 
-  operand_fits : (labels : Labels) (from : ℕ) (slot : Slot) (text : List ℕ) → IsSmall slot → with_operand labels from slot text o ≡ Ok more → Fits slot o more
+  operand_fits : (labels : Labels) (from : ℕ) (slot : Slot) (text : List ℕ) → IsSmall slot → with_operand labels from slot text o ≡ Ok more → OperandFits slot o more
   operand_fits labels from Rd text small e = rd_fits (number_named text) (register_fits text) e
   operand_fits labels from Rs1 text small e = rs1_fits (number_named text) (register_fits text) e
   operand_fits labels from Rs2 text small e = rs2_fits (number_named text) (register_fits text) e
@@ -132,7 +132,7 @@ pub record FitAll (slots : List Slot) (o more : Operands) : Type 0 where
   pub registers : HasRegisters more
   pub immediate : LeaveAll slots o.imm more.imm
 
-one_more : (slot : Slot) (slots : List Slot) (o middle more : Operands) → Fits slot o middle → FitAll slots middle more → FitAll (slot ∷ slots) o more
+one_more : (slot : Slot) (slots : List Slot) (o middle more : Operands) → OperandFits slot o middle → FitAll slots middle more → FitAll (slot ∷ slots) o more
 one_more slot [] o middle more one rest =
     record { registers = rest.registers; immediate = subst (λ (n : ℕ). Leaves slot o.imm n) (sym rest.immediate) one.immediate }
 one_more slot (next ∷ slots) o middle more one rest =

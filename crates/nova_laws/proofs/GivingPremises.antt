@@ -17,7 +17,7 @@ use Rattle.nova_model.specs.Capabilities.{is_ec, is_sc, is_pt, named, control_ri
 use Rattle.nova_model.specs.Calls.{admitted, exit_admitted, is_parked, is_same_cpu}
 use Rattle.nova_model.specs.Deeds.{deed, deed_in}
 use Rattle.nova_model.specs.Deliveries.{delivery, delivers, given_to, sequel_of, taken_from}
-use Rattle.nova_model.specs.Edges.{circle, cpu_in, is_dead, state_in}
+use Rattle.nova_model.specs.Edges.{circle, cpu_in, is_dead, state_in, is_giving}
 use Rattle.nova_model.specs.Hypercalls.{new_domain, row, ticks_in}
 use Rattle.nova_model.specs.Portals.{handler_of}
 use Rattle.nova_model.specs.Semaphores.{semaphore, woken}
@@ -35,9 +35,8 @@ use Rattle.nova_model.specs.declared.deed.Deed.{Deed}
 use Rattle.nova_model.specs.declared.deed.Deed.TheVariants.{Rests, Sends, Recalls, Tells, Names, Opens, Gives, Skips, Finishes, Calls, Replies, Ups}
 use Rattle.nova_model.specs.declared.new_object.NewObject.TheVariants.{Sm}
 use Rattle.nova_forest.proofs.Walk.{IfDone, Delivers, delivered_holds, own_holds, sm_ctrl_holds}
-use Rattle.nova_laws.specs.Giving.{is_giving}
 use Rattle.nova_laws.proofs.Rows.{call_holds, makes_hold, named_holds, reply_holds, create_pd_holds}
-use Rattle.nova_laws.proofs.Tabling.{all_get}
+use Rattle.nova_laws.proofs.TablesKept.{all_get}
 
 -- the word in x12 reads as a range
 abbrev pub HasRange : Registers → Type 0

@@ -5,7 +5,7 @@ use Rattle.nova_model.specs.Delegations.{range_of, first_from}
 use Rattle.nova_model.specs.Revokes.{is_entry}
 use Rattle.nova_forest.proofs.Members.{contains_from_in}
 use Rattle.nova_revoke.proofs.Entries.{next_facts, passed, found, ended, goes_on}
-use Rattle.nova_revoke.proofs.leaves.entry.Goals as goal
+use Rattle.nova_revoke.proofs.leaves.scope_entry.Goals as goal
 
 pub is_entry-requires-clause-there : goal.is_entry-requires-clause-there
 is_entry-requires-clause-there g c =

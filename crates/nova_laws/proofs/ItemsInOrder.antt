@@ -5,7 +5,7 @@ use Rattle.nova_range.specs.declared.status.Status.TheVariants.{Success}
 use Rattle.nova_model.specs.Boot.{Scenario, boot}
 use Rattle.nova_model.specs.Creation.{context_of}
 use Rattle.nova_model.specs.Deeds.{answered, deed, parked, transfer_after}
-use Rattle.nova_model.specs.Edges.{acts}
+use Rattle.nova_model.specs.Edges.{acts, is_giving}
 use Rattle.nova_model.specs.Runs.{after, run}
 use Rattle.nova_model.specs.State.{KernelState, Contexts, context, context_at, context_in, ec_in, ec_of, transfer, transfer_in, with_ec}
 use Rattle.nova_model.specs.declared.context.EcState.{EcState}
@@ -24,13 +24,13 @@ use Rattle.nova_model.specs.declared.transfer.Transfer.{Transfer}
 use Rattle.nova_forest.specs.Effects.{all_edited, applied, edits_by, effect, joined, made_by}
 use Rattle.nova_forest.specs.Turns.{Acts, IsTurning, Turning, acting, turned}
 use Rattle.nova_forest.proofs.Turning.{outcome}
-use Rattle.nova_laws.specs.Giving.{GoesOn, Stays, Next, Ends, is_giving}
+use Rattle.nova_laws.specs.Giving.{GoesOn, Stays, Next, Ends}
 use Rattle.nova_laws.proofs.Awaiting.{acts_there, same_or_not}
 use Rattle.nova_laws.proofs.Counting.{at_itself, others_stay}
-use Rattle.nova_laws.proofs.Fitting.{Fits, boot_run_fits, chosen_acts, gives_there}
+use Rattle.nova_laws.proofs.TablesFit.{TablesFit, boot_run_fits, chosen_acts, gives_there}
 use Rattle.nova_laws.proofs.Giving.{at, quiet_set, resumed_quiet}
 use Rattle.nova_laws.proofs.Messages.{IsFinish, Shows, deed_shows}
-use Rattle.nova_laws.proofs.Opening.{Wants, deed_wants, wants_quiet}
+use Rattle.nova_laws.proofs.GivingPremises.{Wants, deed_wants, wants_quiet}
 use Rattle.nova_laws.proofs.Ordered.{Stands, boot_run_stands, stands_at}
 use Rattle.nova_laws.proofs.Progress.{last_is}
 use Rattle.nova_laws.proofs.Referring.{Asks, deed_asks}
@@ -68,7 +68,7 @@ gives_on : (s t : State) → Moves s t → is_giving s ≡ true → t ≡ s
 gives_on s t (inl same) gives = same
 gives_on s t (inr goes) gives = absurd (let works = gives_works s gives in let waits = goes.0 in cc)
 
-other_state : (k : KernelState) (a e : ℕ) (d : Deed) → IsActor k.contexts a → Asks k a d → e ≢ a → Fits k → is_giving (state_at k.contexts e) ≡ true →
+other_state : (k : KernelState) (a e : ℕ) (d : Deed) → IsActor k.contexts a → Asks k a d → e ≢ a → TablesFit k → is_giving (state_at k.contexts e) ≡ true →
     state_at (applied k (effect k a d)).contexts e ≡ state_at k.contexts e
 other_state k a e d actor asks other fits gives =
     let same = gives_on (state_at k.contexts e) _ (others_move k a d actor asks fits e other) gives in
@@ -88,7 +88,7 @@ was_last k a item words after f ends gives h =
     let same : i.item ≡ f.present_item = cc in
     last_is (transfer k a).item f.present_item (subst (λ (v : Delivery). (transfer k a).item < v.items) same i.among) (λ e. ends (e ∙ sym f.follows))
 
-next_item : (k : KernelState) (a item : ℕ) → item ≡ (transfer k a).item → is_some (context_at k a) ≡ true → Fits k →
+next_item : (k : KernelState) (a item : ℕ) → item ≡ (transfer k a).item → is_some (context_at k a) ≡ true → TablesFit k →
     (at (slice_set k.transfers a (Some (transfer_after item sequel.Item))) a).item ≡ (transfer k a).item + 1
 next_item k a item number there fits =
     ap (λ (t : Transfer). t.item) (at_itself k.transfers a (transfer_after item sequel.Item) (gives_there k a there fits)) ∙ ap (λ (n : ℕ). n + 1) number
@@ -97,7 +97,7 @@ quiet_now : (cs : Contexts) (a : ℕ) (x : EcState) → IsSome (ec_in cs a) → 
 quiet_now cs a x there quiet = ap is_giving (set_own cs a x there) ∙ quiet
 
 finished_own : (k : KernelState) (a item : ℕ) (end : ItemEnd) (words : Option ItemWords) (after : Sequel) → IsFinish k a item words after →
-    is_giving (context k a).state ≡ true → IsSome (context_at k a) → Fits k → Stands k → GoesOn k (applied k (effect k a (Finishes item end words after))) a
+    is_giving (context k a).state ≡ true → IsSome (context_at k a) → TablesFit k → Stands k → GoesOn k (applied k (effect k a (Finishes item end words after))) a
 finished_own k a item end words sequel.Item f gives there fits h = Next (set_own k.contexts a (context k a) there) (next_item k a item f.number there fits)
 finished_own k a item end words sequel.Opened f gives there fits h =
     Ends (quiet_now k.contexts a (answered (context k a) Success None) there refl) f.present_item f.present (was_last k a item words sequel.Opened f (λ e. absurd (cc)) gives h)
@@ -108,7 +108,7 @@ finished_own k a item end words (sequel.Replied caller mark) f gives there fits 
     Ends (quiet_set one caller a _ (resumed_quiet (ec_of one caller) mark _) (quiet_now k.contexts a (parked (context k a)) there refl)) f.present_item f.present
     (was_last k a item words (sequel.Replied caller mark) f (λ e. absurd (cc)) gives h)
 
-own_goes : (k : KernelState) (a : ℕ) (d : Deed) → Wants k a d → Shows k a d → is_giving (context k a).state ≡ true → IsSome (context_at k a) → Fits k → Stands k →
+own_goes : (k : KernelState) (a : ℕ) (d : Deed) → Wants k a d → Shows k a d → is_giving (context k a).state ≡ true → IsSome (context_at k a) → TablesFit k → Stands k →
     GoesOn k (applied k (effect k a d)) a
 own_goes k a Rests wants shows gives there fits h = Stays refl refl
 own_goes k a (Gives child cursor) wants shows gives there fits h = Stays refl (part_stays k.transfers a _ refl)
@@ -126,7 +126,7 @@ same_goes k s new e contexts transfers (Next state item) =
     Next (ap (λ (cs : Contexts). state_at cs e) contexts ∙ state) (ap (λ (ts : List (Option Transfer)). (at ts e).item) transfers ∙ item)
 same_goes k s new e contexts transfers (Ends quiet v present last) = Ends (ap (λ (cs : Contexts). is_giving (state_at cs e)) contexts ∙ quiet) v present last
 
-deed_goes : (k : KernelState) (a e : ℕ) → acts k.contexts a ≡ true → is_giving (context k e).state ≡ true → Fits k → Stands k → GoesOn k (applied k (effect k a (deed k a))) e
+deed_goes : (k : KernelState) (a e : ℕ) → acts k.contexts a ≡ true → is_giving (context k e).state ≡ true → TablesFit k → Stands k → GoesOn k (applied k (effect k a (deed k a))) e
 deed_goes k a e able gives fits h = same_or_not e a _ itself another
   where
     itself : e ≡ a → GoesOn k (applied k (effect k a (deed k a))) e
@@ -139,12 +139,12 @@ deed_goes k a e able gives fits h = same_or_not e a _ itself another
     another other =
         Stays (other_state k a e (deed k a) (actor_of k.contexts a able) (deed_asks k a) other fits gives) (ap (λ (t : Transfer). t.item) (others_stay k a e (deed k a) other))
 
-turned_goes : (k : KernelState) (cpu e : ℕ) (t : Turning) (f : Event) → IsTurning k cpu t f → is_giving (context k e).state ≡ true → Fits k → Stands k → GoesOn k (turned k cpu t) e
+turned_goes : (k : KernelState) (cpu e : ℕ) (t : Turning) (f : Event) → IsTurning k cpu t f → is_giving (context k e).state ≡ true → TablesFit k → Stands k → GoesOn k (turned k cpu t) e
 turned_goes k cpu e t f (Acts c chosen is event) gives fits h =
     subst (λ (u : Turning). GoesOn k (turned k cpu u) e) (sym is)
     (same_goes k (applied k (effect k c.actor (deed k c.actor))) (turned k cpu (acting k c)) e refl refl (deed_goes k c.actor e (chosen_acts k cpu c chosen) gives fits h))
 
-turn_goes : (k : KernelState) (cpu e : ℕ) → is_giving (context k e).state ≡ true → Fits k → Stands k → GoesOn k (after k cpu) e
+turn_goes : (k : KernelState) (cpu e : ℕ) → is_giving (context k e).state ≡ true → TablesFit k → Stands k → GoesOn k (after k cpu) e
 turn_goes k cpu e gives fits h = outcome (λ s o. GoesOn k s e) k cpu (λ none. Stays refl refl) (λ t f is. turned_goes k cpu e t f is gives fits h)
 
 pub items_go_on : (s : Scenario) (turns : List ℕ) (cpu ec : ℕ) → is_giving (context (run (boot s) turns) ec).state ≡ true →

@@ -24,7 +24,7 @@ use Rattle.nova_model.specs.declared.event.Turn.TheVariants.{Stepped}
 use Rattle.nova_model.specs.declared.transfer.ItemEnd.{ItemEnd}
 use Rattle.nova_model.specs.declared.transfer.ItemWords.{ItemWords}
 use Rattle.nova_model.specs.declared.transfer.Sequel.{Sequel}
-use Rattle.nova_laws.specs.Words.{AreWritten, HasWritten, IsAmongWords, IsStepped, Stores, Stays, words_at, written_by}
+use Rattle.nova_laws.specs.Words.{AreWritten, HasWritten, IsAmongWords, IsStepped, Stores, Stays, words_at, whose_words}
 use Rattle.nova_laws.proofs.Referring.{Asks, IsCallerOf, deed_asks}
 use Rattle.nova_laws.proofs.Setting.{entry_itself, entry_joined, entry_kept, entry_other, entry_set, set_length}
 use Rattle.std.specs.Prelude.{option_map}
@@ -63,7 +63,7 @@ stored_by k ec n (Some s) is = by_words (words_reached (address_space k ec) s.ad
     by_words None none = absurd cc
     by_words (Some m) at = at
 
-writes_are : (k : KernelState) (ec n : ℕ) (d : Deed) → option_map (λ w. w.0) (words_by k ec d) ≡ Some n → written_by ec d ≡ Some n
+writes_are : (k : KernelState) (ec n : ℕ) (d : Deed) → option_map (λ w. w.0) (words_by k ec d) ≡ Some n → whose_words ec d ≡ Some n
 writes_are k ec n Steps is = stored_by k ec n (store_of (instruction k ec)) is
 writes_are k ec n (Calls handler ip identifier items) is = is
 writes_are k ec n (Sends handler ip identifier mtd reason q0 q1) is = is
@@ -134,7 +134,7 @@ sends_words : (k : KernelState) (ec to n : ℕ) (d : Deed) (words m : List ℕ) 
 sends_words k ec to n d words m writes same is are =
     (m, rw (writes, same) (put_words k.messages n m words (option_map (λ b. words_of (object_of b)) (made_by d)) is), are)
 
-done_writes : (k : KernelState) (ec n : ℕ) (d : Deed) (words : List ℕ) → written_by ec d ≡ Some n → words_at k n ≡ Some words → AreNow k ec n d words
+done_writes : (k : KernelState) (ec n : ℕ) (d : Deed) (words : List ℕ) → whose_words ec d ≡ Some n → words_at k n ≡ Some words → AreNow k ec n d words
 done_writes k ec n Steps words writes is =
     let same : ec ≡ n = number_same ec n writes in
     subst (λ (m : ℕ). AreNow k ec m Steps words) same (stepped_words k ec words (instruction k ec) refl (ap (words_at k) same ∙ is))
@@ -264,13 +264,13 @@ after_turn P k cpu e steps h = by_turn (turn_of k cpu e steps)
           subst (P e.ec (deed k e.ec)) (sym same) h
     ]
 
-pub others_keep : (k : KernelState) (cpu : ℕ) (e : Event) (n : ℕ) (words : List ℕ) → answer_of (turn k cpu) ≡ Stepped e → written_by e.ec (deed k e.ec) ≢ Some n →
+pub others_keep : (k : KernelState) (cpu : ℕ) (e : Event) (n : ℕ) (words : List ℕ) → answer_of (turn k cpu) ≡ Stepped e → whose_words e.ec (deed k e.ec) ≢ Some n →
     words_at k n ≡ Some words → words_at (after k cpu) n ≡ Some words
 others_keep k cpu e n words steps differs is =
     after_turn (λ (ec : ℕ) (d : Deed) (ms : Messages). entry (slice_get ms n) ≡ Some words) k cpu e steps
     (kept_words k.messages (words_by k e.ec (deed k e.ec)) _ n words (λ writes. differs (writes_are k e.ec n (deed k e.ec) writes)) is)
 
-pub one_writes : (k : KernelState) (cpu : ℕ) (e : Event) (n : ℕ) (words : List ℕ) → answer_of (turn k cpu) ≡ Stepped e → written_by e.ec (deed k e.ec) ≡ Some n →
+pub one_writes : (k : KernelState) (cpu : ℕ) (e : Event) (n : ℕ) (words : List ℕ) → answer_of (turn k cpu) ≡ Stepped e → whose_words e.ec (deed k e.ec) ≡ Some n →
     words_at k n ≡ Some words → HasWritten k (after k cpu) e.ec n (deed k e.ec) words
 one_writes k cpu e n words steps writes is =
     let h = after_turn (λ (ec : ℕ) (d : Deed) (ms : Messages). (now : List ℕ) × (entry (slice_get ms n) ≡ Some now) × AreWritten k ec d words now) k cpu e steps
