@@ -1,15 +1,18 @@
--- Nodes that change, one by one; and what is found among nodes and among their derivations.
-use Rattle.std.proofs.Common.{◌≡◌, ℕ, List, [], ◌∷◌, ◌++◌, ap, sym, ◌∙◌, refl, inl, inr, arith, subst}
-use Rattle.std.specs.Prelude.{Bool, true, false, ◌⊎◌, ◌<◌, ◌+◌, ◌==◌, not, map, drop, length, filter, zero, suc, slice_get, if◌then◌else◌, Option, Some, None, option_map, IfSome, IsSome}
-use Rattle.std.specs.List.{AllByRecursion, find, list_any}
+-- Nodes that change, one by one; what is found among nodes and among their derivations; and places that are gone through.
+use Rattle.std.proofs.Common.{◌≡◌, ℕ, List, [], ◌∷◌, ap, sym, ◌∙◌, refl, inl, inr, arith, subst}
+use Rattle.std.specs.Prelude.{Bool, true, false, ◌⊎◌, ◌<◌, ◌==◌, ◌||◌, not, map, length, filter, zero, suc, slice_index_or, if◌then◌else◌, Option, Some, None, option_map}
+use Rattle.std.specs.List.{All, AllByRecursion, find, list_any}
 use Rattle.std.proofs.lemmas.Bool.{eqb-true}
+use Rattle.slab.specs.Slab.{Slab}
 use Rattle.nova_model.specs.Delegations.{id_of, is_id, newest_child, older_child, with_id}
 use Rattle.nova_model.specs.Forest.{ArePairs}
 use Rattle.nova_model.specs.declared.delegation.Derivation.{Derivation}
-use Rattle.nova_forest.proofs.Members.{IsIn, all_at, all_from, found_in}
+use Rattle.nova_forest.proofs.Members.{IsIn, all_at, all_from, contains_from_in, found_in}
 use Rattle.nova_nodes.specs.declared.node.Node.{Node}
-use Rattle.nova_nodes.specs.Links.{AreLinked, changed_at, derivation_of, derivations, link}
-use Rattle.nova_nodes.specs.Stores.{AreRising, is_number, node_id, put}
+use Rattle.nova_nodes.specs.declared.node.Place.{Place}
+use Rattle.nova_nodes.specs.Links.{AreLinked, IsSmall, changed_at, derivation_of, derivations, link, passes_in}
+use Rattle.nova_nodes.specs.NodesStates.{IsPlaced}
+use Rattle.nova_nodes.specs.Stores.{AreRising, is_number, node_at, node_id, nodes_at, put}
 use Rattle.nova_nodes.proofs.Found.{not_found, pairs_at}
 use Rattle.nova_nodes.proofs.Sorted.{filter_all}
 
@@ -81,16 +84,6 @@ found_derivation p (n ∷ ns) = by_test (p n.derivation) (found_derivation p ns)
     by_test true rest = refl
     by_test false rest = rest
 
-pub nth_derivation : (ns : List Node) (i : ℕ) → slice_get (derivations ns) i ≡ option_map derivation_of (slice_get ns i)
-nth_derivation [] zero = refl
-nth_derivation [] (suc i) = refl
-nth_derivation (n ∷ ns) zero = refl
-nth_derivation (n ∷ ns) (suc i) = nth_derivation ns i
-
-pub length_derivations : (ns : List Node) → length (derivations ns) ≡ length ns
-length_derivations [] = refl
-length_derivations (n ∷ ns) = ap (λ k. suc k) (length_derivations ns)
-
 pub rising_derivations : (ns : List Node) → AreRising ns → ArePairs (λ a b. a.id < b.id) (derivations ns)
 rising_derivations [] rising = tt
 rising_derivations (n ∷ ns) rising = (each ns rising.0, rising_derivations ns rising.1)
@@ -139,25 +132,42 @@ no_node nodes id none = found_derivation (λ (d : Derivation). d.id == id) nodes
 pub none_goes : (id : ℕ) (list : List Derivation) → with_id list id ≡ None → filter (λ (d : Derivation). not (d.id == id)) list ≡ list
 none_goes id list none = filter_all (λ (d : Derivation). not (d.id == id)) list (all_from (λ (d : Derivation). not (d.id == id) ≡ true) list (λ d i. ap not (not_found (λ (a : Derivation). a.id == id) list d none i)))
 
--- NODES THAT ARE COPIED
+-- PLACES THAT ARE GONE THROUGH
 
-pub drop_got : {T : Type 0} (xs : List T) (i : ℕ) (x : T) → slice_get xs i ≡ Some x → drop i xs ≡ x ∷ drop (i + 1) xs
-drop_got [] zero x is = absurd (cc)
-drop_got [] (suc i) x is = absurd (cc)
-drop_got (y ∷ xs) zero x is = let same : y ≡ x = cc in ap (λ z. z ∷ xs) same
-drop_got (y ∷ xs) (suc i) x is = let one : suc i + 1 ≡ suc (i + 1) = omega arith in rw one (drop_got xs i x is)
-
-pub below_last : (ns : List Node) (node : Node) (rest : List Node) → AreRising (ns ++ node ∷ rest) → AllByRecursion (λ n. n.derivation.id < node.derivation.id) ns
-below_last [] node rest rising = tt
-below_last (n ∷ ns) node rest rising = (at_once ns rising.0, below_last ns node rest rising.1)
+-- some derivation passes, if that at some place does
+pub any_derivation : (test : Derivation → Bool) (slab : Slab Node) (ps : List Place) → list_any test (derivations (nodes_at slab ps)) ≡ list_any (λ p. passes_in test (node_at slab p)) ps
+any_derivation test slab [] = refl
+any_derivation test slab (p ∷ ps) = by_node (node_at slab p) refl (any_derivation test slab ps)
   where
-    at_once : (ms : List Node) → AllByRecursion (λ m. n.derivation.id < m.derivation.id) (ms ++ node ∷ rest) → n.derivation.id < node.derivation.id
-    at_once [] all = all.0
-    at_once (m ∷ ms) all = at_once ms all.1
+    by_node : (o : Option Node) → node_at slab p ≡ o → list_any test (derivations (nodes_at slab ps)) ≡ list_any (λ q. passes_in test (node_at slab q)) ps →
+        list_any test (derivations (nodes_at slab (p ∷ ps))) ≡ list_any (λ q. passes_in test (node_at slab q)) (p ∷ ps)
+    by_node None is rest = rw is rest
+    by_node (Some n) is rest = rw is (ap (λ b. test n.derivation || b) rest)
 
--- one more of those that are looked through
-pub any_hit : {T : Type 0} (p : T → Bool) (xs : List T) (i : ℕ) (x : T) → slice_get xs i ≡ Some x → p x ≡ true → list_any p (drop i xs) ≡ true
-any_hit p xs i x is on = rw (drop_got xs i x is, on) refl
+in_more : (slab : Slab Node) (p : Place) (ps : List Place) (n : Node) → IsIn (nodes_at slab ps) n → IsIn (nodes_at slab (p ∷ ps)) n
+in_more slab p ps n i = by_node (node_at slab p) refl
+  where
+    by_node : (o : Option Node) → node_at slab p ≡ o → IsIn (nodes_at slab (p ∷ ps)) n
+    by_node None is = rw is i
+    by_node (Some m) is = rw is (inr i)
 
-pub any_miss : {T : Type 0} (p : T → Bool) (xs : List T) (i : ℕ) (x : T) → slice_get xs i ≡ Some x → p x ≡ false → list_any p (drop i xs) ≡ list_any p (drop (i + 1) xs)
-any_miss p xs i x is off = rw (drop_got xs i x is, off) refl
+kept_in : (slab : Slab Node) (ps : List Place) (i : ℕ) (d : Place) (n : Node) → i < length ps → node_at slab (slice_index_or ps i d) ≡ Some n → IsIn (nodes_at slab ps) n
+kept_in slab [] i d n less is = absurd (omega arith)
+kept_in slab (p ∷ ps) zero d n less is = rw is (inl refl)
+kept_in slab (p ∷ ps) (suc i) d n less is = in_more slab p ps n (kept_in slab ps i d n (omega arith) is)
+
+derivation_in : (ns : List Node) (n : Node) → IsIn ns n → IsIn (derivations ns) n.derivation
+derivation_in [] n i = absurd i
+derivation_in (m ∷ ns) n (inl e) = inl (ap derivation_of e)
+derivation_in (m ∷ ns) n (inr i) = inr (derivation_in ns n i)
+
+-- what is placed is of order 20 at most
+pub all_small : (slab : Slab Node) (ps : List Place) → All IsPlaced (derivations (nodes_at slab ps)) → All (λ p. IsSmall (node_at slab p)) ps
+all_small slab ps placed i d less = by_node (node_at slab (slice_index_or ps i d)) refl
+  where
+    by_node : (o : Option Node) → node_at slab (slice_index_or ps i d) ≡ o → IsSmall o
+    by_node None is = tt
+    by_node (Some n) is =
+        let c = contains_from_in (derivations (nodes_at slab ps)) n.derivation (derivation_in (nodes_at slab ps) n (kept_in slab ps i d n less is)) in
+        let it : IsPlaced n.derivation = subst IsPlaced c.2 (placed c.0 n.derivation c.1) in
+        it.range.order

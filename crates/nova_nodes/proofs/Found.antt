@@ -1,11 +1,13 @@
 -- Searches among derivations: what is found is the only one that it can be.
-use Rattle.std.proofs.Common.{◌≡◌, ℕ, ◌<◌, ◌≤◌, List, [], ◌∷◌, ap, sym, ◌∙◌, refl, inl, inr, arith, subst}
-use Rattle.std.specs.Prelude.{Bool, true, false, ◌⊎◌, ◌==◌, nat_le, Some, None}
+use Rattle.std.proofs.Common.{◌≡◌, ℕ, ◌<◌, ◌≤◌, List, [], ◌∷◌, ap, sym, ◌∙◌, refl, inl, inr, arith}
+use Rattle.std.specs.Prelude.{Bool, true, false, nat_le, Some, None}
 use Rattle.std.specs.List.{find, list_all}
 use Rattle.nova_model.specs.Delegations.{with_id, least_by, greatest_by, id_of}
 use Rattle.nova_model.specs.Forest.{ArePairs}
 use Rattle.nova_model.specs.declared.delegation.Derivation.{Derivation}
-use Rattle.nova_forest.proofs.Members.{IsIn, all_at}
+use Rattle.nova_forest.proofs.Lines.{member_found}
+use Rattle.nova_forest.proofs.Members.{IsIn}
+pub use Rattle.nova_forest.proofs.Pairs.{pairs_at, same_id}
 
 -- the only one that passes is found, and none where none passes
 pub find_only : {T : Type 0} (p : T → Bool) (xs : List T) (x : T) → IsIn xs x → p x ≡ true → ((y : T) → IsIn xs y → p y ≡ true → y ≡ x) → find p xs ≡ Some x
@@ -31,27 +33,8 @@ not_found p (y ∷ ys) x none i = by_test (p y) refl i (λ g j. not_found p ys x
     by_test false t (inl e) rest = ap p (sym e) ∙ t
     by_test false t (inr j) rest = rest (let k : find p ys ≡ None = rw t at none in k) j
 
--- two of a list that is related in pairs
-pub pairs_at : {T : Type 0} (Rel : T → T → Type 0) (list : List T) (a b : T) → ArePairs Rel list → IsIn list a → IsIn list b → (a ≡ b) ⊎ (Rel a b ⊎ Rel b a)
-pairs_at Rel [] a b pairs i j = absurd i
-pairs_at Rel (x ∷ xs) a b pairs (inl e) (inl g) = inl (sym e ∙ g)
-pairs_at Rel (x ∷ xs) a b pairs (inl e) (inr j) = inr (inl (subst (λ y. Rel y b) e (all_at (Rel x) xs b pairs.0 j)))
-pairs_at Rel (x ∷ xs) a b pairs (inr i) (inl g) = inr (inr (subst (λ y. Rel y a) g (all_at (Rel x) xs a pairs.0 i)))
-pairs_at Rel (x ∷ xs) a b pairs (inr i) (inr j) = pairs_at Rel xs a b pairs.1 i j
-
--- ids rise, so that no two have one
-pub same_id : (list : List Derivation) (a b : Derivation) → ArePairs (λ c d. c.id < d.id) list → IsIn list a → IsIn list b → a.id ≡ b.id → a ≡ b
-same_id list a b rising i j e = by_pair (pairs_at (λ c d. c.id < d.id) list a b rising i j)
-  where
-    by_pair : (a ≡ b) ⊎ ((a.id < b.id) ⊎ (b.id < a.id)) → a ≡ b
-    by_pair (inl same) = same
-    by_pair (inr (inl low)) = absurd (omega arith)
-    by_pair (inr (inr low)) = absurd (omega arith)
-
 pub with_its_id : (list : List Derivation) (d : Derivation) → ArePairs (λ a b. a.id < b.id) list → IsIn list d → with_id list d.id ≡ Some d
-with_its_id list d rising i =
-    find_only (λ (a : Derivation). a.id == d.id) list d i (let e : d.id == d.id ≡ true = grind arith in e)
-    (λ a j h. same_id list a d rising j i (let e : a.id ≡ d.id = grind (arith, h) in e))
+with_its_id = member_found
 
 -- a test of all, and one of them
 

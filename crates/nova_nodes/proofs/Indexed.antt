@@ -10,13 +10,16 @@ use Rattle.nova_range.specs.declared.range.Kind.TheVariants.{Mem, Obj}
 use Rattle.nova_range.specs.declared.range.Range.{Range}
 use Rattle.nova_range.specs.Ranges.{overlaps}
 use Rattle.nova_range.specs.Indices as index
-use Rattle.nova_range.specs.Indices.{IsSorted, key_of, ends_after, begins_before, has_base, key_at, range_from, put_in, taken_out}
+use Rattle.nova_range.specs.Indices.{IsSorted, key_of, ends_after, begins_before, key_at, range_from, put_in}
 use Rattle.nova_model.specs.Delegations.{Delegations, covers, has_place, holds_from, first_from, is_same_kind, range_of, base_of, with_id}
 use Rattle.nova_model.specs.Forest.{AreApart, IsForest}
 use Rattle.nova_model.specs.declared.delegation.Derivation.{Derivation}
 use Rattle.nova_forest.proofs.Members.{IsIn, all_at, all_from, filtered_in, in_filtered, found_in, in_from_contains}
 use Rattle.nova_nodes.specs.Spaces.{SpaceState, IsIndexed, IsEntryOf, entries_at, entry_of}
 use Rattle.nova_nodes.proofs.Found.{find_only, not_found, pairs_at, with_its_id, least_only}
+pub use Rattle.nova_range.proofs.Members.{in_left}
+use Rattle.nova_range.proofs.Members.{in_right}
+pub use Rattle.nova_range.proofs.Sorted.{in_put}
 use Rattle.nova_nodes.proofs.Sorted.{first_least, filter_none, held, key_held}
 
 -- kinds
@@ -171,16 +174,7 @@ entries_apart spaces list x indexed apart = all_from (λ e. overlaps e.range (ra
     let far = all_at (λ a. a.pd ≡ x.pd → a.kind ≡ x.kind → AreApart a x) list of.of apart (in_from_contains list of.of of.there) of.pd_is of.kind_is in
     ap (λ (y : Entry). overlaps y.range (range_of x)) of.entry ∙ far)
 
--- members of two lists that are joined
-pub in_left : {T : Type 0} (xs ys : List T) (x : T) → IsIn xs x → IsIn (xs ++ ys) x
-in_left [] ys x i = absurd i
-in_left (y ∷ xs) ys x (inl e) = inl e
-in_left (y ∷ xs) ys x (inr i) = inr (in_left xs ys x i)
-
-in_right : {T : Type 0} (xs ys : List T) (x : T) → IsIn ys x → IsIn (xs ++ ys) x
-in_right [] ys x i = i
-in_right (y ∷ xs) ys x i = inr (in_right xs ys x i)
-
+-- a member of two lists that are joined
 pub in_either : {T : Type 0} (xs ys : List T) (x : T) → IsIn (xs ++ ys) x → IsIn xs x ⊎ IsIn ys x
 in_either [] ys x i = inr i
 in_either (y ∷ xs) ys x (inl e) = inl (inl e)
@@ -190,14 +184,7 @@ in_either (y ∷ xs) ys x (inr i) = later (in_either xs ys x i)
     later (inl j) = inl (inr j)
     later (inr j) = inr j
 
--- what stays where one entry is put in, and what is there then
-pub in_put : (x e : Entry) (es : List Entry) → IsIn es e → IsIn (put_in x es) e
-in_put x e es i = by_side (begins_before x e) refl
-  where
-    by_side : (t : Bool) → begins_before x e ≡ t → IsIn (put_in x es) e
-    by_side true h = in_left (filter (begins_before x) es) (x ∷ filter (λ f. not (begins_before x f)) es) e (in_filtered (begins_before x) es e i h)
-    by_side false h = in_right (filter (begins_before x) es) (x ∷ filter (λ f. not (begins_before x f)) es) e (inr (in_filtered (λ f. not (begins_before x f)) es e i (ap not h)))
-
+-- what is there where one entry is put in
 pub put_there : (x : Entry) (es : List Entry) → IsIn (put_in x es) x
 put_there x es = in_right (filter (begins_before x) es) (x ∷ filter (λ f. not (begins_before x f)) es) x (inl refl)
 

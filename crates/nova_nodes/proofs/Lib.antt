@@ -8,6 +8,7 @@ pub mod Rising
 pub mod Rooms
 pub mod Kept
 pub mod Points
+pub mod Slots
 pub mod Stores
 pub mod Most
 pub mod Links

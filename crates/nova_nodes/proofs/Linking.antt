@@ -1,6 +1,6 @@
 -- Links are what the list says once a derivation has joined.
 use Rattle.std.proofs.Common.{◌≡◌, ℕ, ◌<◌, ◌≤◌, List, [], ◌∷◌, ◌++◌, ap, sym, ◌∙◌, refl, inl, inr, arith, subst}
-use Rattle.std.specs.Prelude.{Bool, true, false, ◌⊎◌, ◌==◌, not, map, if◌then◌else◌, Option, Some, None, option_map, IfSome, IsSome}
+use Rattle.std.specs.Prelude.{Bool, true, false, ◌⊎◌, ◌==◌, map, if◌then◌else◌, Option, Some, None, option_map, IfSome, IsSome}
 use Rattle.std.specs.List.{AllByRecursion}
 use Rattle.nova_model.specs.Delegations.{id_of, is_child_of, is_id, newest_child, with_id}
 use Rattle.nova_model.specs.Forest.{IsChildless}
@@ -9,9 +9,9 @@ use Rattle.nova_forest.proofs.Members.{IsIn, all_at, all_more, found_in}
 use Rattle.nova_nodes.specs.declared.node.Node.{Node}
 use Rattle.nova_nodes.specs.Links.{AreLinked, changed_at, derivations, is_child_in, joined, link, or_else}
 use Rattle.nova_nodes.proofs.Indexed.{in_either}
-use Rattle.nova_nodes.proofs.Links.{AreOfOne, IsFamily, child_facts, child_passes, derivation_in, family_at, family_from, newest_at, older_facts, older_test, younger_facts, younger_passes, younger_test}
-use Rattle.nova_nodes.proofs.Most.{Above, AreRising, Below, IsMost, IsMostOf, most_joins, most_later, most_same, most_stays, newest_facts}
-use Rattle.nova_nodes.proofs.Stores.{pairs_more}
+use Rattle.nova_nodes.proofs.Links.{IsFamily, child_facts, child_passes, derivation_in, family_at, family_from, newest_at, older_facts, older_test, younger_facts, younger_passes, younger_test}
+use Rattle.nova_nodes.proofs.Most.{Above, AreRising, Below, IsMostOf, most_joins, most_later, most_same, most_stays, newest_facts}
+use Rattle.nova_nodes.proofs.Slots.{pairs_more}
 use Rattle.nova_nodes.proofs.Unlinking.{all_three, node_same, three}
 
 -- what joins: it has the greatest id and no child, and its parent is there

@@ -1,16 +1,14 @@
 -- Links are what the list says where a derivation joins, and where one goes.
-use Rattle.std.proofs.Common.{◌≡◌, ℕ, ◌<◌, ◌≤◌, List, [], ◌∷◌, ◌++◌, ap, sym, ◌∙◌, refl, inl, inr, arith, subst}
-use Rattle.std.specs.Prelude.{Bool, true, false, ◌⊎◌, ◌==◌, ◌&&◌, not, nat_lt, map, filter, if◌then◌else◌, Option, Some, None, option_map, IfSome, IsSome}
-use Rattle.std.specs.List.{AllByRecursion, find}
+use Rattle.std.proofs.Common.{◌≡◌, ℕ, ◌<◌, ◌≤◌, List, [], ◌∷◌, ap, sym, ◌∙◌, refl, inl, inr, arith, subst}
+use Rattle.std.specs.Prelude.{Bool, true, false, nat_lt, Option, Some, None, option_map}
 use Rattle.std.proofs.lemmas.Bool.{and_parts, eqb-true}
 use Rattle.nova_model.specs.Delegations.{id_of, is_child_of, is_id, is_older_child, newest_child, older_child}
 use Rattle.nova_model.specs.declared.delegation.Derivation.{Derivation}
-use Rattle.nova_forest.proofs.Members.{IsIn, all_at, all_from, filtered_in}
+use Rattle.nova_forest.proofs.Members.{IsIn, all_at}
 use Rattle.nova_nodes.specs.declared.node.Node.{Node}
-use Rattle.nova_nodes.specs.Links.{AreLinked, changed_at, derivations, derivation_of, is_child_in, is_younger_child, joined, left, link, or_else, past, younger_child}
-use Rattle.nova_nodes.specs.Stores.{is_number, node_id}
+use Rattle.nova_nodes.specs.Links.{AreLinked, derivations, derivation_of, is_child_in, is_younger_child, link, younger_child}
 use Rattle.nova_nodes.proofs.Found.{same_id}
-use Rattle.nova_nodes.proofs.Most.{Above, AreRising, Below, IsMost, IsMostOf, IsNext, most_joins, most_later, most_passes, most_same, most_stays, newest_facts, newest_from, oldest_facts, oldest_from, others}
+use Rattle.nova_nodes.proofs.Most.{Above, AreRising, Below, IsMost, IsMostOf, newest_facts, newest_from, oldest_facts, oldest_from}
 
 -- TESTS OF LINKS
 

@@ -1,14 +1,14 @@
 -- Of a sound forest: parents are there, and no derivation has the next id.
 use Rattle.std.proofs.Common.{◌≡◌, ℕ, ◌<◌, ap, sym, ◌∙◌, refl, arith, subst}
-use Rattle.std.specs.Prelude.{Bool, true, false, ◌==◌, List, Contains, Option, Some, None, IfSome, IsSome, option_map}
-use Rattle.std.specs.List.{AllByRecursion, find}
+use Rattle.std.specs.Prelude.{Bool, true, false, ◌==◌, Option, Some, None, IfSome, IsSome, option_map}
+use Rattle.std.specs.List.{find}
 use Rattle.nova_model.specs.Delegations.{Delegations, id_of, is_child_of, is_id, newest_child, with_id}
 use Rattle.nova_model.specs.Forest.{HasParentIn, IsChildless, IsForest}
 use Rattle.nova_model.specs.declared.delegation.Derivation.{Derivation}
 use Rattle.nova_forest.proofs.Extremes.{none_kept}
 use Rattle.nova_forest.proofs.Members.{IsIn, all_at, all_from, contains_from_in, found_in, in_from_contains}
 use Rattle.nova_nodes.specs.NodesStates.{IsPlaced, IsSound}
-use Rattle.nova_nodes.proofs.Found.{not_found, with_its_id}
+use Rattle.nova_nodes.proofs.Found.{with_its_id}
 
 -- a child's parent is found
 parent_found : (f : Delegations) (d : Derivation) (id : ℕ) → IsForest f → IsIn f.list d → is_child_of id d ≡ true → IsSome (with_id f.list id)

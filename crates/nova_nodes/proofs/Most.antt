@@ -1,7 +1,6 @@
 -- Of derivations that pass a test the one that goes before all: of greatest id, or of least.
 use Rattle.std.proofs.Common.{◌≡◌, ℕ, ◌<◌, ◌≤◌, List, [], ◌∷◌, ◌++◌, ap, sym, ◌∙◌, refl, inl, inr, arith, subst}
 use Rattle.std.specs.Prelude.{Bool, true, false, ◌⊎◌, ◌==◌, not, nat_le, filter, if◌then◌else◌, Option, Some, None, option_map}
-use Rattle.std.specs.List.{AllByRecursion, find, list_all}
 use Rattle.std.proofs.lemmas.Bool.{eqb-true}
 use Rattle.nova_model.specs.Delegations.{id_of, least_by, greatest_by}
 use Rattle.nova_model.specs.Forest.{ArePairs}

@@ -1,10 +1,10 @@
 -- Of what is numbered by rising numbers: where those begin that have a number or a greater one.
-use Rattle.std.proofs.Common.{◌≡◌, ℕ, ◌<◌, ◌≤◌, List, [], ◌∷◌, refl, ap, sym, ◌∙◌, arith}
-use Rattle.std.specs.Prelude.{Bool, true, false, ◌==◌, nat_lt, zero, suc, length, slice_get, slice_index_or, if◌then◌else◌, Option, Some, None}
+use Rattle.std.proofs.Common.{◌≡◌, ℕ, ◌<◌, ◌≤◌, List, [], ◌∷◌, refl, ap, arith}
+use Rattle.std.specs.Prelude.{true, false, not, nat_lt, zero, suc, drop, filter, length, slice_get, slice_index_or, take}
 use Rattle.std.specs.List.{AllByRecursion, find}
 use Rattle.std.specs.List.Sorted.{IsPartitionPoint, IsPartitionedBy}
 use Rattle.nova_model.specs.Forest.{ArePairs}
-use Rattle.nova_nodes.specs.Stores.{is_after, is_number}
+use Rattle.nova_nodes.specs.Stores.{is_after}
 
 abbrev pub AreNumbered : {T : Type 0} → (T → ℕ) → List T → Type 0
 AreNumbered number xs = ArePairs (λ a b. number a < number b) xs
@@ -42,24 +42,30 @@ at_point number id (x ∷ xs) (suc i) point =
     let before : is_after number id x ≡ false = grind (arith, below) in
     rw before (at_point number id xs i (λ k e low high. point.0 (suc k) e (omega arith) (omega arith), λ k e low high. point.1 (suc k) e (omega arith) (omega arith)))
 
--- that of a number is the first from it on, if that has the number
-abbrev pub of_number : {T : Type 0} → (T → ℕ) → ℕ → Option T → Option T
-of_number number id None = None
-of_number number id (Some x) = if is_number number id x then Some x else None
+-- what stands before the point, and what stands from it on
 
-pub its_number : {T : Type 0} (number : T → ℕ) (id : ℕ) (xs : List T) → AreNumbered number xs → find (is_number number id) xs ≡ of_number number id (find (is_after number id) xs)
-its_number number id [] rising = refl
-its_number {T} number id (x ∷ xs) rising = by_test (is_after number id x) refl (its_number number id xs rising.1)
-  where
-    none : (ys : List T) → AllByRecursion (λ b. number x < number b) ys → is_after number id x ≡ true → find (is_number number id) ys ≡ None
-    none [] all h = refl
-    none (y ∷ ys) all h = let above = all.0 in let other : is_number number id y ≡ false = grind (arith, above, h) in rw other (none ys all.1 h)
+pub before_point : {T : Type 0} (number : T → ℕ) (id : ℕ) (xs : List T) (i : ℕ) → IsPartitionPoint (λ x. nat_lt (number x) id ≡ true) (λ x. nat_lt (number x) id ≡ false) xs i →
+    take i xs ≡ filter (λ x. not (is_after number id x)) xs
+before_point number id [] zero point = refl
+before_point number id [] (suc i) point = refl
+before_point number id (x ∷ xs) zero point =
+    let stops = point.1 0 x (omega arith) (omega arith) in
+    let from : is_after number id x ≡ true = grind (arith, stops) in
+    rw from (before_point number id xs zero (λ k e low high. absurd (omega arith), λ k e low high. point.1 (suc k) e (omega arith) (omega arith)))
+before_point number id (x ∷ xs) (suc i) point =
+    let below = point.0 0 x (omega arith) (omega arith) in
+    let before : is_after number id x ≡ false = grind (arith, below) in
+    rw before (ap (λ l. x ∷ l) (before_point number id xs i (λ k e low high. point.0 (suc k) e (omega arith) (omega arith), λ k e low high. point.1 (suc k) e (omega arith) (omega arith))))
 
-    by_test : (t : Bool) → is_after number id x ≡ t → find (is_number number id) xs ≡ of_number number id (find (is_after number id) xs) →
-        find (is_number number id) (x ∷ xs) ≡ of_number number id (if t then Some x else find (is_after number id) xs)
-    by_test true h rest = by_id (is_number number id x)
-      where
-        by_id : (b : Bool) → (if b then Some x else find (is_number number id) xs) ≡ (if b then Some x else None)
-        by_id true = refl
-        by_id false = none xs rising.0 h
-    by_test false h rest = let other : is_number number id x ≡ false = grind (arith, h) in rw other rest
+pub rest_point : {T : Type 0} (number : T → ℕ) (id : ℕ) (xs : List T) (i : ℕ) → IsPartitionPoint (λ x. nat_lt (number x) id ≡ true) (λ x. nat_lt (number x) id ≡ false) xs i →
+    drop i xs ≡ filter (is_after number id) xs
+rest_point number id [] zero point = refl
+rest_point number id [] (suc i) point = refl
+rest_point number id (x ∷ xs) zero point =
+    let stops = point.1 0 x (omega arith) (omega arith) in
+    let from : is_after number id x ≡ true = grind (arith, stops) in
+    rw from (ap (λ l. x ∷ l) (rest_point number id xs zero (λ k e low high. absurd (omega arith), λ k e low high. point.1 (suc k) e (omega arith) (omega arith))))
+rest_point number id (x ∷ xs) (suc i) point =
+    let below = point.0 0 x (omega arith) (omega arith) in
+    let before : is_after number id x ≡ false = grind (arith, below) in
+    rw before (rest_point number id xs i (λ k e low high. point.0 (suc k) e (omega arith) (omega arith), λ k e low high. point.1 (suc k) e (omega arith) (omega arith)))

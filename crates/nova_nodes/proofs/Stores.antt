@@ -1,276 +1,276 @@
--- Nodes at places of a slab: what is found there, and what changes with a place.
-use Rattle.std.proofs.Common.{◌≡◌, ℕ, ◌<◌, List, [], ◌∷◌, ◌++◌, ap, sym, ◌∙◌, refl, inl, inr, arith, subst}
-use Rattle.std.specs.Prelude.{Bool, true, false, ◌⊎◌, ◌==◌, not, length, map, filter, zero, suc, slice_get, if◌then◌else◌, Option, Some, None, IsSome, option_and_then}
-use Rattle.std.specs.List.{AllByRecursion, find, remove}
+-- Nodes at places of a slab: each place is a slot; what is found there, and what changes with a key.
+use Rattle.std.proofs.Common.{◌≡◌, ℕ, ◌<◌, ◌≤◌, ◌+◌, List, [], ◌∷◌, ◌++◌, ap, sym, ◌∙◌, refl, inl, inr, arith, subst}
+use Rattle.std.specs.Prelude.{Bool, true, false, ◌==◌, not, length, map, filter, zero, suc, is_some, nat_le, slice_get, slice_set, if◌then◌else◌, Option, Some, None, option_and_then}
+use Rattle.std.specs.List.{AllByRecursion, find}
 use Rattle.std.proofs.lemmas.Bool.{eqb-true}
-use Rattle.slab.specs.Slab.{ContainsKey, Slab, Updates, get}
-use Rattle.nova_model.specs.Forest.{ArePairs}
-use Rattle.nova_forest.proofs.Members.{IsIn, all_at, all_from, all_more, all_weaker, filtered_in, found_in}
+use Rattle.std.proofs.lemmas.List.{length-map, map-append}
+use Rattle.slab.specs.Slab.{Slab, Updates, get}
+use Rattle.nova_forest.proofs.Members.{IsIn, all_at, all_from, filtered_in}
 use Rattle.nova_nodes.specs.declared.node.Node.{Node}
 use Rattle.nova_nodes.specs.declared.node.Place.{Place}
-use Rattle.nova_nodes.specs.Stores.{AreRising, IsApart, IsKept, IsStore, is_after, is_number, node_id, nodes_at, place_id, put, with_node}
-use Rattle.nova_nodes.proofs.Found.{not_found, pairs_at}
-use Rattle.nova_nodes.proofs.Points.{AreNumbered, its_number, of_number}
-use Rattle.nova_nodes.proofs.Sorted.{filter_all}
+use Rattle.nova_nodes.specs.Stores.{AreInOrder, AreRising, is_after, is_number, node_at, node_id, nodes_at, of_id, place_id, put}
+use Rattle.nova_nodes.proofs.Slots.{AreRaised, Gone, Kept, Slot, before, first_after, in_got, its_node, node_in, nodes_of, nodes_put, nodes_without, one_gone, pairs_filter, pairs_more, pushed, rising_nodes, slot_id}
 
-pub numbered : (ps : List Place) → ArePairs IsApart ps → AreNumbered place_id ps
-numbered [] apart = tt
-numbered (p ∷ ps) apart = (all_weaker (IsApart p) (λ q. p.id < q.id) ps (λ q a. a.id) apart.0, numbered ps apart.1)
+-- WHAT A PLACE HOLDS
 
--- what holds of the ids of nodes holds of those of places, and the other way round
-pub of_places : (P : ℕ → Type 0) (slab : Slab Node) (ps : List Place) → AllByRecursion (IsKept slab) ps → AllByRecursion (λ n. P n.derivation.id) (nodes_at slab ps) → AllByRecursion (λ p. P p.id) ps
-of_places P slab [] kept all = tt
-of_places P slab (p ∷ ps) kept all =
-    let k = kept.0 in
-    let both = subst (λ (o : Option Node). AllByRecursion (λ n. P n.derivation.id) (with_node o (nodes_at slab ps))) k.is all in
-    (subst P k.id both.0, of_places P slab ps kept.1 both.1)
-
-of_nodes : (P : ℕ → Type 0) (slab : Slab Node) (ps : List Place) → AllByRecursion (IsKept slab) ps → AllByRecursion (λ p. P p.id) ps → AllByRecursion (λ n. P n.derivation.id) (nodes_at slab ps)
-of_nodes P slab [] kept all = tt
-of_nodes P slab (p ∷ ps) kept all =
-    let k = kept.0 in
-    subst (λ (o : Option Node). AllByRecursion (λ n. P n.derivation.id) (with_node o (nodes_at slab ps))) (sym k.is) (subst P (sym k.id) all.0, of_nodes P slab ps kept.1 all.1)
-
-pub rising_nodes : (slab : Slab Node) (ps : List Place) → IsStore slab ps → AreRising (nodes_at slab ps)
-rising_nodes slab ps store = by_places ps store.kept store.apart
+-- a node that has an id has that one
+pub has_id : (id : ℕ) (o : Option Node) (n : Node) → of_id id o ≡ Some n → n.derivation.id ≡ id
+has_id id None n is = absurd (cc)
+has_id id (Some m) n is = by_test (is_number node_id id m) refl is
   where
-    by_places : (qs : List Place) → AllByRecursion (IsKept slab) qs → ArePairs IsApart qs → AreRising (nodes_at slab qs)
-    by_places [] kept apart = tt
-    by_places (q ∷ qs) kept apart =
-        let k = kept.0 in
-        let above = of_nodes (λ id. k.node.derivation.id < id) slab qs kept.1 (all_weaker (IsApart q) (λ r. k.node.derivation.id < r.id) qs (λ r a. let less = a.id in let same = k.id in omega arith) apart.0) in
-        subst (λ (o : Option Node). AreRising (with_node o (nodes_at slab qs))) (sym k.is) (above, by_places qs kept.1 apart.1)
+    by_test : (t : Bool) → is_number node_id id m ≡ t → (if t then Some m else None) ≡ Some n → n.derivation.id ≡ id
+    by_test true h g = let same : m ≡ n = cc in ap node_id (sym same) ∙ eqb-true m.derivation.id id h
+    by_test false h g = absurd (cc)
+
+pub is_got : (id : ℕ) (o : Option Node) (n : Node) → of_id id o ≡ Some n → o ≡ Some n
+is_got id None n is = absurd (cc)
+is_got id (Some m) n is = by_test (is_number node_id id m) is
+  where
+    by_test : (t : Bool) → (if t then Some m else None) ≡ Some n → Some m ≡ Some n
+    by_test true g = g
+    by_test false g = absurd (cc)
+
+pub its_own : (node : Node) → of_id node.derivation.id (Some node) ≡ Some node
+its_own node = let on : is_number node_id node.derivation.id node ≡ true = grind arith in rw on refl
+
+pub not_its : (id : ℕ) (node : Node) → (id ≡ node.derivation.id → ⊥) → of_id id (Some node) ≡ None
+not_its id node off = by_test (is_number node_id id node) refl
+  where
+    by_test : (t : Bool) → is_number node_id id node ≡ t → (if t then Some node else None) ≡ None
+    by_test true h = absurd (off (sym (eqb-true node.derivation.id id h)))
+    by_test false h = refl
+
+abbrev pub slot_with : ℕ → Option Node → Slot
+slot_with id None = Gone id
+slot_with id (Some n) = Kept n
+
+abbrev pub slot_at : Slab Node → Place → Slot
+slot_at slab p = slot_with p.id (node_at slab p)
+
+abbrev pub slots : Slab Node → List Place → List Slot
+slots slab ps = map (slot_at slab) ps
+
+id_with : (id : ℕ) (o : Option Node) → ((n : Node) → o ≡ Some n → n.derivation.id ≡ id) → slot_id (slot_with id o) ≡ id
+id_with id None h = refl
+id_with id (Some n) h = h n refl
+
+id_at : (slab : Slab Node) (p : Place) → slot_id (slot_at slab p) ≡ p.id
+id_at slab p = id_with p.id (node_at slab p) (λ n is. has_id p.id (get slab p.key) n is)
+
+in_with : (id : ℕ) (o : Option Node) → node_in (slot_with id o) ≡ o
+in_with id None = refl
+in_with id (Some n) = refl
+
+pub nodes_in : (slab : Slab Node) (ps : List Place) → nodes_of (slots slab ps) ≡ nodes_at slab ps
+nodes_in slab [] = refl
+nodes_in slab (p ∷ ps) = rw (in_with p.id (node_at slab p), nodes_in slab ps) refl
+
+pub raised : (slab : Slab Node) (ps : List Place) → AreInOrder ps → AreRaised (slots slab ps)
+raised slab [] order = tt
+raised slab (p ∷ ps) order = (above ps order.0, raised slab ps order.1)
+  where
+    above : (qs : List Place) → AllByRecursion (λ q. p.id < q.id) qs → AllByRecursion (λ s. slot_id (slot_at slab p) < slot_id s) (slots slab qs)
+    above [] all = tt
+    above (q ∷ qs) all = let less = all.0 in let here = id_at slab p in let there = id_at slab q in (omega (arith, less, here, there), above qs all.1)
+
+-- slots by a test of their ids
+slots_filter : (test : ℕ → Bool) (slab : Slab Node) (ps : List Place) → slots slab (filter (λ p. test p.id) ps) ≡ filter (λ s. test (slot_id s)) (slots slab ps)
+slots_filter test slab [] = refl
+slots_filter test slab (p ∷ ps) = rw (id_at slab p) (by_test (test p.id) (slots_filter test slab ps))
+  where
+    by_test : (t : Bool) → slots slab (filter (λ p. test p.id) ps) ≡ filter (λ s. test (slot_id s)) (slots slab ps) →
+        slots slab (if t then p ∷ filter (λ p. test p.id) ps else filter (λ p. test p.id) ps) ≡ (if t then slot_at slab p ∷ filter (λ s. test (slot_id s)) (slots slab ps) else filter (λ s. test (slot_id s)) (slots slab ps))
+    by_test true rest = ap (λ l. slot_at slab p ∷ l) rest
+    by_test false rest = rest
 
 -- WHAT IS FOUND
 
-pub length_nodes : (slab : Slab Node) (ps : List Place) → AllByRecursion (IsKept slab) ps → length (nodes_at slab ps) ≡ length ps
-length_nodes slab [] kept = refl
-length_nodes slab (p ∷ ps) kept = let k = kept.0 in rw k.is (ap (λ n. suc n) (length_nodes slab ps kept.1))
+pub rising_places : (slab : Slab Node) (ps : List Place) → AreInOrder ps → AreRising (nodes_at slab ps)
+rising_places slab ps order = subst AreRising (nodes_in slab ps) (rising_nodes (slots slab ps) (raised slab ps order))
 
-pub nth_node : (slab : Slab Node) (ps : List Place) (i : ℕ) → AllByRecursion (IsKept slab) ps → slice_get (nodes_at slab ps) i ≡ option_and_then (λ (p : Place). get slab p.key) (slice_get ps i)
-nth_node slab [] zero kept = refl
-nth_node slab [] (suc i) kept = refl
-nth_node slab (p ∷ ps) zero kept = let k = kept.0 in rw k.is refl
-nth_node slab (p ∷ ps) (suc i) kept = let k = kept.0 in rw k.is (nth_node slab ps i kept.1)
+-- the first node from an id on is the first at the places from the id on
+pub first_from : (id : ℕ) (slab : Slab Node) (ps : List Place) → find (is_after node_id id) (nodes_at slab ps) ≡ slice_get (nodes_at slab (filter (is_after place_id id) ps)) 0
+first_from id slab ps =
+    ap (find (is_after node_id id)) (sym (nodes_in slab ps)) ∙ first_after id (slots slab ps)
+    ∙ ap (λ (ns : List Node). slice_get ns 0) (ap nodes_of (sym (slots_filter (nat_le id) slab ps)) ∙ nodes_in slab (filter (is_after place_id id) ps))
 
-pub node_after : (slab : Slab Node) (ps : List Place) (id : ℕ) → AllByRecursion (IsKept slab) ps →
-    find (is_after node_id id) (nodes_at slab ps) ≡ option_and_then (λ (p : Place). get slab p.key) (find (is_after place_id id) ps)
-node_after slab [] id kept = refl
-node_after slab (p ∷ ps) id kept = by_test (is_after place_id id p) refl (node_after slab ps id kept.1)
+found_slot : (id : ℕ) (slab : Slab Node) (ps : List Place) → option_and_then node_in (find (is_after slot_id id) (slots slab ps)) ≡ option_and_then (node_at slab) (find (is_after place_id id) ps)
+found_slot id slab [] = refl
+found_slot id slab (p ∷ ps) = rw (id_at slab p) (by_test (nat_le id p.id) (found_slot id slab ps))
   where
-    by_test : (t : Bool) → is_after place_id id p ≡ t → find (is_after node_id id) (nodes_at slab ps) ≡ option_and_then (λ (p : Place). get slab p.key) (find (is_after place_id id) ps) →
-        find (is_after node_id id) (with_node (get slab p.key) (nodes_at slab ps)) ≡ option_and_then (λ (p : Place). get slab p.key) (if t then Some p else find (is_after place_id id) ps)
-    by_test true h rest =
-        let k = kept.0 in
-        let same = k.id in
-        let on : is_after node_id id k.node ≡ true = grind (arith, same, h) in
-        subst (λ (o : Option Node). find (is_after node_id id) (with_node o (nodes_at slab ps)) ≡ o) (sym k.is) (rw on refl)
-    by_test false h rest =
-        let k = kept.0 in
-        let same = k.id in
-        let off : is_after node_id id k.node ≡ false = grind (arith, same, h) in
-        subst (λ (o : Option Node). find (is_after node_id id) (with_node o (nodes_at slab ps)) ≡ option_and_then (λ (p : Place). get slab p.key) (find (is_after place_id id) ps)) (sym k.is) (rw off rest)
+    by_test : (t : Bool) → option_and_then node_in (find (is_after slot_id id) (slots slab ps)) ≡ option_and_then (node_at slab) (find (is_after place_id id) ps) →
+        option_and_then node_in (if t then Some (slot_at slab p) else find (is_after slot_id id) (slots slab ps)) ≡ option_and_then (node_at slab) (if t then Some p else find (is_after place_id id) ps)
+    by_test true rest = in_with p.id (node_at slab p)
+    by_test false rest = rest
 
--- no node is found of an id that no place has
-pub node_absent : (slab : Slab Node) (ps : List Place) (id : ℕ) → IsStore slab ps → find (is_after place_id id) ps ≡ None → find (is_number node_id id) (nodes_at slab ps) ≡ None
-node_absent slab ps id store none =
-    its_number node_id id (nodes_at slab ps) (rising_nodes slab ps store) ∙ ap (of_number node_id id) (node_after slab ps id store.kept ∙ ap (option_and_then (λ (p : Place). get slab p.key)) none)
+-- the node of an id is at the first place from the id on, or nowhere
+pub node_of_id : (id : ℕ) (slab : Slab Node) (ps : List Place) → AreInOrder ps → find (is_number node_id id) (nodes_at slab ps) ≡ of_id id (option_and_then (node_at slab) (find (is_after place_id id) ps))
+node_of_id id slab ps order =
+    ap (find (is_number node_id id)) (sym (nodes_in slab ps)) ∙ its_node id (slots slab ps) (raised slab ps order) ∙ ap (of_id id) (found_slot id slab ps)
 
-pub node_other : (slab : Slab Node) (ps : List Place) (id : ℕ) (p : Place) → IsStore slab ps → find (is_after place_id id) ps ≡ Some p → is_number place_id id p ≡ false →
-    find (is_number node_id id) (nodes_at slab ps) ≡ None
-node_other slab ps id p store found off =
-    let k = all_at (IsKept slab) ps p store.kept (found_in (is_after place_id id) ps p found).0 in
-    let same = k.id in
-    let other : is_number node_id id k.node ≡ false = grind (arith, same, off) in
-    its_number node_id id (nodes_at slab ps) (rising_nodes slab ps store) ∙
-    ap (of_number node_id id) (node_after slab ps id store.kept ∙ ap (option_and_then (λ (q : Place). get slab q.key)) found ∙ k.is) ∙ rw other refl
+-- where what is found stands
+pub record StandsAt {T : Type 0} (xs : List T) (x : T) : Type 0 where
+  pub at : ℕ
+  pub is : slice_get xs at ≡ Some x
 
--- the node that is found of a place
-pub kept_there : (slab : Slab Node) (ps : List Place) (id : ℕ) (p : Place) → IsStore slab ps → find (is_after place_id id) ps ≡ Some p → ContainsKey slab p.key
-kept_there slab ps id p store found = let k = all_at (IsKept slab) ps p store.kept (found_in (is_after place_id id) ps p found).0 in subst IsSome (sym k.is) refl
-
-pub nowhere : (id : ℕ) (ns : List Node) → find (is_number node_id id) ns ≡ None → filter (λ n. not (is_number node_id id n)) ns ≡ ns
-nowhere id ns none = filter_all (λ n. not (is_number node_id id n)) ns (all_from (λ n. not (is_number node_id id n) ≡ true) ns (λ n i. ap not (not_found (is_number node_id id) ns n none i)))
-
--- WHAT CHANGES
-
-pub nodes_same : (slab other : Slab Node) (ps : List Place) → ((p : Place) → IsIn ps p → get other p.key ≡ get slab p.key) → nodes_at other ps ≡ nodes_at slab ps
-nodes_same slab other [] same = refl
-nodes_same slab other (p ∷ ps) same = rw (same p (inl refl)) (ap (with_node (get slab p.key)) (nodes_same slab other ps (λ q i. same q (inr i))))
-
-kept_same : (slab other : Slab Node) (ps : List Place) → ((p : Place) → IsIn ps p → get other p.key ≡ get slab p.key) → AllByRecursion (IsKept slab) ps → AllByRecursion (IsKept other) ps
-kept_same slab other ps same kept = all_from (IsKept other) ps (λ p i. let k = all_at (IsKept slab) ps p kept i in record { node = k.node; is = same p i ∙ k.is; id = k.id })
-
--- one more
-
-nodes_more : (slab : Slab Node) (ps : List Place) (p : Place) (node : Node) → get slab p.key ≡ Some node → nodes_at slab (ps ++ p ∷ []) ≡ nodes_at slab ps ++ node ∷ []
-nodes_more slab [] p node is = rw is refl
-nodes_more slab (q ∷ ps) p node is = by_node (get slab q.key) (nodes_more slab ps p node is)
+pub found_at : {T : Type 0} (test : T → Bool) (xs : List T) (x : T) → find test xs ≡ Some x → StandsAt xs x
+found_at test [] x is = absurd (cc)
+found_at test (y ∷ ys) x is = by_test (test y) is (λ k. found_at test ys x k)
   where
-    by_node : (o : Option Node) → nodes_at slab (ps ++ p ∷ []) ≡ nodes_at slab ps ++ node ∷ [] → with_node o (nodes_at slab (ps ++ p ∷ [])) ≡ with_node o (nodes_at slab ps) ++ node ∷ []
-    by_node None rest = rest
-    by_node (Some n) rest = ap (λ l. n ∷ l) rest
+    by_test : (t : Bool) → (if t then Some y else find test ys) ≡ Some x → (find test ys ≡ Some x → StandsAt ys x) → StandsAt (y ∷ ys) x
+    by_test true k rest = record { at = 0; is = k }
+    by_test false k rest = let r = rest k in record { at = suc r.at; is = r.is }
 
-pub pairs_more : {T : Type 0} (Rel : T → T → Type 0) (xs : List T) (y : T) → ArePairs Rel xs → AllByRecursion (λ x. Rel x y) xs → ArePairs Rel (xs ++ y ∷ [])
-pairs_more Rel [] y pairs all = (tt, tt)
-pairs_more Rel (x ∷ xs) y pairs all = (all_more (Rel x) xs y pairs.0 all.0, pairs_more Rel xs y pairs.1 all.1)
+got_slot : (slab : Slab Node) (ps : List Place) (at : ℕ) (p : Place) → slice_get ps at ≡ Some p → slice_get (slots slab ps) at ≡ Some (slot_at slab p)
+got_slot slab [] zero p is = absurd (cc)
+got_slot slab [] (suc at) p is = absurd (cc)
+got_slot slab (q ∷ ps) zero p is = let same : q ≡ p = cc in ap (λ r. Some (slot_at slab r)) same
+got_slot slab (q ∷ ps) (suc at) p is = got_slot slab ps at p is
 
-pub record IsMore (slab other : Slab Node) (ps : List Place) (key : ℕ) (node : Node) : Type 0 where
-  pub store : IsStore other (ps ++ record { id = node.derivation.id; key = key } ∷ [])
-  pub nodes : nodes_at other (ps ++ record { id = node.derivation.id; key = key } ∷ []) ≡ nodes_at slab ps ++ node ∷ []
+-- WHAT CHANGES WITH A KEY
 
-pub one_more : (slab other : Slab Node) (ps : List Place) (key : ℕ) (node : Node) → IsStore slab ps → get slab key ≡ None → Updates slab other key (Some node) →
-    AllByRecursion (λ n. n.derivation.id < node.derivation.id) (nodes_at slab ps) → IsMore slab other ps key node
-one_more slab other ps key node store vacant updates last = record {
-  store = record {
-    kept = all_more (IsKept other) ps new (kept_same slab other ps same store.kept) (record { node = node; is = updates.changed; id = refl });
-    apart = pairs_more IsApart ps new store.apart (all_from (λ p. IsApart p new) ps (λ p i. record { id = all_at (λ q. q.id < node.derivation.id) ps p below i; key = elsewhere p i }));
-  };
-  nodes = nodes_more other ps new node updates.changed ∙ ap (λ l. l ++ node ∷ []) (nodes_same slab other ps same);
-}
+-- another place sees nothing of it
+pub elsewhere : (slab other : Slab Node) (key : ℕ) (new : Option Node) (q : Place) → Updates slab other key new → of_id q.id (get slab key) ≡ None → of_id q.id new ≡ None → node_at other q ≡ node_at slab q
+elsewhere slab other key new q updates was is = by_test (q.key == key) refl
   where
-    new : Place
-    new = record { id = node.derivation.id; key = key }
+    by_test : (t : Bool) → (q.key == key) ≡ t → node_at other q ≡ node_at slab q
+    by_test true h =
+        let same : q.key ≡ key = eqb-true q.key key h in
+        ap (λ k. of_id q.id (get other k)) same ∙ ap (of_id q.id) updates.changed ∙ is ∙ sym was ∙ ap (λ k. of_id q.id (get slab k)) (sym same)
+    by_test false h = ap (of_id q.id) (updates.others q.key (λ e. let on : (q.key == key) ≡ true = grind (arith, e) in absurd (cc)))
 
-    below : AllByRecursion (λ q. q.id < node.derivation.id) ps
-    below = of_places (λ id. id < node.derivation.id) slab ps store.kept last
+pub slots_same : (slab other : Slab Node) (ps : List Place) → ((q : Place) → IsIn ps q → node_at other q ≡ node_at slab q) → slots other ps ≡ slots slab ps
+slots_same slab other [] same = refl
+slots_same slab other (p ∷ ps) same = rw (same p (inl refl)) (ap (λ l. slot_at slab p ∷ l) (slots_same slab other ps (λ q i. same q (inr i))))
 
-    elsewhere : (p : Place) → IsIn ps p → p.key ≡ key → ⊥
-    elsewhere p i e = let k = all_at (IsKept slab) ps p store.kept i in let is = k.is in let at : get slab p.key ≡ None = ap (get slab) e ∙ vacant in absurd (cc)
-
-    same : (p : Place) → IsIn ps p → get other p.key ≡ get slab p.key
-    same p i = updates.others p.key (elsewhere p i)
+slots_set : (slab other : Slab Node) (ps : List Place) (at : ℕ) (p : Place) → AreInOrder ps → slice_get ps at ≡ Some p → ((q : Place) → (q.id ≡ p.id → ⊥) → node_at other q ≡ node_at slab q) →
+    slots other ps ≡ slice_set (slots slab ps) at (slot_at other p)
+slots_set slab other [] zero p order is same = absurd (cc)
+slots_set slab other [] (suc at) p order is same = absurd (cc)
+slots_set slab other (q ∷ ps) zero p order is same =
+    let here : q ≡ p = cc in
+    let above : AllByRecursion (λ r. p.id < r.id) ps = subst (λ (o : Place). AllByRecursion (λ r. o.id < r.id) ps) here order.0 in
+    rw here (ap (λ l. slot_at other p ∷ l) (slots_same slab other ps (λ r i. same r (λ e. let less = all_at (λ s. p.id < s.id) ps r above i in omega arith))))
+slots_set slab other (q ∷ ps) (suc at) p order is same =
+    let less = all_at (λ r. q.id < r.id) ps p order.0 (in_got ps at p is) in
+    rw (same q (λ e. omega arith)) (ap (λ l. slot_at slab q ∷ l) (slots_set slab other ps at p order.1 is same))
 
 -- another node at a place
 
-pub record IsPut (slab other : Slab Node) (ps : List Place) (node : Node) : Type 0 where
-  pub store : IsStore other ps
-  pub nodes : nodes_at other ps ≡ map (put node) (nodes_at slab ps)
-
-pub one_put : (slab other : Slab Node) (ps : List Place) (p : Place) (node : Node) → IsStore slab ps → IsIn ps p → p.id ≡ node.derivation.id → Updates slab other p.key (Some node) → IsPut slab other ps node
-one_put slab other ps p node store there id updates = record {
-  store = record {
-    kept = all_from (IsKept other) ps (λ q i. kept q i (pairs_at IsApart ps p q store.apart there i));
-    apart = store.apart;
-  };
-  nodes = by_places ps (λ q i. i);
-}
+pub one_put : (slab other : Slab Node) (ps : List Place) (p : Place) (old node : Node) → AreInOrder ps → StandsAt ps p → node_at slab p ≡ Some old → old.derivation.id ≡ node.derivation.id →
+    Updates slab other p.key (Some node) → nodes_at other ps ≡ map (put node) (nodes_at slab ps)
+one_put slab other ps p old node order stands was same updates =
+    sym (nodes_in other ps)
+    ∙ ap nodes_of (slots_set slab other ps stands.at p order stands.is apart ∙ ap (λ s. slice_set (slots slab ps) stands.at s) now)
+    ∙ nodes_put (slots slab ps) stands.at old node (raised slab ps order) (got_slot slab ps stands.at p stands.is ∙ ap (λ s. Some s) (ap (slot_with p.id) was)) same
+    ∙ ap (map (put node)) (nodes_in slab ps)
   where
-    unchanged : (q : Place) → (q.key ≡ p.key → ⊥) → get other q.key ≡ get slab q.key
-    unchanged q off = updates.others q.key off
+    id : p.id ≡ node.derivation.id
+    id = sym (has_id p.id (get slab p.key) old was) ∙ same
 
-    kept : (q : Place) → IsIn ps q → (p ≡ q) ⊎ (IsApart p q ⊎ IsApart q p) → IsKept other q
-    kept q i (inl e) = subst (IsKept other) e (record { node = node; is = updates.changed; id = sym id })
-    kept q i (inr (inl a)) = let k = all_at (IsKept slab) ps q store.kept i in record { node = k.node; is = unchanged q (λ e. a.key (sym e)) ∙ k.is; id = k.id }
-    kept q i (inr (inr a)) = let k = all_at (IsKept slab) ps q store.kept i in record { node = k.node; is = unchanged q (λ e. a.key e) ∙ k.is; id = k.id }
+    now : slot_at other p ≡ Kept node
+    now = ap (λ o. slot_with p.id (of_id p.id o)) updates.changed ∙ ap (λ k. slot_with p.id (of_id k (Some node))) id ∙ ap (slot_with p.id) (its_own node)
 
-    other_id : (q : Place) (k : IsKept slab q) → (q.id ≡ p.id → ⊥) → put node k.node ≡ k.node
-    other_id q k off = by_test (k.node.derivation.id == node.derivation.id) refl
-      where
-        by_test : (t : Bool) → (k.node.derivation.id == node.derivation.id) ≡ t → (if t then node else k.node) ≡ k.node
-        by_test true h = absurd (off (sym k.id ∙ eqb-true k.node.derivation.id node.derivation.id h ∙ sym id))
-        by_test false h = refl
+    apart : (q : Place) → (q.id ≡ p.id → ⊥) → node_at other q ≡ node_at slab q
+    apart q off = elsewhere slab other p.key (Some node) q updates
+        (ap (of_id q.id) (is_got p.id (get slab p.key) old was) ∙ not_its q.id old (λ e. off (e ∙ same ∙ sym id)))
+        (not_its q.id node (λ e. off (e ∙ sym id)))
 
-    here : (q : Place) (k : IsKept slab q) → (p ≡ q) ⊎ (IsApart p q ⊎ IsApart q p) → (get other q.key ≡ Some (put node k.node))
-    here q k (inl e) =
-        let same : k.node.derivation.id ≡ node.derivation.id = k.id ∙ ap (λ (r : Place). r.id) (sym e) ∙ id in
-        let test : (k.node.derivation.id == node.derivation.id) ≡ true = grind (arith, same) in
-        ap (λ (r : Place). get other r.key) (sym e) ∙ updates.changed ∙ rw test refl
-    here q k (inr (inl a)) = unchanged q (λ e. a.key (sym e)) ∙ k.is ∙ ap (λ n. Some n) (sym (other_id q k (λ e. let less = a.id in omega arith)))
-    here q k (inr (inr a)) = unchanged q (λ e. a.key e) ∙ k.is ∙ ap (λ n. Some n) (sym (other_id q k (λ e. let less = a.id in omega arith)))
-
-    by_places : (qs : List Place) → ((q : Place) → IsIn qs q → IsIn ps q) → nodes_at other qs ≡ map (put node) (nodes_at slab qs)
-    by_places [] among = refl
-    by_places (q ∷ qs) among =
-        let i = among q (inl refl) in
-        let k = all_at (IsKept slab) ps q store.kept i in
-        rw (here q k (pairs_at IsApart ps p q store.apart there i), k.is) (ap (λ l. put node k.node ∷ l) (by_places qs (λ r j. among r (inr j))))
-
--- where none has the id nothing changes
-pub put_nowhere : (node : Node) (ns : List Node) → find (is_number node_id node.derivation.id) ns ≡ None → map (put node) ns ≡ ns
-put_nowhere node [] none = refl
-put_nowhere node (n ∷ ns) none = by_test (is_number node_id node.derivation.id n) refl none (λ g. put_nowhere node ns g)
-  where
-    by_test : (t : Bool) → is_number node_id node.derivation.id n ≡ t → find (is_number node_id node.derivation.id) (n ∷ ns) ≡ None →
-        (find (is_number node_id node.derivation.id) ns ≡ None → map (put node) ns ≡ ns) → (if t then node else n) ∷ map (put node) ns ≡ n ∷ ns
-    by_test true h g rest = let k : find (is_number node_id node.derivation.id) (n ∷ ns) ≡ Some n = rw h refl in absurd (cc)
-    by_test false h g rest = let k : find (is_number node_id node.derivation.id) ns ≡ None = rw h at g in ap (λ l. n ∷ l) (rest k)
-
--- one less
-
-nodes_without : (slab : Slab Node) (id : ℕ) (ps : List Place) → AllByRecursion (IsKept slab) ps →
-    nodes_at slab (filter (λ p. not (is_number place_id id p)) ps) ≡ filter (λ n. not (is_number node_id id n)) (nodes_at slab ps)
-nodes_without slab id [] kept = refl
-nodes_without slab id (p ∷ ps) kept = by_test (is_number place_id id p) refl (nodes_without slab id ps kept.1)
-  where
-    by_test : (t : Bool) → is_number place_id id p ≡ t → nodes_at slab (filter (λ p. not (is_number place_id id p)) ps) ≡ filter (λ n. not (is_number node_id id n)) (nodes_at slab ps) →
-        nodes_at slab (if not t then p ∷ filter (λ p. not (is_number place_id id p)) ps else filter (λ p. not (is_number place_id id p)) ps) ≡ filter (λ n. not (is_number node_id id n)) (nodes_at slab (p ∷ ps))
-    by_test true h rest =
-        let k = kept.0 in
-        let same = k.id in
-        let on : is_number node_id id k.node ≡ true = grind (arith, same, h) in
-        rw (k.is, on) rest
-    by_test false h rest =
-        let k = kept.0 in
-        let same = k.id in
-        let off : is_number node_id id k.node ≡ false = grind (arith, same, h) in
-        rw (k.is, off) (ap (λ l. k.node ∷ l) rest)
-
-pairs_filter : {T : Type 0} (Rel : T → T → Type 0) (test : T → Bool) (xs : List T) → ArePairs Rel xs → ArePairs Rel (filter test xs)
-pairs_filter Rel test [] pairs = tt
-pairs_filter Rel test (x ∷ xs) pairs = by_test (test x) (pairs_filter Rel test xs pairs.1)
-  where
-    by_test : (t : Bool) → ArePairs Rel (filter test xs) → ArePairs Rel (if t then x ∷ filter test xs else filter test xs)
-    by_test true rest = (all_from (Rel x) (filter test xs) (λ y i. all_at (Rel x) xs y pairs.0 (filtered_in test xs y i).0), rest)
-    by_test false rest = rest
+-- none at a place any more
 
 pub record IsLess (slab other : Slab Node) (ps : List Place) (id : ℕ) : Type 0 where
-  pub store : IsStore other (filter (λ p. not (is_number place_id id p)) ps)
-  pub nodes : nodes_at other (filter (λ p. not (is_number place_id id p)) ps) ≡ filter (λ n. not (is_number node_id id n)) (nodes_at slab ps)
+  pub nodes : nodes_at other ps ≡ filter (λ n. not (is_number node_id id n)) (nodes_at slab ps)
+  pub fewer : length (nodes_at other ps) + 1 ≡ length (nodes_at slab ps)
 
-pub one_less : (slab other : Slab Node) (ps : List Place) (p : Place) → IsStore slab ps → IsIn ps p → Updates slab other p.key None → IsLess slab other ps p.id
-one_less slab other ps p store there updates = record {
-  store = record {
-    kept = kept_same slab other rest same (all_from (IsKept slab) rest (λ q i. all_at (IsKept slab) ps q store.kept (filtered_in (λ r. not (is_number place_id p.id r)) ps q i).0));
-    apart = pairs_filter IsApart (λ r. not (is_number place_id p.id r)) ps store.apart;
-  };
-  nodes = nodes_same slab other rest same ∙ nodes_without slab p.id ps store.kept;
+pub one_less : (slab other : Slab Node) (ps : List Place) (p : Place) (old : Node) (id : ℕ) → AreInOrder ps → StandsAt ps p → node_at slab p ≡ Some old → old.derivation.id ≡ id →
+    Updates slab other p.key None → IsLess slab other ps id
+one_less slab other ps p old id order stands was same updates = record {
+  nodes = sym (nodes_in other ps) ∙ ap nodes_of set ∙ nodes_without (slots slab ps) stands.at old id (raised slab ps order) got same ∙ ap (filter (λ n. not (is_number node_id id n))) (nodes_in slab ps);
+  fewer = ap (λ ns. length ns + 1) (sym (nodes_in other ps) ∙ ap nodes_of set) ∙ one_gone (slots slab ps) stands.at old id got ∙ ap length (nodes_in slab ps);
 }
   where
-    rest : List Place
-    rest = filter (λ r. not (is_number place_id p.id r)) ps
+    its : p.id ≡ id
+    its = sym (has_id p.id (get slab p.key) old was) ∙ same
 
-    apart : (q : Place) → not (is_number place_id p.id q) ≡ true → (p ≡ q) ⊎ (IsApart p q ⊎ IsApart q p) → q.key ≡ p.key → ⊥
-    apart q h (inl e) g = let same : p.id ≡ q.id = ap (λ (r : Place). r.id) e in absurd (grind (arith, same, h))
-    apart q h (inr (inl a)) g = a.key (sym g)
-    apart q h (inr (inr a)) g = a.key g
+    got : slice_get (slots slab ps) stands.at ≡ Some (Kept old)
+    got = got_slot slab ps stands.at p stands.is ∙ ap (λ s. Some s) (ap (slot_with p.id) was)
 
-    same : (q : Place) → IsIn (filter (λ r. not (is_number place_id p.id r)) ps) q → get other q.key ≡ get slab q.key
-    same q i = let k = filtered_in (λ r. not (is_number place_id p.id r)) ps q i in updates.others q.key (apart q k.1 (pairs_at IsApart ps p q store.apart there k.0))
+    now : slot_at other p ≡ Gone id
+    now = ap (λ o. slot_with p.id (of_id p.id o)) updates.changed ∙ ap (λ k. Gone k) its
 
-pub in_got : {T : Type 0} (xs : List T) (at : ℕ) (x : T) → slice_get xs at ≡ Some x → IsIn xs x
-in_got [] zero x is = absurd (cc)
-in_got [] (suc at) x is = absurd (cc)
-in_got (y ∷ xs) zero x is = inl cc
-in_got (y ∷ xs) (suc at) x is = inr (in_got xs at x is)
+    apart : (q : Place) → (q.id ≡ p.id → ⊥) → node_at other q ≡ node_at slab q
+    apart q off = elsewhere slab other p.key None q updates
+        (ap (of_id q.id) (is_got p.id (get slab p.key) old was) ∙ not_its q.id old (λ e. off (e ∙ same ∙ sym its))) refl
 
--- a place that is taken out by its number
-pub removed_place : (ps : List Place) (at : ℕ) (p : Place) → ArePairs IsApart ps → slice_get ps at ≡ Some p → remove ps at ≡ filter (λ q. not (is_number place_id p.id q)) ps
-removed_place [] zero p apart is = absurd (cc)
-removed_place [] (suc at) p apart is = absurd (cc)
-removed_place (q ∷ ps) zero p apart is =
-    let same : q ≡ p = cc in
-    let on : is_number place_id p.id q ≡ true = ap (is_number place_id p.id) same ∙ itself in
-    rw on (sym (all_stay ps (subst (λ (r : Place). AllByRecursion (IsApart r) ps) same apart.0)))
+    set : slots other ps ≡ slice_set (slots slab ps) stands.at (Gone id)
+    set = slots_set slab other ps stands.at p order stands.is apart ∙ ap (λ s. slice_set (slots slab ps) stands.at s) now
+
+-- one more
+
+abbrev pub low_places : ℕ → List Place → List Place
+low_places id ps = filter (λ p. not (is_after place_id id p)) ps
+
+pub record IsMore (slab other : Slab Node) (ps rest : List Place) (new : Place) (node : Node) : Type 0 where
+  pub order : AreInOrder (rest ++ new ∷ [])
+  pub nodes : nodes_at other (rest ++ new ∷ []) ≡ nodes_at slab ps ++ node ∷ []
+
+pub few_places : (slab : Slab Node) (ps rest : List Place) (node : Node) → AreInOrder ps → rest ≡ low_places node.derivation.id ps → AllByRecursion (λ n. n.derivation.id < node.derivation.id) (nodes_at slab ps) →
+    length (nodes_at slab ps) ≤ length rest
+few_places slab ps rest node order is last =
+    let front : slots slab rest ≡ before node.derivation.id (slots slab ps) = ap (slots slab) is ∙ slots_filter (λ k. not (nat_le node.derivation.id k)) slab ps in
+    let low = subst (λ (ns : List Node). AllByRecursion (λ n. n.derivation.id < node.derivation.id) ns) (sym (nodes_in slab ps)) last in
+    let few = (pushed (slots slab ps) (slots slab rest) node (raised slab ps order) front low).few in
+    omega (arith, few, ap length (nodes_in slab ps), length-map rest (slot_at slab))
+
+filtered_low : (id : ℕ) (ps : List Place) (p : Place) → IsIn (low_places id ps) p → p.id < id
+filtered_low id ps p i = let k = (filtered_in (λ q. not (is_after place_id id q)) ps p i).1 in grind (arith, k)
+
+pub one_more : (slab other : Slab Node) (ps rest : List Place) (new : Place) (node : Node) → AreInOrder ps → rest ≡ low_places node.derivation.id ps → AllByRecursion (λ n. n.derivation.id < node.derivation.id) (nodes_at slab ps) →
+    new.id ≡ node.derivation.id → get slab new.key ≡ None → Updates slab other new.key (Some node) → IsMore slab other ps rest new node
+one_more slab other ps rest new node order is last id vacant updates = record {
+  order = pairs_more (λ a b. a.id < b.id) rest new kept (all_from (λ p. p.id < new.id) rest (λ p i. low p i));
+  nodes = sym (nodes_in other (rest ++ new ∷ [])) ∙ ap nodes_of split ∙ (pushed (slots slab ps) (slots slab rest) node (raised slab ps order) front below).nodes ∙ ap (λ l. l ++ node ∷ []) (nodes_in slab ps);
+}
   where
-    itself : is_number place_id p.id p ≡ true
-    itself = grind arith
+    front : slots slab rest ≡ before node.derivation.id (slots slab ps)
+    front = ap (slots slab) is ∙ slots_filter (λ k. not (nat_le node.derivation.id k)) slab ps
 
-    all_stay : (rs : List Place) → AllByRecursion (IsApart p) rs → filter (λ r. not (is_number place_id p.id r)) rs ≡ rs
-    all_stay [] all = refl
-    all_stay (r ∷ rs) all = let less = all.0.id in let off : is_number place_id p.id r ≡ false = grind (arith, less) in rw off (ap (λ l. r ∷ l) (all_stay rs all.1))
-removed_place (q ∷ ps) (suc at) p apart is =
-    let a = all_at (IsApart q) ps p apart.0 (in_got ps at p is) in
-    let less = a.id in
-    let off : is_number place_id p.id q ≡ false = grind (arith, less) in
-    rw off (ap (λ l. q ∷ l) (removed_place ps at p apart.1 is))
+    below : AllByRecursion (λ n. n.derivation.id < node.derivation.id) (nodes_of (slots slab ps))
+    below = subst (λ (ns : List Node). AllByRecursion (λ n. n.derivation.id < node.derivation.id) ns) (sym (nodes_in slab ps)) last
+
+    kept : AreInOrder rest
+    kept = subst AreInOrder (sym is) (pairs_filter (λ (a b : Place). a.id < b.id) (λ p. not (is_after place_id node.derivation.id p)) ps order)
+
+    low : (p : Place) → IsIn rest p → p.id < new.id
+    low p i = let h = filtered_low node.derivation.id ps p (subst (λ (qs : List Place). IsIn qs p) is i) in let same = id in omega arith
+
+    now : slot_at other new ≡ Kept node
+    now = ap (λ o. slot_with new.id (of_id new.id o)) updates.changed ∙ ap (λ k. slot_with new.id (of_id k (Some node))) id ∙ ap (slot_with new.id) (its_own node)
+
+    unchanged : slots other rest ≡ slots slab rest
+    unchanged = slots_same slab other rest (λ q i. elsewhere slab other new.key (Some node) q updates (ap (of_id q.id) vacant) (not_its q.id node (λ e. let less = low q i in let same = id in omega arith)))
+
+    split : slots other (rest ++ new ∷ []) ≡ slots slab rest ++ Kept node ∷ []
+    split = map-append (slot_at other) rest (new ∷ []) ∙ ap (λ l. l ++ slot_at other new ∷ []) unchanged ∙ ap (λ s. slots slab rest ++ s ∷ []) now
+
+-- FEWER PLACES
+
+-- those that are left when places of nodes that are gone are pressed out
+abbrev pub pressed : Slab Node → List Place → List Place
+pressed slab ps = filter (λ p. is_some (node_at slab p)) ps
+
+pub nodes_pressed : (slab : Slab Node) (ps : List Place) → nodes_at slab (pressed slab ps) ≡ nodes_at slab ps
+nodes_pressed slab [] = refl
+nodes_pressed slab (p ∷ ps) = by_node (node_at slab p) refl (nodes_pressed slab ps)
+  where
+    by_node : (o : Option Node) → node_at slab p ≡ o → nodes_at slab (pressed slab ps) ≡ nodes_at slab ps → nodes_at slab (pressed slab (p ∷ ps)) ≡ nodes_at slab (p ∷ ps)
+    by_node None is rest = rw is rest
+    by_node (Some n) is rest = rw is (rw is (ap (λ l. n ∷ l) rest))
+
+pub length_pressed : (slab : Slab Node) (ps : List Place) → length (nodes_at slab (pressed slab ps)) ≡ length (pressed slab ps)
+length_pressed slab [] = refl
+length_pressed slab (p ∷ ps) = by_node (node_at slab p) refl (length_pressed slab ps)
+  where
+    by_node : (o : Option Node) → node_at slab p ≡ o → length (nodes_at slab (pressed slab ps)) ≡ length (pressed slab ps) → length (nodes_at slab (pressed slab (p ∷ ps))) ≡ length (pressed slab (p ∷ ps))
+    by_node None is rest = rw is rest
+    by_node (Some n) is rest = rw is (rw is (ap (λ k. suc k) rest))

@@ -1,13 +1,13 @@
 -- Links are what the list says once one derivation is gone.
-use Rattle.std.proofs.Common.{◌≡◌, ℕ, ◌<◌, ◌≤◌, List, [], ◌∷◌, ap, sym, ◌∙◌, refl, inl, inr, arith, subst}
+use Rattle.std.proofs.Common.{◌≡◌, ℕ, ◌<◌, List, [], ◌∷◌, ap, sym, ◌∙◌, refl, inl, inr, arith, subst}
 use Rattle.std.specs.Prelude.{Bool, true, false, ◌==◌, not, map, filter, if◌then◌else◌, Option, Some, None}
 use Rattle.std.specs.List.{AllByRecursion}
 use Rattle.std.proofs.lemmas.Bool.{eqb-true}
 use Rattle.nova_model.specs.Delegations.{is_child_of, is_id}
 use Rattle.nova_model.specs.declared.delegation.Derivation.{Derivation}
-use Rattle.nova_forest.proofs.Members.{IsIn, all_at, all_from, filtered_in}
+use Rattle.nova_forest.proofs.Members.{IsIn, filtered_in}
 use Rattle.nova_nodes.specs.declared.node.Node.{Node}
-use Rattle.nova_nodes.specs.Links.{AreLinked, changed_at, derivations, derivation_of, left, link, past}
+use Rattle.nova_nodes.specs.Links.{AreLinked, changed_at, derivations, left, link, past}
 use Rattle.nova_nodes.specs.Stores.{is_number, node_id}
 use Rattle.nova_nodes.proofs.Links.{AreOfOne, IsFamily, derivation_in, family_at, family_from, most_at, older_at, older_facts, older_passes, older_test, parent_at, younger_at, younger_facts, younger_passes, younger_test}
 use Rattle.nova_nodes.proofs.Most.{Above, AreRising, Below, IsMost, IsMostOf, IsNext, most_passes, others, rising_others}

@@ -1,15 +1,14 @@
 -- The way from newest child to newest child: what is known of it stays so, and where it ends.
 use Rattle.std.proofs.Common.{◌≡◌, ℕ, zero, suc, ◌<◌, ◌≤◌, ◌+◌, List, ap, sym, ◌∙◌, refl, inl, inr, arith, subst}
-use Rattle.std.specs.Prelude.{Bool, true, false, ◌⊎◌, ◌==◌, not, filter, if◌then◌else◌, Contains, Option, Some, None, option_map}
-use Rattle.std.specs.List.{AllByRecursion, find}
+use Rattle.std.specs.Prelude.{Bool, true, false, ◌⊎◌, ◌==◌, not, if◌then◌else◌, Option, Some, None, option_map}
 use Rattle.std.proofs.lemmas.Bool.{eqb-true}
-use Rattle.nova_model.specs.Delegations.{Delegations, greatest_by, id_of, is_child_of, is_id, newest_child, with_id, without}
+use Rattle.nova_model.specs.Delegations.{Delegations, id_of, is_child_of, is_id, newest_child, with_id, without}
 use Rattle.nova_model.specs.Forest.{IsChildless, IsForest}
 use Rattle.nova_model.specs.Revokes.{leaf_by, onward}
 use Rattle.nova_model.specs.declared.delegation.Derivation.{Derivation}
 use Rattle.nova_forest.proofs.Leaves.{child_of_newest}
 use Rattle.nova_forest.proofs.Lines.{parent_facts}
-use Rattle.nova_forest.proofs.Members.{IsIn, all_at, contains_from_in, filtered_in, found_in, in_from_contains}
+use Rattle.nova_forest.proofs.Members.{IsIn, all_at, filtered_in, found_in}
 use Rattle.nova_forest.proofs.Scopes.{child_found}
 use Rattle.nova_nodes.specs.Links.{past}
 use Rattle.nova_nodes.specs.Trails.{Here, IsOnWay, IsTrail, On, or_id, step_back}

@@ -1,5 +1,5 @@
 -- Links between derivations: what the flat list says of children.
-use Rattle.std.specs.Prelude.{◌≡◌, ◌==◌, ◌&&◌, ℕ, Bool, true, false, nat_lt, map, filter, List, if◌then◌else◌, Option, Some, None, option_map, option_and_then}
+use Rattle.std.specs.Prelude.{◌≡◌, ◌≤◌, ◌==◌, ◌&&◌, ℕ, Bool, false, nat_lt, map, filter, List, if◌then◌else◌, Option, Some, None, option_map, option_and_then}
 use Rattle.std.specs.List.{AllByRecursion}
 use Rattle.nova_model.specs.Delegations.{id_of, is_id, is_child_of, least_by, newest_child, older_child}
 use Rattle.nova_model.specs.declared.delegation.Derivation.{Derivation}
@@ -71,3 +71,13 @@ joined x n = record {
 -- a change of the one node of an id
 abbrev pub changed_at : (Node → Node) → Option ℕ → Node → Node
 changed_at change to n = if is_id n.derivation.id to then change n else n
+
+-- the derivation of a node passes, if there is one
+abbrev pub passes_in : (Derivation → Bool) → Option Node → Bool
+passes_in p None = false
+passes_in p (Some n) = p n.derivation
+
+-- the derivation of a node has an order that derivations have, if there is one
+abbrev pub IsSmall : Option Node → Type 0
+IsSmall None = Unit {0}
+IsSmall (Some n) = n.derivation.order ≤ 20

@@ -1,8 +1,9 @@
--- Nodes in a slab, and where each is kept.
-use Rattle.std.specs.Prelude.{◌≡◌, ◌<◌, ◌==◌, ℕ, Bool, nat_le, List, [], ◌∷◌, if◌then◌else◌, Option, Some, None, option_map}
-use Rattle.std.specs.List.{AllByRecursion, find}
+-- Nodes in a slab, and the places of their ids: a node that is taken away leaves its place behind for a while.
+use Rattle.std.specs.Prelude.{◌<◌, ◌==◌, ℕ, Bool, nat_le, List, if◌then◌else◌, Option, Some, None}
+use Rattle.std.specs.List.{filter_map}
 use Rattle.slab.specs.Slab.{Slab, get}
 use Rattle.nova_model.specs.Forest.{ArePairs}
+use Rattle.nova_nodes.specs.declared.node.Entry.{Entry}
 use Rattle.nova_nodes.specs.declared.node.Node.{Node}
 use Rattle.nova_nodes.specs.declared.node.Place.{Place}
 
@@ -17,8 +18,8 @@ node_id n = n.derivation.id
 abbrev pub place_id : Place → ℕ
 place_id p = p.id
 
-abbrev pub key_of : Place → ℕ
-key_of p = p.key
+abbrev pub node_of : Entry → Node
+node_of e = e.node
 
 -- what has an id, and what has one at or after it
 abbrev pub is_number : {T : Type 0} → (T → ℕ) → ℕ → T → Bool
@@ -27,28 +28,21 @@ is_number number id x = number x == id
 abbrev pub is_after : {T : Type 0} → (T → ℕ) → ℕ → T → Bool
 is_after number id x = nat_le id (number x)
 
--- the nodes at places
-abbrev pub with_node : Option Node → List Node → List Node
-with_node None ns = ns
-with_node (Some n) ns = n ∷ ns
+-- a node, if it has the id
+abbrev pub of_id : ℕ → Option Node → Option Node
+of_id id None = None
+of_id id (Some n) = if is_number node_id id n then Some n else None
+
+-- the node at a place: none where it was taken away, also if its key is that of another node since
+abbrev pub node_at : Slab Node → Place → Option Node
+node_at slab p = of_id p.id (get slab p.key)
 
 abbrev pub nodes_at : Slab Node → List Place → List Node
-nodes_at slab [] = []
-nodes_at slab (p ∷ ps) = with_node (get slab p.key) (nodes_at slab ps)
+nodes_at slab places = filter_map (node_at slab) places
 
--- a node is at its place
-pub record IsKept (slab : Slab Node) (p : Place) : Type 0 where
-  pub node : Node
-  pub is : get slab p.key ≡ Some node
-  pub id : node.derivation.id ≡ p.id
-
-pub record IsApart (p q : Place) : Type 0 where
-  pub id : p.id < q.id
-  pub key : ¬ (p.key ≡ q.key)
-
-pub record IsStore (slab : Slab Node) (places : List Place) : Type 0 where
-  pub kept : AllByRecursion (IsKept slab) places
-  pub apart : ArePairs IsApart places
+-- ids rise, also those of nodes that are gone
+abbrev pub AreInOrder : List Place → Type 0
+AreInOrder places = ArePairs (λ a b. a.id < b.id) places
 
 abbrev pub AreRising : List Node → Type 0
 AreRising nodes = ArePairs (λ a b. a.derivation.id < b.derivation.id) nodes

@@ -1,10 +1,10 @@
-ghost use Rattle.std.specs.Prelude.{◌≡◌, ◌<◌, ◌≤◌, ◌-◌, ◌==◌, ℕ, [], ◌∷◌, ◌++◌, false, not, length, map, max, filter, slice_get, option_map, Option, Some, None, IfOk, OnOk, OnErr, IsSome, IfSome};
-ghost use Rattle.std.specs.List.{AllByRecursion, find, list_any};
+ghost use Rattle.std.specs.Prelude.{◌≡◌, ◌<◌, ◌-◌, ◌==◌, ℕ, [], ◌∷◌, ◌++◌, false, not, map, max, filter, option_map, Option, Some, None, IfOk, OnOk, OnErr, IsSome, IfSome};
+ghost use Rattle.std.specs.List.{All, AllByRecursion, find, list_any};
 ghost use Rattle.nova_model.specs.Inputs.{leads_to};
 ghost use Rattle.nova_model.specs.Delegations.{is_child_of, is_from, is_id, newest_child, older_child, with_id, id_of};
 ghost use Rattle.nova_model.specs.Forest.{IsChildless};
-ghost use Rattle.nova_nodes.specs.Stores.{AreRising, StoreState};
-ghost use Rattle.nova_nodes.specs.Links.{changed_at, derivations, is_child_in, joined, left, or_else, past};
+ghost use Rattle.nova_nodes.specs.NodesStates.{IsPlaced};
+ghost use Rattle.nova_nodes.specs.Links.{changed_at, is_child_in, joined, left, or_else, past};
 
 use crate::node::Node;
 use crate::store::Store;
@@ -124,22 +124,6 @@ fn join(store: &mut Store, to: Option<u32>, x: &Derivation)
     store.set(joined(x, node));
 }
 
-/// The nodes once more, in memory of their own.
-fn copy_of(store: &Store, alloc: Global) -> Result<Store, AllocError>
-    ensures { IfOk result (λ copy. copy ≡ record { nodes = store.now.nodes; spare = 0 }) }
-{
-    let mut copy = Store::new(alloc);
-    copy.reserve(store.len())?;
-    for i in 0..store.len() {
-        let Some(node) = store.nth(i) else {
-            unreachable!()
-        };
-        copy.push(node);
-    }
-    copy.clear_room();
-    Ok(copy)
-}
-
 impl Linked {
     /// No derivations, and room for none.
     pub(crate) fn new(alloc: Global) -> Linked
@@ -165,23 +149,17 @@ impl Linked {
         ensures { IfOk result (λ copy. copy ≡ record self.now { spare = 0 }) }
     {
         Ok(Linked {
-            store: copy_of(&self.store, self.alloc)?,
+            store: self.store.copy(self.alloc)?,
             alloc: self.alloc,
         })
     }
 
-    /// The derivation that so many stand before.
-    pub(crate) fn nth(&self, i: usize) -> Option<Derivation>
-        ensures { result ≡ slice_get self.now.list i }
+    /// Whether some memory derivation of a protection domain leads to a frame.
+    pub(crate) fn leads_to(&self, pd: u32, frame: u32) -> bool
+        requires { All IsPlaced self.now.list }
+        ensures { result ≡ list_any (leads_to pd frame) self.now.list }
     {
-        Some(self.store.nth(i)?.derivation)
-    }
-
-    /// How many derivations there are.
-    pub(crate) fn len(&self) -> usize
-        ensures { result ≡ length self.now.list }
-    {
-        self.store.len()
+        self.store.leads_to(pd, frame)
     }
 
     /// The derivation of least id at or after the given one.

@@ -10,11 +10,18 @@ pub struct Node {
     pub younger: Option<u32>,
 }
 
-/// Where the node of an id is kept.
+/// An id, and where its node is kept. It stays for a while where that is taken away.
 #[derive(Clone, Copy)]
 pub struct Place {
     pub id: u32,
     pub key: usize,
+}
+
+/// A node with its place.
+#[derive(Clone, Copy)]
+pub struct Entry {
+    pub place: Place,
+    pub node: Node,
 }
 
 /// How far the way from a derivation from newest child to newest child was gone, and which id was the

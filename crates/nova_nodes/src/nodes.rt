@@ -43,17 +43,6 @@ impl<I: Index> Model for Nodes<I> {
     ghost invariant = { λ n. IsSound (record { list = n.list.list; next = n.next }) × (IsIndexed n.spaces n.list.list × ((total_room n.spaces ≤ n.spare) × ((n.spare ≤ n.list.spare) × IsTrail (record { list = n.list.list; next = n.next }) n.trail))) };
 }
 
-/// Whether a derivation is of the memory of a protection domain, and leads to a frame.
-fn leads_to(d: &Derivation, pd: u32, frame: u32) -> bool
-    requires { d.now.order ≤ 20 }
-    ensures { result ≡ leads_to pd frame d.now }
-{
-    matches!(d.kind, Kind::Mem)
-        && d.pd == pd
-        && d.target <= frame
-        && frame - d.target < 1 << d.order
-}
-
 /// The id before the end of a way: of the parent, or of the beginning where that is the end.
 fn step_back(from: &Derivation, leaf: &Derivation) -> u32
     ensures { result ≡ step_back from.now leaf.now }
@@ -107,15 +96,7 @@ impl<I: Index> Nodes<I> {
     pub fn leads_to(&self, pd: u32, frame: u32) -> bool
         ensures { result ≡ list_any (leads_to pd frame) self.now.delegations.list }
     {
-        for i in 0..self.list.len() {
-            let Some(d) = self.list.nth(i) else {
-                unreachable!()
-            };
-            if leads_to(&d, pd, frame) {
-                return true;
-            }
-        }
-        false
+        self.list.leads_to(pd, frame)
     }
 
     /// The id that the next derivation takes.

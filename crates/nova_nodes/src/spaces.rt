@@ -142,20 +142,20 @@ impl<I: Index> Spaces<I> {
         ensures first { result ≡ range_from place (entries_at self.now pd kind) }
         ensures sound { IsSorted (entries_at self.now pd kind) }
     {
-        match self.items.get(pd as usize) {
-            Some(space) => first_in(space, kind, place),
-            None => None,
+        if pd as usize >= self.items.len() {
+            return None;
         }
+        first_in(&self.items[pd as usize], kind, place)
     }
 
     /// For how many more ranges there is room in each space of a domain.
     pub(crate) fn room(&self, pd: u32) -> usize
         ensures { result ≡ room_at self.now pd }
     {
-        match self.items.get(pd as usize) {
-            Some(space) => room_in(space),
-            None => 0,
+        if pd as usize >= self.items.len() {
+            return 0;
         }
+        room_in(&self.items[pd as usize])
     }
 
     /// Makes the table long enough for a domain. Where it refuses nothing has changed.

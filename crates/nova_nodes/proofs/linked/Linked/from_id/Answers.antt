@@ -1,11 +1,9 @@
-use Rattle.std.proofs.Common.{rules, arith, refl, ◌≡◌, ◌∙◌, ◌<◌, ◌++◌, ◌∷◌, [], ◌-◌, ℕ, List, ap, ap₂, sym, subst}
-use Rattle.std.specs.Prelude.{map, filter, not, ◌==◌, Option, Some, None, IfSome, IsSome, option_map}
-use Rattle.std.specs.List.{AllByRecursion, find}
-use Rattle.nova_model.specs.Delegations.{id_of, is_from, newest_child, older_child, with_id}
-use Rattle.nova_model.specs.declared.delegation.Derivation.{Derivation}
-use Rattle.nova_nodes.specs.declared.node.Node.{Node}
-use Rattle.nova_nodes.specs.Links.{AreLinked, LinkedState, changed_at, derivation_of, derivations, is_child_in, joined, left}
-use Rattle.nova_nodes.specs.Stores.{StoreState, is_after, is_number, node_id}
+use Rattle.std.proofs.Common.{rules, ◌≡◌, ◌∙◌, ap, sym}
+use Rattle.std.specs.Prelude.{Some, None, option_map}
+use Rattle.std.specs.List.{find}
+use Rattle.nova_model.specs.Delegations.{is_from}
+use Rattle.nova_nodes.specs.Links.{derivation_of, derivations}
+use Rattle.nova_nodes.specs.Stores.{is_after, node_id}
 use Rattle.nova_nodes.proofs.Changes.{found_derivation}
 use Rattle.nova_nodes.proofs.linked.Linked.from_id.Goals as goal
 

@@ -1,16 +1,14 @@
-use Rattle.std.proofs.Common.{rules, arith, refl, ◌≡◌, ◌∙◌, ◌<◌, ◌++◌, ◌∷◌, [], ◌-◌, ℕ, List, ap, ap₂, sym, subst}
-use Rattle.std.specs.Prelude.{map, filter, not, ◌==◌, Option, Some, None, IfSome, IsSome, option_map}
-use Rattle.std.specs.List.{AllByRecursion, find}
-use Rattle.nova_model.specs.Delegations.{id_of, is_from, newest_child, older_child, with_id}
+use Rattle.std.proofs.Common.{rules, refl, ◌≡◌, ◌∙◌, ◌<◌, ◌++◌, ◌∷◌, [], ◌-◌, ℕ, List, ap, ap₂, sym, subst}
+use Rattle.std.specs.Prelude.{map, Option, IfSome, IsSome, option_map}
+use Rattle.std.specs.List.{AllByRecursion}
+use Rattle.nova_model.specs.Delegations.{id_of, newest_child, with_id}
 use Rattle.nova_model.specs.Forest.{ArePairs, IsChildless}
 use Rattle.nova_model.specs.declared.delegation.Derivation.{Derivation}
 use Rattle.nova_nodes.specs.declared.node.Node.{Node}
-use Rattle.nova_nodes.specs.Links.{AreLinked, LinkedState, changed_at, derivation_of, derivations, is_child_in, joined, left}
-use Rattle.nova_nodes.specs.Stores.{StoreState, is_after, is_number, node_id}
+use Rattle.nova_nodes.specs.Links.{AreLinked, LinkedState, changed_at, derivations, joined}
 use Rattle.nova_nodes.proofs.Changes.{changed_ids, of_derivations}
-use Rattle.nova_nodes.proofs.Linking.{AreJoined, IsLast, first_facts, links_more, new_node}
-use Rattle.nova_nodes.proofs.Most.{Below, IsMostOf}
-use Rattle.nova_nodes.proofs.Stores.{pairs_more}
+use Rattle.nova_nodes.proofs.Linking.{IsLast, first_facts, links_more, new_node}
+use Rattle.nova_nodes.proofs.Slots.{pairs_more}
 use Rattle.nova_nodes.proofs.linked.Linked.push.Goals as goal
 
 pub push-requires-clause-last : goal.push-requires-clause-last

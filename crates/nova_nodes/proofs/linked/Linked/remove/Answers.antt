@@ -1,15 +1,15 @@
-use Rattle.std.proofs.Common.{rules, arith, refl, ◌≡◌, ◌∙◌, ◌<◌, ◌++◌, ◌∷◌, [], ◌-◌, ℕ, List, ap, ap₂, sym, subst}
-use Rattle.std.specs.Prelude.{map, filter, not, ◌==◌, Option, Some, None, IfSome, IsSome, option_map}
-use Rattle.std.specs.List.{AllByRecursion, find}
-use Rattle.nova_model.specs.Delegations.{id_of, is_from, newest_child, older_child, with_id}
+use Rattle.std.proofs.Common.{rules, ◌≡◌, ◌∙◌, ◌<◌, ℕ, List, ap, ap₂, sym, subst}
+use Rattle.std.specs.Prelude.{Some, None}
+use Rattle.std.specs.List.{find}
+use Rattle.nova_model.specs.Delegations.{with_id}
 use Rattle.nova_model.specs.Forest.{ArePairs}
 use Rattle.nova_model.specs.declared.delegation.Derivation.{Derivation}
 use Rattle.nova_nodes.specs.declared.node.Node.{Node}
-use Rattle.nova_nodes.specs.Links.{AreLinked, LinkedState, changed_at, derivation_of, derivations, is_child_in, joined, left}
-use Rattle.nova_nodes.specs.Stores.{StoreState, is_after, is_number, node_id}
+use Rattle.nova_nodes.specs.Links.{AreLinked, LinkedState, derivations, left}
+use Rattle.nova_nodes.specs.Stores.{StoreState, is_number, node_id}
 use Rattle.nova_nodes.proofs.Changes.{no_node, node_facts, none_goes}
 use Rattle.nova_nodes.proofs.Most.{others, rising_others}
-use Rattle.nova_nodes.proofs.Unlinking.{AreLeft, but, links_less, thrice}
+use Rattle.nova_nodes.proofs.Unlinking.{but, links_less, thrice}
 use Rattle.nova_nodes.proofs.linked.Linked.remove.Goals as goal
 
 -- the same state with other derivations

@@ -1,4 +1,4 @@
-use Rattle.std.proofs.Common.{rules, arith, ◌≡◌, ◌≤◌, ◌+◌, List, Option, subst, sym, ap, ◌∙◌, IsSome}
+use Rattle.std.proofs.Common.{rules, arith, ◌≡◌, List, Option, subst, sym, ap, ◌∙◌, IsSome}
 use Rattle.std.specs.Prelude.{map, slice_get, IfSome}
 use Rattle.nova_model.specs.declared.delegation.Derivation.{Derivation}
 use Rattle.nova_nodes.specs.Spaces.{SpaceState, IsIndexed, roomless, shown_room, total_room}

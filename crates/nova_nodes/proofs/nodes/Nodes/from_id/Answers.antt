@@ -1,5 +1,4 @@
-use Rattle.std.proofs.Common.{rules, ◌≡◌, ◌∙◌, ap, sym, subst, List}
-use Rattle.std.specs.Prelude.{Option}
+use Rattle.std.proofs.Common.{rules, ◌≡◌, ◌∙◌, ap, sym, List}
 use Rattle.std.specs.List.{find}
 use Rattle.nova_model.specs.Delegations.{Delegations, from_id, is_from}
 use Rattle.nova_model.specs.declared.delegation.Derivation.{Derivation}

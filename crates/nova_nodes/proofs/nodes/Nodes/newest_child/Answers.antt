@@ -1,6 +1,6 @@
-use Rattle.std.proofs.Common.{rules, ◌≡◌, ◌∙◌, ap, sym, subst, refl, List}
-use Rattle.std.specs.Prelude.{Option, Some, None, IsSome, option_map}
-use Rattle.nova_model.specs.Delegations.{Delegations, id_of, newest_child, with_id}
+use Rattle.std.proofs.Common.{rules, ◌≡◌, ◌∙◌, ap, sym, List}
+use Rattle.std.specs.Prelude.{option_map}
+use Rattle.nova_model.specs.Delegations.{Delegations, id_of, newest_child}
 use Rattle.nova_model.specs.declared.delegation.Derivation.{Derivation}
 use Rattle.nova_nodes.proofs.Members.{newest_whole}
 use Rattle.nova_nodes.proofs.nodes.Nodes.newest_child.Goals as goal

@@ -1,4 +1,4 @@
-use Rattle.std.proofs.Common.{rules, arith, ◌≡◌, ◌∙◌, List, ap, sym, subst, not, ◌==◌}
+use Rattle.std.proofs.Common.{rules, arith, ◌≡◌, ◌∙◌, List, ap, sym, subst, ◌==◌}
 use Rattle.std.specs.Prelude.{map, Some, None}
 use Rattle.std.proofs.lemmas.Bool.{eqb-true}
 use Rattle.nova_model.specs.Delegations.{Delegations, without, with_id}
