@@ -1,4 +1,4 @@
-ghost use Rattle.std.specs.Prelude.{◌≡◌, ◌+◌, ◌<◌, ◌≤◌, ◌^◌, ◌++◌, [], length, max, replicate, IsOk, OnOk, OnErr, None, false};
+ghost use Rattle.std.specs.Prelude.{◌≡◌, ◌+◌, ◌<◌, ◌≤◌, ◌^◌, ◌++◌, [], length, max, replicate, IsOk, OnOk, OnErr, None, true, false};
 ghost use Rattle.std.specs.List.{last_or};
 ghost use Rattle.nova_order.specs.Blocks.{IsOrder, turns, total, is_of, grown, added, pushed};
 
@@ -131,6 +131,47 @@ impl Order {
             self.grow(count);
         } else {
             self.add(cpu, count);
+        }
+    }
+
+    /// Makes room for a block and adds it. Few turns begin a block, so that this stays out of the code of each.
+    #[inline(never)]
+    fn start(&mut self, cpu: u32, count: u64) -> Result<(), AllocError>
+        requires counted { 0 < count }
+        requires fits { total self.old.blocks + count < 2 ^ 64 }
+        requires other { is_of (last_or None self.old.blocks) cpu ≡ false }
+        ensures turns { OnOk result (turns self.new.blocks ≡ turns self.old.blocks ++ replicate count cpu) }
+        ensures sum { OnOk result (total self.new.blocks ≡ total self.old.blocks + count) }
+        ensures spare { OnOk result (self.old.spare ≤ self.new.spare + 1) }
+        ensures order { OnOk result (IsOrder self.new.blocks) }
+        ensures room { 0 < self.old.spare → IsOk result }
+        ensures err { OnErr result (self.new ≡ self.old) }
+    {
+        self.reserve(1)?;
+        self.add(cpu, count);
+        Ok(())
+    }
+
+    /// Adds turns of a processor after all others: to the last block where that is of the same processor, and else as a block for
+    /// which it makes room. With these turns there are fewer than 2^64. It refuses for want of memory alone, only where it adds a
+    /// block, and then nothing has changed.
+    #[inline(always)]
+    pub fn extend(&mut self, cpu: u32, count: u64) -> Result<(), AllocError>
+        requires counted { 0 < count }
+        requires fits { total self.old.blocks + count < 2 ^ 64 }
+        ensures turns { OnOk result (turns self.new.blocks ≡ turns self.old.blocks ++ replicate count cpu) }
+        ensures sum { OnOk result (total self.new.blocks ≡ total self.old.blocks + count) }
+        ensures spare { OnOk result (self.old.spare ≤ self.new.spare + 1) }
+        ensures order { OnOk result (IsOrder self.new.blocks) }
+        ensures same { is_of (last_or None self.old.blocks) cpu ≡ true → IsOk result }
+        ensures room { 0 < self.old.spare → IsOk result }
+        ensures err { OnErr result (self.new ≡ self.old) }
+    {
+        if self.ends_with(cpu) {
+            self.grow(count);
+            Ok(())
+        } else {
+            self.start(cpu, count)
         }
     }
 }

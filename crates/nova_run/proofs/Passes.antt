@@ -1,11 +1,13 @@
 -- The passes of a round robin.
-use Rattle.std.proofs.Common.{◌≡◌, ℕ, zero, suc, ◌+◌, ◌-◌, ◌<◌, List, [], ◌∷◌, ◌++◌, length, refl, ap, ap₂, sym, ◌∙◌, subst, arith, append_assoc}
-use Rattle.std.specs.Prelude.{Bool, true, false, is_some, if◌then◌else◌}
+use Rattle.std.proofs.Common.{◌≡◌, ℕ, zero, suc, ◌+◌, ◌-◌, ◌<◌, ◌≤◌, List, [], ◌∷◌, ◌++◌, length, refl, ap, ap₂, sym, ◌∙◌, subst, arith, append_assoc}
+use Rattle.std.specs.Prelude.{Bool, true, false, is_some, if◌then◌else◌, vec_capacity}
 use Rattle.std.proofs.lemmas.List.{append-nil}
+use Rattle.nova_kernel.specs.Views.{KernelView}
 use Rattle.nova_model.specs.State.{KernelState}
 use Rattle.nova_model.specs.Turn.{turn}
 use Rattle.nova_model.specs.Runs.{after, run, pass, passes, rounds}
 use Rattle.nova_laws.proofs.Passes.{passes_none, nothing}
+use Rattle.nova_order.specs.Blocks.{BlockList, turns, total}
 use Rattle.nova_run.specs.Finished.{IsFinished}
 use Rattle.nova_run.specs.UnderWay.{IsReady, Passed, IsUnderWay, left, taken}
 use Rattle.nova_shared.specs.declared.finished.Finished.{Finished}
@@ -44,8 +46,9 @@ left_by b c list p = let e = p.count in let l = p.limit in omega arith
 -- a processor's turn on the way of a pass
 pub IsUnderWay-turn : (a b c : Finished) (cpu cpus : ℕ) (all : List ℕ) → cpu < cpus →
     IsUnderWay a b (pass b.kernel.state cpu (cpus - cpu) (left b)) all → Passed b (pass b.kernel.state cpu 1 (left b)) c →
+    vec_capacity c.trace ≡ vec_capacity b.trace →
     IsUnderWay a c (pass c.kernel.state (cpu + 1) (cpus - (cpu + 1)) (left c)) all
-IsUnderWay-turn a b c cpu cpus all h way turned =
+IsUnderWay-turn a b c cpu cpus all h way turned places =
     let one = pass b.kernel.state cpu 1 (left b) in record {
       done = way.done ++ one;
       passed = Passed-through a b c way.done one way.passed turned;
@@ -57,24 +60,68 @@ IsUnderWay-turn a b c cpu cpus all h way turned =
           ∙ sym (pass-first b.kernel.state cpu (cpus - (cpu + 1)) (left b))
           ∙ ap (λ (count : ℕ). pass b.kernel.state cpu count (left b)) (sym n))
           ∙ way.whole;
+      places = places ∙ way.places;
     }
 
--- passes that begin
-pub IsUnderWay-first : (a : Finished) (n : ℕ) → IsReady a → n ≡ left a → IsUnderWay a a (passes (n - 0) a.kernel.state (left a)) (rounds a.kernel.state (left a))
+-- a run of the same events, in a trace with other room
+pub Passed-none : (a b : Finished) → IsReady a → b.opening ≡ a.opening → b.kernel ≡ a.kernel → b.order ≡ a.order → b.trace.items ≡ a.trace.items → b.limit ≡ a.limit → Passed a [] b
+Passed-none a b ready opening kernel order items limit =
+    let len : length b.trace.items ≡ length a.trace.items = ap length items in
+    let state = ap (λ (v : KernelView). v.state) kernel in
+    let room = ap (λ (v : KernelView). v.room) kernel in
+    let turns_taken = ap (λ (s : KernelState). s.turns) state in
+    let counted = ap (λ (l : BlockList). total l.blocks) order in
+    record {
+      opening = opening;
+      kernel = state;
+      order = ap (λ (l : BlockList). turns l.blocks) order ∙ sym (append-nil (turns a.order.blocks));
+      trace = items ∙ sym (append-nil a.trace.items);
+      count = omega arith;
+      limit = limit;
+      cpus = ap (λ (s : KernelState). s.cpus) state;
+      ready = record {
+        within = omega (arith, ready.within);
+        room = omega (arith, ready.room);
+        turns = omega (arith, ready.turns);
+        order = counted ∙ ready.order ∙ sym len;
+      };
+    }
+
+-- more passes than there may be turns take the same turns
+passes_same : (n m : ℕ) (k : KernelState) (most : ℕ) → most ≤ n → most ≤ m → passes n k most ≡ passes m k most
+passes_same zero m k zero h i = sym (passes_none m k 0 (pass-zero k 0 k.cpus))
+passes_same zero m k (suc most) h i = absurd (omega arith)
+passes_same (suc n) zero k zero h i = passes_none (suc n) k 0 (pass-zero k 0 k.cpus)
+passes_same (suc n) zero k (suc most) h i = absurd (omega arith)
+passes_same (suc n) (suc m) k most h i =
+    let one = pass k 0 k.cpus most in
+    by_turns one refl (λ some. passes_same n m (run k one) (most - length one) (omega (arith, some, h)) (omega (arith, some, i)))
+  where
+    by_turns : (list : List ℕ) → pass k 0 k.cpus most ≡ list →
+        (0 < length (pass k 0 k.cpus most) → passes n (run k (pass k 0 k.cpus most)) (most - length (pass k 0 k.cpus most)) ≡ passes m (run k (pass k 0 k.cpus most)) (most - length (pass k 0 k.cpus most))) →
+        passes (suc n) k most ≡ passes (suc m) k most
+    by_turns [] is rest = passes_none (suc n) k most is ∙ sym (passes_none (suc m) k most is)
+    by_turns (x ∷ xs) is rest =
+        let len = ap length is in
+        ap (λ (l : List ℕ). pass k 0 k.cpus most ++ l) (rest (omega arith))
+
+-- the first pass of a round robin that takes a turn, and then the others
+rounds_first : (k : KernelState) (most : ℕ) → 0 < length (pass k 0 k.cpus most) →
+    rounds k most ≡ pass k 0 k.cpus most ++ rounds (run k (pass k 0 k.cpus most)) (most - length (pass k 0 k.cpus most))
 unfolding rounds
-IsUnderWay-first a n ready is = record {
+rounds_first k zero some = let none = ap length (pass-zero k 0 k.cpus) in absurd (omega arith)
+rounds_first k (suc most) some =
+    let one = pass k 0 k.cpus (suc most) in
+    let rest = suc most - length one in
+    ap (λ (l : List ℕ). one ++ l) (passes_same most rest (run k one) rest (omega arith) (omega arith))
+
+-- a round robin that begins
+pub IsUnderWay-first : (a : Finished) → IsReady a → IsUnderWay a a (rounds a.kernel.state (left a)) (rounds a.kernel.state (left a))
+IsUnderWay-first a ready = record {
   done = [];
-  passed = record {
-    opening = refl;
-    kernel = refl;
-    order = sym (append-nil _);
-    trace = sym (append-nil _);
-    count = omega arith;
-    limit = refl;
-    cpus = refl;
-    ready = ready;
-  };
-  whole = let same : n - 0 ≡ left a = omega (arith, is) in ap (λ (count : ℕ). passes count a.kernel.state (left a)) same;
+  passed = Passed-none a a ready refl refl refl refl refl;
+  whole = refl;
+  places = refl;
 }
 
 module _ (a b c : Finished) (all : List ℕ) (turned : Passed b (pass b.kernel.state 0 b.kernel.state.cpus (left b)) c) where
@@ -82,35 +129,46 @@ module _ (a b c : Finished) (all : List ℕ) (turned : Passed b (pass b.kernel.s
   one = pass b.kernel.state 0 b.kernel.state.cpus (left b)
 
   -- a pass on the way
-  pub IsUnderWay-pass : (most n : ℕ) → n < most → IsUnderWay a b (passes (most - n) b.kernel.state (left b)) all →
-      IsUnderWay a c (passes (most - (n + 1)) c.kernel.state (left c)) all
+  pub IsUnderWay-pass : IsUnderWay a b (rounds b.kernel.state (left b)) all → left c < left b →
+      vec_capacity c.trace ≡ vec_capacity b.trace →
+      IsUnderWay a c (rounds c.kernel.state (left c)) all
   unfolding one
-  IsUnderWay-pass most n h way = record {
+  IsUnderWay-pass way fewer places = record {
     done = way.done ++ one;
     passed = Passed-through a b c way.done one way.passed turned;
     whole =
-        let e : most - n ≡ suc (most - (n + 1)) = omega arith in
-        append_assoc way.done one (passes (most - (n + 1)) c.kernel.state (left c))
+        let less = left_by b c one turned in
+        append_assoc way.done one (rounds c.kernel.state (left c))
         ∙ ap (λ (l : List ℕ). way.done ++ l)
-        (ap₂ (λ (s : KernelState) (rest : ℕ). one ++ passes (most - (n + 1)) s rest) turned.kernel (left_by b c one turned)
-        ∙ ap (λ (count : ℕ). passes count b.kernel.state (left b)) (sym e))
+        (ap₂ (λ (s : KernelState) (rest : ℕ). one ++ rounds s rest) turned.kernel less
+        ∙ sym (rounds_first b.kernel.state (left b) (omega (arith, less, fewer))))
         ∙ way.whole;
+    places = places ∙ way.places;
   }
 
-  -- passes that end by one without a turn
-  pub Passed-ended : (n : ℕ) → IsUnderWay a b (passes n b.kernel.state (left b)) all → length c.trace.items ≡ length b.trace.items → Passed a all c
-  unfolding one
-  Passed-ended n way same =
-      let none : one ≡ [] = nothing one (let e = turned.count in omega arith) in
-      let rest : passes n b.kernel.state (left b) ≡ [] = passes_none n b.kernel.state (left b) none in
+  -- a round robin that ends by a pass without a turn
+  pub Passed-ended : IsUnderWay a b (rounds b.kernel.state (left b)) all → left c ≡ left b → Passed a all c
+  unfolding one rounds
+  Passed-ended way same =
+      let none : one ≡ [] = nothing one (let e = turned.count in let r = turned.ready.within in let l = turned.limit in omega arith) in
+      let rest : passes (left b) b.kernel.state (left b) ≡ [] = passes_none (left b) b.kernel.state (left b) none in
       subst (λ (l : List ℕ). Passed a l c) (ap (λ (l : List ℕ). way.done ++ l) (none ∙ sym rest) ∙ way.whole)
       (Passed-through a b c way.done one way.passed turned)
 
--- as many passes as there may be turns
-pub Passed-all : (a b : Finished) (n : ℕ) (all : List ℕ) → IsUnderWay a b (passes n b.kernel.state (left b)) all → n ≡ 0 → Passed a all b
-Passed-all a b n all way none =
-    let rest : passes n b.kernel.state (left b) ≡ [] = ap (λ (m : ℕ). passes m b.kernel.state (left b)) none in
+-- a round robin that ends with as many turns as there may be
+pub Passed-all : (a b : Finished) (all : List ℕ) → IsUnderWay a b (rounds b.kernel.state (left b)) all → left b ≡ 0 → Passed a all b
+unfolding rounds
+Passed-all a b all way none =
+    let rest : rounds b.kernel.state (left b) ≡ [] = ap (λ (m : ℕ). passes m b.kernel.state (left b)) none in
     subst (λ (l : List ℕ). Passed a l b) (sym (append-nil way.done) ∙ ap (λ (l : List ℕ). way.done ++ l) (sym rest) ∙ way.whole) way.passed
+
+-- passes of a run for which places were made
+pub Passed-rounds : (a b c : Finished) → Passed a [] b → Passed b (rounds b.kernel.state (left b)) c → Passed a (rounds a.kernel.state (left a)) c
+Passed-rounds a b c none ran =
+    let less = left_by a b [] none in
+    let same : left b ≡ left a = omega arith in
+    subst (λ (l : List ℕ). Passed a l c) (ap₂ (λ (s : KernelState) (m : ℕ). rounds s m) none.kernel same)
+    (Passed-through a b c [] (rounds b.kernel.state (left b)) none ran)
 
 -- a round robin from a state
 pub Finished-rounds : (k : KernelState) (f g : Finished) (limit : ℕ) → IsFinished k [] limit f → Passed f (rounds f.kernel.state (left f)) g →

@@ -1,9 +1,7 @@
 -- Runs on their way, and what turns add to them.
-use Rattle.std.specs.Prelude.{◌≡◌, ℕ, ◌+◌, ◌-◌, ◌^◌, ◌≤◌, Bool, true, false, List, [], ◌∷◌, ◌++◌, length, is_some, if◌then◌else◌}
+use Rattle.std.specs.Prelude.{◌≡◌, ℕ, Bool, true, false, List, [], ◌++◌, vec_capacity}
 use Rattle.nova_model.specs.State.{KernelState}
-use Rattle.nova_model.specs.Turn.{turn}
-use Rattle.nova_model.specs.Runs.{run, trace}
-use Rattle.nova_order.specs.Blocks.{turns, total}
+use Rattle.nova_order.specs.Blocks.{turns}
 use Rattle.nova_order.specs.declared.block.Block.{Block}
 use Rattle.nova_run.specs.Finished.{IsFinished, IsFreeOfIdle}
 use Rattle.nova_shared.specs.declared.finished.Finished.{Finished}
@@ -14,11 +12,12 @@ abbrev pub IsBlockTaken : Finished → List ℕ → Bool → Finished → Type 0
 IsBlockTaken old list true new = Passed old list new × IsFreeOfIdle old.kernel.state list
 IsBlockTaken old list false new = IsFreeOfIdle old.kernel.state list → ⊥
 
--- turns of a part of a run: those that were taken, which with those that are left make all
+-- turns of a part of a run: those that were taken, which with those that are left make all, in the places that there were for events
 pub record IsUnderWay (old new : Finished) (rest all : List ℕ) : Type 0 where
   pub done : List ℕ
   pub passed : Passed old done new
   pub whole : done ++ rest ≡ all
+  pub places : vec_capacity new.trace ≡ vec_capacity old.trace
 
 -- a run from a state along these blocks, with no idle turn
 pub record IsAlong (k : KernelState) (most : ℕ) (f : Finished) (blocks : List Block) : Type 0 where

@@ -5,7 +5,7 @@ ghost use Rattle.nova_run.specs.Finished.{IsFinished, IsIdleLine, IsFreeOfIdle};
 ghost use Rattle.nova_run.specs.UnderWay.{IsReady, Passed, IsAlong, IsBegun, IsBlockTaken};
 
 use crate::fault::RunFault;
-use crate::turns::{begin, kept, turn};
+use crate::turns::{begin, kept, make_places, turn};
 use nova_kernel::Kernel;
 use nova_order::Order;
 use nova_shared::Finished;
@@ -18,6 +18,7 @@ fn take(run: &mut Finished, cpu: u32, count: u64) -> Result<bool, AllocError>
     requires cpu { cpu < run.old.kernel.state.cpus }
     ensures { IfOk result (λ all. IsBlockTaken run.old (replicate count cpu) all run.new) }
 {
+    make_places(run, count)?;
     for _turn in 0..count {
         if !turn(run, cpu)? {
             return Ok(false);

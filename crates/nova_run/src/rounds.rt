@@ -1,48 +1,64 @@
-ghost use Rattle.std.specs.Prelude.{◌≡◌, ◌+◌, ◌^◌, ◌<◌, ◌≤◌, IfOk, IfErr, OnOk};
+ghost use Rattle.std.specs.Prelude.{◌≡◌, ◌+◌, ◌^◌, ◌<◌, ◌≤◌, vec_capacity, IfOk, IfErr, OnOk};
 ghost use Rattle.nova_model.specs.Runs.{rounds, pass};
 ghost use Rattle.nova_run.specs.declared.fault.RunFault.TheVariants.{Memory};
 ghost use Rattle.nova_run.specs.Finished.{IsFinished};
 ghost use Rattle.nova_run.specs.UnderWay.{IsReady, Passed, left};
 
 use crate::fault::RunFault;
-use crate::turns::{begin, kept, turn};
+use crate::turns::{begin, kept, make_places, turn};
 use nova_kernel::Kernel;
 use nova_shared::Finished;
 use std::alloc::{AllocError, Global};
 
-/// A turn of a processor that is not idle, where there may be one more.
-fn turn_within(run: &mut Finished, cpu: u32) -> Result<(), AllocError>
+/// A turn of a processor that is not idle, where there may be one more. It is given how many more there may be, and tells how many
+/// after it.
+#[inline(always)]
+fn turn_within(run: &mut Finished, cpu: u32, more: u64) -> Result<u64, AllocError>
     requires ready { IsReady run.old }
+    requires places { run.old.limit ≤ vec_capacity run.old.trace }
     requires cpu { cpu < run.old.kernel.state.cpus }
-    ensures { OnOk result (Passed run.old (pass run.old.kernel.state cpu 1 (left run.old)) run.new) }
+    requires more { more ≡ left run.old }
+    ensures passed { OnOk result (Passed run.old (pass run.old.kernel.state cpu 1 (left run.old)) run.new) }
+    ensures more { IfOk result (λ more. more ≡ left run.new) }
+    ensures places { vec_capacity run.new.trace ≡ vec_capacity run.old.trace }
 {
-    if (run.trace.len() as u64) < run.limit {
-        turn(run, cpu)?;
+    if more > 0 && turn(run, cpu)? {
+        return Ok(more - 1);
     }
-    Ok(())
+    Ok(more)
 }
 
 /// One pass over the processors in rising number, one turn each where it is not idle, until there are
-/// as many turns as there may be.
-fn pass(run: &mut Finished) -> Result<(), AllocError>
+/// as many turns as there may be. It is given how many more there may be, and tells how many after it.
+#[inline(always)]
+fn pass(run: &mut Finished, cpus: u32, more: u64) -> Result<u64, AllocError>
     requires ready { IsReady run.old }
-    ensures { OnOk result (Passed run.old (pass run.old.kernel.state 0 run.old.kernel.state.cpus (left run.old)) run.new) }
+    requires places { run.old.limit ≤ vec_capacity run.old.trace }
+    requires cpus { cpus ≡ run.old.kernel.state.cpus }
+    requires more { more ≡ left run.old }
+    ensures passed { OnOk result (Passed run.old (pass run.old.kernel.state 0 run.old.kernel.state.cpus (left run.old)) run.new) }
+    ensures more { IfOk result (λ more. more ≡ left run.new) }
+    ensures places { OnOk result (vec_capacity run.new.trace ≡ vec_capacity run.old.trace) }
 {
-    for cpu in 0..run.kernel.cpus() {
-        turn_within(run, cpu)?;
+    let mut more = more;
+    for cpu in 0..cpus {
+        more = turn_within(run, cpu, more)?;
     }
-    Ok(())
+    Ok(more)
 }
 
 /// Passes until one takes no turn or there are as many turns as there may be.
 fn run_out(run: &mut Finished) -> Result<(), AllocError>
     requires ready { IsReady run.old }
+    requires places { run.old.limit ≤ vec_capacity run.old.trace }
     ensures { OnOk result (Passed run.old (rounds run.old.kernel.state (left run.old)) run.new) }
 {
-    for _pass in 0..run.limit - run.trace.len() as u64 {
-        let before = run.trace.len();
-        pass(run)?;
-        if run.trace.len() == before {
+    let cpus = run.kernel.cpus();
+    let mut more = run.limit - run.trace.len() as u64;
+    while more > 0 {
+        let before = more;
+        more = pass(run, cpus, before)?;
+        if more == before {
             return Ok(());
         }
     }
@@ -55,6 +71,8 @@ pub(crate) fn run_all(run: &mut Finished) -> Result<(), RunFault>
     ensures passed { OnOk result (Passed run.old (rounds run.old.kernel.state (left run.old)) run.new) }
     ensures memory { IfErr result (λ fault. fault ≡ Memory) }
 {
+    let more = run.limit - run.trace.len() as u64;
+    make_places(run, more)?;
     Ok(run_out(run)?)
 }
 

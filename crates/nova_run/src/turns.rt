@@ -1,4 +1,4 @@
-ghost use Rattle.std.specs.Prelude.{[], ◌≡◌, ◌+◌, ◌^◌, ◌<◌, ◌≤◌, length, is_some, IsOk, IfOk, IfErr, OnOk, Err};
+ghost use Rattle.std.specs.Prelude.{[], ◌≡◌, ◌+◌, ◌^◌, ◌<◌, ◌≤◌, length, is_some, vec_capacity, IsOk, IfOk, IfErr, OnOk, Err};
 ghost use Rattle.nova_model.specs.Turn.{turn};
 ghost use Rattle.nova_run.specs.Finished.{IsFinished};
 ghost use Rattle.nova_run.specs.UnderWay.{IsReady, Passed, taken};
@@ -74,19 +74,31 @@ pub(crate) fn kept(run: Finished, went: Result<(), RunFault>) -> Result<Finished
     }
 }
 
-/// One turn of a processor, and whether it was taken: it is not where the processor is idle.
+/// Makes places for the events of so many turns more. It refuses for want of memory alone.
+pub(crate) fn make_places(run: &mut Finished, turns: u64) -> Result<(), AllocError>
+    requires ready { IsReady run.old }
+    ensures none { OnOk result (Passed run.old [] run.new) }
+    ensures places { OnOk result (length run.new.trace.items + turns ≤ vec_capacity run.new.trace) }
+{
+    run.trace.reserve(turns as usize)?;
+    Ok(())
+}
+
+/// One turn of a processor, and whether it was taken: it is not where the processor is idle. There is a place for its event.
+#[inline(always)]
 pub(crate) fn turn(run: &mut Finished, cpu: u32) -> Result<bool, AllocError>
     requires ready { IsReady run.old }
     requires more { length run.old.trace.items < run.old.limit }
+    requires place { length run.old.trace.items < vec_capacity run.old.trace }
     requires cpu { cpu < run.old.kernel.state.cpus }
     ensures took { IfOk result (λ took. took ≡ is_some (turn run.old.kernel.state cpu)) }
     ensures passed { OnOk result (Passed run.old (taken run.old.kernel.state cpu) run.new) }
+    ensures places { vec_capacity run.new.trace ≡ vec_capacity run.old.trace }
 {
-    run.order.reserve(1)?;
     match run.kernel.turn(cpu)? {
         Turn::Stepped(event) => {
-            run.trace.push(event)?;
-            run.order.push(cpu, 1);
+            run.trace.push_reserved(event);
+            run.order.extend(cpu, 1)?;
             Ok(true)
         }
         Turn::Idle => Ok(false),

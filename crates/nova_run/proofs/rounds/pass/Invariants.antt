@@ -1,4 +1,4 @@
-use Rattle.std.proofs.Common.{◌-◌}
+use Rattle.std.proofs.Common.{◌≡◌, ◌-◌}
 use Rattle.nova_model.specs.Runs.{pass}
 use Rattle.nova_run.specs.UnderWay.{IsUnderWay, left}
 use Rattle.nova_run.proofs.rounds.pass.Given as goal
@@ -9,3 +9,4 @@ invariant-loop-cpu l =
     IsUnderWay l.fn.run l.run
     (pass l.run.kernel.state l.cpu (l.fn.run.kernel.state.cpus - l.cpu) (left l.run))
     (pass l.fn.run.kernel.state 0 l.fn.run.kernel.state.cpus (left l.fn.run))
+    × (l.more ≡ left l.run)

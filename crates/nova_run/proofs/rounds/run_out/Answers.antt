@@ -1,19 +1,24 @@
-use Rattle.std.proofs.Common.{◌≡◌, ◌-◌, length, arith, refl}
+use Rattle.std.proofs.Common.{rules, ◌≡◌, ◌<◌}
 use Rattle.nova_run.specs.UnderWay.{left}
 use Rattle.nova_run.proofs.Passes.{IsUnderWay-first, IsUnderWay-pass, Passed-ended, Passed-all}
 use Rattle.nova_run.proofs.rounds.run_out.Goals as goal
 
-pub loop-pass-init : goal.loop-pass-init
-loop-pass-init c = IsUnderWay-first c.args.run.now (left c.args.run.now) c.requires.ready refl
+pub loop-more-init : goal.loop-more-init
+loop-more-init c = (IsUnderWay-first c.args.run.now c.requires.ready, search rules)
 
-pub returns-then-len-before : goal.returns-then-len-before
-returns-then-len-before c =
-    let same : length c.pass.new.run.trace.items ≡ length c.loop-pass.run.trace.items = grind arith in
-    Passed-ended c.args.run.now c.loop-pass.run c.pass.new.run _ c.in_ok-pass.ensures (left c.args.run.now - c.loop-pass._pass) c.loop-pass.invariant same
+pub returns-then-more-before : goal.returns-then-more-before
+returns-then-more-before c =
+    let same : left c.pass.new.run ≡ left c.loop-more.run = search rules in
+    Passed-ended c.args.run.now c.loop-more.run c.pass.new.run _ c.in_ok-more.ensures.passed c.loop-more.invariant.0 same
 
-pub loop-pass-preserved : goal.loop-pass-preserved
-loop-pass-preserved c =
-    IsUnderWay-pass c.args.run.now c.loop-pass.run c.pass.new.run _ c.in_ok-pass.ensures (left c.args.run.now) c.loop-pass._pass (omega arith) c.loop-pass.invariant
+pub loop-more-preserved : goal.loop-more-preserved
+loop-more-preserved c =
+    let fewer : left c.pass.new.run < left c.loop-more.run = search rules in (
+      IsUnderWay-pass c.args.run.now c.loop-more.run c.pass.new.run _ c.in_ok-more.ensures.passed c.loop-more.invariant.0 fewer c.in_ok-more.ensures.places,
+      search rules,
+    )
 
 pub returns : goal.returns
-returns c = Passed-all c.args.run.now c.loop-pass.run (left c.args.run.now - c.loop-pass._pass) _ c.loop-pass.invariant (omega arith)
+returns c =
+    let none : left c.loop-more.run ≡ 0 = search rules in
+    Passed-all c.args.run.now c.loop-more.run _ c.loop-more.invariant.0 none
