@@ -7,3 +7,5 @@ pub mod Donors
 pub mod Steps
 pub mod Acting
 pub mod Changes
+pub mod Admitted
+pub mod Handlers

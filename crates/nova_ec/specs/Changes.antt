@@ -57,15 +57,22 @@ ResumingKeeps = (cs : Contexts) (e : ℕ) (mark : Mark) (m : List ℕ) → IsSom
 abbrev pub with_both : Contexts → ℕ → EcState → ℕ → (EcState → EcState) → Contexts
 with_both cs e y f next = with_ec (with_ec cs e y) f (next (ec_of (with_ec cs e y) f))
 
--- a call or an exit: the caller waits, and its handler serves it
+-- a call or an exit is sent: the caller waits, and its handler serves it
+abbrev pub with_sent : Contexts → ℕ → ℕ → Mark → ℕ → ℕ → Bool → Contexts
+with_sent cs c h mark ip identifier items =
+    with_both cs c (record (ec_of cs c) { state = Calling h }) h (λ x. serving x c mark ip identifier items)
+
 abbrev pub SendingKeeps : Type 0
 SendingKeeps = (cs : Contexts) (c h ip identifier : ℕ) (mark : Mark) (items : Bool) → IsSome (ec_in cs c) → IsNewEdge cs c h →
-    KeepsSound cs (with_both cs c (record (ec_of cs c) { state = Calling h }) h (λ x. serving x c mark ip identifier items))
+    KeepsSound cs (with_sent cs c h mark ip identifier items)
 
--- a reply: the handler is parked, and its caller goes on
+-- a reply completes: the handler is parked, and its caller goes on, changed so
+abbrev pub with_reply : Contexts → ℕ → ℕ → (EcState → EcState) → Contexts
+with_reply cs h c next = with_both cs h (parked (ec_of cs h)) c next
+
 abbrev pub CompletingKeeps : Type 0
 CompletingKeeps = (cs : Contexts) (h c : ℕ) (mark : Mark) (m : List ℕ) → AreCallers cs → caller_in cs h ≡ Some (c, mark) →
-    KeepsSound cs (with_both cs h (parked (ec_of cs h)) c (λ x. resumed x mark m))
+    KeepsSound cs (with_reply cs h c (λ x. resumed x mark m))
 
 -- WAYS
 

@@ -2,3 +2,4 @@ pub use Rattle.nova_model.specs.Edges
 pub mod Tables
 pub mod Ways
 pub mod Changes
+pub mod Handlers

@@ -1,11 +1,12 @@
 -- What exits and the replies to them make of the table of execution contexts.
 use Rattle.std.specs.Prelude.{ℕ, false, List, Option, Some, None}
-use Rattle.nova_model.specs.Deeds.{parked, resumed, serving}
+use Rattle.nova_model.specs.Deeds.{resumed}
 use Rattle.nova_model.specs.Edges.{caller_in}
-use Rattle.nova_model.specs.State.{Contexts, ec_of, with_ec}
+use Rattle.nova_model.specs.State.{Contexts}
 use Rattle.nova_model.specs.declared.context.Mark.{Mark}
 use Rattle.nova_model.specs.declared.context.Mark.TheVariants.{Exit}
-use Rattle.nova_model.specs.declared.context.State.TheVariants.{Calling, Dead, Exiting, Sending}
+use Rattle.nova_model.specs.declared.context.State.TheVariants.{Dead, Exiting, Sending}
+use Rattle.nova_ec.specs.Changes.{with_reply, with_sent}
 use Rattle.nova_ec.specs.Tables.{turned_to}
 
 -- an exit is raised; the registers stay
@@ -17,25 +18,16 @@ abbrev pub waiting_among : Contexts → ℕ → ℕ → ℕ → ℕ → ℕ → 
 waiting_among cs ec handler reason q0 q1 = turned_to cs ec (Sending reason q0 q1 handler)
 
 -- an exit is sent: who raised it waits for the handler, and the handler serves it
-abbrev pub served_in : Contexts → ℕ → ℕ → ℕ → ℕ → Contexts
-served_in cs ec handler ip identifier = with_ec cs handler (serving (ec_of cs handler) ec Exit ip identifier false)
-
 abbrev pub sent_among : Contexts → ℕ → ℕ → ℕ → ℕ → Contexts
-sent_among cs ec handler ip identifier = served_in (turned_to cs ec (Calling handler)) ec handler ip identifier
+sent_among cs ec handler ip identifier = with_sent cs ec handler Exit ip identifier false
 
 -- it ends
 abbrev pub dead_among : Contexts → ℕ → Contexts
 dead_among cs ec = turned_to cs ec Dead
 
 -- a reply to an exit is complete: the handler is parked, and its caller goes on with what the message writes back
-abbrev pub parked_in : Contexts → ℕ → Contexts
-parked_in cs handler = with_ec cs handler (parked (ec_of cs handler))
-
-abbrev pub resumed_in : Contexts → ℕ → List ℕ → Contexts
-resumed_in cs caller m = with_ec cs caller (resumed (ec_of cs caller) Exit m)
-
 abbrev pub written_back_among : Contexts → ℕ → ℕ → List ℕ → Contexts
-written_back_among cs handler caller m = resumed_in (parked_in cs handler) caller m
+written_back_among cs handler caller m = with_reply cs handler caller (λ x. resumed x Exit m)
 
 -- the caller of a handler that serves an exit
 abbrev pub caller_by_exit : Option (ℕ × Mark) → Option ℕ

@@ -15,9 +15,10 @@ ghost use Rattle.nova_model.specs.declared.deed.Deed.TheVariants.{Waits, Sends, 
 ghost use Rattle.nova_model.specs.declared.transfer.ItemEnd.{ItemEnd};
 ghost use Rattle.nova_model.specs.declared.transfer.ItemWords.{ItemWords};
 ghost use Rattle.nova_model.specs.declared.transfer.Sequel.TheVariants.{Replied};
+ghost use Rattle.nova_ec.specs.Handlers.{AreTogether, IsLost, MayReply, IsWaiting};
 ghost use Rattle.nova_ec.specs.Tables.{turned_to};
 ghost use Rattle.nova_exit.specs.Effects.{raised_among, waiting_among, sent_among, dead_among, written_back_among};
-ghost use Rattle.nova_exit.specs.Reaching.{AreTogether, IsLost, MayReply, IsWaiting, Serves, GoesOn};
+ghost use Rattle.nova_exit.specs.Reaching.{Serves, GoesOn};
 
 /// Each answer to an exit comes exactly where its condition is the first that holds: `Dies` where both
 /// aren't there on one processor, or no reply can come; `Sends` where the handler waits for a call; and

@@ -13,10 +13,6 @@ pub record FrameStore : Type 0 where
 abbrev pub AreWhole : List (List ℕ) → Type 0
 AreWhole frames = All (λ bytes. length bytes ≡ 4096) frames
 
--- the bytes that a load or a store goes over
-abbrev pub IsWidth : ℕ → Type 0
-IsWidth width = (width ≡ 1) ⊎ ((width ≡ 2) ⊎ (width ≡ 4))
-
 -- two places, each a frame, an offset and a count of bytes, have no byte in common: they lie in two frames, or one ends before the other begins
 abbrev pub AreApart : ℕ → ℕ → ℕ → ℕ → ℕ → ℕ → Type 0
 AreApart frame offset width other place count = (other ≢ frame) ⊎ ((place + count ≤ offset) ⊎ (offset + width ≤ place))

@@ -1,9 +1,10 @@
 ghost use Rattle.std.specs.Prelude.{◌≡◌, ◌+◌, ◌-◌, ◌*◌, ◌/◌, ◌%◌, ◌^◌, ◌<◌, ◌≤◌, [], ◌∷◌, ◌++◌, length, replicate, slice_get, slice_set, Some, IfOk};
 ghost use Rattle.nova_model.specs.Memory.{read, written};
 ghost use Rattle.nova_model.specs.Boot.{laid};
-ghost use Rattle.nova_frames.specs.Store.{AreWhole, IsWidth, GrowsByConsoles};
+ghost use Rattle.nova_guest.specs.Conditions.{IsWidth};
+ghost use Rattle.nova_frames.specs.Store.{AreWhole, GrowsByConsoles};
 
-use crate::words::{read_word, write_word};
+use nova_guest::words::{read_word, write_word};
 use nova_model::LogByte;
 use std::alloc::{AllocError, Global};
 use std::marker::Model;

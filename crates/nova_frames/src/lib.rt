@@ -5,7 +5,6 @@
 
 pub mod frames;
 pub mod laws;
-mod words;
 
 pub use frames::{FRAME_SIZE, Frames};
 pub use nova_model::LogByte;

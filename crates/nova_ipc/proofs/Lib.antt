@@ -1,3 +1,2 @@
 pub mod Admits
-pub mod Orders
 pub mod Changes

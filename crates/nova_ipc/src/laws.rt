@@ -12,8 +12,9 @@ ghost use Rattle.nova_model.specs.declared.transfer.ItemEnd.{ItemEnd};
 ghost use Rattle.nova_model.specs.declared.transfer.ItemWords.{ItemWords};
 ghost use Rattle.nova_model.specs.declared.transfer.Sequel.TheVariants.{Replied};
 ghost use Rattle.nova_range.specs.declared.status.Status.TheVariants.{Timeout, Aborted, BadCpu};
+ghost use Rattle.nova_ec.specs.Handlers.{AreTogether, IsLost, MayReply, IsWaiting};
 ghost use Rattle.nova_ipc.specs.Effects.{sent_among, helped_among, completed_among, aborted_among};
-ghost use Rattle.nova_ipc.specs.Serving.{AreTogether, IsLost, MayReply, IsWaiting, Serves, Returns};
+ghost use Rattle.nova_ipc.specs.Serving.{Serves, Returns};
 
 /// Each answer to a call comes exactly where its condition is the first that holds: `BadCpu` where
 /// both aren't there on one processor, `Aborted` where no reply can come, `Send` where the handler

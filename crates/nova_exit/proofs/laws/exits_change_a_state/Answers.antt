@@ -1,6 +1,6 @@
 use Rattle.std.proofs.Common.{refl}
 use Rattle.nova_model.specs.declared.context.State.TheVariants.{Dead, Exiting, Sending}
-use Rattle.nova_exit.proofs.Changes.{turned, turned_others}
+use Rattle.nova_ec.proofs.Handlers.{turned, turned_others}
 use Rattle.nova_exit.proofs.laws.exits_change_a_state.Goals as goal
 
 pub returns-clause-raised : goal.returns-clause-raised
