@@ -28,19 +28,20 @@ use Rattle.nova_leases.proofs.Committed.{run_reached}
 use Rattle.nova_leases.proofs.Paid.{charged_all}
 use Rattle.nova_leases.proofs.Parts.{laid_advance}
 use Rattle.nova_leases.proofs.Stored.{few_seen, pages_whole}
-use Rattle.nova_running.specs.Runners.{RevokesState}
+use Rattle.nova_parts.specs.Runners.{RevokesState}
 use Rattle.nova_sched.specs.Queues.{Schedule}
 use Rattle.nova_choice.specs.Choices.{chosen_of}
 use Rattle.nova_choice.specs.Schedules.{AreQueued}
 use Rattle.nova_choice.specs.declared.choice.Chosen.{Chosen}
 use Rattle.nova_choice.proofs.Waits.{KeepsQueued, kept_steady, queued_kept, there_at}
-use Rattle.nova_deeds.specs.Counted.{IsCharged, IsCounted, IsGivenWithin, IsToBeCharged}
-use Rattle.nova_deeds.specs.Stirs.{IsStirredWithin}
-use Rattle.nova_deeds.proofs.Counts.{IsCharged-paid}
-use Rattle.nova_memory.specs.Reach.{ReachState}
-use Rattle.nova_kernel.specs.Parts.{state_of}
-use Rattle.nova_kernel.specs.Revoking.{AreRunning}
-use Rattle.nova_kernel.specs.declared.parts.Parts.{Parts}
+use Rattle.nova_parts.specs.Counted.{IsCharged, IsCounted, IsGivenWithin}
+use Rattle.nova_parts.specs.Stirs.{IsStirredWithin}
+pub use Rattle.nova_parts.proofs.Bursts.{to_be_charged}
+use Rattle.nova_parts.proofs.Counts.{IsCharged-paid}
+use Rattle.nova_parts.specs.Reach.{ReachState}
+use Rattle.nova_parts.specs.Parts.{state_of}
+use Rattle.nova_parts.specs.Revoking.{AreRunning}
+use Rattle.nova_parts.specs.declared.parts.Parts.{Parts}
 use Rattle.nova_kernel.proofs.Stores.{entry_seen, length_seen, less_for, stores_for}
 use Rattle.nova_kernel.proofs.Views.{virtual_there}
 
@@ -53,20 +54,6 @@ pub acts_there : (k : KernelState) (cpu : ℕ) (s : Steps) → IsReached k → (
 acts_there k cpu s is may = virtual_there k may.chosen.actor is.sound.kept.tables may.may.guest
 
 -- WHAT IS CHARGED
-
-one_later : (turns : ℕ) (o : Option ℕ) → IsStirredWithin turns o → IsStirredWithin (turns + 1) o
-one_later turns (Some n) h = omega arith
-one_later turns None h = omega arith
-
-pub to_be_charged : (k : KernelState) → IsCharged k → IsToBeCharged k
-to_be_charged k h = record {
-  turns = h.turns;
-  processors = h.processors;
-  stamps = let s = h.stamps in omega arith;
-  ticks = h.ticks;
-  stirs = h.stirs;
-  guests = λ g. one_later k.turns (entry (slice_get k.stirs.guests g)) (h.guests g);
-}
 
 one_charged : (k : KernelState) (cpu sc : ℕ) → k.turns < 2 ^ 31 → IsCharged k → IsCharged (charged k cpu sc)
 unfolding charged

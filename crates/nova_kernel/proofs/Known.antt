@@ -16,31 +16,23 @@ use Rattle.nova_model.specs.Runs.{after}
 use Rattle.nova_model.specs.Turn.{answer_of, charged, counted, event_of, paid_by, quantum_in, state_after, turn}
 use Rattle.nova_model.specs.declared.budget.Budget.{Budget}
 use Rattle.nova_model.specs.declared.context.EcState.{EcState}
-use Rattle.nova_model.specs.declared.context.Mark.{Mark}
 use Rattle.nova_model.specs.declared.deed.Deed.{Deed}
 use Rattle.nova_model.specs.declared.deed.Deed.TheVariants.{Rests, Steps, Finishes, Replies}
 use Rattle.nova_model.specs.declared.event.Turn.{Turn}
 use Rattle.nova_model.specs.declared.transfer.ItemEnd.TheVariants.{Given, Skipped, Translated}
-use Rattle.nova_sched.specs.Queues.{Schedule}
-use Rattle.nova_sched.specs.Queues as queues
 use Rattle.nova_forest.specs.Turns.{Acts, Idles, Takes}
 use Rattle.nova_forest.proofs.Actors.{chosen_answers}
 use Rattle.nova_forest.proofs.Turning.{acting_is, chosen_turn, comes}
-use Rattle.nova_choice.proofs.Choosing.{led_chosen}
 use Rattle.nova_choice.proofs.Nexts.{chosen_acts}
 use Rattle.nova_choice.proofs.Waits.{there_at}
-use Rattle.nova_choice.specs.Choices.{chosen_of, led, led_by}
-use Rattle.nova_choice.specs.Schedules.{AreQueued, actor_of}
+use Rattle.nova_choice.specs.Choices.{chosen_of}
+use Rattle.nova_choice.specs.Schedules.{actor_of}
 use Rattle.nova_choice.specs.declared.choice.Chosen.{Chosen}
-use Rattle.nova_deeds.proofs.Taken.{told_acts}
-use Rattle.nova_kernel.specs.Known.{AreKnown, IsKnown, known_after, known_by}
+use Rattle.nova_parts.proofs.Taken.{told_acts}
+use Rattle.nova_parts.specs.Known.{AreKnown, IsKnown}
+use Rattle.nova_kernel.specs.Known.{known_after, known_by}
 
 -- ALL THAT IS KNOWN
-
-pub known_at : (k : KernelState) (known : List (Option Chosen)) (i : ℕ) (o : Option Chosen) → AreKnown k known → slice_get known i ≡ Some o → IsKnown k o
-known_at k [] i o all is = absurd cc
-known_at k (x ∷ xs) zero o all is = subst (IsKnown k) (let same : x ≡ o = cc in same) all.0
-known_at k (x ∷ xs) (suc i) o all is = known_at k xs i o all.1 is
 
 known_set : (k : KernelState) (known : List (Option Chosen)) (i : ℕ) (o : Option Chosen) → AreKnown k known → IsKnown k o → AreKnown k (slice_set known i o)
 known_set k [] i o all is = tt
@@ -116,26 +108,10 @@ event_known k cpu c (Replies caller mark true) known there here all = none_known
 event_known k cpu c (Replies caller mark false) known there here all = none_known k 8
 event_known k cpu c other known there here all = none_known k 8
 
--- THE CHOICE
-
--- one that the queues choose, and who acts in its turns
-pub found_chosen : (k : KernelState) (s : Schedule) (cpu sc : ℕ) (o : Option ℕ) → AreQueued k s → Some sc ≡ queues.choose s cpu →
-    o ≡ actor_of k.contexts (slice_get k.objects sc) → led_by sc o ≡ option_map chosen_of (choice k cpu)
-found_chosen k s cpu sc o queued is acts = ap (led_by sc) acts ∙ (ap (led k) is ∙ led_chosen k s cpu queued)
-
-pub none_chosen : (k : KernelState) (s : Schedule) (cpu : ℕ) → AreQueued k s → None ≡ queues.choose s cpu → None ≡ option_map chosen_of (choice k cpu)
-none_chosen k s cpu queued is = ap (led k) is ∙ led_chosen k s cpu queued
-
--- one of which that is known
-pub known_chosen : (k : KernelState) (s : Schedule) (cpu sc : ℕ) (c : Chosen) → AreQueued k s → Some sc ≡ queues.choose s cpu → c.sc ≡ sc → IsKnown k (Some c) →
-    Some c ≡ option_map chosen_of (choice k cpu)
-known_chosen k s cpu sc c queued is same known =
-    found_chosen k s cpu c.sc (Some c.actor) queued (ap (λ (n : ℕ). Some n) same ∙ is) (sym known)
-
-pub chosen_there : (k : KernelState) (cpu : ℕ) (c : Chosen) → Some c ≡ option_map chosen_of (choice k cpu) → IsSome (context_at k c.actor)
-chosen_there k cpu c told = ap is_some (awake k.contexts c.actor (told_acts k cpu c told)).there
-
 -- A TURN
+
+chosen_there : (k : KernelState) (cpu : ℕ) (c : Chosen) → Some c ≡ option_map chosen_of (choice k cpu) → IsSome (context_at k c.actor)
+chosen_there k cpu c told = ap is_some (awake k.contexts c.actor (told_acts k cpu c told)).there
 
 turn_known : (k : KernelState) (cpu : ℕ) (t : Turn) (known : List (Option Chosen)) → t ≡ answer_of (turn k cpu) → AreKnown k known →
     AreKnown (after k cpu) (known_after t known)

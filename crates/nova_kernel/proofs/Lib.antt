@@ -1,13 +1,8 @@
-pub mod Reached
-pub mod Making
-pub mod Quiet
 pub mod Known
-pub mod Alone
-pub mod Below
-pub mod Foreseen
-pub mod Ongoing
+pub mod Laid
 pub mod Views
+pub mod Inputs
+pub mod Booted
+pub mod Below
 pub mod Stores
 pub mod Advancing
-pub mod Going
-pub mod Homes

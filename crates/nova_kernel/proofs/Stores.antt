@@ -8,8 +8,8 @@ use Rattle.nova_model.specs.Inputs.{is_covered_for}
 use Rattle.nova_model.specs.State.{KernelState, entry, pd_of}
 use Rattle.nova_leases.specs.Paging.{seen_count, seen_from, stores_seen}
 use Rattle.nova_leases.specs.declared.steps.Page.{Page}
-use Rattle.nova_running.specs.Guests.{count_in, numbers_from, raised_at, raised_by}
-use Rattle.nova_running.proofs.GuestTables.{once}
+use Rattle.nova_parts.specs.Guests.{count_in, numbers_from, raised_at, raised_by}
+use Rattle.nova_parts.proofs.GuestTables.{once}
 
 -- each count rises by the number for it
 abbrev pub grown : (ℕ → ℕ) → ℕ → List (Option ℕ) → List (Option ℕ)

@@ -1,23 +1,11 @@
 -- The last choice of each processor, while all turns go where they went.
-use Rattle.std.specs.Prelude.{◌≡◌, if◌then◌else◌, nat_lt, List, Option, Some, None, replicate, slice_get, slice_set}
-use Rattle.std.specs.List.{AllByRecursion}
-use Rattle.nova_model.specs.State.{KernelState}
+use Rattle.std.specs.Prelude.{if◌then◌else◌, nat_lt, List, Option, Some, None, replicate, slice_set}
 use Rattle.nova_model.specs.declared.event.Event.{Event}
 use Rattle.nova_model.specs.declared.event.EventKind.{EventKind}
 use Rattle.nova_model.specs.declared.event.EventKind.TheVariants.{Step}
 use Rattle.nova_model.specs.declared.event.Turn.{Turn}
 use Rattle.nova_model.specs.declared.event.Turn.TheVariants.{Stepped, Idle}
-use Rattle.nova_choice.specs.Schedules.{actor_of}
 use Rattle.nova_choice.specs.declared.choice.Chosen.{Chosen}
-
--- what is known of a processor, where anything is: who acts in the turns of a scheduling context
-abbrev pub IsKnown : KernelState → Option Chosen → Type 0
-IsKnown k None = Unit {0}
-IsKnown k (Some c) = actor_of k.contexts (slice_get k.objects c.sc) ≡ Some c.actor
-
--- and of all processors
-abbrev pub AreKnown : KernelState → List (Option Chosen) → Type 0
-AreKnown k known = AllByRecursion (IsKnown k) known
 
 -- An instruction that went on leaves all of it, and its own choice is known then. Any other deed may lead turns elsewhere.
 abbrev pub known_by : EventKind → Event → List (Option Chosen) → List (Option Chosen)

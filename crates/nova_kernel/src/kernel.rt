@@ -11,22 +11,21 @@ ghost use Rattle.nova_laws.specs.Tables.{IsOf};
 ghost use Rattle.nova_model.specs.Capabilities.{is_vcpu};
 ghost use Rattle.nova_model.specs.Guests.{input};
 ghost use Rattle.nova_model.specs.Views.{view};
-ghost use Rattle.nova_inputs.specs.Given.{BringsBytes};
-ghost use Rattle.nova_deeds.specs.Stirs.{stir_of};
+ghost use Rattle.nova_parts.specs.Given.{BringsBytes};
+ghost use Rattle.nova_parts.specs.Stirs.{stir_of};
 ghost use Rattle.nova_leases.specs.Commits.{IsReached, MayAdvance};
 ghost use Rattle.nova_kernel.specs.Views.{ticks_of, left_of, semaphore_at, derivation_from, turns_taken, IsMaking};
 
-use crate::choice::keep;
-use crate::parts::Parts;
+use crate::burst::advance;
+use crate::choices::keep;
+use crate::view::guest_of;
 use nova_choice::Chosen;
-use nova_frames::{Frames, LogByte};
 use nova_guest::{Guest, Input};
 use nova_laws::turns_keep_what_they_find;
 use nova_leases::Steps;
 use nova_leases::laws::what_bursts_stand_on_is_kept;
-use nova_memory::Reach;
-use nova_model::{Derivation, EcKind, EcState, Kind, Object, Rights, Root, State, Turn};
-use rv_core::Regs;
+use nova_model::{Derivation, EcState, LogByte, Object, Rights, Root, Turn};
+use nova_parts::Parts;
 use std::alloc::{AllocError, Global};
 use std::marker::Model;
 
@@ -43,15 +42,15 @@ impl Model for Kernel {
 
     ghost Value = { KernelView };
 
-    ghost use Rattle.nova_kernel.specs.Parts.{state_of};
-    ghost use Rattle.nova_deeds.specs.Counted.{IsCounted};
+    ghost use Rattle.nova_parts.specs.Parts.{state_of};
+    ghost use Rattle.nova_parts.specs.Counted.{IsCounted};
 
     ghost view = { λ k. record { state = state_of k.parts; room = k.parts.reach.room } };
 
     ghost use Rattle.nova_choice.specs.Schedules.{AreQueued};
-    ghost use Rattle.nova_kernel.specs.Revoking.{AreRunning};
+    ghost use Rattle.nova_parts.specs.Revoking.{AreRunning};
     ghost use Rattle.nova_leases.specs.Commits.{IsReached};
-    ghost use Rattle.nova_kernel.specs.Known.{AreKnown};
+    ghost use Rattle.nova_parts.specs.Known.{AreKnown};
 
     ghost invariant = { λ k. IsCounted (state_of k.parts) × (AreQueued (state_of k.parts) k.parts.queues.all × (AreRunning (state_of k.parts) k.parts.revokes × (IsReached (state_of k.parts) × AreKnown (state_of k.parts) k.known))) };
 }
@@ -96,7 +95,7 @@ impl Kernel {
 
     /// Lays bytes into RAM one after another from an address on. They lie in RAM, and no turn was taken yet: what is laid is no
     /// input of a virtual CPU, so it comes before there is one.
-    #[tactic(auto, using(nova_memory::proofs::Laid::laid_length))]
+    #[tactic(auto, using(crate::proofs::Laid::laid_length))]
     pub fn put(&mut self, address: u32, bytes: &[u8])
         requires within { address + length bytes.now ≤ 4096 * length self.old.state.memory.ram }
         requires turns { self.old.state.turns ≡ 0 }
@@ -143,7 +142,7 @@ impl Kernel {
         ensures state { self.new.state ≡ run self.old.state (replicate steps.now.count cpu) }
         ensures room { self.new.room ≡ self.old.room }
     {
-        self.parts.advance(cpu, steps);
+        advance(&mut self.parts, cpu, steps);
         self.known = [None; 8];
     }
 
@@ -248,7 +247,7 @@ impl Kernel {
         requires { IsOf self.now.state.objects is_vcpu ec }
         ensures { IfOk result (λ guest. guest ≡ view self.now.state ec) }
     {
-        self.parts.view(alloc, ec)
+        guest_of(&self.parts, alloc, ec)
     }
 
     /// What the processor's next turn is for a virtual CPU; none where the processor is idle, or where the

@@ -1,11 +1,11 @@
 ghost use Rattle.std.specs.Prelude.{◌≡◌, IfOk, IsSome};
 ghost use Rattle.nova_model.specs.State.{context_at};
 ghost use Rattle.nova_model.specs.Views.{guest_state, view};
-ghost use Rattle.nova_kernel.specs.Parts.{state_of};
+ghost use Rattle.nova_parts.specs.Parts.{state_of};
 
-use crate::parts::Parts;
 use nova_guest::{Cells, Guest, GuestState, Maps};
 use nova_model::State;
+use nova_parts::Parts;
 use std::alloc::{AllocError, Global};
 
 /// The state of a virtual CPU, as a guest has it: an exit that is raised and not sent is the same whether
@@ -24,23 +24,21 @@ fn guest_state(state: State) -> GuestState
     }
 }
 
-impl Parts {
-    /// The view of an execution context: the guest that the state has in it. It refuses for want of memory
-    /// alone.
-    #[tactic(auto, unfolding(nova_model::specs::Views::view))]
-    pub fn view(&self, alloc: Global, ec: u32) -> Result<Guest, AllocError>
-        requires { IsSome (context_at (state_of self.now) ec) }
-        ensures { IfOk result (λ guest. guest ≡ view (state_of self.now) ec) }
-    {
-        let maps = self.reach.maps(alloc, self.pd(ec))?;
-        let cells = self.reach.cells(alloc, &maps)?;
-        let context = self.contexts.context(ec);
-        Ok(Guest {
-            regs: context.regs,
-            state: guest_state(context.state),
-            recall: context.recall,
-            maps: Maps::new(maps),
-            cells: Cells::new(cells),
-        })
-    }
+/// The view of an execution context: the guest that the state has in it. It refuses for want of memory
+/// alone.
+#[tactic(auto, unfolding(nova_model::specs::Views::view))]
+pub fn guest_of(parts: &Parts, alloc: Global, ec: u32) -> Result<Guest, AllocError>
+    requires { IsSome (context_at (state_of parts.now) ec) }
+    ensures { IfOk result (λ guest. guest ≡ view (state_of parts.now) ec) }
+{
+    let maps = parts.reach.maps(alloc, parts.pd(ec))?;
+    let cells = parts.reach.cells(alloc, &maps)?;
+    let context = parts.contexts.context(ec);
+    Ok(Guest {
+        regs: context.regs,
+        state: guest_state(context.state),
+        recall: context.recall,
+        maps: Maps::new(maps),
+        cells: Cells::new(cells),
+    })
 }

@@ -2,13 +2,13 @@ use Rattle.std.proofs.Common.{ℕ, [], sym, subst}
 use Rattle.nova_model.specs.Boot.{Scenario, bare}
 use Rattle.nova_model.specs.declared.root.Root.{Root}
 use Rattle.nova_leases.specs.Commits.{IsReached}
-use Rattle.nova_deeds.specs.Counted.{IsCounted}
-use Rattle.nova_kernel.specs.Parts.{state_of}
+use Rattle.nova_parts.specs.Counted.{IsCounted}
+use Rattle.nova_parts.specs.Parts.{state_of}
 use Rattle.nova_choice.specs.Schedules.{root_schedule}
-use Rattle.nova_deeds.proofs.Booted.{IsCounted_bare}
-use Rattle.nova_deeds.proofs.Moves.{queued_same}
+use Rattle.nova_parts.proofs.Booted.{IsCounted_bare}
+use Rattle.nova_parts.proofs.Moves.{queued_same}
 use Rattle.nova_kernel.proofs.Known.{none_known}
-use Rattle.nova_kernel.proofs.Ongoing.{bare_runs}
+use Rattle.nova_kernel.proofs.Booted.{bare_runs}
 use Rattle.nova_choice.proofs.Started.{queued_bare}
 use Rattle.nova_kernel.proofs.kernel.Kernel.new.Goals as goal
 

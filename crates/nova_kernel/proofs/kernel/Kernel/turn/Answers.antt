@@ -1,8 +1,8 @@
 use Rattle.std.proofs.Common.{sym, subst}
 use Rattle.nova_model.specs.State.{KernelState}
 use Rattle.nova_leases.specs.Commits.{IsReached}
-use Rattle.nova_kernel.specs.Known.{AreKnown}
-use Rattle.nova_kernel.specs.Parts.{state_of}
+use Rattle.nova_parts.specs.Known.{AreKnown}
+use Rattle.nova_parts.specs.Parts.{state_of}
 use Rattle.nova_kernel.proofs.Known.{kept_known}
 use Rattle.nova_kernel.proofs.kernel.Kernel.turn.Goals as goal
 

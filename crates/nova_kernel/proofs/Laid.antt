@@ -1,0 +1,2 @@
+-- Bytes that are laid leave the number of frames.
+pub use Rattle.nova_parts.proofs.Laid.{laid_length}
