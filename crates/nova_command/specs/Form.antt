@@ -14,9 +14,13 @@ abbrev pub limit_option : Rule
 limit_option =
     record (new_rule (codes "limit")) { long = Some (codes "limit"); defaults = codes "1000000" ∷ [] }
 
--- the word of the command, up to two names, and the limit
+-- the word of the command, and up to two names
+abbrev pub named : App
+named = fold with_rule (new_app (codes "nova")) (new_rule (codes "command") ∷ new_rule (codes "first") ∷ new_rule (codes "second") ∷ [])
+
+-- the same with the limit
 abbrev pub form : App
-form = fold with_rule (new_app (codes "nova")) (new_rule (codes "command") ∷ new_rule (codes "first") ∷ new_rule (codes "second") ∷ limit_option ∷ [])
+form = with_rule named limit_option
 
 -- what words give to each of the four
 pub record Given : Type 0 where

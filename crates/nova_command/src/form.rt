@@ -3,7 +3,7 @@ ghost use Rattle.std.specs.Prelude.{◌≡◌, ◌∷◌, false, codes, map, IfO
 ghost use Rattle.clap.specs.Simple.{app_of};
 ghost use Rattle.clap.specs.Walk.{rows_of, first_of, rule_of};
 ghost use Rattle.clap.specs.Matches.{found_of};
-ghost use Rattle.nova_command.specs.Form.{form, limit_option, given, given_in};
+ghost use Rattle.nova_command.specs.Form.{form, named, limit_option, given, given_in};
 ghost use Rattle.nova_command.specs.CommandFault.{AnswersBy, IsFaultOf};
 
 use crate::fault::CommandFault;
@@ -21,15 +21,21 @@ fn limit<'a>(alloc: Global) -> Arg<'a>
         .default_value("1000000")
 }
 
-/// The word of the command, up to two names, and the limit.
-fn form<'a>(alloc: Global) -> Result<Command<'a>, AllocError>
-    ensures { IfOk result (λ command. app_of command ≡ form) }
+/// The word of the command, and up to two names.
+fn named<'a>(alloc: Global) -> Result<Command<'a>, AllocError>
+    ensures { IfOk result (λ command. app_of command ≡ named) }
 {
     Command::new(alloc, "nova")
         .arg(Arg::new(alloc, "command"))?
         .arg(Arg::new(alloc, "first"))?
-        .arg(Arg::new(alloc, "second"))?
-        .arg(limit(alloc))
+        .arg(Arg::new(alloc, "second"))
+}
+
+/// The word of the command, up to two names, and the limit.
+fn form<'a>(alloc: Global) -> Result<Command<'a>, AllocError>
+    ensures { IfOk result (λ command. app_of command ≡ form) }
+{
+    named(alloc)?.arg(limit(alloc))
 }
 
 /// The program's name and then the words after it.

@@ -1,6 +1,11 @@
 -- What fetches give.
-use Rattle.std.specs.Prelude.{◌≡◌, ℕ, ◌<◌, ◌≤◌, ◌⊎◌, List, [], ◌++◌, length, drop}
+use Rattle.std.specs.Prelude.{◌≡◌, ℕ, ◌+◌, ◌<◌, ◌≤◌, ◌⊎◌, Bool, true, false, List, [], ◌++◌, length, drop, Option, IfSome, IsSome, Result, Ok, Err}
+use Rattle.std.specs.FinMap.{get}
 use Rattle.std.specs.Io.{StartsWith}
+use Rattle.nova_io.specs.Faults.{NeverFalls, Stay, OthersStay}
+use Rattle.nova_io.specs.Files.{Files, bytes_of}
+use Rattle.nova_io.specs.declared.faults.FetchFault.{FetchFault}
+use Rattle.nova_io.specs.declared.faults.FetchFault.TheVariants.{Failed, TooLong, Memory}
 
 -- a piece of the bytes from the place on, empty only at their end or where none was asked for
 pub record IsPiece (bytes : List ℕ) (at asked : ℕ) (piece : List ℕ) : Type 0 where
@@ -29,3 +34,27 @@ CameWhole {D} gave name first bytes last = (between : D) × (asked : ℕ) × Cam
 -- bytes that came, and then a fetch that was asked for more failed
 abbrev pub CameInPart : {D : Type 0} → Gave D → FetchFailed D → List ℕ → D → List ℕ → D → Type 0
 CameInPart {D} gave failed name first bytes last = (between : D) × (asked : ℕ) × Came gave name first bytes between × (0 < asked) × failed between name (length bytes) asked last
+
+-- a fetch of some bytes from the place after those that came, of no more than may come and one, gave this piece
+pub record IsNextPiece {D : Type 0} (gave : Gave D) (files : Option Files) (name : List ℕ) (most : ℕ) (before : D) (bytes piece : List ℕ) (after : D) : Type 0 where
+  pub asked : ℕ
+  pub some : 0 < asked
+  pub few : length bytes + asked ≤ most + 1
+  pub within : length piece ≤ asked
+  pub given : gave before name (length bytes) asked piece after
+  pub told : IfSome files (λ held. IsSome (get held name) × IsPiece (bytes_of held name) (length bytes) asked piece)
+
+-- the bytes that came and then one more fetch: a piece came behind them, or none, or the fetch failed, or memory was refused for a piece
+abbrev pub IsNext : {D : Type 0} → Gave D → FetchFailed D → Option Files → List ℕ → ℕ → D → List ℕ → D → List ℕ → Result Bool FetchFault → Type 0
+IsNext gave failed files name most before bytes after new (Ok true) = (piece : List ℕ) × IsNextPiece gave files name most before bytes piece after × (0 < length piece) × (new ≡ bytes ++ piece)
+IsNext gave failed files name most before bytes after new (Ok false) = IsNextPiece gave files name most before bytes [] after × (new ≡ bytes)
+IsNext gave failed files name most before bytes after new (Err Failed) = (asked : ℕ) × (0 < asked) × failed before name (length bytes) asked after
+IsNext gave failed files name most before bytes after new (Err TooLong) = ⊥
+IsNext gave failed files name most before bytes after new (Err Memory) = (piece : List ℕ) × IsNextPiece gave files name most before bytes piece after × (0 < length piece)
+
+-- fetches of a name leave the files, and all counts but that of its fetches that failed
+pub record OnlyFetched {D : Type 0} (files : D → Option Files) (fetch_faults append_faults : D → List ℕ → ℕ) (name : List ℕ) (before after : D) : Type 0 where
+  pub same : files after ≡ files before
+  pub fetches : NeverFalls (fetch_faults before) (fetch_faults after)
+  pub others : OthersStay fetch_faults name before after
+  pub appends : Stay (append_faults before) (append_faults after)

@@ -4,7 +4,7 @@ ghost use Rattle.std.specs.Io.KnownBytes.{append_known};
 ghost use Rattle.std.specs.FinMap.{get};
 ghost use Rattle.nova_io.specs.Faults.{Rose, NeverFalls, Stay, OthersStay};
 ghost use Rattle.nova_io.specs.Files.{bytes_of, with_appended};
-ghost use Rattle.nova_io.specs.Fetched.{Came, CameWhole, CameInPart, IsPiece};
+ghost use Rattle.nova_io.specs.Fetched.{Came, CameWhole, CameInPart, IsNext, OnlyFetched};
 ghost use Rattle.nova_io.specs.Taken.{WentWhole, WentInPart};
 
 use crate::depots::Depot;
@@ -14,6 +14,31 @@ use std::alloc::Global;
 
 /// The most bytes that one fetch is asked for.
 const PIECE: usize = 8192;
+
+/// Fetches the next piece of a file behind the bytes that came, and says whether there was one. With it there are at most
+/// `most` bytes and one more.
+fn fetch_piece<D: Depot>(
+    depot: &mut D,
+    name: &str,
+    most: u64,
+    bytes: &mut Vec<u8>,
+) -> Result<bool, FetchFault>
+    requires most { most < 2 ^ 62 }
+    requires few { length bytes.old.items ≤ most }
+    ensures next { IsNext D.gave D.fetch_failed (D.files depot.old) name.now most depot.old bytes.old.items depot.new bytes.new.items result }
+    ensures failed { IsErrOf result FetchFault.Failed → Rose (D.fetch_faults depot.old name.now) (D.fetch_faults depot.new name.now) }
+    ensures only { OnlyFetched D.files D.fetch_faults D.append_faults name.now depot.old depot.new }
+{
+    let mut buf = [0; PIECE];
+    let at = bytes.len();
+    let piece = &mut buf[..PIECE.min(most as usize - at + 1)];
+    let count = depot.fetch(name, at as u64, piece)?;
+    if count == 0 {
+        return Ok(false);
+    }
+    bytes.extend_from_slice(&piece[..count])?;
+    Ok(true)
+}
 
 /// Fetches the whole of a file of at most so many bytes.
 ///
@@ -49,16 +74,11 @@ pub fn fetch_all<D: Depot>(
     ensures others { OthersStay D.fetch_faults name.now depot.old depot.new }
     ensures appends { Stay (D.append_faults depot.old) (D.append_faults depot.new) }
 {
-    let mut buf = [0; PIECE];
     let mut bytes = Vec::new(alloc);
     while bytes.len() as u64 <= most {
-        let at = bytes.len();
-        let piece = &mut buf[..PIECE.min(most as usize - at + 1)];
-        let count = depot.fetch(name, at as u64, piece)?;
-        if count == 0 {
+        if !fetch_piece(depot, name, most, &mut bytes)? {
             return Ok(bytes);
         }
-        bytes.extend_from_slice(&piece[..count])?;
     }
     Err(FetchFault::TooLong)
 }

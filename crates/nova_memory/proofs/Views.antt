@@ -1,6 +1,6 @@
 -- The view of a virtual CPU: maps by rising base, and the cells of the frames that they lead to.
 use Rattle.std.proofs.Common.{◌≡◌, ◌∙◌, refl, sym, ap, subst, ℕ, ◌+◌, ◌^◌, ◌<◌, ◌≤◌, List, [], ◌∷◌, ◌++◌, drop, length, inl, inr, arith}
-use Rattle.std.specs.Prelude.{Bool, true, false, ◌⊎◌, ◌==◌, ◌&&◌, nat_lt, nat_le, filter, if◌then◌else◌, Some, None, slice_get, zero, suc, IsSome, map}
+use Rattle.std.specs.Prelude.{Bool, true, false, ◌⊎◌, ◌==◌, ◌&&◌, nat_lt, nat_le, filter, if◌then◌else◌, Some, None, slice_get}
 use Rattle.std.specs.List.{filter_map, list_all}
 use Rattle.std.proofs.lemmas.Bool.{and_from, and_parts, eqb-true}
 use Rattle.std.proofs.lemmas.List.{append_assoc, append-nil, drop_more}

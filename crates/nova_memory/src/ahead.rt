@@ -1,14 +1,12 @@
-ghost use Rattle.std.specs.Prelude.{◌≡◌, ◌<◌, ◌+◌, ◌*◌, ◌%◌, ◌^◌, length, option_map, slice_get, IfOk, IfSome};
+ghost use Rattle.std.specs.Prelude.{◌≡◌, ◌<◌, ◌+◌, ◌*◌, ◌%◌, ◌^◌, length, option_map, IfOk, IfSome};
 ghost use Rattle.nova_delegate.specs.Parts.{IsUnderWay, pair_of};
 ghost use Rattle.nova_model.specs.Delegations.{reach};
 ghost use Rattle.nova_model.specs.Forest.{IsForest};
 ghost use Rattle.nova_model.specs.Memory.{read};
 ghost use Rattle.nova_model.specs.Revokes.{next_leaf};
-ghost use Rattle.nova_model.specs.State.{entry, message_in};
 ghost use Rattle.nova_model.specs.Transfers.{next_part};
 ghost use Rattle.nova_nodes.specs.NodesStates.{IsPlaced};
 ghost use Rattle.nova_running.specs.Runners.{busy_under};
-ghost use Rattle.nova_utcb.specs.Messages.{loaded};
 ghost use Rattle.nova_utcb.specs.Pages.{IsWidth};
 
 use crate::reach::{Reach, page_in};
@@ -39,18 +37,6 @@ impl Reach {
         ensures fits { result < 2 ^ (8 * width) }
     {
         self.frames.load(frame, offset, width)
-    }
-
-    /// What a load finds in the message words of an execution context, which are all 0 where it has none.
-    /// The width is 1, 2 or 4, and the offset is below 512 and a multiple of it.
-    pub(crate) fn load_word(&self, ec: u32, offset: u32, width: u32) -> u32
-        requires width { IsWidth width }
-        requires within { offset < 512 }
-        requires aligned { offset % width ≡ 0 }
-        ensures number { result ≡ loaded (message_in (entry (slice_get self.now.messages.items ec))) offset width }
-        ensures fits { result < 2 ^ (8 * width) }
-    {
-        self.messages.load(ec, offset, width)
     }
 
     /// The next part of an item, while these revokes run: the derivation of the giver that it is of, and

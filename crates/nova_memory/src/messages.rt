@@ -95,10 +95,10 @@ impl Messages {
     pub fn get(&self, ec: u32) -> Utcb
         ensures { result ≡ message_in (entry (slice_get self.now.items ec)) }
     {
-        match self.items.get(ec as usize) {
-            Some(Some(words)) => *words,
-            _ => Utcb::new(),
+        if let Some(Some(words)) = self.items.get(ec as usize) {
+            return *words;
         }
+        Utcb::new()
     }
 
     /// Puts words at a number that has an entry.

@@ -1,12 +1,11 @@
-ghost use Rattle.std.specs.Prelude.{◌≡◌, ◌%◌, ◌*◌, ◌+◌, ◌^◌, ◌<◌, length, is_some, IfSome, None};
+ghost use Rattle.std.specs.Prelude.{◌≡◌, ◌+◌, ◌<◌, length, is_some, IfSome, None};
 ghost use Rattle.nova_model.specs.AddressSpaces.{frame_for, words_at};
-ghost use Rattle.nova_memory.specs.Previews.{entered, loaded};
+ghost use Rattle.nova_memory.specs.Previews.{entered};
 ghost use Rattle.nova_memory.specs.Reach.{reached};
 ghost use Rattle.std.specs.Bool.{OnTrue, OnFalse};
-ghost use Rattle.nova_range.specs.Rights.{read_right, write_right};
-ghost use Rattle.nova_utcb.specs.Pages.{IsWidth};
+ghost use Rattle.nova_range.specs.Rights.{write_right};
 
-use crate::reach::{OWN_PAGE, Reach, frame_with, is_message};
+use crate::reach::{OWN_PAGE, Reach, frame_with, is_own};
 use nova_model::{Page, Rights};
 use rv_core::bus::Bus;
 use std::marker::Model;
@@ -79,27 +78,6 @@ impl<'a> Preview<'a> {
         frame_with(page, right)
     }
 
-    /// Whether an address is among the message words of the thread that acts.
-    fn is_own(&self, address: u32) -> bool
-        ensures { result ≡ is_some (words_at (reached self.now.reach) address) }
-    {
-        self.is_thread && is_message(address)
-    }
-
-    /// A load that finds no frame: message words, or nothing.
-    fn load_own(&self, address: u32, width: u32) -> Option<u32>
-        requires frame { frame_for (reached self.now.reach) read_right address ≡ None }
-        requires width { IsWidth width }
-        requires aligned { address % width ≡ 0 }
-        ensures number { result ≡ loaded self.now address width }
-        ensures fits { IfSome result (λ n. n < 2 ^ (8 * width)) }
-    {
-        if !self.is_own(address) {
-            return None;
-        }
-        Some(self.reach.load_word(self.ec, address % 4096, width))
-    }
-
     /// A store that finds no frame: to message words, or refused.
     fn store_own(&mut self, address: u32) -> bool
         requires { frame_for (reached self.old.reach) write_right address ≡ None }
@@ -107,7 +85,7 @@ impl<'a> Preview<'a> {
         ensures taken { OnTrue result (self.new ≡ record self.old { write = None }) }
         ensures refused { OnFalse result (self.new ≡ self.old) }
     {
-        if !self.is_own(address) {
+        if !is_own(self.is_thread, address) {
             return false;
         }
         self.write = None;
@@ -139,7 +117,7 @@ impl<'a> Bus for Preview<'a> {
 
     fn load(&mut self, addr: u32, width: u32) -> Option<u32> {
         let Some(frame) = self.frame_for(Rights::READ, addr) else {
-            return self.load_own(addr, width);
+            return self.reach.load_own(self.ec, self.is_thread, addr, width);
         };
         Some(self.reach.load_frame(frame, addr % 4096, width))
     }

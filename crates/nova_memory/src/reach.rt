@@ -4,9 +4,10 @@ ghost use Rattle.std.specs.Bool.{OnTrue, OnFalse};
 ghost use Rattle.nova_utcb.specs.Pages.{IsWidth};
 ghost use Rattle.nova_range.specs.Rights.{read_right, write_right};
 ghost use Rattle.nova_guest.specs.Frames.{frame_with};
-ghost use Rattle.nova_model.specs.AddressSpaces.{frame_for, message_size, own_page, words_at};
+ghost use Rattle.nova_model.specs.AddressSpaces.{frame_for, words_at};
 ghost use Rattle.nova_model.specs.Delegations.{covers, page_in, reach};
-ghost use Rattle.nova_memory.specs.Reach.{loaded, reached, stored, takes};
+ghost use Rattle.nova_memory.specs.Previews.{entered};
+ghost use Rattle.nova_memory.specs.Reach.{ReachState, loaded, reached, stored, takes};
 
 use crate::messages::Messages;
 use crate::sights::Sights;
@@ -100,12 +101,12 @@ pub(crate) fn frame_with(page: Page, right: Rights) -> Option<u32>
     }
 }
 
-/// Whether an address is among the message words of a thread.
+/// Whether an address is among the message words of an execution context, which has some where it is a thread.
 #[inline(always)]
-pub(crate) fn is_message(address: u32) -> bool
-    ensures { result ≡ (address / 4096 == own_page && nat_lt (address % 4096) message_size) }
+pub(crate) fn is_own(is_thread: bool, address: u32) -> bool
+    ensures { (s : ReachState) → s.is_thread ≡ is_thread → result ≡ is_some (words_at (reached s) address) }
 {
-    address / 4096 == OWN_PAGE && address % 4096 < MESSAGE_SIZE
+    is_thread && address / 4096 == OWN_PAGE && address % 4096 < MESSAGE_SIZE
 }
 
 impl Reach {
@@ -136,12 +137,16 @@ impl Reach {
         ensures consoles { IfOk result (λ r. r.consoles ≡ self.now.consoles) }
         ensures log { IfOk result (λ r. r.room ≡ 0) }
     {
+        let sights = self.sights.copy()?;
+        let messages = self.messages.copy()?;
+        let frames = self.frames.copy()?;
+        let nodes = self.nodes.copy()?;
         Ok(Reach {
-            frames: self.frames.copy()?,
-            nodes: self.nodes.copy()?,
-            messages: self.messages.copy()?,
+            frames,
+            nodes,
+            messages,
             last: self.last,
-            sights: self.sights.copy()?,
+            sights,
             ec: self.ec,
             pd: self.pd,
             is_thread: self.is_thread,
@@ -219,25 +224,18 @@ impl Reach {
         frame_with(page, right)
     }
 
-    /// Whether an address is among the message words of the thread that acts.
-    fn is_own(&self, address: u32) -> bool
-        ensures { result ≡ is_some (words_at (reached self.now) address) }
-    {
-        self.is_thread && is_message(address)
-    }
-
-    /// A load that finds no frame: message words, or nothing.
-    fn load_own(&self, address: u32, width: u32) -> Option<u32>
-        requires frame { frame_for (reached self.now) read_right address ≡ None }
+    /// A load of an execution context that finds no frame: message words, or nothing.
+    #[inline(always)]
+    pub(crate) fn load_own(&self, ec: u32, is_thread: bool, address: u32, width: u32) -> Option<u32>
         requires width { IsWidth width }
         requires aligned { address % width ≡ 0 }
-        ensures number { result ≡ loaded self.now address width }
+        ensures number { (pd : ℕ) → frame_for (reached (entered self.now ec pd is_thread)) read_right address ≡ None → result ≡ loaded (entered self.now ec pd is_thread) address width }
         ensures fits { IfSome result (λ n. n < 2 ^ (8 * width)) }
     {
-        if !self.is_own(address) {
+        if !is_own(is_thread, address) {
             return None;
         }
-        Some(self.messages.load(self.ec, address % 4096, width))
+        Some(self.messages.load(ec, address % 4096, width))
     }
 
     /// A store that finds no frame: to message words, or refused.
@@ -249,7 +247,7 @@ impl Reach {
         ensures taken { OnTrue result (self.new ≡ stored (record { address = address; width = width; value = value }) self.old) }
         ensures refused { OnFalse result (self.new ≡ self.old) }
     {
-        if !self.is_own(address) {
+        if !is_own(self.is_thread, address) {
             return false;
         }
         self.messages.store(self.ec, address % 4096, width, value);
@@ -283,7 +281,7 @@ impl Bus for Reach {
 
     fn load(&mut self, addr: u32, width: u32) -> Option<u32> {
         let Some(frame) = self.frame_for(Rights::READ, addr) else {
-            return self.load_own(addr, width);
+            return self.load_own(self.ec, self.is_thread, addr, width);
         };
         Some(self.frames.load(frame, addr % 4096, width))
     }

@@ -1,5 +1,5 @@
 -- What runs from a boot state leave.
-use Rattle.std.proofs.Common.{◌≡◌, ⊎_elim, length, ℕ, List, [], ◌∷◌, refl, ap, ap₂, sym, ◌∙◌, subst}
+use Rattle.std.proofs.Common.{◌≡◌, ⊎_elim, length, ℕ, List, ap, ap₂, sym, ◌∙◌, subst}
 use Rattle.std.specs.Prelude.{IsTrue, IfOk, Result, Ok, Err, false}
 use Rattle.nova_model.specs.State.{KernelState}
 use Rattle.nova_model.specs.Boot.{Scenario, boot}

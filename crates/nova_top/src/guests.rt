@@ -1,5 +1,5 @@
 // Two guests, followed and compared.
-ghost use Rattle.std.specs.Prelude.{◌≡◌, ◌++◌, [], IfOk, IfErr, IfSome, IsTrue, OnOk, Some};
+ghost use Rattle.std.specs.Prelude.{◌≡◌, ◌++◌, ℕ, List, [], IfOk, IfErr, IfSome, IsTrue, OnOk, Some};
 ghost use Rattle.nova_boot.specs.Boot.{scenario_of};
 ghost use Rattle.nova_command.specs.Limit.{IsLimit};
 ghost use Rattle.nova_command.specs.declared.command.Command.TheVariants.{Solo, Twin};
@@ -9,19 +9,20 @@ ghost use Rattle.nova_model.specs.Runs.{IsFreeOfIdle};
 ghost use Rattle.nova_order.specs.Blocks.{turns, is_within};
 ghost use Rattle.nova_renaming.specs.Verdicts.{IsVerdict};
 ghost use Rattle.nova_scenario.specs.Sound.{IsSound};
-ghost use Rattle.nova_top.specs.Came.{IsFoundBy};
+ghost use Rattle.nova_top.specs.Came.{IsFoundBy, SubjectsCame};
 ghost use Rattle.nova_top.specs.Compared.{line_of};
-ghost use Rattle.nova_top.specs.Fetches.{Fetches};
+ghost use Rattle.nova_top.specs.Fetches.{Fetches, FetchesOf};
+ghost use Rattle.nova_top.specs.Names.{most_of_subjects};
 ghost use Rattle.nova_top.specs.Outside.{depots};
 ghost use Rattle.nova_top.specs.Prepared.{IsComparison, IsFollowed, IsFollowedAt, IsIdleFault, IsPrepared, exit_of};
-ghost use Rattle.nova_top.specs.declared.exit.Exit.TheVariants.{Memory};
+ghost use Rattle.nova_top.specs.declared.exit.Exit.TheVariants.{Done, Memory};
 ghost use Rattle.nova_twin.specs.Comparison.{said, ram_of, Holds, EndsSo};
 ghost use Rattle.nova_twin.specs.Sides.{IsAlone, IsFound, IsSide};
 
 use crate::exit::{Exit, TwinWhy};
 use crate::fetched::{fetch_order, fetch_scenario, fetch_subjects};
 use crate::outcome::Outcome;
-use crate::subjects::Subject;
+use crate::subjects::{Subject, Subjects};
 use nova_boot::boot;
 use nova_command::Name;
 use nova_io::Depot;
@@ -161,6 +162,27 @@ fn compared(alloc: Global, first: &Side, second: &Side) -> Result<Outcome, Exit>
     })
 }
 
+/// Follows the guests of a text that came, the one and then the other, and compares them.
+fn both<D: Depot>(
+    alloc: Global,
+    depot: &mut D,
+    subjects: &Subjects,
+    limit: u32,
+) -> Result<Outcome, Exit>
+    requires limit { IsLimit limit }
+    ensures prepared { (name : List ℕ) (before : D) → SubjectsCame (depots D.files D.gave D.fetch_failed D.fetch_faults D.took D.append_failed D.append_faults) name before subjects.now depot.old → NeverFalls (D.fetch_faults before) (D.fetch_faults depot.old)
+        → IsPrepared (depots D.files D.gave D.fetch_failed D.fetch_faults D.took D.append_failed D.append_faults) (Twin name limit) before depot.new result }
+    ensures fetches { (name : List ℕ) (before : D) → SubjectsCame (depots D.files D.gave D.fetch_failed D.fetch_faults D.took D.append_failed D.append_faults) name before subjects.now depot.old
+        → FetchesOf (depots D.files D.gave D.fetch_failed D.fetch_faults D.took D.append_failed D.append_faults) most_of_subjects name Done before depot.old
+        → Fetches (depots D.files D.gave D.fetch_failed D.fetch_faults D.took D.append_failed D.append_faults) (Twin name limit) (exit_of result) before depot.new }
+    ensures appends { Stay (D.append_faults depot.old) (D.append_faults depot.new) }
+    ensures files { D.files depot.new ≡ D.files depot.old }
+{
+    let first = follow_at(alloc, depot, &subjects.first, 1, limit)?;
+    let second = follow_at(alloc, depot, &subjects.second, 2, limit)?;
+    compared(alloc, &first, &second)
+}
+
 /// `twin`: fetches a text that names two guests, follows the one and then the other, and compares them.
 pub fn twin<D: Depot>(
     alloc: Global,
@@ -175,7 +197,5 @@ pub fn twin<D: Depot>(
     ensures files { D.files depot.new ≡ D.files depot.old }
 {
     let subjects = fetch_subjects(alloc, depot, name)?;
-    let first = follow_at(alloc, depot, &subjects.first, 1, limit)?;
-    let second = follow_at(alloc, depot, &subjects.second, 2, limit)?;
-    compared(alloc, &first, &second)
+    both(alloc, depot, &subjects, limit)
 }

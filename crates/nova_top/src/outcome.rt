@@ -46,6 +46,9 @@ pub fn valid(alloc: Global) -> Result<Outcome, AllocError>
     })
 }
 
+/// What is let go here is dropped apart from all else.
+fn let_go<T: Drop>(_value: T) {}
+
 /// The report of a finished run, beside the text of an order that is to be appended.
 fn reported(alloc: Global, finished: &Finished, order: Vec<u8>) -> Result<Outcome, AllocError>
     ensures order { IfOk result (λ made. made.order.items ≡ order.items) }
@@ -67,7 +70,19 @@ fn closed(alloc: Global, finished: Finished, order: Vec<u8>) -> Result<Outcome, 
     ensures text { IfOk result (λ made. made.text.items ≡ report finished.kernel.state finished.trace.items) }
     ensures quiet { IfOk result (λ made. made.is_complete ≡ is_quiet finished.kernel.state) }
 {
-    reported(alloc, &finished, order)
+    let made = reported(alloc, &finished, order);
+    let_go(finished);
+    made
+}
+
+/// The report of a finished run, beside the text of its own order, which is to be appended.
+fn in_its_order(alloc: Global, finished: &Finished) -> Result<Outcome, AllocError>
+    ensures order { IfOk result (λ made. made.order.items ≡ text_of finished.now.order.blocks) }
+    ensures text { IfOk result (λ made. made.text.items ≡ report finished.now.kernel.state finished.now.trace.items) }
+    ensures quiet { IfOk result (λ made. made.is_complete ≡ is_quiet finished.now.kernel.state) }
+{
+    let order = finished.order.text()?;
+    reported(alloc, finished, order)
 }
 
 /// The report of a run that is let go, beside the text of its own order, which is to be appended.
@@ -76,10 +91,9 @@ fn recorded(alloc: Global, finished: Finished) -> Result<Outcome, AllocError>
     ensures text { IfOk result (λ made. made.text.items ≡ report finished.kernel.state finished.trace.items) }
     ensures quiet { IfOk result (λ made. made.is_complete ≡ is_quiet finished.kernel.state) }
 {
-    match finished.order.text() {
-        Ok(order) => reported(alloc, &finished, order),
-        Err(failed) => Err(failed),
-    }
+    let made = in_its_order(alloc, &finished);
+    let_go(finished);
+    made
 }
 
 /// The summary of a finished bench. No order is to be appended.
@@ -102,7 +116,9 @@ pub fn summed_up(alloc: Global, finished: Finished, number: u32) -> Result<Outco
     ensures text { IfOk result (λ made. made.text.items ≡ summary number finished.kernel.state finished.trace.items) }
     ensures quiet { IfOk result (λ made. made.is_complete ≡ is_quiet finished.kernel.state) }
 {
-    summed(alloc, &finished, number)
+    let made = summed(alloc, &finished, number);
+    let_go(finished);
+    made
 }
 
 /// Boots a scenario and runs it by round robin for at most `limit` turns.

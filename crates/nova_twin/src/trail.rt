@@ -1,5 +1,5 @@
-ghost use Rattle.std.specs.Prelude.{◌≡◌, ◌<◌, IfOk, OnOk};
-ghost use Rattle.nova_twin.specs.Follows.{IsClosed, IsTakable, is_virtual, met, noted, nothing, seen};
+ghost use Rattle.std.specs.Prelude.{◌≡◌, ◌<◌, ◌++◌, IfOk, OnOk};
+ghost use Rattle.nova_twin.specs.Follows.{IsClosed, IsTakable, is_virtual, listed, met, noted, nothing, seen};
 
 use crate::side::Side;
 use nova_guest::{Guest, Input, alone};
@@ -91,8 +91,25 @@ impl Trail {
         ensures { OnOk result (self.new ≡ noted self.old kernel.now.state guest input) }
     {
         if self.start.is_none() {
-            self.start = view_of(self.alloc(), kernel, guest)?;
-        } else if let Some(input) = input {
+            self.look(kernel, guest)
+        } else {
+            self.add(input)
+        }
+    }
+
+    /// Notes its view, where it is there. It refuses for want of memory alone.
+    fn look(&mut self, kernel: &Kernel, guest: u32) -> Result<(), AllocError>
+        ensures { OnOk result (self.new ≡ record self.old { start = seen kernel.now.state guest }) }
+    {
+        self.start = view_of(self.alloc(), kernel, guest)?;
+        Ok(())
+    }
+
+    /// Notes one more input, where there is one. It refuses for want of memory alone.
+    fn add(&mut self, input: Option<Input>) -> Result<(), AllocError>
+        ensures { OnOk result (self.new ≡ record self.old { inputs = self.old.inputs ++ listed input }) }
+    {
+        if let Some(input) = input {
             self.inputs.push(input)?;
         }
         Ok(())

@@ -3,10 +3,6 @@ use Rattle.std.proofs.lemmas.Result.{IfOk-weaker}
 use Rattle.clap.specs.Simple.{with_rule}
 use Rattle.nova_command.proofs.form.form.Goals as goal
 
--- one argument after another
 pub returns : goal.returns
 returns c =
-    let one = c.in_ok-arg.ensures.shape c.new-2.ensures.optional.1 ∙ ap₂ with_rule c.new.ensures.app c.new-2.ensures.rule in
-    let two = c.in_ok-arg-2.ensures.shape c.new-3.ensures.optional.1 ∙ ap₂ with_rule one c.new-3.ensures.rule in
-    let three = c.in_ok-arg-3.ensures.shape c.new-4.ensures.optional.1 ∙ ap₂ with_rule two c.new-4.ensures.rule in
-    IfOk-weaker c.arg-4.result _ _ (λ command adds. adds.shape c.limit.ensures.local ∙ ap₂ with_rule three c.limit.ensures.rule) c.arg-4.ensures
+    IfOk-weaker c.arg.result _ _ (λ command adds. adds.shape c.limit.ensures.local ∙ ap₂ with_rule c.in_ok-named.ensures c.limit.ensures.rule) c.arg.ensures

@@ -1,4 +1,4 @@
-use Rattle.std.proofs.Common.{subst, sym}
+use Rattle.std.proofs.Common.{subst}
 use Rattle.std.specs.Prelude.{IfSome}
 use Rattle.nova_memory.specs.Reach.{ReachState}
 use Rattle.nova_memory.specs.Sights.{AreViewers}

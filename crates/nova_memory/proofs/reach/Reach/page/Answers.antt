@@ -1,4 +1,4 @@
-use Rattle.std.proofs.Common.{◌≡◌, ◌≤◌, ◌<◌, ◌+◌, ◌-◌, length, rules, arith, ap, subst}
+use Rattle.std.proofs.Common.{◌≡◌, ◌<◌, ◌+◌, ◌-◌, length, rules, arith, ap, subst}
 use Rattle.std.specs.Prelude.{Some}
 use Rattle.std.specs.List.{find}
 use Rattle.nova_range.specs.declared.range.Kind.TheVariants.{Mem}

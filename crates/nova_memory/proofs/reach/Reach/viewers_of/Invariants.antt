@@ -1,4 +1,4 @@
-use Rattle.std.proofs.Common.{ℕ, filter, length}
+use Rattle.std.proofs.Common.{filter, length}
 use Rattle.nova_model.specs.Delegations.{is_from}
 use Rattle.nova_memory.proofs.Seen.{IsLeft}
 use Rattle.nova_memory.proofs.reach.Reach.viewers_of.Given as goal
