@@ -1,16 +1,11 @@
 -- What holds of the state in which a machine boots.
-use Rattle.std.proofs.Common.{◌∙◌, sym, subst, ◌/◌, ◌%◌, ◌≡◌, ℕ, zero, suc, ◌+◌, ◌^◌, ◌≤◌, List, [], ◌∷◌, ◌++◌, refl, arith}
-use Rattle.std.specs.Prelude.{Option, Some, None, slice_get, slice_index, length, replicate, map}
-use Rattle.std.specs.List.{AllByRecursion, range_with_len}
+use Rattle.std.proofs.Common.{ℕ, zero, suc, ◌≤◌, refl, arith}
+use Rattle.std.specs.Prelude.{slice_get, slice_index, replicate}
 use Rattle.std.proofs.lemmas.List.{length-replicate}
-use Rattle.std.proofs.Math.Pow.{pow_mono}
 use Rattle.nova_model.specs.State.{budget_at, entry, transfer_at}
-use Rattle.nova_model.specs.Boot.{bare, root_derivations, console_derivation, object_derivation}
-use Rattle.nova_model.specs.declared.delegation.Derivation.{Derivation}
+use Rattle.nova_model.specs.Boot.{bare}
 use Rattle.nova_model.specs.declared.root.Root.{Root}
 use Rattle.nova_laws.specs.Keeping.{IsKept}
-use Rattle.nova_model.specs.Boot.{laid}
-use Rattle.std.proofs.lemmas.List.{length-set}
 use Rattle.nova_deeds.specs.Counted.{IsAtItem, IsCounted, IsGivenWithin, IsPaidWithin}
 use Rattle.nova_deeds.specs.Stirs.{IsStirredWithin}
 use Rattle.nova_forest.proofs.Boots.{bare_forest}

@@ -1,11 +1,10 @@
 -- Turns charged one after another.
-use Rattle.std.proofs.Common.{◌≡◌, ◌<◌, ◌≤◌, ℕ, zero, suc, ◌+◌, ◌*◌, ◌^◌, List, [], ◌∷◌, ap, sym, ◌∙◌, subst, refl, arith}
-use Rattle.std.specs.Prelude.{slice_get, slice_set, Option, Some, None, IsSome}
+use Rattle.std.proofs.Common.{◌≡◌, ◌<◌, ℕ, ◌+◌, ◌^◌, refl, arith}
+use Rattle.std.specs.Prelude.{slice_get, Option, Some, None, IsSome}
 use Rattle.nova_laws.proofs.Setting.{entry_itself}
 use Rattle.nova_model.specs.State.{KernelState, budget_at, entry}
 use Rattle.nova_model.specs.Turn.{charged, counted, paid_by, quantum_in}
 use Rattle.nova_model.specs.declared.budget.Budget.{Budget}
-use Rattle.nova_running.specs.Guests.{numbers_from}
 use Rattle.nova_deeds.specs.Counted.{IsCharged, IsToBeCharged}
 use Rattle.nova_deeds.specs.Stirs.{IsStirredWithin}
 use Rattle.nova_deeds.proofs.Counts.{IsCharged-paid}
@@ -14,8 +13,8 @@ one_later : (turns : ℕ) (o : Option ℕ) → IsStirredWithin turns o → IsSti
 one_later turns (Some n) h = omega arith
 one_later turns None h = omega arith
 
-weaker : (k : KernelState) → IsCharged k → IsToBeCharged k
-weaker k h = record {
+pub to_be_charged : (k : KernelState) → IsCharged k → IsToBeCharged k
+to_be_charged k h = record {
   turns = h.turns;
   processors = h.processors;
   stamps = let s = h.stamps in omega arith;
@@ -27,7 +26,7 @@ weaker k h = record {
 pub still_charged : (k : KernelState) (cpu sc : ℕ) → k.turns < 2 ^ 31 → IsToBeCharged k → IsToBeCharged (charged k cpu sc)
 unfolding charged
 still_charged k cpu sc few h =
-    weaker (counted (paid_by k sc (quantum_in (slice_get k.objects sc)) (budget_at k sc)) cpu)
+    to_be_charged (counted (paid_by k sc (quantum_in (slice_get k.objects sc)) (budget_at k sc)) cpu)
     (IsCharged-paid k cpu sc (quantum_in (slice_get k.objects sc)) (budget_at k sc) refl few h)
 
 pub still_there : (k : KernelState) (cpu sc : ℕ) → IsSome (budget_at k sc) → IsSome (budget_at (charged k cpu sc) sc)

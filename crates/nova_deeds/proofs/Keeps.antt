@@ -1,6 +1,6 @@
 -- A deed keeps what turns are charged to, and gives at most one number of each kind: one row a variant.
 use Rattle.std.proofs.Common.{◌≡◌, ℕ, ◌+◌, List, [], ◌∷◌, length, refl, ◌∙◌, arith}
-use Rattle.std.specs.Prelude.{◌<◌, Bool, Option, Some, None, true, false, slice_set}
+use Rattle.std.specs.Prelude.{◌<◌, ◌≤◌, Bool, Option, Some, None, true, false, slice_set}
 use Rattle.std.proofs.lemmas.List.{length-append, length-set}
 use Rattle.rv_model.specs.Step.{Once, Raised, Went, Store}
 use Rattle.nova_utcb.specs.Messages.{exited}
@@ -8,8 +8,9 @@ use Rattle.nova_range.specs.declared.mtd.Mtd.{Mtd}
 use Rattle.nova_range.specs.declared.status.Status.TheVariants.{Success}
 use Rattle.nova_model.specs.AddressSpaces.{AddressSpace, stored_among, words_at}
 use Rattle.nova_model.specs.Creation.{budget_of, with_object, object_of}
-use Rattle.nova_model.specs.Deeds.{address_space, after_item, answered, brought, messages_after, parked, passed, followed, woken_in, told, transfer_after, with_context, with_transfer, gave, skipped, actor_after, performed, recalled, stepped, done, instruction}
-use Rattle.nova_model.specs.Delegations.{added, without}
+use Rattle.nova_model.specs.Deeds.{address_space, after_item, answered, brought, memory_after, messages_after, parked, passed, followed, woken_in, told, transfer_after, with_context, with_transfer, gave, skipped, actor_after, performed, recalled, stepped, done, instruction}
+use Rattle.nova_model.specs.Delegations.{Delegations, added, without}
+use Rattle.nova_model.specs.Memory.{Memory}
 use Rattle.nova_model.specs.Semaphores.{Semaphores, changed_by, downed, lowered, raised, semaphore_at, upped}
 use Rattle.nova_model.specs.Semaphores as semaphores
 use Rattle.nova_model.specs.State.{KernelState, Semaphore, context, message, transfer, transfer_at, with_message}
@@ -19,7 +20,6 @@ use Rattle.nova_model.specs.declared.context.Mark.TheVariants as mark
 use Rattle.nova_model.specs.declared.deed.Deed.{Deed}
 use Rattle.nova_model.specs.declared.context.State.TheVariants.{Calling, Replying}
 use Rattle.nova_model.specs.declared.deed.Deed.TheVariants.{Rests, Steps, Makes, Recalls, Names, Opens, Gives, Skips, Finishes, Calls, Replies, Sends, Removes, Ups, Downs, Blocks}
-use Rattle.nova_model.specs.declared.delegation.Derivation.{Derivation}
 use Rattle.nova_model.specs.declared.new_object.NewObject.{NewObject}
 use Rattle.nova_model.specs.declared.new_object.NewObject.TheVariants as new
 use Rattle.nova_model.specs.declared.transfer.ItemEnd.{ItemEnd}
@@ -75,6 +75,60 @@ with_context-keeps k new ec x h = record {
   };
 }
 
+-- other memory, and tables as long as before, of which no entry is looked at
+
+tables-keep : (k new : KernelState) (memory : Memory) (messages : List (Option (List ℕ))) (identifiers : List (Option ℕ)) (all : Semaphores) → KeepsCounts k new →
+    length messages ≡ length new.messages → length identifiers ≡ length new.identifiers → length all ≡ length new.semaphores →
+    KeepsCounts k (record new { memory = memory; messages = messages; identifiers = identifiers; semaphores = all })
+tables-keep k new memory messages identifiers all h m i s = record {
+  contexts = h.contexts;
+  budgets = h.budgets;
+  ticks = h.ticks;
+  transfers = h.transfers;
+  items = h.items;
+  next_stamp = h.next_stamp;
+  turns = h.turns;
+  cpus = h.cpus;
+  processors = h.processors;
+  guests = h.guests;
+  objects = h.objects;
+  derivations = h.derivations;
+  tables = λ t. let u = h.tables t in record {
+    contexts = u.contexts;
+    messages = m ∙ u.messages;
+    transfers = u.transfers;
+    budgets = u.budgets;
+    identifiers = i ∙ u.identifiers;
+    semaphores = s ∙ u.semaphores;
+    guests = u.guests;
+  };
+}
+
+with_message-keeps : (k new : KernelState) (ec : ℕ) (m : List ℕ) → KeepsCounts k new → KeepsCounts k (with_message new ec m)
+with_message-keeps k new ec m h = tables-keep k new new.memory (slice_set new.messages ec (Some m)) new.identifiers new.semaphores h (length-set new.messages ec (Some m)) refl refl
+
+semaphores-keeps : (k new : KernelState) (all : Semaphores) → KeepsCounts k new → length all ≡ length new.semaphores → KeepsCounts k (record new { semaphores = all })
+semaphores-keeps k new all h long = tables-keep k new new.memory new.messages new.identifiers all h refl refl long
+
+-- at most one derivation more
+
+delegations-keep : (k : KernelState) (f : Delegations) → f.next ≤ k.delegations.next + 1 → KeepsCounts k (record k { delegations = f })
+delegations-keep k f few = let kept = KeepsCounts-self k in record {
+  contexts = kept.contexts;
+  budgets = kept.budgets;
+  ticks = kept.ticks;
+  transfers = kept.transfers;
+  items = kept.items;
+  next_stamp = kept.next_stamp;
+  turns = refl;
+  cpus = refl;
+  processors = refl;
+  guests = kept.guests;
+  objects = kept.objects;
+  derivations = few;
+  tables = λ t. record { contexts = t.contexts; messages = t.messages; transfers = t.transfers; budgets = t.budgets; identifiers = t.identifiers; semaphores = t.semaphores; guests = t.guests };
+}
+
 -- the rows
 
 changed-keeps : (k : KernelState) (ec : ℕ) (x : EcState) → KeepsCounts k (with_context k ec x)
@@ -90,29 +144,10 @@ messages-length a ec (Some s) messages = stored-length messages ec s (words_at a
 
 stepped-keeps : (k : KernelState) (ec : ℕ) (o : Once) → KeepsCounts k (stepped k ec o)
 stepped-keeps k ec (Raised reason q0 q1) = KeepsCounts-self k
-stepped-keeps k ec (Went regs store) = let kept = changed-keeps k ec (record (context k ec) { regs = regs }) in record {
-  contexts = kept.contexts;
-  budgets = kept.budgets;
-  ticks = kept.ticks;
-  transfers = kept.transfers;
-  items = kept.items;
-  next_stamp = omega arith;
-  turns = refl;
-  cpus = refl;
-  processors = refl;
-  guests = kept.guests;
-  objects = kept.objects;
-  derivations = kept.derivations;
-  tables = λ t. let u = kept.tables t in record {
-    contexts = u.contexts;
-    messages = messages-length (address_space k ec) ec store k.messages ∙ t.messages;
-    transfers = u.transfers;
-    budgets = u.budgets;
-    identifiers = u.identifiers;
-    semaphores = u.semaphores;
-    guests = u.guests;
-  };
-}
+stepped-keeps k ec (Went regs store) =
+    tables-keep k (with_context k ec (record (context k ec) { regs = regs })) (memory_after (address_space k ec) store k.memory)
+    (messages_after (address_space k ec) ec store k.messages) k.identifiers k.semaphores (changed-keeps k ec _)
+    (messages-length (address_space k ec) ec store k.messages) refl refl
 
 made-keeps : (k : KernelState) (ec : ℕ) (x : EcState) (pd selector : ℕ) (new : NewObject) → KeepsCounts k (with_object (with_context k ec x) pd selector new)
 made-keeps k ec x pd selector new = record {
@@ -145,29 +180,9 @@ recalled-keeps k ec other x (Some y) = with_context-keeps k (with_context k ec x
 
 named-keeps : (k : KernelState) (ec pt identifier : ℕ) (x : EcState) →
     KeepsCounts k (record (with_context k ec x) { identifiers = slice_set k.identifiers pt (Some identifier) })
-named-keeps k ec pt identifier x = let kept = changed-keeps k ec x in record {
-  contexts = kept.contexts;
-  budgets = kept.budgets;
-  ticks = kept.ticks;
-  transfers = kept.transfers;
-  items = kept.items;
-  next_stamp = omega arith;
-  turns = refl;
-  cpus = refl;
-  processors = refl;
-  guests = kept.guests;
-  objects = kept.objects;
-  derivations = kept.derivations;
-  tables = λ t. let u = kept.tables t in record {
-    contexts = u.contexts;
-    messages = u.messages;
-    transfers = u.transfers;
-    budgets = u.budgets;
-    identifiers = length-set k.identifiers pt (Some identifier) ∙ t.identifiers;
-    semaphores = u.semaphores;
-    guests = u.guests;
-  };
-}
+named-keeps k ec pt identifier x =
+    tables-keep k (with_context k ec x) k.memory k.messages (slice_set k.identifiers pt (Some identifier)) k.semaphores (changed-keeps k ec x)
+    refl (length-set k.identifiers pt (Some identifier)) refl
 
 -- a part of an item: at most one derivation more, and the transfer of the one who gives changes
 
@@ -198,32 +213,7 @@ part-keeps k new ec t kept same within item = record {
   };
 }
 
--- message words of one change
-
-with_message-keeps : (k new : KernelState) (ec : ℕ) (m : List ℕ) → KeepsCounts k new → KeepsCounts k (with_message new ec m)
-with_message-keeps k new ec m h = record {
-  contexts = h.contexts;
-  budgets = h.budgets;
-  ticks = h.ticks;
-  transfers = h.transfers;
-  items = h.items;
-  next_stamp = h.next_stamp;
-  turns = h.turns;
-  cpus = h.cpus;
-  processors = h.processors;
-  guests = h.guests;
-  objects = h.objects;
-  derivations = h.derivations;
-  tables = λ t. let u = h.tables t in record {
-    contexts = u.contexts;
-    messages = length-set new.messages ec (Some m) ∙ u.messages;
-    transfers = u.transfers;
-    budgets = u.budgets;
-    identifiers = u.identifiers;
-    semaphores = u.semaphores;
-    guests = u.guests;
-  };
-}
+-- message words, and the states of others
 
 told-keeps : (k new : KernelState) (item : ℕ) (words : Option ItemWords) → KeepsCounts k new → KeepsCounts k (told new item words)
 told-keeps k new item None kept = kept
@@ -258,31 +248,6 @@ sent-keeps k ec handler ip identifier mtd reason q0 q1 =
     (with_message-keeps k mid handler _ (changed-keeps k ec _))
 
 -- semaphores of one change
-
-semaphores-keeps : (k new : KernelState) (all : Semaphores) → KeepsCounts k new → length all ≡ length new.semaphores → KeepsCounts k (record new { semaphores = all })
-semaphores-keeps k new all h long = record {
-  contexts = h.contexts;
-  budgets = h.budgets;
-  ticks = h.ticks;
-  transfers = h.transfers;
-  items = h.items;
-  next_stamp = h.next_stamp;
-  turns = h.turns;
-  cpus = h.cpus;
-  processors = h.processors;
-  guests = h.guests;
-  objects = h.objects;
-  derivations = h.derivations;
-  tables = λ t. let u = h.tables t in record {
-    contexts = u.contexts;
-    messages = u.messages;
-    transfers = u.transfers;
-    budgets = u.budgets;
-    identifiers = u.identifiers;
-    semaphores = long ∙ u.semaphores;
-    guests = u.guests;
-  };
-}
 
 semaphores-length : (change : Semaphore → Semaphore) (all : Semaphores) (sm : ℕ) → length (semaphores.changed change all sm) ≡ length all
 semaphores-length change all sm = by_entry (semaphore_at all sm)
@@ -324,41 +289,6 @@ finished-keeps k ec item end words after sequel =
     (followed-transfers (told mid item words) ec after ∙ told-transfers mid item words)
     (λ turns h. next-given turns item after) (λ h. next-item k ec item after sequel)
 
-child-keeps : (k : KernelState) (child : Derivation) → KeepsCounts k (record k { delegations = added k.delegations child })
-child-keeps k child = let kept = KeepsCounts-self k in record {
-  contexts = kept.contexts;
-  budgets = kept.budgets;
-  ticks = kept.ticks;
-  transfers = kept.transfers;
-  items = kept.items;
-  next_stamp = omega arith;
-  turns = refl;
-  cpus = refl;
-  processors = refl;
-  guests = kept.guests;
-  objects = kept.objects;
-  derivations = omega arith;
-  tables = λ t. record { contexts = t.contexts; messages = t.messages; transfers = t.transfers; budgets = t.budgets; identifiers = t.identifiers; semaphores = t.semaphores; guests = t.guests };
-}
-
--- a derivation goes
-leaf-keeps : (k : KernelState) (leaf : Derivation) → KeepsCounts k (record k { delegations = without k.delegations leaf.id })
-leaf-keeps k leaf = let kept = KeepsCounts-self k in record {
-  contexts = kept.contexts;
-  budgets = kept.budgets;
-  ticks = kept.ticks;
-  transfers = kept.transfers;
-  items = kept.items;
-  next_stamp = omega arith;
-  turns = refl;
-  cpus = refl;
-  processors = refl;
-  guests = kept.guests;
-  objects = kept.objects;
-  derivations = omega arith;
-  tables = λ t. record { contexts = t.contexts; messages = t.messages; transfers = t.transfers; budgets = t.budgets; identifiers = t.identifiers; semaphores = t.semaphores; guests = t.guests };
-}
-
 pub done-keeps : (k : KernelState) (ec : ℕ) (d : Deed) → DeedFits k ec d → KeepsCounts k (done k ec d)
 done-keeps k ec Rests fits = KeepsCounts-self k
 done-keeps k ec Steps fits = stepped-keeps k ec (instruction k ec)
@@ -366,12 +296,12 @@ done-keeps k ec (Makes call target new) fits = made-keeps k ec _ _ target new
 done-keeps k ec (Recalls other) fits = recalled-keeps k ec other _ _
 done-keeps k ec (Opens target number) fits = made-keeps k ec _ _ target new.Pd
 done-keeps k ec (Gives child cursor) fits =
-    part-keeps k (record k { delegations = added k.delegations child }) ec (gave (transfer k ec) cursor) (child-keeps k child) refl
+    part-keeps k (record k { delegations = added k.delegations child }) ec (gave (transfer k ec) cursor) (delegations-keep k (added k.delegations child) (omega arith)) refl
     (λ turns h. gave-within turns cursor (transfer_at k ec) h) (λ h. same-item (transfer_at k ec) h)
 done-keeps k ec (Skips reason place cursor) fits =
     part-keeps k k ec (skipped (transfer k ec) cursor) (KeepsCounts-self k) refl (λ turns h. skipped-within turns cursor (transfer_at k ec) h)
     (λ h. same-item (transfer_at k ec) h)
-done-keeps k ec (Removes leaf) fits = leaf-keeps k leaf
+done-keeps k ec (Removes leaf) fits = delegations-keep k (without k.delegations leaf.id) (omega arith)
 done-keeps k ec (Finishes item end words after) fits = finished-keeps k ec item end words after fits.1.1
 done-keeps k ec (Names pt identifier) fits = named-keeps k ec pt identifier _
 done-keeps k ec (Calls handler ip identifier items) fits = called-keeps k ec handler ip identifier items

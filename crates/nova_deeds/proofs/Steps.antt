@@ -12,15 +12,16 @@ use Rattle.nova_model.specs.Translations.{translated}
 use Rattle.nova_model.specs.declared.context.State.{State}
 use Rattle.nova_model.specs.declared.context.State.TheVariants.{Ready}
 use Rattle.nova_model.specs.declared.deed.Deed.{Deed}
-use Rattle.nova_model.specs.declared.deed.Deed.TheVariants.{Steps, Raises, Makes, Opens}
+use Rattle.nova_model.specs.declared.deed.Deed.TheVariants.{Steps, Raises}
 use Rattle.nova_model.specs.declared.delegation.Derivation.{Derivation}
 use Rattle.nova_model.specs.declared.transfer.Delivery.{Delivery}
 use Rattle.nova_model.specs.declared.transfer.Job.{Job}
 use Rattle.nova_model.specs.declared.transfer.Reason.{Reason}
 use Rattle.nova_model.specs.declared.transfer.Skip.{Skip}
 use Rattle.nova_model.specs.declared.transfer.Transfer.{Transfer}
-use Rattle.nova_forest.proofs.Allowed as free
-use Rattle.nova_deeds.specs.Acts.{outcome_of, begun, is_executing, is_done_when_decided, is_step, TakesFree}
+use Rattle.nova_forest.specs.Made.{TakesFree}
+use Rattle.nova_forest.proofs.Allowed.{deed_free}
+use Rattle.nova_deeds.specs.Acts.{outcome_of, begun, is_executing, is_done_when_decided, is_step}
 use Rattle.nova_choice.specs.Schedules.{is_ready}
 
 -- one that raises leaves all as it was, so that its deed is the one that is signalled then, and nothing of it is done
@@ -48,12 +49,7 @@ act-does k mid new ec d same h = subst (λ (s : KernelState). new ≡ done s ec 
 
 -- the selector that a deed takes is free
 pub takes-free : (k : KernelState) (ec : ℕ) (d : Deed) → d ≡ deed k ec → TakesFree k (pd_of k ec) d
-takes-free k ec d is = by_deed d (subst (free.TakesFree k (pd_of k ec)) (sym is) (free.deed_free k ec))
-  where
-    by_deed : (d : Deed) → free.TakesFree k (pd_of k ec) d → TakesFree k (pd_of k ec) d
-    by_deed (Makes call target new) h = h
-    by_deed (Opens target number) h = h
-    by_deed other h = tt
+takes-free k ec d is = subst (TakesFree k (pd_of k ec)) (sym is) (deed_free k ec)
 
 -- what is done when a deed is decided
 pub begun-over : (k mid : KernelState) (ec : ℕ) (d : Deed) → is_done_when_decided d ≡ true → mid ≡ begun k ec d → mid ≡ done k ec d

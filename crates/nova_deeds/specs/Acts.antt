@@ -3,7 +3,6 @@ use Rattle.std.specs.Prelude.{ℕ, ◌≡◌, ◌<◌, ◌≤◌, ◌+◌, ◌^�
 use Rattle.rv_core.specs.declared.outcome.Outcome.{Outcome}
 use Rattle.rv_core.specs.declared.outcome.Outcome.TheVariants.{Next, Raise}
 use Rattle.rv_model.specs.Step.{Once, Raised, Went}
-use Rattle.nova_model.specs.Capabilities.{is_held}
 use Rattle.nova_utcb.specs.Messages.{has_counts, has_items}
 use Rattle.nova_model.specs.Calls.{admitted, exit_admitted}
 use Rattle.nova_model.specs.Exits.{raised_exit}
@@ -22,6 +21,7 @@ use Rattle.nova_model.specs.declared.transfer.Sequel.{Sequel}
 use Rattle.nova_model.specs.declared.transfer.Sequel.TheVariants.{Item, Replied}
 use Rattle.nova_model.specs.Transfers.{Part, next_part, given}
 use Rattle.nova_range.specs.Ranges.{IsRange}
+pub use Rattle.nova_forest.specs.Made.{TakesFree}
 use Rattle.nova_choice.specs.Schedules.{IsPlacedIn, is_ready}
 use Rattle.nova_model.specs.declared.transfer.Job.{Job}
 use Rattle.nova_model.specs.declared.transfer.Transfer.{Transfer}
@@ -123,9 +123,3 @@ part_now k j = next_part (is_busy k) k.delegations j
 
 abbrev pub with_part : KernelState → Option Part → KernelState
 with_part k p = record k { delegations = given k.delegations p }
-
--- the selector that a deed takes is free
-abbrev pub TakesFree : KernelState → ℕ → Deed → Type 0
-TakesFree k domain (Makes call target new) = is_held k domain target ≡ false
-TakesFree k domain (Opens target number) = is_held k domain target ≡ false
-TakesFree k domain other = Unit {0}

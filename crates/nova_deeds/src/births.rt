@@ -1,6 +1,6 @@
 ghost use Rattle.std.specs.Prelude.{◌≡◌};
 ghost use Rattle.nova_model.specs.Capabilities.{target_of};
-ghost use Rattle.nova_model.specs.Creation.{first_state, new_context, object_of, context_of, transfer_of, identifier_of, count_of, stir_count_of, words_of};
+ghost use Rattle.nova_model.specs.Creation.{first_state, object_of, context_of, transfer_of, identifier_of, count_of, stir_count_of, words_of};
 
 use nova_model::{EcKind, EcState, NewObject, Object, State, Transfer};
 use nova_range::Target;

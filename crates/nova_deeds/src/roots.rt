@@ -1,5 +1,5 @@
 ghost use Rattle.std.specs.Prelude.{◌≡◌, ◌≤◌, [], ◌∷◌, replicate, IfOk, None, Some};
-ghost use Rattle.nova_model.specs.Boot.{root_objects, root_context, root_registers};
+ghost use Rattle.nova_model.specs.Boot.{root_objects, root_context};
 ghost use Rattle.nova_model.specs.State.{no_transfer};
 
 use crate::births::NO_TRANSFER;

@@ -37,7 +37,7 @@ use Rattle.nova_model.specs.declared.deed.Deed.TheVariants.{Makes, Recalls, Tell
 use Rattle.nova_model.specs.declared.delegation.Derivation.{Derivation}
 use Rattle.nova_model.specs.declared.new_object.NewObject.{NewObject}
 use Rattle.nova_model.specs.declared.new_object.NewObject.TheVariants as new
-use Rattle.nova_forest.specs.Made.{MayCreate, MayUse, IsBoundBy, IsMadeIn, IsGivenChild, IsNextLeaf}
+use Rattle.nova_forest.specs.Made.{MayCreate, MayUse, IsBoundBy, IsMadeIn, IsGivenChild, IsNextLeaf, TakesFree}
 use Rattle.nova_forest.proofs.Jobs.{job_ranges, job_between_them}
 use Rattle.nova_forest.proofs.Leaves.{leaf_facts}
 use Rattle.nova_forest.proofs.Members.{IsIn, all_at, contains_from_in, found_in, in_from_contains}
@@ -311,12 +311,7 @@ deed_allowed k ec =
     })
     (record { gives = given_child k ec; skips = λ d reason place is. tt; finishes = λ v end answer present is. tt })
 
--- the selector that a deed takes is free
-abbrev pub TakesFree : KernelState → ℕ → Deed → Type 0
-TakesFree k domain (Makes call target new) = is_held k domain target ≡ false
-TakesFree k domain (Opens target number) = is_held k domain target ≡ false
-TakesFree k domain other = Unit {0}
-
+-- the selector that it takes is free
 allowed_free : (k : KernelState) (ec : ℕ) (d : Deed) → IsAllowed k ec d → TakesFree k (pd_of k ec) d
 allowed_free k ec (Makes call target new) allowed = allowed.free
 allowed_free k ec (Opens target number) allowed = allowed.0.free

@@ -1,25 +1,13 @@
 -- A forest stays one where a derivation that fits joins it, and where one without children goes.
 use Rattle.std.proofs.Common.{◌≡◌, ℕ, ◌<◌, ◌+◌, List, [], ◌∷◌, ◌++◌, arith}
-use Rattle.std.specs.Prelude.{Bool, false, true, ◌==◌, not, filter, Option, Some, None}
+use Rattle.std.specs.Prelude.{false, true, ◌==◌, not, Option, Some, None}
 use Rattle.std.specs.List.{AllByRecursion}
-use Rattle.std.proofs.lemmas.Bool.{cond_both}
 use Rattle.std.proofs.lemmas.List.Elements.{Contains-append_left}
 use Rattle.nova_model.specs.Delegations.{Delegations, is_id, is_child_of, added, without}
-use Rattle.nova_model.specs.Forest.{ArePairs, AreApart, IsAligned, HasParentIn, IsForest, IsFitting, IsChildless}
+use Rattle.nova_model.specs.Forest.{AreApart, IsAligned, HasParentIn, IsForest, IsFitting, IsChildless}
 use Rattle.nova_model.specs.declared.delegation.Derivation.{Derivation}
 use Rattle.nova_forest.proofs.Members.{all_at, all_from, all_more, all_weaker, filtered_in, in_filtered, in_from_contains, contains_from_in}
-
-pairs_more : {T : Type 0} (Rel : T → T → Type 0) (xs : List T) (y : T) → ArePairs Rel xs → AllByRecursion (λ x. Rel x y) xs → ArePairs Rel (xs ++ y ∷ [])
-pairs_more Rel [] y pairs last = (tt, tt)
-pairs_more Rel (x ∷ xs) y pairs last = (all_more (Rel x) xs y pairs.0 last.0, pairs_more Rel xs y pairs.1 last.1)
-
-pairs_filter : {T : Type 0} (Rel : T → T → Type 0) (p : T → Bool) (xs : List T) → ArePairs Rel xs → ArePairs Rel (filter p xs)
-pairs_filter Rel p [] pairs = tt
-pairs_filter Rel p (x ∷ xs) pairs =
-    let rest = pairs_filter Rel p xs pairs.1 in
-    cond_both (p x) (x ∷ filter p xs) (filter p xs) (ArePairs Rel)
-    (λ t. (all_from (Rel x) (filter p xs) (λ y i. all_at (Rel x) xs y pairs.0 (filtered_in p xs y i).0), rest))
-    (λ f. rest)
+use Rattle.nova_forest.proofs.Pairs.{pairs_more, pairs_filter}
 
 parent_stays : (list : List Derivation) (x a : Derivation) (parent : Option ℕ) → HasParentIn list a parent → HasParentIn (list ++ x ∷ []) a parent
 parent_stays list x a None h = tt

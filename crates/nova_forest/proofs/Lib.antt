@@ -1,4 +1,5 @@
 pub mod Members
+pub mod Pairs
 pub mod Multiples
 pub mod Forests
 pub mod Transfers

@@ -18,6 +18,8 @@ use Rattle.nova_model.specs.Running.{is_busy, revoke_of}
 use Rattle.nova_model.specs.State.{KernelState, context, pd_of, processor_of}
 use Rattle.nova_model.specs.Choice.{Candidate}
 use Rattle.nova_model.specs.Transfers.{read_as}
+use Rattle.nova_model.specs.declared.deed.Deed.{Deed}
+use Rattle.nova_model.specs.declared.deed.Deed.TheVariants.{Makes, Opens}
 use Rattle.nova_model.specs.declared.delegation.Derivation.{Derivation}
 use Rattle.nova_model.specs.declared.transfer.Delivery.{Delivery}
 use Rattle.nova_forest.specs.Courses.{IsLeaf}
@@ -113,6 +115,12 @@ pub record IsNextLeaf (k : KernelState) (actor : ℕ) (leaf : Derivation) : Type
   pub runs : revoke_of k actor ≡ Some revoke
   pub next : next_leaf revoke k.delegations ≡ Some leaf
   pub goes : IsForest k.delegations → IsLeaf revoke k.delegations leaf
+
+-- the selector that a deed takes is free
+abbrev pub TakesFree : KernelState → ℕ → Deed → Type 0
+TakesFree k domain (Makes call target new) = is_held k domain target ≡ false
+TakesFree k domain (Opens target number) = is_held k domain target ≡ false
+TakesFree k domain other = Unit {0}
 
 -- objects and delegations are as before
 pub record IsSame (old new : KernelState) : Type 0 where

@@ -52,7 +52,7 @@ impl Bytes {
     }
 
     /// The number in the 1, 2 or 4 bytes from an offset on, the lowest byte first. They are there.
-    pub(crate) fn load(&self, offset: u32, width: u32) -> u32
+    pub fn load(&self, offset: u32, width: u32) -> u32
         requires width { IsWidth width }
         requires there { offset + width ≤ length self.now }
         ensures number { result ≡ read_in (Some self.now) offset width }
@@ -63,7 +63,7 @@ impl Bytes {
 
     /// Stores the lowest 1, 2 or 4 bytes of a value from an offset on, the lowest byte first, in the
     /// place of bytes that are there.
-    pub(crate) fn store(&mut self, offset: u32, width: u32, value: u32)
+    pub fn store(&mut self, offset: u32, width: u32, value: u32)
         requires width { IsWidth width }
         requires there { offset + width ≤ length self.old }
         ensures { self.new ≡ replaced self.old offset (little_bytes width value) }

@@ -6,6 +6,7 @@ use Rattle.std.proofs.lemmas.Nat.{pow_pos}
 use Rattle.std.proofs.Math.Nat.{mul-div_cancel}
 use Rattle.std.proofs.lemmas.Bool.{cases_Bool, cases_order, cases_eq, cases_lt}
 use Rattle.std.proofs.lemmas.List.{length-append, take_at, drop_at}
+use Rattle.nova_forest.proofs.Members.{all_weaker}
 use Rattle.nova_guest.specs.Cells.{cell_at, cells_given, frame_of, missing, page_size, pieces}
 use Rattle.nova_guest.specs.Keyed.{placed, placed_all}
 use Rattle.nova_guest.specs.Maps.{base_of, is_covered, leads_to, overlaps}
@@ -16,7 +17,7 @@ use Rattle.nova_model.specs.Inputs.{contents_of, leads_to as leads}
 use Rattle.nova_model.specs.Views.{is_memory_of, map_of, maps_of, cells_from, cells_of}
 use Rattle.nova_model.specs.declared.delegation.Derivation.{Derivation}
 use Rattle.nova_isolation.specs.Sound.{AreWhole}
-use Rattle.nova_isolation.proofs.KeyedLaws.{IsRising, placed_swap, all_weaker, all_placed, rising_placed_all}
+use Rattle.nova_isolation.proofs.KeyedLaws.{IsRising, placed_swap, all_placed, rising_placed_all}
 use Rattle.nova_isolation.proofs.Spaces.{SameSpaceApart, MapsApart, maps_apart, maps_more, maps_same, cell_of}
 
 -- cells in rising order are what their look-ups are

@@ -2,6 +2,7 @@
 use Rattle.std.proofs.Common.{◌≡◌, ℕ, ◌<◌, ◌≢◌, List, [], ◌∷◌, refl, arith}
 use Rattle.std.specs.Prelude.{Bool, true, false, ◌==◌, nat_lt, if◌then◌else◌}
 use Rattle.std.specs.List.{AllByRecursion}
+use Rattle.nova_forest.proofs.Members.{all_weaker}
 use Rattle.nova_guest.specs.Keyed.{placed, placed_all}
 
 -- each of a list has a lesser key than all after it
@@ -14,10 +15,6 @@ pub placed_swap : {T : Type 0} (key : T → ℕ) (a b : T) (xs : List T) → key
     placed key a (placed key b xs) ≡ placed key b (placed key a xs)
 placed_swap key a b [] h = grind arith
 placed_swap key a b (y ∷ ys) h = grind (arith, placed_swap key a b ys h)
-
-pub all_weaker : {T : Type 0} (P Q : T → Type 0) (xs : List T) → ((x : T) → P x → Q x) → AllByRecursion P xs → AllByRecursion Q xs
-all_weaker P Q [] weaker all = tt
-all_weaker P Q (x ∷ xs) weaker all = (weaker x all.0, all_weaker P Q xs weaker all.1)
 
 pub all_placed : {T : Type 0} (P : T → Type 0) (key : T → ℕ) (x : T) (xs : List T) → P x → AllByRecursion P xs → AllByRecursion P (placed key x xs)
 all_placed P key x [] px all = (px, tt)

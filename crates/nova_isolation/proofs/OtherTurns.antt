@@ -39,11 +39,10 @@ use Rattle.nova_model.specs.declared.transfer.Transfer.{Transfer}
 use Rattle.nova_model.specs.declared.transfer.Sequel.TheVariants as sequel
 use Rattle.nova_utcb.specs.Messages.{written_back}
 use Rattle.nova_forest.proofs.Allowed.{GivesFitting}
-use Rattle.nova_forest.proofs.Members.{IsIn, in_from_contains}
+use Rattle.nova_forest.proofs.Members.{IsIn, all_weaker, in_from_contains}
 use Rattle.nova_isolation.specs.Law.{answered}
 use Rattle.nova_isolation.proofs.Premises.{HasPremises, IsGuest}
 use Rattle.nova_isolation.proofs.Exchanges.{apart_maps, cells_given_of, covered_for, maps_added, maps_others, none_overlap, IsApartFrom}
-use Rattle.nova_isolation.proofs.KeyedLaws.{all_weaker}
 use Rattle.nova_isolation.proofs.OwnTurns.{guest_at}
 use Rattle.nova_isolation.proofs.Removals.{cells_taken, has_taken, maps_taken, maps_untaken}
 use Rattle.nova_isolation.proofs.Replies.{back_same}

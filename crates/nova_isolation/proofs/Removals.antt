@@ -3,7 +3,8 @@ use Rattle.std.proofs.Common.{◌≡◌, ℕ, ◌+◌, ◌<◌, ◌⊎◌, ◌�
 use Rattle.std.specs.Prelude.{Bool, true, false, not, filter, ◌==◌, ◌||◌, if◌then◌else◌}
 use Rattle.std.specs.List.{AllByRecursion, filter_map, list_any}
 use Rattle.std.proofs.lemmas.Bool.{cases_Bool, cases_lt}
-use Rattle.nova_forest.proofs.Members.{IsIn, all_at, all_from, filtered_in}
+use Rattle.nova_forest.proofs.Members.{IsIn, all_at, all_from, all_weaker, filtered_in}
+use Rattle.nova_forest.proofs.Pairs.{pairs_at, same_id}
 use Rattle.nova_guest.specs.Keyed.{placed}
 use Rattle.nova_guest.specs.Maps.{base_of, is_covered, is_map, leads_to, overlaps}
 use Rattle.nova_guest.specs.declared.cell.Cell.{Cell}
@@ -13,7 +14,7 @@ use Rattle.nova_model.specs.Forest.{ArePairs, IsForest}
 use Rattle.nova_model.specs.Views.{is_memory_of, map_in, map_of, maps_of, cells_from, cells_of}
 use Rattle.nova_model.specs.declared.delegation.Derivation.{Derivation}
 use Rattle.nova_isolation.proofs.Exchanges.{bases_apart}
-use Rattle.nova_isolation.proofs.KeyedLaws.{IsRising, all_placed, all_weaker, rising_placed_all}
+use Rattle.nova_isolation.proofs.KeyedLaws.{IsRising, all_placed, rising_placed_all}
 use Rattle.nova_isolation.proofs.Spaces.{SameSpaceApart, MapsApart, apart_maps_of, maps_apart, maps_more, maps_same, same_kind}
 
 -- some of a list in rising order, where one more is put at its place
@@ -39,22 +40,6 @@ any_placed : {T : Type 0} (key : T → ℕ) (p : T → Bool) (x : T) (xs : List 
     list_any p (placed key x xs) ≡ (p x || list_any p xs)
 any_placed key p x [] other = refl
 any_placed key p x (y ∷ ys) other = let apart = other.0 in grind (arith, any_placed key p x ys other.1, apart)
-
--- two of a list that is related in pairs
-pairs_at : {T : Type 0} (Rel : T → T → Type 0) (list : List T) (a b : T) → ArePairs Rel list → IsIn list a → IsIn list b → (a ≡ b) ⊎ (Rel a b ⊎ Rel b a)
-pairs_at Rel [] a b pairs i j = absurd i
-pairs_at Rel (x ∷ xs) a b pairs (inl e) (inl g) = inl (sym e ∙ g)
-pairs_at Rel (x ∷ xs) a b pairs (inl e) (inr j) = inr (inl (subst (λ y. Rel y b) e (all_at (Rel x) xs b pairs.0 j)))
-pairs_at Rel (x ∷ xs) a b pairs (inr i) (inl g) = inr (inr (subst (λ y. Rel y a) g (all_at (Rel x) xs a pairs.0 i)))
-pairs_at Rel (x ∷ xs) a b pairs (inr i) (inr j) = pairs_at Rel xs a b pairs.1 i j
-
-same_id : (list : List Derivation) (a b : Derivation) → ArePairs (λ c d. c.id < d.id) list → IsIn list a → IsIn list b → a.id ≡ b.id → a ≡ b
-same_id list a b rising i j e = by_pair (pairs_at (λ c d. c.id < d.id) list a b rising i j)
-  where
-    by_pair : (a ≡ b) ⊎ ((a.id < b.id) ⊎ (b.id < a.id)) → a ≡ b
-    by_pair (inl same) = same
-    by_pair (inr (inl low)) = absurd (omega arith)
-    by_pair (inr (inr low)) = absurd (omega arith)
 
 -- THE MAPS THAT ARE LEFT
 

@@ -8,10 +8,9 @@ use Rattle.nova_forest.proofs.Growth.{turn_growth}
 use Rattle.nova_guest.specs.Alone.{alone, guest_space}
 use Rattle.nova_guest.specs.declared.guest.Guest.{Guest}
 use Rattle.nova_guest.specs.declared.input.Input.{Input}
-use Rattle.nova_laws.specs.Keeping.{IsKept}
-use Rattle.nova_laws.proofs.Donation.{begins_kept, keeps, keeps_in_memory}
+use Rattle.nova_laws.proofs.Donation.{keeps, reached_kept}
 use Rattle.nova_model.specs.AddressSpaces.{space}
-use Rattle.nova_model.specs.Boot.{Image, Scenario, bare, boot, with_image, with_images}
+use Rattle.nova_model.specs.Boot.{Scenario, boot}
 use Rattle.nova_model.specs.Capabilities.{is_vcpu}
 use Rattle.nova_model.specs.Choice.{in_front}
 use Rattle.nova_model.specs.Deeds.{address_space, deed, done}
@@ -29,14 +28,10 @@ use Rattle.nova_isolation.proofs.Turns.{one_turn, other_turn}
 use Rattle.nova_isolation.proofs.Whole.{boot_whole, turn_whole}
 
 -- a kernel begins so
-images_kept : (k : KernelState) (images : List Image) → IsKept k → IsKept (with_images k images)
-images_kept k [] kept = kept
-images_kept k (image ∷ images) kept = images_kept (with_image k image) images (keeps_in_memory k (with_image k image).memory kept)
-
 pub boot_sound : (s : Scenario) → IsSound (boot s)
 boot_sound s = record {
   forest = boot_forest s;
-  kept = images_kept (bare s.cpus s.ram s.consoles s.root) s.images (begins_kept s.cpus s.ram s.consoles s.root);
+  kept = reached_kept s [];
   whole = boot_whole s;
 }
 

@@ -1,5 +1,5 @@
 -- What the guest alone puts out over a run is what the turns show.
-use Rattle.std.proofs.Common.{◌≡◌, ℕ, List, [], ◌∷◌, ◌++◌, length, drop, ap, ap₂, sym, ◌∙◌, refl}
+use Rattle.std.proofs.Common.{◌≡◌, ℕ, List, [], ◌∷◌, length, drop, ap, ap₂, sym, ◌∙◌, refl}
 use Rattle.std.specs.Prelude.{◌%◌, ◌==◌, Bool, true, false, slice_get, Option, Some, None, option_and_then, option_map, if◌then◌else◌}
 use Rattle.std.specs.List.{filter_map}
 use Rattle.std.proofs.lemmas.List.{drop_at, length-set}
@@ -19,7 +19,6 @@ use Rattle.nova_model.specs.State.{KernelState}
 use Rattle.nova_model.specs.Turn.{Step, turn}
 use Rattle.nova_model.specs.Views.{view}
 use Rattle.nova_model.specs.declared.event.Event.{Event}
-use Rattle.nova_model.specs.declared.log.LogByte.{LogByte}
 use Rattle.nova_model.specs.AddressSpaces.{AddressSpace}
 use Rattle.nova_forest.specs.Effects.{memory_with}
 use Rattle.nova_forest.proofs.Turning.{after_keeps}

@@ -1,6 +1,6 @@
 -- What the guest alone puts out, with both qualifications and with frames, is what trace, states and log show.
-use Rattle.std.proofs.Common.{◌≡◌, ℕ, ◌+◌, ◌-◌, ◌%◌, ◌≤◌, zero, suc, List, [], ◌∷◌, ◌++◌, length, ap, ap₂, sym, ◌∙◌, subst, refl, arith}
-use Rattle.std.specs.Prelude.{◌==◌, Bool, true, false, slice_get, Option, Some, None, if◌then◌else◌}
+use Rattle.std.proofs.Common.{◌≡◌, ℕ, ◌%◌, List, [], ◌∷◌, ◌++◌, length, ap, ap₂, sym, ◌∙◌, subst, refl}
+use Rattle.std.specs.Prelude.{◌==◌, Bool, true, false, Option, Some, None, if◌then◌else◌}
 use Rattle.std.specs.List.{filter}
 use Rattle.std.proofs.lemmas.List.{append-nil, map-append}
 use Rattle.std.proofs.lemmas.List.Elements.{filter-append}
@@ -8,7 +8,7 @@ use Rattle.rv_model.specs.Step.{Once, Raised, Went, Store, one}
 use Rattle.nova_guest.specs.Alone.{acted, applied, guest_space, out_before, outputs, ran, stepped, stored, stored_at, written}
 use Rattle.nova_guest.specs.Cells.{cell_at}
 use Rattle.nova_guest.specs.Frames.{frame_from}
-use Rattle.nova_guest.specs.Maps.{is_covered, page_in}
+use Rattle.nova_guest.specs.Maps.{page_in}
 use Rattle.nova_guest.specs.declared.guest.Guest.{Guest}
 use Rattle.nova_guest.specs.declared.guest.GuestState.{GuestState}
 use Rattle.nova_guest.specs.declared.guest.GuestState.TheVariants as guest
@@ -27,11 +27,8 @@ use Rattle.nova_isolation.specs.Law.{answered, byte_of, bytes_in, bytes_of, exit
 use Rattle.nova_isolation.specs.Shown.{bytes, exit_by, exit_with, exits, gained, gained_in, is_byte, is_exit, second_of, shown}
 use Rattle.nova_isolation.specs.Sound.{IsSound, IsVirtual}
 use Rattle.nova_isolation.specs.Stretches.{BeginEqual, EndEqual, Stretch, begun, outputs_in}
-use Rattle.nova_isolation.proofs.OtherTurns.{view_cells}
 use Rattle.nova_isolation.proofs.Runs.{reached_sound, turn_is_one, turn_sound, turn_virtual, two_runs}
-use Rattle.nova_isolation.proofs.Seen.{maps_at, view_is}
 use Rattle.nova_isolation.proofs.Showing.{bytes_shown, exit_shown, outputs_next, turn_frames}
-use Rattle.nova_isolation.proofs.Spaces.{cell_of, frame_covered}
 
 -- AN OUTPUT AND THE GUEST
 

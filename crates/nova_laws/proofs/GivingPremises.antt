@@ -1,7 +1,7 @@
 -- What a deed wants of transfers: whose execution context gives or doesn't, and where it opens a protection domain, the range that it was
 -- asked to give.
 use Rattle.std.proofs.Common.{◌≡◌, ℕ, ◌+◌, length, refl, ap, sym, subst}
-use Rattle.std.specs.Prelude.{Bool, true, false, ◌&&◌, ◌==◌, nat_le, ◌%◌, ◌/◌, ◌^◌, ◌-◌, ◌||◌, not, nat_lt, if◌then◌else◌, slice_get, Option, Some, None, IsSome, IfSome, option_map, Result, Ok, Err}
+use Rattle.std.specs.Prelude.{Bool, true, false, ◌&&◌, ◌==◌, nat_le, ◌%◌, ◌/◌, ◌^◌, ◌-◌, not, nat_lt, if◌then◌else◌, slice_get, Option, Some, None, IsSome, IfSome, option_map, Result, Ok, Err}
 use Rattle.std.specs.List.{AllByRecursion}
 use Rattle.rv_model.specs.Registers.{Registers, reg}
 use Rattle.nova_calls.specs.Hypercalls.{action_of, call_of, is_flag, is_selector, kind_of, range_of, read_row, readable, rows}
@@ -11,13 +11,12 @@ use Rattle.nova_calls.specs.declared.numbers.TheConstants.{CREATE_EC, CREATE_SC,
 use Rattle.nova_range.specs.RangeWords.{meaning_of}
 use Rattle.nova_range.specs.declared.range.Range.{Range}
 use Rattle.nova_range.specs.declared.rights.Rights.{Rights}
-use Rattle.nova_range.specs.declared.status.Status.TheVariants.{Aborted, BadCpu, Timeout}
 use Rattle.nova_range.specs.declared.word.WordFault.{WordFault}
 use Rattle.nova_model.specs.Capabilities.{is_ec, is_sc, is_pt, named, control_right}
-use Rattle.nova_model.specs.Calls.{admitted, exit_admitted, is_parked, is_same_cpu}
+use Rattle.nova_model.specs.Calls.{admitted, exit_admitted}
 use Rattle.nova_model.specs.Deeds.{deed, deed_in}
 use Rattle.nova_model.specs.Deliveries.{delivery, delivers, given_to, sequel_of, taken_from}
-use Rattle.nova_model.specs.Edges.{circle, cpu_in, is_dead, state_in, is_giving}
+use Rattle.nova_model.specs.Edges.{state_in, is_giving}
 use Rattle.nova_model.specs.Hypercalls.{new_domain, row, ticks_in}
 use Rattle.nova_model.specs.Portals.{handler_of}
 use Rattle.nova_model.specs.Semaphores.{semaphore, woken}
@@ -25,7 +24,7 @@ use Rattle.nova_model.specs.State.{KernelState, budget_at, context, pd_of, trans
 use Rattle.nova_model.specs.Transfers.{read_as}
 use Rattle.nova_model.specs.declared.context.State.{State}
 use Rattle.nova_model.specs.declared.context.State.TheVariants.{Parked, Granting, Replying}
-use Rattle.nova_model.specs.declared.admit.Admit.TheVariants.{Refused, Help, Send}
+use Rattle.nova_model.specs.declared.admit.Admit.TheVariants.{Send}
 use Rattle.nova_model.specs.declared.admit.ExitAdmit.TheVariants as exit
 use Rattle.nova_model.specs.declared.context.Mark.{Mark}
 use Rattle.nova_model.specs.declared.transfer.Delivery.{Delivery}
@@ -34,6 +33,7 @@ use Rattle.nova_model.specs.declared.transfer.Sequel.TheVariants as sequel
 use Rattle.nova_model.specs.declared.deed.Deed.{Deed}
 use Rattle.nova_model.specs.declared.deed.Deed.TheVariants.{Rests, Sends, Recalls, Tells, Names, Opens, Gives, Skips, Finishes, Calls, Replies, Ups}
 use Rattle.nova_model.specs.declared.new_object.NewObject.TheVariants.{Sm}
+use Rattle.nova_ec.proofs.Admitted.{call_sent, exit_sent}
 use Rattle.nova_forest.proofs.Walk.{IfDone, Delivers, delivered_holds, own_holds, sm_ctrl_holds}
 use Rattle.nova_laws.proofs.Rows.{call_holds, makes_hold, named_holds, reply_holds, create_pd_holds}
 use Rattle.nova_laws.proofs.TablesKept.{all_get}
@@ -176,43 +176,11 @@ first_range r target pd (Some range) h is = h
 
 -- a call is sent to one that is parked
 admits_parked : (k : KernelState) (ec handler : ℕ) (flag : Bool) → admitted k.contexts ec handler flag ≡ Send → state_in k.contexts handler ≡ Some Parked
-admits_parked k ec handler flag is =
-    by_processor (is_same_cpu (cpu_in k.contexts handler) (cpu_in k.contexts ec)) (is_dead (state_in k.contexts handler) || circle k.contexts handler ec) (state_in k.contexts handler) is
-  where
-    by_state : (o : Option State) → (if is_parked o then Send else if flag then Refused Timeout else Help) ≡ Send → o ≡ Some Parked
-    by_state (Some Parked) h = refl
-    by_state None h = absurd (busy flag h)
-      where
-        busy : (t : Bool) → (if t then Refused Timeout else Help) ≡ Send → ⊥
-        busy true e = absurd (cc)
-        busy false e = absurd (cc)
-    by_state (Some other) h = absurd (busy flag h)
-      where
-        busy : (t : Bool) → (if t then Refused Timeout else Help) ≡ Send → ⊥
-        busy true e = absurd (cc)
-        busy false e = absurd (cc)
-
-    by_processor : (same ended : Bool) (o : Option State) →
-        (if not same then Refused BadCpu else if ended then Refused Aborted else if is_parked o then Send else if flag then Refused Timeout else Help) ≡ Send → o ≡ Some Parked
-    by_processor false ended o h = absurd (cc)
-    by_processor true true o h = absurd (cc)
-    by_processor true false o h = by_state o h
+admits_parked k ec handler flag is = ((call_sent k.contexts ec handler flag).0 is).1
 
 -- and so is an exit
 exit_parked : (k : KernelState) (ec handler : ℕ) → exit_admitted k.contexts ec handler ≡ exit.Sends → state_in k.contexts handler ≡ Some Parked
-exit_parked k ec handler is =
-    by_processor (is_same_cpu (cpu_in k.contexts handler) (cpu_in k.contexts ec)) (is_dead (state_in k.contexts handler) || circle k.contexts handler ec) (state_in k.contexts handler) is
-  where
-    by_state : (o : Option State) → (if is_parked o then exit.Sends else exit.Waits) ≡ exit.Sends → o ≡ Some Parked
-    by_state (Some Parked) h = refl
-    by_state None h = absurd (cc)
-    by_state (Some other) h = absurd (cc)
-
-    by_processor : (same ended : Bool) (o : Option State) →
-        (if not same then exit.Dies else if ended then exit.Dies else if is_parked o then exit.Sends else exit.Waits) ≡ exit.Sends → o ≡ Some Parked
-    by_processor false ended o h = absurd (cc)
-    by_processor true true o h = absurd (cc)
-    by_processor true false o h = by_state o h
+exit_parked k ec handler is = ((exit_sent k.contexts ec handler).0 is).1
 
 row_wants : (k : KernelState) (ec domain : ℕ) (c : Call) → is_giving (context k ec).state ≡ false → HasRangeFor (context k ec).regs c → IfDone (Wants k ec) (row k ec domain c)
 row_wants k ec domain (asks.Call portal flag) rests range =

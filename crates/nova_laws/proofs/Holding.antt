@@ -1,7 +1,7 @@
 -- What a selector names, and capabilities there.
-use Rattle.std.proofs.Common.{◌≡◌, ◌<◌, ℕ, List, [], ◌∷◌, length, inl, inr, refl, sym, ap, ◌∙◌, subst, arith}
-use Rattle.std.specs.Prelude.{◌^◌, ◌==◌, ◌&&◌, ◌||◌, Bool, true, false, if◌then◌else◌, is_some, nat_le, nat_lt, slice_get, Option, Some, None, option_and_then, Ok}
-use Rattle.std.specs.List.{AllByRecursion, cons_option, filter_map, find, list_any, range_with_len}
+use Rattle.std.proofs.Common.{◌≡◌, ◌<◌, ℕ, List, [], ◌∷◌, length, inl, inr, refl, sym, ap, ◌∙◌, arith}
+use Rattle.std.specs.Prelude.{◌^◌, ◌==◌, ◌&&◌, ◌||◌, ◌⊎◌, Bool, true, false, if◌then◌else◌, is_some, nat_le, nat_lt, slice_get, Option, Some, None, option_and_then, Ok}
+use Rattle.std.specs.List.{cons_option, filter_map, find, list_any, range_with_len}
 use Rattle.std.proofs.lemmas.Bool.{and_parts, eqb-true}
 use Rattle.std.proofs.lemmas.Bool.Decides.{nat_tests}
 use Rattle.nova_objects.specs.declared.object.Object.{Object}
@@ -18,6 +18,7 @@ use Rattle.nova_model.specs.Running.{Running, is_of_objects, is_revoked, revoke_
 use Rattle.nova_model.specs.State.{KernelState}
 use Rattle.nova_model.specs.declared.delegation.Derivation.{Derivation}
 use Rattle.nova_forest.proofs.Members.{IsIn, all_at, contains_from_in, found_in, in_from_contains, none_any, none_found}
+use Rattle.nova_forest.proofs.Pairs.{pairs_at}
 use Rattle.nova_forest.proofs.Running.{running_has}
 use Rattle.nova_forest.proofs.Transfers.{kinds_equal}
 use Rattle.nova_forest.proofs.Walk.{IfDone}
@@ -74,13 +75,12 @@ not_both k domain selector a b h i apart =
 
 only_among : (k : KernelState) (domain selector : ℕ) (a b : Derivation) → IsHeldAt k domain selector a → IsHeldAt k domain selector b →
     (ds : List Derivation) → ArePairs Apart ds → IsIn ds a → IsIn ds b → a ≡ b
-only_among k domain selector a b h i [] apart there here = absurd there
-only_among k domain selector a b h i (d ∷ ds) apart (inl first) (inl other) = sym first ∙ other
-only_among k domain selector a b h i (d ∷ ds) apart (inl first) (inr later) =
-    absurd (not_both k domain selector a b h i (all_at (Apart a) ds b (subst (λ x. AllByRecursion (Apart x) ds) first apart.0) later))
-only_among k domain selector a b h i (d ∷ ds) apart (inr later) (inl first) =
-    absurd (not_both k domain selector b a i h (all_at (Apart b) ds a (subst (λ x. AllByRecursion (Apart x) ds) first apart.0) later))
-only_among k domain selector a b h i (d ∷ ds) apart (inr later) (inr other) = only_among k domain selector a b h i ds apart.1 later other
+only_among k domain selector a b h i ds apart there here = by_pair (pairs_at Apart ds a b apart there here)
+  where
+    by_pair : (a ≡ b) ⊎ (Apart a b ⊎ Apart b a) → a ≡ b
+    by_pair (inl same) = same
+    by_pair (inr (inl far)) = absurd (not_both k domain selector a b h i far)
+    by_pair (inr (inr far)) = absurd (not_both k domain selector b a i h far)
 
 found_held : (k : KernelState) (domain selector : ℕ) (d : Derivation) → IsForest k.delegations → IsHeldAt k domain selector d →
     find (covers Obj domain selector) k.delegations.list ≡ Some d

@@ -10,7 +10,6 @@ pub mod Chosen
 pub mod Referring
 pub mod Tags
 pub mod TablesKept
-pub mod Admitting
 pub mod Serving
 pub mod Blocking
 pub mod Virtual

@@ -13,8 +13,9 @@ use Rattle.nova_model.specs.declared.context.Mark.{Mark}
 use Rattle.nova_model.specs.declared.context.Mark.TheVariants as came
 use Rattle.nova_model.specs.declared.context.State.{State}
 use Rattle.nova_model.specs.declared.context.State.TheVariants.{Blocked, Calling, Dead, Granting, Parked, Ready}
+use Rattle.nova_ec.proofs.Admitted.{call_helped, call_sent, exit_sent, exit_waits}
+use Rattle.nova_ec.proofs.Handlers.{may_wait}
 use Rattle.nova_laws.specs.Links.{AreServed, IsLinked, IsWell, caller_at, cpu_at, handles_items, state_at}
-use Rattle.nova_laws.proofs.Admitting.{admits_edge, exit_edge, exit_parked, send_parked}
 use Rattle.nova_laws.proofs.Links.{GoesOn, is_taking, place, served_exchange, served_on}
 use Rattle.nova_laws.proofs.Setting.{entry_itself, entry_other}
 
@@ -162,16 +163,16 @@ pub record IsReached (cs : Contexts) (ec h : ℕ) : Type 0 where
   pub parked : is_parked (state_in cs h) ≡ true
 
 pub help_edge : (cs : Contexts) (ec h : ℕ) (flag : Bool) → admitted cs ec h flag ≡ admit.Help → IsNewEdge cs ec h
-help_edge cs ec h flag is = admits_edge cs ec h flag admit.Help is (inr refl)
+help_edge cs ec h flag is = (may_wait cs ec h ((call_helped cs ec h flag).0 is).0).0
 
 pub send_reaches : (cs : Contexts) (ec h : ℕ) (flag : Bool) → admitted cs ec h flag ≡ admit.Send → IsReached cs ec h
-send_reaches cs ec h flag is = record { may = admits_edge cs ec h flag admit.Send is (inl refl); parked = send_parked cs ec h flag is }
+send_reaches cs ec h flag is = let both = (call_sent cs ec h flag).0 is in record { may = (may_wait cs ec h both.0).0; parked = ap is_parked both.1 }
 
 pub exit_waits_edge : (cs : Contexts) (ec h : ℕ) → exit_admitted cs ec h ≡ exit.Waits → IsNewEdge cs ec h
-exit_waits_edge cs ec h is = exit_edge cs ec h exit.Waits is (inr refl)
+exit_waits_edge cs ec h is = (may_wait cs ec h ((exit_waits cs ec h).0 is).0).0
 
 pub exit_reaches : (cs : Contexts) (ec h : ℕ) → exit_admitted cs ec h ≡ exit.Sends → IsReached cs ec h
-exit_reaches cs ec h is = record { may = exit_edge cs ec h exit.Sends is (inl refl); parked = exit_parked cs ec h is }
+exit_reaches cs ec h is = let both = (exit_sent cs ec h).0 is in record { may = (may_wait cs ec h both.0).0; parked = ap is_parked both.1 }
 
 parked_there : (o : Option EcState) → is_parked (state_at o) ≡ true → is_some o ≡ true
 parked_there None h = absurd (cc)

@@ -7,6 +7,7 @@ use Rattle.byteorder.specs.Endian.{little_bytes}
 use Rattle.rv_model.specs.Registers.{Registers}
 use Rattle.rv_model.specs.Step.{Store, Once, Raised, Went, one}
 use Rattle.nova_range.specs.Rights.{write_right}
+use Rattle.nova_forest.proofs.Members.{all_weaker}
 use Rattle.nova_guest.specs.Alone.{Told, told, acted, ran, applied, stepped, stored_at, written, out_before, outputs, guest_space}
 use Rattle.nova_guest.specs.Cells.{cell_at}
 use Rattle.nova_guest.specs.Frames.{frame_from, replaced}
@@ -120,10 +121,6 @@ pub record AreSteps (n : ℕ) (v : Guest) (l m : LeaseState) : Type 0 where
 all_front : (P : ℕ → Type 0) (o : Option ℕ) (fs : List ℕ) → ((n : ℕ) → o ≡ Some n → P n) → AllByRecursion P fs → AllByRecursion P (in_front o fs)
 all_front P None fs first rest = rest
 all_front P (Some f) fs first rest = (first f refl, rest)
-
-pub all_weaker : (P Q : ℕ → Type 0) (fs : List ℕ) → ((n : ℕ) → P n → Q n) → AllByRecursion P fs → AllByRecursion Q fs
-all_weaker P Q [] goes all = tt
-all_weaker P Q (f ∷ fs) goes all = (goes f all.0, all_weaker P Q fs goes all.1)
 
 next_steps : (n : ℕ) (v : Guest) (l k m : LeaseState) → IsStep v l k → AreSteps n v k m → AreSteps (suc n) v l m
 next_steps n v l k m step rest =

@@ -11,7 +11,6 @@ use Rattle.nova_guest.specs.declared.guest.Guest.{Guest}
 use Rattle.nova_guest.specs.declared.input.Input.TheVariants as input
 use Rattle.nova_guest.specs.declared.input.Input.{Input}
 use Rattle.nova_guest.specs.declared.input.Input.TheVariants.{Own}
-use Rattle.nova_guest.specs.declared.input.Out.{Out}
 use Rattle.nova_guest.specs.declared.map.Map.{Map}
 use Rattle.nova_range.specs.Rights.{write_right}
 use Rattle.nova_model.specs.AddressSpaces.{AddressSpace, message_size, own_page, stored_among}

@@ -3,6 +3,7 @@ use Rattle.std.proofs.Common.{◌≡◌, ◌≢◌, ◌<◌, ◌≤◌, ℕ, zer
 use Rattle.std.specs.Prelude.{Bool, true, false, ◌==◌, filter, nat_lt, replicate, slice_get, Option, Some, None, IsSome, if◌then◌else◌}
 use Rattle.std.specs.List.{AllByRecursion}
 use Rattle.std.proofs.lemmas.Bool.{cases_eq}
+use Rattle.nova_forest.proofs.Members.{all_weaker}
 use Rattle.nova_guest.specs.Alone.{applied}
 use Rattle.nova_guest.specs.Cells.{cell_at, page_size}
 use Rattle.nova_guest.specs.Maps.{is_covered}
@@ -24,7 +25,6 @@ use Rattle.nova_leases.specs.declared.steps.Page.{Page}
 use Rattle.nova_leases.specs.declared.steps.Steps.{Steps}
 use Rattle.nova_leases.proofs.Bursting.{IsAdvanced, advances}
 use Rattle.nova_leases.proofs.Committed.{run_reached}
-use Rattle.nova_leases.proofs.Copying.{all_weaker}
 use Rattle.nova_leases.proofs.Paged.{seen_same}
 
 -- WITHOUT STORES

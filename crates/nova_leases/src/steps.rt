@@ -1,4 +1,4 @@
-use crate::bytes::Bytes;
+use nova_guest::Bytes;
 use rv_core::Regs;
 
 /// A copy of a RAM frame: its bytes, and how many stores went to it.

@@ -1,5 +1,5 @@
 -- What seat 0 keeps of the others.
-use Rattle.std.proofs.Common.{◌≡◌, ℕ, zero, suc, ◌+◌, ◌<◌, ◌≤◌, List, [], ◌∷◌, length, map, drop, slice_index_or, refl, arith, Contains}
+use Rattle.std.proofs.Common.{ℕ, zero, suc, ◌<◌, List, [], ◌∷◌, length, map, drop, slice_index_or, refl, arith, Contains}
 use Rattle.nova_lock.specs.Seats.{SeatView, note}
 
 module _ {T : Type 0} where

@@ -1,14 +1,14 @@
 -- Histories, and the seats in line.
-use Rattle.std.proofs.Common.{◌≡◌, ◌≢◌, ◌⊎◌, inl, inr, ⊎_elim, Contains, slice_index_or, ℕ, zero, suc, ◌+◌, ◌%◌, ◌^◌, ◌<◌, ◌≤◌, List, [], ◌∷◌, ◌++◌, length, set, replicate, refl, ap, sym, ◌∙◌, subst, arith, append_assoc, length-append, Bool, true, false, ◌==◌, append-nil}
+use Rattle.std.proofs.Common.{◌≡◌, ◌≢◌, ◌⊎◌, inl, inr, ⊎_elim, Contains, slice_index_or, ℕ, zero, suc, ◌+◌, ◌<◌, ◌≤◌, List, [], ◌∷◌, ◌++◌, length, set, replicate, refl, ap, sym, ◌∙◌, subst, arith, append_assoc, append-nil}
 use Rattle.std.proofs.lemmas.Bool.Decides.{nat_tests}
-use mathlib.Core.Option.{none, some, some-injective, some-ne-none}
+use mathlib.Core.Option.{some, some-injective, some-ne-none}
 use mathlib.Core.List.{IsPrefix}
 use lib.ListN.{get_elem?}
 use Rattle.nova_lock.specs.declared.view.View.{View}
 use Rattle.nova_lock.specs.declared.view.Phase.{Phase}
 use Rattle.nova_lock.specs.declared.view.Phase.TheVariants.{Idle, Waiting, Called, Spent}
 use Rattle.nova_lock.specs.History.{Adds, entries, IsFrontOf}
-use Rattle.nova_lock.specs.Ticketed.{queued, weight, is_queued}
+use Rattle.nova_lock.specs.Ticketed.{queued, weight}
 
 pub prefix_self : {A : Type 0} (xs : List A) → IsPrefix xs xs
 prefix_self xs = ([], append-nil xs)

@@ -1,16 +1,15 @@
 -- A lock is opened, seats are made, and seat 0 takes in the others.
-use Rattle.std.proofs.Common.{◌≡◌, ◌≢◌, ◌⊎◌, inl, inr, ⊎_elim, ℕ, zero, suc, ◌+◌, ◌*◌, ◌%◌, ◌^◌, ◌<◌, ◌≤◌, List, [], ◌∷◌, ◌++◌, length, set, get_or, refl, ap, sym, ◌∙◌, subst, arith, Bool, true, false, length-set, length-append, Contains, Some, None, map}
-use mathlib.Core.Option.{Option, none, some, some-injective, some-ne-none}
+use Rattle.std.proofs.Common.{◌≡◌, ◌≢◌, inl, inr, ⊎_elim, ℕ, zero, suc, ◌+◌, ◌%◌, ◌^◌, ◌<◌, List, [], ◌∷◌, ◌++◌, set, refl, ap, sym, ◌∙◌, subst, arith, length-set, length-append, Contains, Some, None}
+use mathlib.Core.Option.{Option, some, some-injective, some-ne-none}
 use lib.ListN.{get_elem?}
 use Rattle.atomic_table.specs.Table.{State, Splits, Joins, opening, Final, Seen}
 use Rattle.atomic_table.proofs.Lists.{at_set, set_else, set_here, at_longer}
 use Rattle.nova_lock.specs.declared.view.View.{View}
-use Rattle.nova_lock.specs.declared.view.Phase.{Phase}
-use Rattle.nova_lock.specs.declared.view.Phase.TheVariants.{Idle, Waiting, Called, Spent}
+use Rattle.nova_lock.specs.declared.view.Phase.TheVariants.{Idle, Called, Spent}
 use Rattle.nova_lock.specs.History.{entries, IsFrontOf}
 use mathlib.Core.Logic.{dite}
 use native.Mathlib.Decide.{ℕ_discrete}
-use Rattle.nova_lock.specs.Ticketed.{is_queued, weight, queued, Lines, IsInPlace, IsFirst, Apart, Placed, IsSound, Closes}
+use Rattle.nova_lock.specs.Ticketed.{weight, IsInPlace, IsFirst, IsSound, Closes}
 use Rattle.nova_lock.proofs.Queue.{queued-set, queued-snoc, at_less, snoc_at, cons_cases}
 use Rattle.nova_lock.proofs.Steps.{each-set, pairs-set, one-phase, kept-set}
 

@@ -1,16 +1,15 @@
 -- Each step of the lock keeps its rule.
-use Rattle.std.proofs.Common.{◌≡◌, ◌≢◌, ◌⊎◌, inl, inr, ⊎_elim, ℕ, zero, suc, ◌+◌, ◌*◌, ◌%◌, ◌^◌, ◌<◌, ◌≤◌, List, [], ◌∷◌, ◌++◌, length, set, get_or, refl, ap, sym, ◌∙◌, subst, arith, Bool, true, false, ◌==◌, length-set, length-append, MatchBool, Contains, eqb-true, eq-eqb, ne_eqb, Some, None}
+use Rattle.std.proofs.Common.{◌≡◌, ◌≢◌, inl, inr, ⊎_elim, ℕ, ◌+◌, ◌%◌, ◌^◌, ◌<◌, ◌≤◌, List, [], ◌∷◌, set, get_or, refl, ap, sym, ◌∙◌, subst, arith, Bool, true, false, ◌==◌, length-set, MatchBool, Contains, eqb-true, Some}
 use Rattle.std.proofs.Math.Nat.{mod-add-mod}
-use mathlib.Core.Option.{Option, none, some, some-injective, some-ne-none}
-use mathlib.Core.List.{IsPrefix}
+use mathlib.Core.Option.{Option, none, some, some-injective}
 use lib.ListN.{get_elem?}
 use Rattle.atomic_table.specs.Table.{State, Me, Act, step, keeps, takes, gives, stepped, Allows, Valid}
 use Rattle.atomic_table.proofs.Lists.{at_set, set_else, set_here, set_again, one_turn}
 use Rattle.nova_lock.specs.declared.view.View.{View}
 use Rattle.nova_lock.specs.declared.view.Phase.{Phase}
 use Rattle.nova_lock.specs.declared.view.Phase.TheVariants.{Idle, Waiting, Called, Spent}
-use Rattle.nova_lock.specs.History.{Adds, entries, IsFrontOf}
-use Rattle.nova_lock.specs.Ticketed.{is_queued, weight, queued, Lines, IsInPlace, IsFirst, Apart, Placed, IsSound, Holds, Draws, Took, Looks, Passes, Gives}
+use Rattle.nova_lock.specs.History.{Adds, IsFrontOf}
+use Rattle.nova_lock.specs.Ticketed.{is_queued, weight, Lines, IsInPlace, IsFirst, Apart, IsSound, Draws, Took, Looks, Passes, Gives}
 use Rattle.nova_lock.proofs.Queue.{queued-set, queued-few, fronts-added, fronts-self, entries-added, at_less}
 
 Some-injective : {A : Type 0} {x y : A} → Some x ≡ Some y → x ≡ y

@@ -1,10 +1,10 @@
-ghost use Rattle.std.specs.Prelude.{◌≡◌, ◌%◌, ◌^◌, ◌≤◌, ◌<◌, ◌+◌, ◌++◌, List, ℕ, [], ◌∷◌, IfOk, IfErr, Some, vec_capacity, slice_index_or, vec_len, All, Contains, map, drop};
+ghost use Rattle.std.specs.Prelude.{◌≡◌, ◌%◌, ◌^◌, ◌≤◌, ◌<◌, ◌+◌, List, ℕ, [], ◌∷◌, IfOk, IfErr, Some, vec_capacity, slice_index_or, vec_len, All, Contains, map, drop};
 ghost use mathlib.Core.List.{IsPrefix};
 ghost use mathlib.Core.Option.{none};
 ghost use Rattle.atomic_table.specs.Table.{step};
 ghost use Rattle.nova_lock.specs.Seats.{AreSeats, Ends, IsSeat, IsSeatOf, SeatView, note};
 ghost use Rattle.nova_lock.specs.History.{Adds, entries, IsFrontOf};
-ghost use Rattle.nova_lock.specs.Ticketed.{Holds, Gives, Took, Draws, Passes, Acted};
+ghost use Rattle.nova_lock.specs.Ticketed.{Gives, Took, Draws, Passes, Acted};
 ghost use Rattle.nova_lock.specs.declared.view.Phase.TheVariants.{Idle, Waiting};
 
 use crate::called::{Historied, LockCall};

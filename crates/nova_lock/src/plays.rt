@@ -1,4 +1,4 @@
-ghost use Rattle.std.specs.Prelude.{ℕ, ◌+◌, [], ◌∷◌, Some, None};
+ghost use Rattle.std.specs.Prelude.{◌+◌, [], ◌∷◌, Some, None};
 ghost use Rattle.nova_lock.specs.Ticketed.{IsSound, Draws, Looks, Passes};
 ghost use Rattle.nova_lock.specs.declared.view.Phase.TheVariants.{Idle, Spent};
 

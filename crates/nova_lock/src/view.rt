@@ -1,5 +1,4 @@
 use std::collections::LinkedList;
-use std::marker::PhantomData;
 
 /// Where a seat is in a use of the lock.
 #[derive(Clone, Copy)]

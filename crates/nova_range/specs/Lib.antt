@@ -5,3 +5,4 @@ pub mod RangeWords
 pub mod Clamps
 pub mod Statuses
 pub mod Indices
+pub mod Members

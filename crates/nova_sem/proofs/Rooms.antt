@@ -5,7 +5,7 @@ use Rattle.nova_model.specs.State.{Semaphore}
 use Rattle.nova_model.specs.Creation.{idle_semaphore}
 use Rattle.nova_model.specs.Semaphores.{Semaphores, waits}
 use Rattle.nova_sem.specs.Sound.{AreSound}
-use Rattle.nova_sem.specs.Links.{shown_in, all_shown, new_counter, counter_at, IsEnded, AreLinked}
+use Rattle.nova_sem.specs.Links.{entry_with_queue, all_with_queues, new_counter, counter_at, IsEnded, AreLinked}
 use Rattle.nova_sem.specs.declared.counter.Counter.{Counter}
 use Rattle.nova_sem.proofs.Tables.{more_same, more_other}
 use Rattle.nova_sem.proofs.Sound.{add_sound}
@@ -16,15 +16,15 @@ use Rattle.nova_sem.proofs.Steps.{all_kept, IsLeft}
 abbrev pub filled : List ℕ → ℕ → List ℕ
 filled links n = take n links ++ replicate (n - length links) 0
 
-pub filled_shown : (links more : List ℕ) (counters : List (Option Counter)) (n : ℕ) → length links ≤ n → more ≡ filled links n → all_shown more counters ≡ all_shown links counters
-filled_shown links more counters n le is =
+pub filled_entries : (links more : List ℕ) (counters : List (Option Counter)) (n : ℕ) → length links ≤ n → more ≡ filled links n → all_with_queues more counters ≡ all_with_queues links counters
+filled_entries links more counters n le is =
     all_kept links more counters (λ sm c there. linked_same links more c.first c.waiting
     (λ i. ap (λ (l : List ℕ). slice_index l i) is ∙ index_filled links n (n - length links) i le))
 
 pub filled_linked : (links more : List ℕ) (counters : List (Option Counter)) (n : ℕ) → AreLinked links counters → length links ≤ n → n ≤ 2 ^ 32 - 1 → length more ≡ n →
     more ≡ filled links n → AreLinked more counters
 filled_linked links more counters n are le most long is =
-    let all = filled_shown links more counters n le is in record {
+    let all = filled_entries links more counters n le is in record {
       ended = λ sm c there k some. are.ended sm c there k some ∙ sym (led_same links more c.first k (λ i. ap (λ (l : List ℕ). slice_index l i) is ∙ index_filled links n (n - length links) i le));
       within = λ sm ec waiting. let lt = are.within sm ec (ap (λ (l : Semaphores). waits l sm ec) (sym all) ∙ waiting) in omega (arith, lt, le, long);
       few = omega (arith, most, long);
@@ -32,34 +32,34 @@ filled_linked links more counters n are le most long is =
       sound = subst AreSound (sym all) are.sound;
     }
 
-pub shown_length : (links : List ℕ) (counters : List (Option Counter)) → length (all_shown links counters) ≡ length counters
-shown_length links [] = refl
-shown_length links (o ∷ counters) = ap suc (shown_length links counters)
+pub entries_length : (links : List ℕ) (counters : List (Option Counter)) → length (all_with_queues links counters) ≡ length counters
+entries_length links [] = refl
+entries_length links (o ∷ counters) = ap suc (entries_length links counters)
 
-shown_append : (links : List ℕ) (counters more : List (Option Counter)) → all_shown links (counters ++ more) ≡ all_shown links counters ++ all_shown links more
-shown_append links [] more = refl
-shown_append links (o ∷ counters) more = ap (λ (l : Semaphores). shown_in links o ∷ l) (shown_append links counters more)
+entries_append : (links : List ℕ) (counters more : List (Option Counter)) → all_with_queues links (counters ++ more) ≡ all_with_queues links counters ++ all_with_queues links more
+entries_append links [] more = refl
+entries_append links (o ∷ counters) more = ap (λ (l : Semaphores). entry_with_queue links o ∷ l) (entries_append links counters more)
 
-shown_new : (links : List ℕ) (count : Option ℕ) → shown_in links (option_map new_counter count) ≡ option_map idle_semaphore count
-shown_new links None = refl
-shown_new links (Some n) = refl
+entry_new : (links : List ℕ) (count : Option ℕ) → entry_with_queue links (option_map new_counter count) ≡ option_map idle_semaphore count
+entry_new links None = refl
+entry_new links (Some n) = refl
 
 -- one more entry, at which nobody waits
-pub added_shown : (links : List ℕ) (counters : List (Option Counter)) (count : Option ℕ) →
-    all_shown links (counters ++ option_map new_counter count ∷ []) ≡ all_shown links counters ++ option_map idle_semaphore count ∷ []
-added_shown links counters count =
-    shown_append links counters (option_map new_counter count ∷ [])
-    ∙ ap (λ (o : Option Semaphore). all_shown links counters ++ o ∷ []) (shown_new links count)
+pub added_entries : (links : List ℕ) (counters : List (Option Counter)) (count : Option ℕ) →
+    all_with_queues links (counters ++ option_map new_counter count ∷ []) ≡ all_with_queues links counters ++ option_map idle_semaphore count ∷ []
+added_entries links counters count =
+    entries_append links counters (option_map new_counter count ∷ [])
+    ∙ ap (λ (o : Option Semaphore). all_with_queues links counters ++ o ∷ []) (entry_new links count)
 
 pub added_linked : (links : List ℕ) (counters : List (Option Counter)) (count : Option ℕ) → length counters < length links → AreLinked links counters →
     AreLinked links (counters ++ option_map new_counter count ∷ [])
 added_linked links counters count lt are =
-    let shows = added_shown links counters count in record {
+    let shows = added_entries links counters count in record {
       ended = λ sm c there. by_place sm c there (sm == length counters) refl;
-      within = λ sm ec waiting. are.within sm ec (sym (added_waits (all_shown links counters) count sm ec) ∙ ap (λ (l : Semaphores). waits l sm ec) (sym shows) ∙ waiting);
+      within = λ sm ec waiting. are.within sm ec (sym (added_waits (all_with_queues links counters) count sm ec) ∙ ap (λ (l : Semaphores). waits l sm ec) (sym shows) ∙ waiting);
       few = are.few;
       room = let more = length-append counters (option_map new_counter count ∷ []) in omega (arith, more, lt);
-      sound = subst AreSound (sym shows) (add_sound (all_shown links counters) count are.sound);
+      sound = subst AreSound (sym shows) (add_sound (all_with_queues links counters) count are.sound);
     }
   where
     nobody : (o : Option ℕ) (c : Counter) → option_map new_counter o ≡ Some c → c.waiting ≡ 0
@@ -76,10 +76,10 @@ added_linked links counters count lt are =
 
 -- more room, or the same where it was refused
 pub resized : (links more : List ℕ) (counters : List (Option Counter)) (n : ℕ) (t : Bool) → AreLinked links counters → length links ≤ n → n ≤ 2 ^ 32 - 1 →
-    length more ≡ (if t then n else length links) → more ≡ (if t then filled links n else links) → IsLeft more counters (all_shown links counters)
+    length more ≡ (if t then n else length links) → more ≡ (if t then filled links n else links) → IsLeft more counters (all_with_queues links counters)
 resized links more counters n true are le most long is = record {
   holds = filled_linked links more counters n are le most long is;
-  shows = filled_shown links more counters n le is;
+  shows = filled_entries links more counters n le is;
 }
 resized links more counters n false are le most long is =
-    subst (λ (l : List ℕ). IsLeft l counters (all_shown links counters)) (sym is) (record { holds = are; shows = refl })
+    subst (λ (l : List ℕ). IsLeft l counters (all_with_queues links counters)) (sym is) (record { holds = are; shows = refl })

@@ -15,16 +15,16 @@ abbrev pub led_to : List ℕ → ℕ → ℕ → ℕ
 led_to links ec zero = ec
 led_to links ec (suc n) = led_to links (slice_index links ec) n
 
--- a counter with the queue that its links show
-abbrev pub shown : List ℕ → Counter → Semaphore
-shown links c = record { count = c.count; waiting = linked links c.first c.waiting }
+-- a semaphore of a counter: with the queue to which the links lead
+abbrev pub with_queue : List ℕ → Counter → Semaphore
+with_queue links c = record { count = c.count; waiting = linked links c.first c.waiting }
 
-abbrev pub shown_in : List ℕ → Option Counter → Option Semaphore
-shown_in links None = None
-shown_in links (Some c) = Some (shown links c)
+abbrev pub entry_with_queue : List ℕ → Option Counter → Option Semaphore
+entry_with_queue links None = None
+entry_with_queue links (Some c) = Some (with_queue links c)
 
-abbrev pub all_shown : List ℕ → List (Option Counter) → Semaphores
-all_shown links counters = map (shown_in links) counters
+abbrev pub all_with_queues : List ℕ → List (Option Counter) → Semaphores
+all_with_queues links counters = map (entry_with_queue links) counters
 
 -- a counter at which nobody waits
 abbrev pub new_counter : ℕ → Counter
@@ -40,7 +40,7 @@ IsEnded links c = (n : ℕ) → c.waiting ≡ suc n → c.last ≡ led_to links 
 
 pub record AreLinked (links : List ℕ) (counters : List (Option Counter)) : Type 0 where
   pub ended : (sm : ℕ) (c : Counter) → counter_at counters sm ≡ Some c → IsEnded links c
-  pub within : (sm ec : ℕ) → waits (all_shown links counters) sm ec ≡ true → ec < length links
+  pub within : (sm ec : ℕ) → waits (all_with_queues links counters) sm ec ≡ true → ec < length links
   pub few : length links ≤ 2 ^ 32 - 1
   pub room : length counters ≤ length links
-  pub sound : AreSound (all_shown links counters)
+  pub sound : AreSound (all_with_queues links counters)

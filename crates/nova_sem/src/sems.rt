@@ -21,12 +21,12 @@ pub struct Sems {
 impl Model for Sems {
     ghost use Rattle.std.specs.Prelude.{◌+◌, ◌≤◌, length, vec_len, vec_capacity};
     ghost use Rattle.nova_sem.specs.Semaphores.{SemsState};
-    ghost use Rattle.nova_sem.specs.Links.{all_shown, AreLinked};
+    ghost use Rattle.nova_sem.specs.Links.{all_with_queues, AreLinked};
 
     ghost Value = { SemsState };
 
     ghost view = { λ s. record {
-      all = all_shown s.links.items s.counters.items;
+      all = all_with_queues s.links.items s.counters.items;
       spare = s.spare;
       contexts = length s.links.items;
     } };

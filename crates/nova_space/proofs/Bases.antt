@@ -1,13 +1,12 @@
 -- Which entry is of a base: the one before which so many come as begin below the base, or none.
-use Rattle.std.proofs.Common.{◌≡◌, ℕ, ◌<◌, ◌≤◌, ◌-◌, List, [], ◌∷◌, ◌++◌, refl, ap, sym, ◌∙◌, arith}
-use Rattle.std.specs.Prelude.{Bool, true, false, not, ◌==◌, zero, suc, length, filter, slice_get, if◌then◌else◌, Option, Some, None, option_map}
+use Rattle.std.proofs.Common.{◌≡◌, ℕ, ◌≤◌, List, [], ◌∷◌, refl, ap, sym, ◌∙◌, arith}
+use Rattle.std.specs.Prelude.{Bool, true, false, not, length, filter, slice_get, if◌then◌else◌, Option, Some, None, option_map}
 use Rattle.std.specs.List.{AllByRecursion, find, remove}
 use Rattle.std.proofs.lemmas.Nat.{pow_pos}
 use Rattle.nova_range.specs.declared.index.Entry.{Entry}
 use Rattle.nova_range.specs.Ranges.{end_of}
 use Rattle.nova_range.specs.Indices.{IsRising, has_base, key_of, key_of_base, taken_out}
 use Rattle.nova_space.specs.Cached.{is_below, of_base}
-use Rattle.nova_space.proofs.Sorted.{filter_all}
 
 -- those after one that does not begin below a base are of other bases, and do not begin below it either
 record IsAfter (base : ℕ) (es : List Entry) : Type 0 where

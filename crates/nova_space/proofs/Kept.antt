@@ -1,16 +1,17 @@
 -- What is remembered is there, and stays so.
-use Rattle.std.proofs.Common.{◌≡◌, ℕ, ◌≤◌, List, [], ◌∷◌, ◌++◌, refl, ap, sym, ◌∙◌, inl, inr, subst, arith}
+use Rattle.std.proofs.Common.{◌≡◌, ℕ, ◌≤◌, List, [], ◌∷◌, ◌++◌, refl, ap, ◌∙◌, inl, inr, subst, arith}
 use Rattle.std.specs.Prelude.{Bool, true, false, not, ◌==◌, length, drop, filter, if◌then◌else◌, Option, Some, None, option_map}
-use Rattle.std.specs.List.{All, AllByRecursion, find}
+use Rattle.std.specs.List.{All, find}
 use Rattle.std.proofs.lemmas.List.Elements.{All-head, All-tail}
-use Rattle.std.proofs.lemmas.Nat.{pow_pos}
 use Rattle.nova_range.specs.declared.index.Entry.{Entry}
 use Rattle.nova_range.specs.Ranges.{IsRange, end_of}
-use Rattle.nova_range.specs.Indices.{IsRising, IsSorted, begins_before, ends_after, has_base, has_place, key_at, key_of, put_in, taken_out}
+use Rattle.nova_range.specs.Indices.{IsRising, IsSorted, ends_after, has_base, has_place, key_at, put_in, taken_out}
 use Rattle.nova_space.specs.declared.cache.Place.{Place}
 use Rattle.nova_space.specs.declared.cache.TheConstants.{SIZE}
-use Rattle.nova_space.specs.Cached.{IsIn, IsOf, AreOf, spans, begins_at, noted, place_of, key_of_place}
-use Rattle.nova_space.proofs.Members.{all_at, all_from, in_filtered, filtered_in, found_in, in_left, in_right}
+use Rattle.nova_range.specs.Members.{IsIn}
+use Rattle.nova_range.proofs.Members.{all_at, all_from, filtered_in, found_in, in_filtered}
+use Rattle.nova_range.proofs.Sorted.{in_put}
+use Rattle.nova_space.specs.Cached.{IsOf, AreOf, spans, begins_at, noted, place_of, key_of_place}
 
 -- the entry that has a place is the one that is found
 pub found_at : (place : ℕ) (es : List Entry) (e : Entry) → IsRising es → IsIn es e → has_place place e ≡ true → find (has_place place) es ≡ Some e
@@ -62,14 +63,6 @@ range_at (a ∷ es) e all (inr i) = range_at es e (All-tail (λ (x : Entry). IsR
 
 pub found_range : (place : ℕ) (es : List Entry) (e : Entry) → IsSorted es → find (ends_after place) es ≡ Some e → IsRange e.range
 found_range place es e sorted found = range_at es e sorted.ranges (found_in (ends_after place) es e found).0
-
--- an entry that is put in leaves what is there
-in_put : (x e : Entry) (es : List Entry) → IsIn es e → IsIn (put_in x es) e
-in_put x e es i = by_side (begins_before x e) refl
-  where
-    by_side : (t : Bool) → begins_before x e ≡ t → IsIn (put_in x es) e
-    by_side true h = in_left (filter (begins_before x) es) (x ∷ filter (λ f. not (begins_before x f)) es) e (in_filtered (begins_before x) es e i h)
-    by_side false h = in_right (filter (begins_before x) es) (x ∷ filter (λ f. not (begins_before x f)) es) e (inr (in_filtered (λ f. not (begins_before x f)) es e i (ap not h)))
 
 pub put_of : (x : Entry) (es : List Entry) (ps : List Place) → AreOf es ps → AreOf (put_in x es) ps
 put_of x es ps of = all_from (IsOf (put_in x es)) ps (λ p i. let a = all_at (IsOf es) ps p of i in record { of = a.of; there = in_put x a.of es a.there; is = a.is })

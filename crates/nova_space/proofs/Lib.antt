@@ -1,4 +1,3 @@
-pub mod Members
 pub mod Bounds
 pub mod Sorted
 pub mod Bases

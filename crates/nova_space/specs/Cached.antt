@@ -1,9 +1,10 @@
 -- What is remembered of an index: some of its ranges, with their keys.
-use Rattle.std.specs.Prelude.{◌≡◌, ◌⊎◌, ◌==◌, ◌&&◌, ℕ, Bool, nat_lt, nat_le, length, List, [], ◌∷◌, ◌++◌, drop, if◌then◌else◌, Option, Some, None}
+use Rattle.std.specs.Prelude.{◌≡◌, ◌==◌, ◌&&◌, ℕ, Bool, nat_lt, nat_le, length, List, [], ◌∷◌, ◌++◌, drop, if◌then◌else◌, Option, Some, None}
 use Rattle.std.specs.List.{AllByRecursion}
 use Rattle.nova_range.specs.declared.index.Entry.{Entry}
 use Rattle.nova_range.specs.Ranges.{end_of}
 use Rattle.nova_range.specs.Indices.{has_base}
+use Rattle.nova_range.specs.Members.{IsIn}
 use Rattle.nova_space.specs.declared.cache.Place.{Place}
 use Rattle.nova_space.specs.declared.cache.TheConstants.{SIZE}
 
@@ -24,10 +25,6 @@ noted p ps = (if length ps == SIZE then drop 1 ps else ps) ++ p ∷ []
 -- as an entry is remembered
 abbrev pub place_of : Entry → Place
 place_of e = record { base = e.range.base; end = end_of e.range; key = e.key }
-
-abbrev pub IsIn : {T : Type 0} → List T → T → Type 0
-IsIn [] x = ⊥
-IsIn (y ∷ ys) x = (y ≡ x) ⊎ IsIn ys x
 
 -- what is remembered is there
 pub record IsOf (entries : List Entry) (p : Place) : Type 0 where

@@ -1,8 +1,9 @@
 // Leases of a guest, and what becomes of them when they are committed.
-ghost use Rattle.std.specs.Prelude.{◌≡◌, ◌+◌, ◌^◌, ◌<◌, ◌≤◌, OnOk};
-ghost use Rattle.nova_burst.specs.Lending.{ComesAfter, LeaseView};
+ghost use Rattle.std.specs.Prelude.{◌≡◌, ◌+◌, ◌^◌, ◌<◌, ◌≤◌};
+ghost use Rattle.nova_burst.specs.Lending.{ComesAfter};
 
-use crate::scenarios::{ALONE, GUEST, OVERTAKEN, PARTED};
+use crate::scenarios::{GUEST, LOOPS, apart};
+use crate::turns::take;
 use bitflags::Flags;
 use nova_boot::boot;
 use nova_burst::{Lease, commit, lease};
@@ -11,8 +12,27 @@ use nova_kernel::{EcKind, Kernel, Object};
 use nova_leases::CommitDone;
 use nova_report::report;
 use nova_scenario::read;
-use std::alloc::{AllocError, Global};
+use std::alloc::Global;
 use std::process::Abort;
+
+/// A root that goes on to make a thread on the second processor that comes before the guest, object 10, in 11 turns, and loops.
+const OVERTAKES: &str = "\
+addi x17, x0, 3
+addi x10, x0, 36
+addi x11, x0, 0
+addi x12, x0, 257
+addi x14, x0, 80
+ecall
+addi x17, x0, 4
+addi x10, x0, 37
+addi x12, x0, 36
+addi x13, x0, 259
+ecall
+jal x0, 0
+";
+
+/// A root that dies in its second turn.
+const ALONE: &str = "cpus 1\nram 0\nconsoles 0\nroot 0 0 1 10\nimage 0 hex\n00100073\nend\n";
 
 /// What became of a burst, as a test compares it.
 #[derive(Clone, Copy, PartialEq)]
@@ -33,29 +53,13 @@ fn tell(done: CommitDone) -> Told {
     }
 }
 
-/// So many turns of a processor, after which a lease comes from where it came from.
-#[tactic(auto, using(crate::proofs::Stems::one_more))]
-fn take(kernel: &mut Kernel, cpu: u32, turns: u64) -> Result<(), AllocError>
-    requires cpu { cpu < kernel.old.state.cpus }
-    requires room { turns ≤ kernel.old.room }
-    requires turns { kernel.old.state.turns + turns ≤ 2 ^ 31 }
-    ensures cpus { OnOk result (kernel.new.state.cpus ≡ kernel.old.state.cpus) }
-    ensures room { OnOk result (kernel.old.room ≤ kernel.new.room + turns) }
-    ensures turns { OnOk result (kernel.new.state.turns ≤ kernel.old.state.turns + turns) }
-    ensures after { OnOk result ((l : LeaseView) → ComesAfter l kernel.old.state → ComesAfter l kernel.new.state) }
-{
-    for _turn in 0..turns {
-        kernel.turn(cpu)?;
-    }
-    Ok(())
-}
-
-/// The machine of a scenario with two processors, as it boots.
-fn booted(rt: &impl Abort, alloc: Global, text: &str) -> Kernel
+/// The machine whose root makes the guest on the second processor and then goes on with `rest`, as it boots.
+fn booted(rt: &impl Abort, alloc: Global, rest: &str) -> Kernel
     ensures cpus { result.state.cpus ≡ 2 }
     ensures room { result.room ≡ 200 }
     ensures turns { result.state.turns ≡ 0 }
 {
+    let text = apart(alloc, rest).expect(rt, "ample memory");
     let scenario = read(alloc, text.as_bytes()).expect(rt, "a scenario");
     let kernel = boot(alloc, &scenario, 200).expect(rt, "ample memory");
     assert!(rt; kernel.turns() == 0 && kernel.cpus() == 2);
@@ -63,12 +67,12 @@ fn booted(rt: &impl Abort, alloc: Global, text: &str) -> Kernel
 }
 
 /// That machine after the 38 turns in which the root makes the guest, and 19 of the guest and its monitor, in which it gets its page.
-fn prepared(rt: &impl Abort, alloc: Global, text: &str) -> Kernel
+fn prepared(rt: &impl Abort, alloc: Global, rest: &str) -> Kernel
     ensures cpus { result.state.cpus ≡ 2 }
     ensures room { 100 ≤ result.room }
     ensures turns { result.state.turns ≤ 100 }
 {
-    let mut kernel = booted(rt, alloc, text);
+    let mut kernel = booted(rt, alloc, rest);
     take(&mut kernel, 0, 38).expect(rt, "ample memory");
     take(&mut kernel, 1, 19).expect(rt, "ample memory");
     kernel
@@ -131,22 +135,22 @@ fn burst(
     tell(commit(kernel, lent, left))
 }
 
-/// The report of the machine of a scenario after those turns and so many more of a processor, without its events.
-fn after(rt: &impl Abort, alloc: Global, text: &str, cpu: u32, turns: u64) -> Vec<u8>
+/// The report of that machine after those turns and so many more of a processor, without its events.
+fn after(rt: &impl Abort, alloc: Global, rest: &str, cpu: u32, turns: u64) -> Vec<u8>
     requires cpu { cpu < 2 }
     requires turns { turns ≤ 100 }
 {
-    let mut kernel = prepared(rt, alloc, text);
+    let mut kernel = prepared(rt, alloc, rest);
     take(&mut kernel, cpu, turns).expect(rt, "ample memory");
     report(alloc, &kernel, &[]).expect(rt, "ample memory")
 }
 
-/// A burst of the guest: what it shows, the turns that come between its lease and its commit, how many turns there is room for, what becomes of
-/// it, and which turns then were taken in all since the guest got its page.
+/// A burst of the guest: what it shows, what the root goes on with, the turns that come between its lease and its commit, how many turns there
+/// is room for, what becomes of it, and which turns then were taken in all since the guest got its page.
 #[derive(Clone, Copy)]
 struct Row {
     shows: &'static str,
-    scenario: &'static str,
+    rest: &'static str,
     between: (u32, u64),
     left: u64,
     told: Told,
@@ -156,7 +160,7 @@ struct Row {
 static ROWS: [Row; 4] = [
     Row {
         shows: "what was run is as many turns",
-        scenario: PARTED,
+        rest: LOOPS,
         between: (0, 0),
         left: 5,
         told: Told::Committed(1),
@@ -164,7 +168,7 @@ static ROWS: [Row; 4] = [
     },
     Row {
         shows: "a turn of its processor came between",
-        scenario: PARTED,
+        rest: LOOPS,
         between: (1, 1),
         left: 5,
         told: Told::Dropped {
@@ -175,7 +179,7 @@ static ROWS: [Row; 4] = [
     },
     Row {
         shows: "there is no room for another turn",
-        scenario: PARTED,
+        rest: LOOPS,
         between: (0, 0),
         left: 0,
         told: Told::NoRoom { left: 0 },
@@ -183,7 +187,7 @@ static ROWS: [Row; 4] = [
     },
     Row {
         shows: "another, of greater priority, would act",
-        scenario: OVERTAKEN,
+        rest: OVERTAKES,
         between: (0, 11),
         left: 5,
         told: Told::Away { actor: 10 },
@@ -193,7 +197,7 @@ static ROWS: [Row; 4] = [
 
 /// Whether a burst ends as its row says, and leaves the kernel as after the turns that its row says.
 fn is_so(rt: &impl Abort, alloc: Global, row: &Row) -> bool {
-    let mut kernel = prepared(rt, alloc, row.scenario);
+    let mut kernel = prepared(rt, alloc, row.rest);
     let (cpu, turns) = row.between;
     let (other, taken) = row.taken;
     assert!(rt; cpu < 2 && other < 2 && turns <= 100 && taken <= 100 && row.left <= 100);
@@ -202,7 +206,7 @@ fn is_so(rt: &impl Abort, alloc: Global, row: &Row) -> bool {
     }
     let told = burst(rt, alloc, &mut kernel, cpu, turns, row.left);
     let text = report(alloc, &kernel, &[]).expect(rt, "ample memory");
-    let wanted = after(rt, alloc, row.scenario, other, taken);
+    let wanted = after(rt, alloc, row.rest, other, taken);
     told == row.told && text.as_slice() == wanted.as_slice()
 }
 

@@ -1,16 +1,17 @@
 // A guest on a processor of its own under two orders: all its turns in a row, or one by one with those of another processor.
-use crate::scenarios::APART;
 use nova_boot::boot;
 use nova_order::Order;
 use nova_report::report;
 use nova_run::run_order;
 use nova_scenario::read;
+use nova_tests_bursts::scenarios::{LOOPS, apart, joined};
 use std::alloc::Global;
 use std::process::Abort;
 
 /// The report of a run along an order, of at most 200 turns.
 fn report_of(rt: &impl Abort, alloc: Global, order: &str) -> Vec<u8> {
-    let scenario = read(alloc, APART.as_bytes()).expect(rt, "a scenario");
+    let text = apart(alloc, LOOPS).expect(rt, "ample memory");
+    let scenario = read(alloc, text.as_bytes()).expect(rt, "a scenario");
     let kernel = boot(alloc, &scenario, 200).expect(rt, "ample memory");
     assert!(rt; kernel.turns() == 0);
     let order = Order::read(alloc, order.as_bytes(), kernel.cpus(), 200).expect(rt, "an order");
@@ -27,9 +28,8 @@ fn in_turns(rt: &impl Abort, alloc: Global) -> String {
     order
 }
 
-/// The report where the guest takes its turns in a row.
-static IN_A_ROW: &str = "\
-run open 72
+/// The events until the guest begins, under either order.
+const MADE: &str = "\
 at 5 0 1 answer 3 0
 at 10 0 1 answer 5 0
 at 13 0 1 answer 5 0
@@ -42,6 +42,39 @@ at 26 0 1 ended 0 3
 at 33 0 1 answer 3 0
 at 38 0 1 answer 4 0
 at 39 1 8 raise 0 0
+";
+
+/// The execution contexts at the end.
+const CONTEXTS: &str = "\
+ec 1 global ready 00000088 x11=00000021 x12=00000022 x13=00000702 x14=00000040 x17=00000004
+ec 3 local parked 000001a0 x5=fffff000 x6=00000002 x7=00004000 x17=00000001
+ec 8 vcpu dead 0000000c x10=00000042
+";
+
+/// The end of the report, after what the root paid.
+const REST: &str = "\
+sc 9 1 34
+console 0 41
+cap 0 - 0 mem 0 2 7 0
+cap 1 - 0 mem 4 0 3 4
+cap 2 - 0 obj 0 0 1 0
+cap 3 - 0 obj 1 0 7 1
+cap 4 - 0 obj 2 0 1 2
+cap 5 - 0 obj 32 0 7 3
+cap 6 - 0 obj 64 0 7 4
+cap 7 - 0 obj 66 0 7 5
+cap 8 - 0 obj 70 0 7 6
+cap 9 - 0 obj 33 0 1 7
+cap 10 6 7 obj 64 0 4 4
+cap 11 7 7 obj 66 0 4 5
+cap 12 8 7 obj 70 0 4 6
+cap 13 - 0 obj 34 0 7 8
+cap 14 - 0 obj 35 0 1 9
+cap 15 0 7 mem 0 0 7 1
+";
+
+/// The events after that where the guest takes its turns in a row.
+const IN_A_ROW: &str = "\
 at 40 1 8 sent 0 3
 at 45 1 3 answer 1 0
 at 46 1 8 raise 2 0
@@ -54,45 +87,10 @@ at 60 1 8 sent 6 3
 at 69 1 3 answer 1 0
 at 71 1 8 raise 7 0
 at 72 1 8 died 7 0
-ec 1 global ready 00000088 x11=00000021 x12=00000022 x13=00000702 x14=00000040 x17=00000004
-ec 3 local parked 000001a0 x5=fffff000 x6=00000002 x7=00004000 x17=00000001
-ec 8 vcpu dead 0000000c x10=00000042
-sc 2 0 38
-sc 9 1 34
-console 0 41
-cap 0 - 0 mem 0 2 7 0
-cap 1 - 0 mem 4 0 3 4
-cap 2 - 0 obj 0 0 1 0
-cap 3 - 0 obj 1 0 7 1
-cap 4 - 0 obj 2 0 1 2
-cap 5 - 0 obj 32 0 7 3
-cap 6 - 0 obj 64 0 7 4
-cap 7 - 0 obj 66 0 7 5
-cap 8 - 0 obj 70 0 7 6
-cap 9 - 0 obj 33 0 1 7
-cap 10 6 7 obj 64 0 4 4
-cap 11 7 7 obj 66 0 4 5
-cap 12 8 7 obj 70 0 4 6
-cap 13 - 0 obj 34 0 7 8
-cap 14 - 0 obj 35 0 1 9
-cap 15 0 7 mem 0 0 7 1
 ";
 
-/// The report where it takes them one by one. But for numbers of turns and those that the root paid for it is the same.
-static IN_TURNS: &str = "\
-run open 106
-at 5 0 1 answer 3 0
-at 10 0 1 answer 5 0
-at 13 0 1 answer 5 0
-at 17 0 1 answer 5 0
-at 22 0 1 begin 2 7
-at 23 0 1 made 10 6
-at 24 0 1 made 11 7
-at 25 0 1 made 12 8
-at 26 0 1 ended 0 3
-at 33 0 1 answer 3 0
-at 38 0 1 answer 4 0
-at 39 1 8 raise 0 0
+/// And where it takes them one by one. But for numbers of turns, and for those that the root paid for, the reports are the same.
+const IN_TURNS: &str = "\
 at 41 1 8 sent 0 3
 at 51 1 3 answer 1 0
 at 53 1 8 raise 2 0
@@ -105,35 +103,32 @@ at 81 1 8 sent 6 3
 at 99 1 3 answer 1 0
 at 103 1 8 raise 7 0
 at 105 1 8 died 7 0
-ec 1 global ready 00000088 x11=00000021 x12=00000022 x13=00000702 x14=00000040 x17=00000004
-ec 3 local parked 000001a0 x5=fffff000 x6=00000002 x7=00004000 x17=00000001
-ec 8 vcpu dead 0000000c x10=00000042
-sc 2 0 72
-sc 9 1 34
-console 0 41
-cap 0 - 0 mem 0 2 7 0
-cap 1 - 0 mem 4 0 3 4
-cap 2 - 0 obj 0 0 1 0
-cap 3 - 0 obj 1 0 7 1
-cap 4 - 0 obj 2 0 1 2
-cap 5 - 0 obj 32 0 7 3
-cap 6 - 0 obj 64 0 7 4
-cap 7 - 0 obj 66 0 7 5
-cap 8 - 0 obj 70 0 7 6
-cap 9 - 0 obj 33 0 1 7
-cap 10 6 7 obj 64 0 4 4
-cap 11 7 7 obj 66 0 4 5
-cap 12 8 7 obj 70 0 4 6
-cap 13 - 0 obj 34 0 7 8
-cap 14 - 0 obj 35 0 1 9
-cap 15 0 7 mem 0 0 7 1
 ";
+
+/// The report of a run of so many turns with these events of the guest and its monitor, of which the root paid for so many.
+fn wanted(rt: &impl Abort, alloc: Global, turns: &str, events: &str, paid: &str) -> String {
+    let parts = [
+        "run open ",
+        turns,
+        "\n",
+        MADE,
+        events,
+        CONTEXTS,
+        "sc 2 0 ",
+        paid,
+        "\n",
+        REST,
+    ];
+    joined(alloc, &parts).expect(rt, "ample memory")
+}
 
 #[test]
 fn a_guest_ends_equal_under_two_orders(rt: HostRuntime) {
     let alloc = rt.alloc();
     let in_a_row = report_of(&rt, alloc, "0 38\n1 34\n");
     let in_turns = report_of(&rt, alloc, in_turns(&rt, alloc).as_str());
-    assert!(rt; in_a_row.as_slice() == IN_A_ROW.as_bytes());
-    assert!(rt; in_turns.as_slice() == IN_TURNS.as_bytes());
+    let once = wanted(&rt, alloc, "72", IN_A_ROW, "38");
+    let again = wanted(&rt, alloc, "106", IN_TURNS, "72");
+    assert!(rt; in_a_row.as_slice() == once.as_bytes());
+    assert!(rt; in_turns.as_slice() == again.as_bytes());
 }

@@ -1,9 +1,9 @@
 // Runs with more workers than the host may have processors.
 ghost use Rattle.std.specs.Prelude.{◌≡◌};
 
-use crate::machines::lay;
+use crate::machines::{ROOT, lay};
 use crate::runs::{Told, tell};
-use nova_kernel::{Kernel, Root};
+use nova_kernel::Kernel;
 use nova_run::{Open, Order, run_order, run_workers};
 use std::alloc::Global;
 use std::process::Abort;
@@ -48,13 +48,7 @@ fn booted(rt: &impl Abort, alloc: Global) -> Kernel
     ensures room { result.room ≡ 20000 }
     ensures turns { result.state.turns ≡ 0 }
 {
-    let root = Root {
-        pc: 0,
-        sp: 0,
-        priority: 1,
-        quantum: 10,
-    };
-    let mut kernel = Kernel::new(alloc, 8, 0, 0, root, 20_000).expect(rt, "ample memory");
+    let mut kernel = Kernel::new(alloc, 8, 0, 0, ROOT, 20_000).expect(rt, "ample memory");
     lay(&mut kernel, 0, &WORDS);
     kernel
 }

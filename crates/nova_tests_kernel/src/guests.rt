@@ -1,20 +1,13 @@
 // A guest as its kernel tells it: as it is made, and with its first page.
-ghost use Rattle.std.specs.Prelude.{◌≡◌, ◌+◌, ◌^◌, ◌<◌, ◌≤◌, length, OnOk};
+ghost use Rattle.std.specs.Prelude.{◌≡◌, ◌<◌, ◌≤◌, length};
 
-use crate::machines::lay;
+use crate::machines::{ROOT, lay};
 use bitflags::Flags;
 use nova_guest::{Guest, GuestState};
-use nova_kernel::{EcKind, Kernel, Object, Root};
-use std::alloc::{AllocError, Global};
+use nova_kernel::{EcKind, Kernel, Object};
+use nova_tests_bursts::turns::take;
+use std::alloc::Global;
 use std::process::Abort;
-
-/// A root thread at pc 0.
-const ROOT: Root = Root {
-    pc: 0,
-    sp: 0,
-    priority: 1,
-    quantum: 10,
-};
 
 /// The number of the guest that the root makes.
 const GUEST: u32 = 6;
@@ -62,21 +55,6 @@ static MONITOR_WORDS: [u32; 10] = [
     0x0010_0893, // addi x17, x0, 1: reply
     0x0000_0073, // ecall
 ];
-
-/// So many turns of processor 0.
-fn take(kernel: &mut Kernel, turns: u64) -> Result<(), AllocError>
-    requires cpus { 0 < kernel.old.state.cpus }
-    requires room { turns ≤ kernel.old.room }
-    requires turns { kernel.old.state.turns + turns ≤ 2 ^ 31 }
-    ensures cpus { OnOk result (kernel.new.state.cpus ≡ kernel.old.state.cpus) }
-    ensures room { OnOk result (kernel.old.room ≤ kernel.new.room + turns) }
-    ensures turns { OnOk result (kernel.new.state.turns ≤ kernel.old.state.turns + turns) }
-{
-    for _turn in 0..turns {
-        kernel.turn(0)?;
-    }
-    Ok(())
-}
 
 /// Whether a guest has the registers of its birth.
 fn is_as_born(guest: &Guest) -> bool {
@@ -204,10 +182,10 @@ fn run(rt: &impl Abort, alloc: Global, kernel: &mut Kernel)
     lay(kernel, 0, &ROOT_WORDS);
     lay(kernel, 256, &MONITOR_WORDS);
     kernel.put(4096, &[7]);
-    take(kernel, 23).expect(rt, "ample memory");
+    take(kernel, 0, 23).expect(rt, "ample memory");
     let made = tell(rt, alloc, kernel, 2);
     let same = copied(rt, kernel);
-    take(kernel, 19).expect(rt, "ample memory");
+    take(kernel, 0, 19).expect(rt, "ample memory");
     let with_page = tell(rt, alloc, kernel, 7);
     assert!(rt; [made, with_page] == WANTED);
     assert_eq!(rt; same, (Some(2), Some(7)));

@@ -1,12 +1,13 @@
 // What turns are for a guest, as the kernel tells it before they are taken.
 ghost use Rattle.std.specs.Prelude.{◌+◌, ◌^◌, ◌<◌, ◌≤◌};
 
-use crate::scenarios::{BUSY, GUEST, SERVED};
+use crate::scenarios::{busy, served};
 use bitflags::Flags;
 use nova_boot::boot;
 use nova_guest::{Guest, GuestState, Input, Map};
 use nova_kernel::{EcKind, Kernel, Object};
 use nova_scenario::read;
+use nova_tests_bursts::scenarios::GUEST;
 use std::alloc::Global;
 use std::process::Abort;
 
@@ -225,15 +226,18 @@ static SERVED_INPUTS: [(u32, Told); 14] = [
 
 #[test]
 fn each_turn_is_one_input_of_a_guest_or_nothing(rt: HostRuntime) {
-    let (told, _) = run(&rt, rt.alloc(), SERVED, Order::Alone, 73);
+    let alloc = rt.alloc();
+    let text = served(alloc).expect(&rt, "ample memory");
+    let (told, _) = run(&rt, alloc, &text, Order::Alone, 73);
     assert!(rt; told.as_slice() == SERVED_INPUTS.as_slice());
 }
 
 #[test]
 fn others_may_revoke_delegate_help_and_store_between_equal_inputs(rt: HostRuntime) {
     let alloc = rt.alloc();
-    let (before, guest) = run(&rt, alloc, BUSY, Order::Before, 154);
-    let (mixed, other) = run(&rt, alloc, BUSY, Order::Mixed, 154);
+    let text = busy(alloc).expect(&rt, "ample memory");
+    let (before, guest) = run(&rt, alloc, &text, Order::Before, 154);
+    let (mixed, other) = run(&rt, alloc, &text, Order::Mixed, 154);
     let before = without_numbers(&rt, alloc, &before);
     let mixed = without_numbers(&rt, alloc, &mixed);
     assert!(rt; before.len() == 15);
@@ -245,8 +249,9 @@ fn others_may_revoke_delegate_help_and_store_between_equal_inputs(rt: HostRuntim
 #[test]
 fn a_guest_shows_the_one_input_that_differs(rt: HostRuntime) {
     let alloc = rt.alloc();
-    let (before, guest) = run(&rt, alloc, BUSY, Order::Before, 154);
-    let (stored, other) = run(&rt, alloc, BUSY, Order::Stored, 155);
+    let text = busy(alloc).expect(&rt, "ample memory");
+    let (before, guest) = run(&rt, alloc, &text, Order::Before, 154);
+    let (stored, other) = run(&rt, alloc, &text, Order::Stored, 155);
     assert_eq!(rt; (before.len(), stored.len()), (15, 16));
     assert!(rt;
         stored

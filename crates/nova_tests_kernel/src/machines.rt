@@ -1,7 +1,15 @@
-// What tests lay into the RAM of a machine.
+// The root of a machine, and what tests lay into its RAM.
 ghost use Rattle.std.specs.Prelude.{◌≡◌, ◌+◌, ◌*◌, ◌≤◌, length};
 
-use nova_kernel::Kernel;
+use nova_kernel::{Kernel, Root};
+
+/// A root thread at pc 0.
+pub const ROOT: Root = Root {
+    pc: 0,
+    sp: 0,
+    priority: 1,
+    quantum: 10,
+};
 
 /// Lays words into RAM one after another from an address on, where no turn was taken.
 pub fn lay(kernel: &mut Kernel, address: u32, words: &[u32])

@@ -1,6 +1,7 @@
 // Runs by one thread, along an order of turns and by round robin.
+use crate::machines::ROOT;
 use crate::runs::{Told, tell};
-use nova_kernel::{Kernel, Root};
+use nova_kernel::Kernel;
 use nova_run::{Order, RunFault, round_robin, run_order};
 use std::alloc::Global;
 use std::process::Abort;
@@ -68,15 +69,7 @@ static ROWS: [Row; 6] = [
     },
 ];
 
-/// The root runs zeros: in two turns it raises an exit and dies.
-const ROOT: Root = Root {
-    pc: 0,
-    sp: 0,
-    priority: 1,
-    quantum: 10,
-};
-
-/// What the run of a row comes to, on a machine of two processors.
+/// What the run of a row comes to, on a machine of two processors. The root runs zeros: in two turns it raises an exit and dies.
 fn run_of(rt: &impl Abort, alloc: Global, row: &Row) -> Result<Told, RunFault> {
     let limit = row.limit;
     assert!(rt; limit <= 8);

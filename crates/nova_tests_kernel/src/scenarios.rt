@@ -1,211 +1,37 @@
-// Scenarios in which a monitor serves a guest, the virtual CPU of number 8.
+// Scenarios in which a monitor serves a guest.
+use nova_tests_bursts::scenarios::{
+    MAKES_DOMAIN, MAKES_GUEST, MAKES_MONITOR, MONITOR, PAGE, ROOT, joined, on_second,
+};
+use std::alloc::{AllocError, Global};
 
-/// The number of the guest.
-pub const GUEST: u32 = 8;
+/// A guest and its monitor on the one processor. The guest is told where it begins, is given a page, has a byte written and ends.
+pub fn served(alloc: Global) -> Result<String, AllocError> {
+    joined(
+        alloc,
+        &[
+            "cpus 1\n",
+            ROOT,
+            MAKES_MONITOR,
+            MAKES_DOMAIN,
+            "addi x12, x0, 512\n",
+            MAKES_GUEST,
+            "ebreak\nend\n",
+            MONITOR,
+            PAGE,
+        ],
+    )
+}
 
-/// A guest and its monitor on one processor. The guest is told where it begins, is given a page, has a byte written and ends.
-pub static SERVED: &str = "\
-cpus 1
-ram 2
-consoles 1
-root 0 0 1 10
-image 0 asm
-addi x17, x0, 3
-addi x10, x0, 32
-addi x14, x0, 48
-ecall
-addi x17, x0, 5
-addi x10, x0, 64
-addi x12, x0, 32
-addi x14, x0, 0x100
-ecall
-addi x10, x0, 66
-addi x14, x0, 0x140
-ecall
-addi x10, x0, 70
-addi x13, x0, 6
-addi x14, x0, 0x180
-ecall
-addi x17, x0, 2
-addi x10, x0, 33
-lui x12, 0x40
-addi x12, x12, 531
-ecall
-addi x17, x0, 3
-addi x10, x0, 34
-addi x11, x0, 33
-addi x12, x0, 512
-addi x13, x0, 0
-addi x14, x0, 64
-ecall
-addi x17, x0, 4
-addi x10, x0, 35
-addi x12, x0, 34
-addi x13, x0, 1794
-ecall
-ebreak
-end
-# the monitor, at startup: it says where the guest begins
-image 0x100 asm
-lui x5, 0xfffff
-addi x6, x0, 2
-sw x6, 16(x5)
-addi x17, x0, 1
-ecall
-end
-# at a fetch fault: it gives the guest the page of frame 1
-image 0x140 asm
-lui x6, 16
-sw x6, 0(x5)
-lui x6, 1
-addi x6, x6, 29
-sw x6, 504(x5)
-addi x6, x0, 1
-sw x6, 508(x5)
-ecall
-end
-# at an ecall: it writes the guest's byte to the console
-image 0x180 asm
-lui x7, 4
-lw x6, 72(x5)
-sb x6, 0(x7)
-lw x6, 28(x5)
-addi x6, x6, 4
-sw x6, 28(x5)
-addi x6, x0, 2
-sw x6, 16(x5)
-ecall
-end
-# the guest's page
-image 0x1000 asm
-addi x10, x0, 65
-ecall
-addi x10, x10, 1
-ebreak
-end
-";
-
-/// The same with the guest and its monitor on a second processor. The root loops on the first.
-pub static APART: &str = "\
-cpus 2
-ram 2
-consoles 1
-root 0 0 1 10
-image 0 asm
-addi x17, x0, 3
-addi x10, x0, 32
-addi x14, x0, 48
-addi x12, x0, 1
-ecall
-addi x17, x0, 5
-addi x10, x0, 64
-addi x12, x0, 32
-addi x14, x0, 0x100
-ecall
-addi x10, x0, 66
-addi x14, x0, 0x140
-ecall
-addi x10, x0, 70
-addi x13, x0, 6
-addi x14, x0, 0x180
-ecall
-addi x17, x0, 2
-addi x10, x0, 33
-lui x12, 0x40
-addi x12, x12, 531
-ecall
-addi x17, x0, 3
-addi x10, x0, 34
-addi x11, x0, 33
-addi x12, x0, 513
-addi x13, x0, 0
-addi x14, x0, 64
-ecall
-addi x17, x0, 4
-addi x10, x0, 35
-addi x12, x0, 34
-addi x13, x0, 1794
-ecall
-jal x0, 0
-end
-image 0x100 asm
-lui x5, 0xfffff
-addi x6, x0, 2
-sw x6, 16(x5)
-addi x17, x0, 1
-ecall
-end
-image 0x140 asm
-lui x6, 16
-sw x6, 0(x5)
-lui x6, 1
-addi x6, x6, 29
-sw x6, 504(x5)
-addi x6, x0, 1
-sw x6, 508(x5)
-ecall
-end
-image 0x180 asm
-lui x7, 4
-lw x6, 72(x5)
-sb x6, 0(x7)
-lw x6, 28(x5)
-addi x6, x6, 4
-sw x6, 28(x5)
-addi x6, x0, 2
-sw x6, 16(x5)
-ecall
-end
-image 0x1000 asm
-addi x10, x0, 65
-ecall
-addi x10, x10, 1
-ebreak
-end
-";
-
-/// A guest and its monitor on a second processor, where the guest loads a word of its page. The root goes on with what is
-/// nothing to them, and stores to the guest's page at last.
-pub static BUSY: &str = "\
-cpus 2
+/// A root thread at pc 0x400, and the head of what it executes.
+const BUSY_ROOT: &str = "\
 ram 2
 consoles 1
 root 0x400 0 1 10
 image 0x400 asm
-addi x17, x0, 3
-addi x10, x0, 32
-addi x12, x0, 1
-addi x14, x0, 48
-ecall
-addi x17, x0, 5
-addi x10, x0, 64
-addi x12, x0, 32
-addi x14, x0, 0x100
-ecall
-addi x10, x0, 66
-addi x14, x0, 0x140
-ecall
-addi x10, x0, 70
-addi x13, x0, 6
-addi x14, x0, 0x180
-ecall
-addi x17, x0, 2
-addi x10, x0, 33
-lui x12, 0x40
-addi x12, x12, 531
-ecall
-addi x17, x0, 3
-addi x10, x0, 34
-addi x11, x0, 33
-addi x12, x0, 513
-addi x13, x0, 0
-addi x14, x0, 64
-ecall
-addi x17, x0, 4
-addi x10, x0, 35
-addi x12, x0, 34
-addi x13, x0, 1794
-ecall
+";
+
+/// What the root goes on with, which is nothing to the guest but for a store to its page at last.
+const BUSY_REST: &str = "\
 # a handler, and another thread of more priority, which makes the root wait and helps the handler
 addi x17, x0, 3
 addi x10, x0, 40
@@ -256,36 +82,10 @@ lui x5, 1
 addi x6, x0, 7
 sw x6, 32(x5)
 loop: jal x0, loop
-end
-# the monitor
-image 0x100 asm
-lui x5, 0xfffff
-addi x6, x0, 2
-sw x6, 16(x5)
-addi x17, x0, 1
-ecall
-end
-image 0x140 asm
-lui x6, 16
-sw x6, 0(x5)
-lui x6, 1
-addi x6, x6, 29
-sw x6, 504(x5)
-addi x6, x0, 1
-sw x6, 508(x5)
-ecall
-end
-image 0x180 asm
-lui x7, 4
-lw x6, 72(x5)
-sb x6, 0(x7)
-lw x6, 28(x5)
-addi x6, x6, 4
-sw x6, 28(x5)
-addi x6, x0, 2
-sw x6, 16(x5)
-ecall
-end
+";
+
+/// A handler and a thread of the root's domain, and the guest.
+const BUSY_IMAGES: &str = "\
 # the handler and the other thread
 image 0x200 asm
 lui x5, 0xfffff
@@ -324,3 +124,9 @@ addi x10, x10, 1
 ebreak
 end
 ";
+
+/// A guest and its monitor on a second processor, where the guest loads a word of its page. The root goes on with what is
+/// nothing to them, and stores to the guest's page at last.
+pub fn busy(alloc: Global) -> Result<String, AllocError> {
+    on_second(alloc, BUSY_ROOT, BUSY_REST, BUSY_IMAGES)
+}

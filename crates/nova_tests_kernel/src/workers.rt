@@ -1,9 +1,9 @@
 // Runs with a thread for each processor.
 ghost use Rattle.std.specs.Prelude.{◌≡◌, ◌^◌, ◌≤◌};
 
-use crate::machines::lay;
+use crate::machines::{ROOT, lay};
 use crate::runs::{Told, tell};
-use nova_kernel::{Kernel, Root};
+use nova_kernel::Kernel;
 use nova_run::{Gate, Open, Order, run_order, run_workers};
 use std::alloc::Global;
 use std::process::Abort;
@@ -41,13 +41,7 @@ fn booted(rt: &impl Abort, alloc: Global, limit: u64) -> Kernel
     ensures room { result.room ≡ limit }
     ensures turns { result.state.turns ≡ 0 }
 {
-    let root = Root {
-        pc: 0,
-        sp: 0,
-        priority: 1,
-        quantum: 10,
-    };
-    let mut kernel = Kernel::new(alloc, 2, 0, 0, root, limit).expect(rt, "ample memory");
+    let mut kernel = Kernel::new(alloc, 2, 0, 0, ROOT, limit).expect(rt, "ample memory");
     lay(&mut kernel, 0, &WORDS);
     kernel
 }

@@ -6,18 +6,18 @@ use Rattle.std.proofs.lemmas.Bool.{and_parts, cases_Bool, eqb-true}
 use Rattle.std.proofs.lemmas.List.Elements.{All-from_recursion}
 use Rattle.std.proofs.lemmas.List.Kept.{AllPairs-cons}
 use Rattle.std.proofs.lemmas.Nat.{pow_pos}
-use Rattle.nova_forest.proofs.Members.{IsIn, contains_from_in, in_from_contains}
+use Rattle.nova_forest.proofs.Members.{IsIn, all_weaker, contains_from_in, in_from_contains}
 use Rattle.nova_guest.specs.Cells.{frame_of}
 use Rattle.nova_guest.specs.Keyed.{placed}
-use Rattle.nova_guest.specs.Maps.{base_of, is_covered}
-use Rattle.nova_guest.specs.declared.cell.Cell.{Cell}
+use Rattle.nova_guest.specs.Maps.{base_of}
 use Rattle.nova_guest.specs.declared.guest.Guest.{Guest}
 use Rattle.nova_guest.specs.declared.guest.GuestState.{GuestState}
 use Rattle.nova_guest.specs.declared.guest.GuestState.TheVariants as guest
 use Rattle.nova_guest.specs.declared.map.Map.{Map}
 use Rattle.nova_isolation.specs.Sound.{IsSound, IsVirtual}
 use Rattle.nova_isolation.proofs.Admits.{view_state}
-use Rattle.nova_isolation.proofs.KeyedLaws.{IsRising, all_weaker, rising_placed_all}
+use Rattle.nova_isolation.proofs.Exchanges.{cells_rising}
+use Rattle.nova_isolation.proofs.KeyedLaws.{IsRising, rising_placed_all}
 use Rattle.nova_isolation.proofs.Premises.{IsGuestState, guest as guest_there}
 use Rattle.nova_isolation.proofs.Seen.{maps_at, view_is}
 use Rattle.nova_isolation.proofs.Spaces.{MapsApart, SameSpaceApart, cell_of, maps_apart, maps_more, maps_same}
@@ -25,7 +25,7 @@ use Rattle.nova_model.specs.Delegations.{is_memory}
 use Rattle.nova_model.specs.Exits.{raised_exit}
 use Rattle.nova_model.specs.Forest.{ArePairs}
 use Rattle.nova_model.specs.State.{KernelState, context, pd_of}
-use Rattle.nova_model.specs.Views.{cells_from, cells_of, guest_state, is_memory_of, map_in, map_of, maps_of, view}
+use Rattle.nova_model.specs.Views.{cells_of, guest_state, is_memory_of, map_in, map_of, maps_of, view}
 use Rattle.nova_model.specs.declared.context.State.{State}
 use Rattle.nova_model.specs.declared.context.State.TheVariants.{Fresh, Ready, Calling, Exiting, Sending, Dead}
 use Rattle.nova_model.specs.declared.delegation.Derivation.{Derivation}
@@ -208,29 +208,11 @@ view_maps k g sound = subst (AreMapsOf k.delegations.list (pd_of k g)) (sym (ap 
 
 -- ITS CELLS
 
-cells_after : (maps : List Map) (n m : ℕ) (ram : List (List ℕ)) → n < m → AllByRecursion (λ (c : Cell). n < c.frame) (cells_from maps m ram)
-cells_after maps n m [] h = tt
-cells_after maps n m (bytes ∷ ram) h = by_test (is_covered maps m) (cells_after maps n (m + 1) ram (omega (arith, h)))
-  where
-    by_test : (t : Bool) → AllByRecursion (λ (c : Cell). n < c.frame) (cells_from maps (m + 1) ram) →
-        AllByRecursion (λ (c : Cell). n < c.frame) (if t then record { frame = m; contents = bytes } ∷ cells_from maps (m + 1) ram else cells_from maps (m + 1) ram)
-    by_test true rest = (h, rest)
-    by_test false rest = rest
-
-cells_rise : (maps : List Map) (n : ℕ) (ram : List (List ℕ)) → IsRising frame_of (cells_from maps n ram)
-cells_rise maps n [] = tt
-cells_rise maps n (bytes ∷ ram) = by_test (is_covered maps n) (cells_rise maps (n + 1) ram)
-  where
-    by_test : (t : Bool) → IsRising frame_of (cells_from maps (n + 1) ram) →
-        IsRising frame_of (if t then record { frame = n; contents = bytes } ∷ cells_from maps (n + 1) ram else cells_from maps (n + 1) ram)
-    by_test true rest = (cells_after maps n (n + 1) ram (omega arith), rest)
-    by_test false rest = rest
-
 cells_are : (maps : List Map) (ram : List (List ℕ)) → AreCellsOf maps ram (cells_of maps ram)
 cells_are maps ram = record {
   covered = λ frame is. cell_of maps ram frame ∙ ap (λ (t : Bool). if t then slice_get ram frame else None) is;
   uncovered = λ frame is. cell_of maps ram frame ∙ ap (λ (t : Bool). if t then slice_get ram frame else None) is;
-  rising = pairs_from frame_of (cells_of maps ram) (cells_rise maps 0 ram);
+  rising = pairs_from frame_of (cells_of maps ram) (cells_rising maps 0 ram);
 }
 
 pub view_cells : (k : KernelState) (g : ℕ) → AreCellsOf (view k g).maps k.memory.ram (view k g).cells

@@ -1,4 +1,4 @@
-use Rattle.std.proofs.Common.{rules, ◌≡◌, ap, sym, ◌∙◌, subst, ℕ, ◌<◌, List, Contains, slice_index_or, map, drop, arith, zero, suc}
+use Rattle.std.proofs.Common.{rules, ap, sym, subst, ℕ, ◌<◌, List, Contains, slice_index_or, map, drop, arith, zero, suc}
 use Rattle.nova_lock.specs.Seats.{SeatView, note}
 use Rattle.nova_lock.specs.History.{IsFrontOf}
 use Rattle.nova_lock.proofs.Notes.{noted}

@@ -1,4 +1,4 @@
-use Rattle.std.proofs.Common.{rules, ◌≡◌, ap, sym, ◌∙◌, List, [], ◌∷◌, ◌<◌}
+use Rattle.std.proofs.Common.{rules, ◌≡◌, ap, sym, ◌∙◌, [], ◌∷◌}
 use Rattle.nova_lock.proofs.Seating.{opened}
 use Rattle.nova_lock.proofs.lock.HistoryLock.open.Goals as goal
 

@@ -1,4 +1,4 @@
-use Rattle.std.proofs.Common.{◌≡◌, ◌≤◌, ◌<◌, ◌+◌, ◌++◌, ℕ, [], map, drop, vec_len, slice_index_or}
+use Rattle.std.proofs.Common.{◌≡◌, ◌<◌, ◌++◌, ℕ, map, drop, vec_len, slice_index_or}
 use Rattle.nova_lock.specs.Seats.{SeatView, note}
 use Rattle.nova_lock.proofs.lock.HistoryLock.take_all.Given as goal
 

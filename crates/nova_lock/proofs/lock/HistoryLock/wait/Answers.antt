@@ -1,4 +1,4 @@
-use Rattle.std.proofs.Common.{rules, ap, sym, ◌∙◌}
+use Rattle.std.proofs.Common.{rules, ap, ◌∙◌}
 use Rattle.nova_lock.proofs.Steps.{looks}
 use Rattle.nova_lock.proofs.lock.HistoryLock.wait.Goals as goal
 

@@ -3,7 +3,7 @@ use Rattle.std.specs.Prelude.{◌^◌, slice_set, slice_index, Some, None}
 use Rattle.std.specs.declared.result.Result.TheVariants.{Ok}
 use Rattle.nova_model.specs.Semaphores.{semaphore, woken, upped}
 use Rattle.nova_sem.specs.Semaphores.{SemsState}
-use Rattle.nova_sem.specs.Links.{counter_at, all_shown}
+use Rattle.nova_sem.specs.Links.{counter_at, all_with_queues}
 use Rattle.nova_sem.proofs.Steps.{semaphore_is}
 use Rattle.nova_sem.proofs.Calls.{any_count, first_within, overflow, is_greatest, not_greatest, rise_leaves, wake_leaves, woken_none, woken_first}
 use Rattle.nova_sem.proofs.sems.Sems.up.Goals as goal
@@ -36,7 +36,7 @@ returns-then-counter-eq0-clause-upped c =
     let there : counter_at c.self.inside.counters.items c.args.sm ≡ Some c.in-Some.counter = search rules in
     let fits : c.in-Some.counter.count + 1 < 2 ^ 32 = search rules in
     let more : c.in-Some-checked_add.count ≡ c.in-Some.counter.count + 1 = search rules in
-    subst (λ (q : SemsState). all_shown c.self.inside.links.items (slice_set c.self.inside.counters.items c.args.sm (Some (record c.in-Some.counter { count = c.in-Some-checked_add.count }))) ≡ upped q.all c.args.sm) c.self.view_is
+    subst (λ (q : SemsState). all_with_queues c.self.inside.links.items (slice_set c.self.inside.counters.items c.args.sm (Some (record c.in-Some.counter { count = c.in-Some-checked_add.count }))) ≡ upped q.all c.args.sm) c.self.view_is
     (rise_leaves c.self.inside.links.items c.self.inside.counters.items c.args.sm c.in-Some.counter c.in-Some-checked_add.count c.self.invariant.0 there c.if-counter-eq0.true fits more).shows
 
 pub without_first-requires-clause-within : goal.without_first-requires-clause-within
@@ -69,5 +69,5 @@ returns-clause-upped c =
     let there : counter_at c.self.inside.counters.items c.args.sm ≡ Some c.in-Some.counter = search rules in
     let some : 0 < c.in-Some.counter.waiting = search rules in
     let goes : c.without_first.result ≡ record c.in-Some.counter { first = slice_index c.self.inside.links.items c.in-Some.counter.first; waiting = c.in-Some.counter.waiting - 1 } = search rules in
-    subst (λ (q : SemsState). all_shown c.self.inside.links.items (slice_set c.self.inside.counters.items c.args.sm (Some c.without_first.result)) ≡ upped q.all c.args.sm) c.self.view_is
+    subst (λ (q : SemsState). all_with_queues c.self.inside.links.items (slice_set c.self.inside.counters.items c.args.sm (Some c.without_first.result)) ≡ upped q.all c.args.sm) c.self.view_is
     (wake_leaves c.self.inside.links.items c.self.inside.counters.items c.args.sm c.in-Some.counter c.without_first.result c.self.invariant.0 there some goes).shows

@@ -1,13 +1,11 @@
-use Rattle.std.proofs.Common.{rules, arith, refl, ◌≡◌, ◌∙◌, ap, sym, subst, true, false, List}
-use Rattle.std.specs.Prelude.{Some, None, Option, option_map, nat_le}
+use Rattle.std.proofs.Common.{rules, refl, ◌≡◌, ◌∙◌, ap, sym, subst, true, false, List}
+use Rattle.std.specs.Prelude.{Some, None, option_map, nat_le}
 use Rattle.std.specs.List.{find}
-use Rattle.nova_range.specs.declared.index.Entry.{Entry}
-use Rattle.nova_range.specs.Ranges.{IsRange}
 use Rattle.nova_range.specs.Indices.{ends_after, key_at, key_of}
 use Rattle.nova_space.specs.declared.cache.Place.{Place}
-use Rattle.nova_space.specs.Cached.{AreOf, IsOf, key_of_place, noted, place_of, spans}
+use Rattle.nova_space.specs.Cached.{AreOf, key_of_place, noted, place_of, spans}
 use Rattle.nova_space.proofs.Kept.{found_of, found_range, noted_of, remembered}
-use Rattle.nova_space.proofs.Sorted.{held, key_held}
+use Rattle.nova_range.proofs.Sorted.{held, key_held}
 use Rattle.nova_space.proofs.space.SpaceIndex.find.Goals as goal
 
 pub returns-in-Some-clause-key : goal.returns-in-Some-clause-key

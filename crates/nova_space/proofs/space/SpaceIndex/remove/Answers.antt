@@ -1,8 +1,8 @@
-use Rattle.std.proofs.Common.{rules, arith, refl, ◌≡◌, ◌∙◌, ap, sym, subst, List, length, filter, not}
-use Rattle.std.specs.Prelude.{Some, None, Option, option_map, slice_get, ℕ}
-use Rattle.std.specs.List.{find, remove}
+use Rattle.std.proofs.Common.{rules, arith, ◌≡◌, ◌∙◌, ap, sym, subst, List, length, filter, not}
+use Rattle.std.specs.Prelude.{Some, None, option_map, slice_get}
+use Rattle.std.specs.List.{remove}
 use Rattle.nova_range.specs.declared.index.Entry.{Entry}
-use Rattle.nova_range.specs.Indices.{IsSorted, has_base, key_of, key_of_base, taken_out}
+use Rattle.nova_range.specs.Indices.{IsSorted, key_of, key_of_base, taken_out}
 use Rattle.nova_space.specs.declared.cache.Place.{Place}
 use Rattle.nova_space.specs.Cached.{AreOf, begins_at, is_below, of_base}
 use Rattle.nova_space.proofs.Bases.{key_found, none_of_base, one_of_base}

@@ -1,9 +1,9 @@
--- Members of a list, by recursion.
-use Rattle.std.proofs.Common.{◌≡◌, List, [], ◌∷◌, ◌++◌, ap, sym, ◌∙◌, subst, inl, inr, refl, arith}
-use Rattle.std.specs.Prelude.{Bool, true, false, ◌⊎◌, Some, filter, if◌then◌else◌}
+-- What holds of members of a list.
+use Rattle.std.proofs.Common.{◌≡◌, List, [], ◌∷◌, ◌++◌, ap, sym, ◌∙◌, subst, inl, inr, refl}
+use Rattle.std.specs.Prelude.{Bool, true, Some, filter}
 use Rattle.std.specs.List.{AllByRecursion, find}
 use Rattle.std.proofs.lemmas.Bool.{cond_both}
-use Rattle.nova_space.specs.Cached.{IsIn}
+use Rattle.nova_range.specs.Members.{IsIn}
 
 pub all_at : {T : Type 0} (P : T → Type 0) (xs : List T) (x : T) → AllByRecursion P xs → IsIn xs x → P x
 all_at P [] x all i = absurd i

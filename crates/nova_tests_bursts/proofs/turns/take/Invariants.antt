@@ -1,6 +1,6 @@
 use Rattle.std.proofs.Common.{◌≡◌, ◌+◌, ◌≤◌}
 use Rattle.nova_burst.specs.Lending.{ComesAfter, LeaseView}
-use Rattle.nova_tests_bursts.proofs.commits.take.Given as goal
+use Rattle.nova_tests_bursts.proofs.turns.take.Given as goal
 
 abbrev pub invariant-loop-turn : goal.invariant-loop-turn
 invariant-loop-turn l =
