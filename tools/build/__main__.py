@@ -42,12 +42,20 @@ def in_order(crate, named, found):
     return found
 
 
+def link(source, target):
+    """Gives a file a second name, or copies it where the file system has no such names."""
+    try:
+        os.link(source, target)
+    except OSError:
+        shutil.copyfile(source, target)
+
+
 def copy_of_sources(folder):
     """Makes a tree with links to the repository's sources, in a new folder of this one."""
     tree = pathlib.Path(tempfile.mkdtemp(dir=folder))
     for file in ("HANDLES", "crates.txt"):
-        os.link(TOP / file, tree / file)
-    shutil.copytree(TOP / "crates", tree / "crates", ignore=shutil.ignore_patterns("out", "must-fail"), copy_function=os.link)
+        link(TOP / file, tree / file)
+    shutil.copytree(TOP / "crates", tree / "crates", ignore=shutil.ignore_patterns("out", "must-fail"), copy_function=link)
     return tree
 
 
@@ -57,7 +65,7 @@ def hand_on(crate, source, target):
         kept, to = source / "crates" / crate / "out" / part, target / "crates" / crate / "out" / part
         if kept.is_dir():
             shutil.rmtree(to, ignore_errors=True)
-            shutil.copytree(kept, to, copy_function=os.link)
+            shutil.copytree(kept, to, copy_function=link)
 
 
 def rt(words, folder):
