@@ -6,7 +6,7 @@ use Rattle.nova_elf.specs.SegmentFits.{SegmentFits}
 use Rattle.nova_elf.specs.declared.program.Segment.{Segment}
 use Rattle.nova_model.specs.Memory.{Memory}
 use Rattle.nova_scenario.specs.Executables.{IsAmong, AreLaidIn, IsLaidItem}
-use Rattle.nova_scenario.specs.Items.{Item, FaultyLine, SettingLine, ImageBlock}
+use Rattle.nova_scenario.specs.Items.{Item, FaultyLine, SettingLine, SourceLine, ImageBlock}
 use Rattle.nova_scenario.specs.Segments.{segment_image}
 use Rattle.nova_scenario.specs.declared.image.Image.{Image}
 use Rattle.nova_scenario.specs.Sound.{IsIn}
@@ -32,6 +32,7 @@ pub items_held : (m : Memory) (images : List Image) (its : List Item) → AllByR
 items_held m images [] there laid = tt
 items_held m images (FaultyLine line why ∷ its) there laid = (tt, items_held m images its there laid.1)
 items_held m images (SettingLine line setting ∷ its) there laid = (tt, items_held m images its there laid.1)
+items_held m images (SourceLine line head ∷ its) there laid = (tt, items_held m images its there laid.1)
 items_held m images (ImageBlock head block ∷ its) there laid = (
   λ of_form.
       let h = laid.0 of_form in (

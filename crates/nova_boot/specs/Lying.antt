@@ -7,7 +7,7 @@ use Rattle.nova_elf.specs.declared.program.Segment.{Segment}
 use Rattle.nova_model.specs.Memory.{Memory}
 use Rattle.nova_text.specs.Line.{lines}
 use Rattle.nova_scenario.specs.Digits.{elf_bytes}
-use Rattle.nova_scenario.specs.Items.{Item, FaultyLine, SettingLine, ImageBlock, items}
+use Rattle.nova_scenario.specs.Items.{Item, FaultyLine, SettingLine, SourceLine, ImageBlock, items}
 use Rattle.nova_scenario.specs.Origins.{IsOfSome}
 use Rattle.nova_scenario.specs.Sound.{LiesAt}
 use Rattle.nova_scenario.specs.declared.image.Image.{Image}
@@ -42,5 +42,6 @@ pub record HoldsProgram (m : Memory) (address : ℕ) (file : List ℕ) (p : Prog
 abbrev pub HoldsItem : Memory → Item → Type 0
 HoldsItem m (FaultyLine line why) = Unit {0}
 HoldsItem m (SettingLine line setting) = Unit {0}
+HoldsItem m (SourceLine line head) = Unit {0}
 HoldsItem m (ImageBlock head block) = head.form ≡ form.Elf →
     (address : ℕ) × (file : List ℕ) × (p : Program) × (head.address ≡ Some address) × (elf_bytes block.lines ≡ Ok file) × HoldsProgram m address file p

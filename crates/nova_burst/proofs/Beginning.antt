@@ -14,11 +14,12 @@ use Rattle.nova_guest.specs.declared.map.Map.{Map}
 use Rattle.nova_guest.specs.declared.page.Page.{Page as Place}
 use Rattle.nova_model.specs.Delegations.{reach}
 use Rattle.nova_model.specs.State.{KernelState, context, pd_of}
+use Rattle.nova_model.specs.Times.{until_due}
 use Rattle.nova_model.specs.Views.{guest_state, maps_of, view}
 use Rattle.nova_isolation.proofs.OtherTurns.{view_cells}
 use Rattle.nova_isolation.proofs.Seen.{maps_at, view_is}
 use Rattle.nova_isolation.proofs.Spaces.{cell_covered, found_covered, page_same}
-use Rattle.nova_leases.specs.Commits.{IsReached, stirs_now}
+use Rattle.nova_leases.specs.Commits.{IsReached, lesser, stirs_now}
 use Rattle.nova_leases.specs.Advances.{IsLeasable}
 use Rattle.nova_leases.specs.Leases.{IsOfGuest, LeaseState, copy_at, lease_steps}
 use Rattle.nova_leases.specs.Paging.{IsRun}
@@ -100,7 +101,7 @@ stems_new k cpu most r s l found are made =
         may = subst (λ (n : ℕ). IsLeasable k n found.chosen found.budget) (sym made.its_cpu) found.may;
         actor = actor;
         kept = made.kept ∙ (found.kept ∙ ap₂ (stirs_now k) (sym made.guest) (sym made.its_cpu));
-        bound = made.left ∙ found.left;
+        bound = made.left ∙ (found.left ∙ ap (λ (n : ℕ). lesser found.budget.left (until_due k.times n)) (sym made.its_cpu));
         within = let a = made.count in omega arith;
         runs = record { regs = is.regs; pages = is.pages };
       };

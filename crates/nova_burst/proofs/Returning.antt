@@ -49,7 +49,7 @@ pub may_advance : (l : LeaseView) (k : KernelState) (left n : ℕ) → ComesAfte
 may_advance l k left n a done =
     let is : IsCommitted k l.run left n = committed k l.run left n done in
     let may : MayCommit k l.run is.chosen a.stems.stems.budget = may_by l k left n a is in
-    record { chosen = is.chosen; budget = a.stems.stems.budget; may = may.may; left = may.left; runs = may.runs }
+    record { chosen = is.chosen; budget = a.stems.stems.budget; may = may.may; left = may.left; early = may.early; runs = may.runs }
 
 pub its_count : (l : LeaseView) (k : KernelState) (left n : ℕ) → commit_done k l.run left ≡ Committed n → (l.run.steps.count ≡ n) × (n ≤ left)
 its_count l k left n done = let is : IsCommitted k l.run left n = committed k l.run left n done in (is.count, is.room)

@@ -2,9 +2,10 @@
 use Rattle.std.specs.Prelude.{◌≡◌, ◌<◌, ℕ}
 use Rattle.nova_model.specs.Choice.{Candidate}
 use Rattle.nova_model.specs.State.{KernelState, context, pd_of}
+use Rattle.nova_model.specs.Times.{until_due}
 use Rattle.nova_model.specs.declared.budget.Budget.{Budget}
 use Rattle.nova_leases.specs.Advances.{IsLeasable}
-use Rattle.nova_leases.specs.Commits.{IsReached, stirs_now}
+use Rattle.nova_leases.specs.Commits.{IsReached, lesser, stirs_now}
 use Rattle.nova_burst.specs.declared.leasing.Leasable.{Leasable}
 
 -- whom a processor's next turn lets step
@@ -16,6 +17,6 @@ pub record IsFound (k : KernelState) (cpu : ℕ) (r : Leasable) : Type 0 where
   pub may : IsLeasable k cpu chosen budget
   pub actor : chosen.actor ≡ r.guest
   pub kept : r.kept ≡ stirs_now k r.guest cpu
-  pub left : r.left ≡ budget.left
+  pub left : r.left ≡ lesser budget.left (until_due k.times cpu)
   pub pd : r.pd ≡ pd_of k r.guest
   pub regs : r.regs ≡ (context k r.guest).regs

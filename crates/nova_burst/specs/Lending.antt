@@ -1,5 +1,5 @@
 -- What a lease shows, where one may be had, the states from which it stems, and what a commit leaves.
-use Rattle.std.specs.Prelude.{◌≡◌, ◌≤◌, ◌<◌, ℕ, ◌-◌, ◌%◌, ◌==◌, ◌&&◌, Bool, true, false, not, nat_le, nat_lt, List, length, replicate, slice_get, Option, Some, None, IsSome, is_some, if◌then◌else◌}
+use Rattle.std.specs.Prelude.{◌≡◌, ◌≤◌, ◌<◌, ℕ, ◌-◌, ◌%◌, ◌==◌, ◌&&◌, Bool, true, false, not, nat_le, nat_lt, List, length, replicate, slice_get, Option, Some, None, IsSome, is_some, option_and_then, min, if◌then◌else◌}
 use Rattle.std.specs.List.{All}
 use Rattle.rv_model.specs.Registers.{Registers}
 use Rattle.rv_model.specs.Step.{one}
@@ -11,7 +11,7 @@ use Rattle.nova_range.specs.Rights.{execute_right}
 use Rattle.nova_objects.specs.declared.object.Object.{Object}
 use Rattle.nova_objects.specs.declared.object.Object.TheVariants.{Ec}
 use Rattle.nova_objects.specs.declared.object.EcKind.TheVariants.{Vcpu}
-use Rattle.nova_model.specs.Choice.{Candidate, choice}
+use Rattle.nova_model.specs.Choice.{Candidate, choice, next_to_act}
 use Rattle.nova_model.specs.Delegations.{reach}
 use Rattle.nova_model.specs.Runs.{run, trace}
 use Rattle.nova_model.specs.State.{KernelState, context, pd_of}
@@ -64,9 +64,17 @@ abbrev pub is_to_step : KernelState → Option Candidate → Bool
 is_to_step k (Some c) = has_code k (domain_of_virtual (slice_get k.objects c.actor)) (regs_to_step (context k c.actor))
 is_to_step k None = false
 
--- it acts next on a processor, which is there
+-- nothing is due on a processor, which is there, and it acts next
 abbrev pub is_leasable : KernelState → ℕ → Bool
-is_leasable k cpu = nat_lt cpu k.cpus && is_to_step k (choice k cpu)
+is_leasable k cpu = nat_lt cpu k.cpus && is_to_step k (next_to_act k cpu)
+
+-- how many turns are left of a quantum, and before something is due; none where something is
+abbrev pub turns_before : ℕ → Option ℕ → Option ℕ
+turns_before left None = Some left
+turns_before left (Some until) = if until == 0 then None else Some (min left until)
+
+abbrev pub turns_left : Option ℕ → Option ℕ → Option ℕ
+turns_left left until = option_and_then (λ n. turns_before n until) left
 
 -- STATES FROM WHICH A LEASE STEMS
 

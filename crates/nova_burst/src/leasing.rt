@@ -1,7 +1,9 @@
 ghost use Rattle.std.specs.Prelude.{◌≡◌, ◌≤◌, ◌<◌, IfOk, IfSome, is_some, slice_get};
 ghost use Rattle.nova_model.specs.State.{context};
 ghost use Rattle.nova_burst.specs.Found.{IsFound};
-ghost use Rattle.nova_burst.specs.Lending.{IsNew, StemsFrom, domain_of_virtual, is_at_code, is_leasable, regs_to_step};
+ghost use Rattle.nova_burst.specs.Lending.{IsNew, StemsFrom, domain_of_virtual, is_at_code, is_leasable, regs_to_step, turns_before, turns_left};
+ghost use Rattle.nova_kernel.specs.Views.{left_of};
+ghost use Rattle.nova_model.specs.Times.{until_due};
 
 use crate::gathering::gather;
 use crate::lent::Lease;
@@ -64,6 +66,30 @@ fn is_at_code(kernel: &mut Kernel, pd: u32, pc: u32) -> bool
     }
 }
 
+/// How many turns are left of a quantum, and before something is due; none where something is.
+fn turns_before(left: u32, until: Option<u64>) -> Option<u32>
+    ensures { result ≡ turns_before left until }
+{
+    match until {
+        None => Some(left),
+        Some(0) => None,
+        Some(turns) => {
+            if turns < u64::from(left) {
+                Some(turns as u32)
+            } else {
+                Some(left)
+            }
+        }
+    }
+}
+
+/// The same, for the scheduling context of a processor's next turn; none where there is none.
+fn turns_left(kernel: &Kernel, cpu: u32, sc: u32) -> Option<u32>
+    ensures { result ≡ turns_left (left_of kernel.now.state sc) (until_due kernel.now.state.times cpu) }
+{
+    turns_before(kernel.left(sc)?, kernel.until_due(cpu))
+}
+
 /// Whom a processor's next turn lets step, if it may be leased.
 fn find(kernel: &mut Kernel, cpu: u32) -> Option<Leasable>
     ensures given { is_some result ≡ is_leasable kernel.old.state cpu }
@@ -75,7 +101,7 @@ fn find(kernel: &mut Kernel, cpu: u32) -> Option<Leasable>
     }
     let guest = kernel.actor(cpu)?;
     let sc = kernel.choose(cpu)?;
-    let left = kernel.left(sc)?;
+    let left = turns_left(kernel, cpu, sc)?;
     let pd = domain_of_virtual(kernel, guest)?;
     let regs = regs_to_step(kernel, guest)?;
     if !is_at_code(kernel, pd, regs.pc()) {

@@ -12,7 +12,7 @@ use Rattle.nova_objects.specs.declared.object.EcKind.TheVariants.{Local, Global,
 use Rattle.nova_calls.specs.declared.call.Call.{Call}
 use Rattle.nova_calls.specs.declared.call.Call.TheVariants as call
 use Rattle.nova_calls.specs.declared.call.SmAction.{SmAction}
-use Rattle.nova_calls.specs.declared.call.SmAction.TheVariants.{Up, Down}
+use Rattle.nova_calls.specs.declared.call.SmAction.TheVariants.{Up, Down, DownWithin}
 
 -- what arguments may be
 
@@ -26,9 +26,9 @@ is_flag word = nat_le word 1
 abbrev pub kind_of : ℕ → Option EcKind
 kind_of n = if n == 0 then Some Local else if n == 1 then Some Global else if n == 2 then Some Vcpu else None
 
--- what is done to a semaphore: 0 up, 1 down
-abbrev pub action_of : ℕ → Option SmAction
-action_of n = if n == 0 then Some Up else if n == 1 then Some Down else None
+-- what is done to a semaphore: 0 up, 1 down, 2 down that waits for at most so many ticks
+abbrev pub action_of : ℕ → ℕ → Option SmAction
+action_of n ticks = if n == 0 then Some Up else if n == 1 then Some Down else if n == 2 then Some (DownWithin ticks) else None
 
 -- a range word that reads, or null
 abbrev pub readable : Result (Option (Range × Rights)) WordFault → Option (Option (Range × Rights))
@@ -104,9 +104,9 @@ sc_ctrl_row r = if is_selector (reg r 10) then Some (call.ScCtrl (reg r 10)) els
 abbrev pub pt_ctrl_row : Registers → Option Call
 pt_ctrl_row r = if is_selector (reg r 10) then Some (call.PtCtrl (reg r 10) (reg r 11)) else None
 
--- 12 sm_ctrl: x10 SM, x11 0 up or 1 down
+-- 12 sm_ctrl: x10 SM, x11 0 up, 1 down or 2 down with a deadline, x12 its ticks
 abbrev pub sm_ctrl_row : Registers → Option Call
-sm_ctrl_row r = if is_selector (reg r 10) then option_map (λ action. call.SmCtrl (reg r 10) action) (action_of (reg r 11)) else None
+sm_ctrl_row r = if is_selector (reg r 10) then option_map (λ action. call.SmCtrl (reg r 10) action) (action_of (reg r 11) (reg r 12)) else None
 
 -- the rows by their numbers
 abbrev pub rows : Registers → List (Option Call)

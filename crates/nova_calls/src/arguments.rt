@@ -36,13 +36,15 @@ pub(crate) fn ec_kind(number: u32) -> Option<EcKind>
     }
 }
 
-/// What is done to a semaphore, or nothing where no action has the number.
-pub(crate) fn sm_action(number: u32) -> Option<SmAction>
-    ensures { result ≡ action_of number }
+/// What is done to a semaphore, with the ticks of a down that waits for so long, or nothing where no
+/// action has the number.
+pub(crate) fn sm_action(number: u32, ticks: u32) -> Option<SmAction>
+    ensures { result ≡ action_of number ticks }
 {
     match number {
         0 => Some(SmAction::Up),
         1 => Some(SmAction::Down),
+        2 => Some(SmAction::DownWithin(ticks)),
         _ => None,
     }
 }

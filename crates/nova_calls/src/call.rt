@@ -6,6 +6,8 @@ use nova_range::{Mtd, Range, Rights};
 pub enum SmAction {
     Up,
     Down,
+    /// A down that waits for at most so many ticks.
+    DownWithin(u32),
 }
 
 /// A hypercall with its arguments. A selector is below 2^20: `target` is that of the object to be

@@ -156,14 +156,14 @@ fn pt_ctrl(regs: &Regs) -> Option<Call>
     })
 }
 
-/// `SM_CTRL`: x10 SM, x11 0 up or 1 down.
+/// `SM_CTRL`: x10 SM, x11 0 up, 1 down or 2 down with a deadline, x12 its ticks.
 fn sm_ctrl(regs: &Regs) -> Option<Call>
     ensures row { result ≡ sm_ctrl_row regs.now }
     ensures sound { IfSome result IsSoundCall }
 {
     Some(Call::SmCtrl {
         sm: selector(regs.get(10))?,
-        action: sm_action(regs.get(11))?,
+        action: sm_action(regs.get(11), regs.get(12))?,
     })
 }
 

@@ -3,7 +3,9 @@ use Rattle.std.proofs.Common.{◌≡◌, ℕ, refl, ap, ◌∙◌}
 use Rattle.std.specs.Prelude.{true, false, Option, Some, None, is_none, is_some, option_map}
 use Rattle.nova_model.specs.Choice.{Candidate, choice, choose}
 use Rattle.nova_model.specs.State.{KernelState}
-use Rattle.nova_model.specs.Turn.{turn, turn_by}
+use Rattle.nova_model.specs.Times.{due_on, next_moment}
+use Rattle.nova_model.specs.Turn.{chosen_by, tick_by, ticking, turn, turn_by, what_is_due}
+use Rattle.nova_model.specs.declared.times.Due.{Due}
 use Rattle.nova_sched.specs.Queues.{Schedule}
 use Rattle.nova_sched.specs.Queues as queues
 use Rattle.nova_choice.specs.Choices.{chosen_of, led, led_by, taken_by}
@@ -32,21 +34,30 @@ told_by k cpu chosen h = by_choice (choice k cpu) refl h
     by_choice None is g = absurd cc
     by_choice (Some c) is g = record { candidate = c; is = is; told = let same : chosen_of c ≡ chosen = cc in same }
 
--- its turn
-pub turn_told : (k : KernelState) (cpu : ℕ) (chosen : Chosen) → Some chosen ≡ option_map chosen_of (choice k cpu) → turn k cpu ≡ Some (taken_by k cpu chosen)
+-- its turn, where nothing is due
+pub turn_told : (k : KernelState) (cpu : ℕ) (chosen : Chosen) → due_on k.times cpu ≡ None → Some chosen ≡ option_map chosen_of (choice k cpu) → turn k cpu ≡ Some (taken_by k cpu chosen)
 unfolding turn
-turn_told k cpu chosen h =
+turn_told k cpu chosen none h =
     let told = told_by k cpu chosen h in
-    ap (turn_by k cpu) told.is ∙ ap (λ (c : Chosen). Some (taken_by k cpu c)) told.told
+    ap (turn_by k cpu) none ∙ ap (chosen_by k cpu) told.is ∙ ap (λ (c : Chosen). Some (taken_by k cpu c)) told.told
 
--- and an idle one
-pub turn_none : (k : KernelState) (cpu : ℕ) → None ≡ option_map chosen_of (choice k cpu) → turn k cpu ≡ None
+no_choice : (o : Option Candidate) → None ≡ option_map chosen_of o → o ≡ None
+no_choice None h = refl
+no_choice (Some c) h = absurd cc
+
+-- where nobody is chosen: an idle one, or a tick
+pub turn_none : (k : KernelState) (cpu : ℕ) → due_on k.times cpu ≡ None → None ≡ option_map chosen_of (choice k cpu) → next_moment k.times cpu ≡ None → turn k cpu ≡ None
 unfolding turn
-turn_none k cpu h = by_choice (choice k cpu) refl h
-  where
-    by_choice : (o : Option Candidate) → choice k cpu ≡ o → None ≡ option_map chosen_of o → turn_by k cpu (choice k cpu) ≡ None
-    by_choice None is g = ap (turn_by k cpu) is
-    by_choice (Some c) is g = absurd cc
+turn_none k cpu none h nothing = ap (turn_by k cpu) none ∙ ap (chosen_by k cpu) (no_choice (choice k cpu) h) ∙ ap (tick_by k cpu) nothing
+
+pub turn_ticks : (k : KernelState) (cpu moment : ℕ) → due_on k.times cpu ≡ None → None ≡ option_map chosen_of (choice k cpu) → next_moment k.times cpu ≡ Some moment → turn k cpu ≡ Some (ticking k cpu)
+unfolding turn
+turn_ticks k cpu moment none h some = ap (turn_by k cpu) none ∙ ap (chosen_by k cpu) (no_choice (choice k cpu) h) ∙ ap (tick_by k cpu) some
+
+-- where something is due
+pub turn_due : (k : KernelState) (cpu : ℕ) (what : Due) → due_on k.times cpu ≡ Some what → turn k cpu ≡ Some (what_is_due k cpu what)
+unfolding turn
+turn_due k cpu what due = ap (turn_by k cpu) due
 
 pub idle_choose : (k : KernelState) (cpu : ℕ) → is_some (choose k cpu) ≡ false → is_none (choice k cpu) ≡ true
 idle_choose k cpu h = by_choice (choice k cpu) h

@@ -127,7 +127,7 @@ is_moving (Dies reason q0) = true
 is_moving (Waits handler reason q0 q1) = true
 is_moving (Helps handler) = true
 is_moving (Aborts handler Exit) = true
-is_moving (Blocks sm) = true
+is_moving (Blocks sm until) = true
 is_moving other = false
 
 -- an up moves whom it wakes alone, who may be of another processor

@@ -50,7 +50,7 @@ IsCounted_bare cpus ram consoles root few kept = record {
     guests = guests-bare cpus ram consoles root;
   };
   numbered = record { objects = omega arith; derivations = omega arith };
-  tables = record { contexts = refl; messages = refl; transfers = refl; budgets = refl; identifiers = refl; semaphores = refl; guests = refl };
+  tables = record { contexts = refl; messages = refl; transfers = refl; budgets = refl; identifiers = refl; semaphores = refl; guests = refl; deadlines = refl };
   children = children-bare cpus ram consoles root;
   items = items-bare cpus ram consoles root;
   forest = bare_forest cpus ram consoles root;

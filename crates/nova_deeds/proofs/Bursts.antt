@@ -9,7 +9,7 @@ use Rattle.nova_deeds.specs.Counted.{IsCharged, IsToBeCharged}
 use Rattle.nova_deeds.specs.Stirs.{IsStirredWithin}
 use Rattle.nova_deeds.proofs.Counts.{IsCharged-paid}
 
-one_later : (turns : ℕ) (o : Option ℕ) → IsStirredWithin turns o → IsStirredWithin (turns + 1) o
+pub one_later : (turns : ℕ) (o : Option ℕ) → IsStirredWithin turns o → IsStirredWithin (turns + 1) o
 one_later turns (Some n) h = omega arith
 one_later turns None h = omega arith
 

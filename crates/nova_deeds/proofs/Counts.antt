@@ -52,6 +52,7 @@ AreTables-risen k rises t = record {
   identifiers = t.identifiers;
   semaphores = t.semaphores;
   guests = length-risen 0 rises k.stirs.guests ∙ t.guests;
+  deadlines = t.deadlines;
 }
 
 pub IsNumbered-kept : (old new : KernelState) → KeepsCounts old new → IsNumbered old.turns old → IsNumbered (new.turns + 1) new
@@ -113,14 +114,14 @@ IsCharged-paid k cpu sc quantum (Some b) at few c = record {
   guests = c.guests;
 }
 
-IsNumbered-paid : (k : KernelState) (cpu sc quantum : ℕ) (o : Option Budget) → IsNumbered (k.turns + 1) k → IsNumbered (k.turns + 1) (counted (paid_by k sc quantum o) cpu)
+pub IsNumbered-paid : (k : KernelState) (cpu sc quantum : ℕ) (o : Option Budget) → IsNumbered (k.turns + 1) k → IsNumbered (k.turns + 1) (counted (paid_by k sc quantum o) cpu)
 IsNumbered-paid k cpu sc quantum None n = record { objects = n.objects; derivations = n.derivations }
 IsNumbered-paid k cpu sc quantum (Some b) n = record { objects = n.objects; derivations = n.derivations }
 
-AreTables-paid : (k : KernelState) (cpu sc quantum : ℕ) (o : Option Budget) → AreTables k → AreTables (counted (paid_by k sc quantum o) cpu)
-AreTables-paid k cpu sc quantum None t = record { contexts = t.contexts; messages = t.messages; transfers = t.transfers; budgets = t.budgets; identifiers = t.identifiers; semaphores = t.semaphores; guests = t.guests }
+pub AreTables-paid : (k : KernelState) (cpu sc quantum : ℕ) (o : Option Budget) → AreTables k → AreTables (counted (paid_by k sc quantum o) cpu)
+AreTables-paid k cpu sc quantum None t = record { contexts = t.contexts; messages = t.messages; transfers = t.transfers; budgets = t.budgets; identifiers = t.identifiers; semaphores = t.semaphores; guests = t.guests; deadlines = t.deadlines }
 AreTables-paid k cpu sc quantum (Some b) t =
-    record { contexts = t.contexts; messages = t.messages; transfers = t.transfers; budgets = length-set k.budgets sc _ ∙ t.budgets; identifiers = t.identifiers; semaphores = t.semaphores; guests = t.guests }
+    record { contexts = t.contexts; messages = t.messages; transfers = t.transfers; budgets = length-set k.budgets sc _ ∙ t.budgets; identifiers = t.identifiers; semaphores = t.semaphores; guests = t.guests; deadlines = t.deadlines }
 
 turns-paid : (k : KernelState) (cpu sc quantum : ℕ) (o : Option Budget) → (counted (paid_by k sc quantum o) cpu).turns ≡ k.turns + 1
 turns-paid k cpu sc quantum None = refl
@@ -135,12 +136,12 @@ pub delegations-charged : (k : KernelState) (cpu sc : ℕ) → (charged k cpu sc
 unfolding charged
 delegations-charged k cpu sc = delegations-paid k cpu sc (quantum_in (slice_get k.objects sc)) (budget_at k sc)
 
-children-paid : (k : KernelState) (cpu sc quantum turns : ℕ) (o : Option Budget) → ((ec : ℕ) → IsGivenWithin turns (transfer_at k ec)) → (ec : ℕ) →
+pub children-paid : (k : KernelState) (cpu sc quantum turns : ℕ) (o : Option Budget) → ((ec : ℕ) → IsGivenWithin turns (transfer_at k ec)) → (ec : ℕ) →
     IsGivenWithin turns (transfer_at (counted (paid_by k sc quantum o) cpu) ec)
 children-paid k cpu sc quantum turns None h = h
 children-paid k cpu sc quantum turns (Some b) h = h
 
-items-paid : (k : KernelState) (cpu sc quantum : ℕ) (o : Option Budget) → ((ec : ℕ) → IsAtItem (transfer_at k ec)) → (ec : ℕ) →
+pub items-paid : (k : KernelState) (cpu sc quantum : ℕ) (o : Option Budget) → ((ec : ℕ) → IsAtItem (transfer_at k ec)) → (ec : ℕ) →
     IsAtItem (transfer_at (counted (paid_by k sc quantum o) cpu) ec)
 items-paid k cpu sc quantum None h = h
 items-paid k cpu sc quantum (Some b) h = h

@@ -27,13 +27,15 @@ use Rattle.nova_model.specs.declared.transfer.ItemWords.{ItemWords}
 use Rattle.nova_model.specs.declared.transfer.Sequel.{Sequel}
 use Rattle.nova_model.specs.declared.transfer.Sequel.TheVariants.{Item, Opened, Taken, Replied}
 use Rattle.nova_model.specs.declared.transfer.Transfer.{Transfer}
+use Rattle.nova_model.specs.declared.times.Deadline.{Deadline}
+use Rattle.nova_model.specs.Times.{Times}
 use Rattle.nova_deeds.proofs.Bounds.{there-set, there-more, length-more, given-later, given-more, given-set, none-given, gave-within, skipped-within, item-more, item-set, none-item, same-item, next-item, next-given, inputs-more, none-stirred, ticks-more, none-paid, stamp-made}
 use Rattle.nova_deeds.specs.Acts.{DeedFits, IsSequel}
 use Rattle.nova_deeds.specs.Counted.{KeepsCounts, IsAtItem, IsGivenWithin}
 
 -- an execution context changes
 
-KeepsCounts-self : (k : KernelState) → KeepsCounts k k
+pub KeepsCounts-self : (k : KernelState) → KeepsCounts k k
 KeepsCounts-self k = record {
   contexts = λ ec h. h;
   budgets = λ sc h. h;
@@ -50,7 +52,7 @@ KeepsCounts-self k = record {
   tables = λ t. t;
 }
 
-with_context-keeps : (k new : KernelState) (ec : ℕ) (x : EcState) → KeepsCounts k new → KeepsCounts k (with_context new ec x)
+pub with_context-keeps : (k new : KernelState) (ec : ℕ) (x : EcState) → KeepsCounts k new → KeepsCounts k (with_context new ec x)
 with_context-keeps k new ec x h = record {
   contexts = λ n there. there-set new.contexts ec n x (h.contexts n there);
   budgets = h.budgets;
@@ -72,6 +74,7 @@ with_context-keeps k new ec x h = record {
     identifiers = u.identifiers;
     semaphores = u.semaphores;
     guests = u.guests;
+    deadlines = u.deadlines;
   };
 }
 
@@ -101,14 +104,47 @@ tables-keep k new memory messages identifiers all h m i s = record {
     identifiers = i ∙ u.identifiers;
     semaphores = s ∙ u.semaphores;
     guests = u.guests;
+    deadlines = u.deadlines;
   };
 }
 
 with_message-keeps : (k new : KernelState) (ec : ℕ) (m : List ℕ) → KeepsCounts k new → KeepsCounts k (with_message new ec m)
 with_message-keeps k new ec m h = tables-keep k new new.memory (slice_set new.messages ec (Some m)) new.identifiers new.semaphores h (length-set new.messages ec (Some m)) refl refl
 
-semaphores-keeps : (k new : KernelState) (all : Semaphores) → KeepsCounts k new → length all ≡ length new.semaphores → KeepsCounts k (record new { semaphores = all })
+pub semaphores-keeps : (k new : KernelState) (all : Semaphores) → KeepsCounts k new → length all ≡ length new.semaphores → KeepsCounts k (record new { semaphores = all })
 semaphores-keeps k new all h long = tables-keep k new new.memory new.messages new.identifiers all h refl refl long
+
+-- deadlines, and what else stands in times, are looked at by nobody here
+
+pub times-keep : (k new : KernelState) (times : Times) → KeepsCounts k new → length times.deadlines ≡ length new.times.deadlines → KeepsCounts k (record new { times = times })
+times-keep k new times h long = record {
+  contexts = h.contexts;
+  budgets = h.budgets;
+  ticks = h.ticks;
+  transfers = h.transfers;
+  items = h.items;
+  next_stamp = h.next_stamp;
+  turns = h.turns;
+  cpus = h.cpus;
+  processors = h.processors;
+  guests = h.guests;
+  objects = h.objects;
+  derivations = h.derivations;
+  tables = λ t. let u = h.tables t in record {
+    contexts = u.contexts;
+    messages = u.messages;
+    transfers = u.transfers;
+    budgets = u.budgets;
+    identifiers = u.identifiers;
+    semaphores = u.semaphores;
+    guests = u.guests;
+    deadlines = long ∙ u.deadlines;
+  };
+}
+
+pub deadlines-keep : (k new : KernelState) (deadlines : List (Option Deadline)) → KeepsCounts k new → length deadlines ≡ length new.times.deadlines →
+    KeepsCounts k (record new { times = record new.times { deadlines = deadlines } })
+deadlines-keep k new deadlines h long = times-keep k new (record new.times { deadlines = deadlines }) h long
 
 -- at most one derivation more
 
@@ -126,7 +162,7 @@ delegations-keep k f few = let kept = KeepsCounts-self k in record {
   guests = kept.guests;
   objects = kept.objects;
   derivations = few;
-  tables = λ t. record { contexts = t.contexts; messages = t.messages; transfers = t.transfers; budgets = t.budgets; identifiers = t.identifiers; semaphores = t.semaphores; guests = t.guests };
+  tables = λ t. record { contexts = t.contexts; messages = t.messages; transfers = t.transfers; budgets = t.budgets; identifiers = t.identifiers; semaphores = t.semaphores; guests = t.guests; deadlines = t.deadlines };
 }
 
 -- the rows
@@ -171,6 +207,7 @@ made-keeps k ec x pd selector new = record {
     identifiers = length-more k.identifiers k.objects _ _ t.identifiers;
     semaphores = length-more k.semaphores k.objects _ _ t.semaphores;
     guests = length-more k.stirs.guests k.objects _ _ t.guests;
+    deadlines = length-more k.times.deadlines k.objects _ _ t.deadlines;
   };
 }
 
@@ -210,6 +247,7 @@ part-keeps k new ec t kept same within item = record {
     identifiers = u.identifiers;
     semaphores = u.semaphores;
     guests = u.guests;
+    deadlines = u.deadlines;
   };
 }
 
@@ -249,16 +287,16 @@ sent-keeps k ec handler ip identifier mtd reason q0 q1 =
 
 -- semaphores of one change
 
-semaphores-length : (change : Semaphore → Semaphore) (all : Semaphores) (sm : ℕ) → length (semaphores.changed change all sm) ≡ length all
+pub semaphores-length : (change : Semaphore → Semaphore) (all : Semaphores) (sm : ℕ) → length (semaphores.changed change all sm) ≡ length all
 semaphores-length change all sm = by_entry (semaphore_at all sm)
   where
     by_entry : (o : Option Semaphore) → length (changed_by change all sm o) ≡ length all
     by_entry None = refl
     by_entry (Some x) = length-set all sm (Some (change x))
 
-woken-keeps : (k new : KernelState) (whom : Option ℕ) → KeepsCounts k new → KeepsCounts k (woken_in new whom)
+pub woken-keeps : (k new : KernelState) (whom : Option ℕ) → KeepsCounts k new → KeepsCounts k (woken_in new whom)
 woken-keeps k new None kept = kept
-woken-keeps k new (Some w) kept = with_context-keeps k new w _ kept
+woken-keeps k new (Some w) kept = deadlines-keep k (with_context new w _) (slice_set new.times.deadlines w None) (with_context-keeps k new w _ kept) (length-set new.times.deadlines w None)
 
 downed-keeps : (k : KernelState) (ec sm : ℕ) (x : EcState) → KeepsCounts k (record (with_context k ec x) { semaphores = downed k.semaphores sm ec })
 downed-keeps k ec sm x =
@@ -309,5 +347,7 @@ done-keeps k ec (Replies caller m items) fits = replied-keeps k ec caller m item
 done-keeps k ec (Sends handler ip identifier mtd reason q0 q1) fits = sent-keeps k ec handler ip identifier mtd reason q0 q1
 done-keeps k ec (Ups sm whom) fits = upped-keeps k ec sm whom
 done-keeps k ec (Downs sm) fits = downed-keeps k ec sm _
-done-keeps k ec (Blocks sm) fits = downed-keeps k ec sm _
+done-keeps k ec (Blocks sm None) fits = downed-keeps k ec sm _
+done-keeps k ec (Blocks sm (Some d)) fits =
+    deadlines-keep k (record (with_context k ec _) { semaphores = downed k.semaphores sm ec }) (slice_set k.times.deadlines ec (Some d)) (downed-keeps k ec sm _) (length-set k.times.deadlines ec (Some d))
 done-keeps k ec other fits = changed-keeps k ec (actor_after (context k ec) other)

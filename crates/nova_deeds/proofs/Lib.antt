@@ -14,3 +14,4 @@ pub mod Stirred
 pub mod Granted
 pub mod Told
 pub mod Bursts
+pub mod Passing

@@ -160,7 +160,7 @@ recalled_keeps stale k mid other (Some y) kept at =
     }
 
 -- what the queues are not about changes
-aside : (stale : Option ℕ) (k mid new : KernelState) → KeepsQueued stale k mid → new.contexts ≡ mid.contexts → new.objects ≡ mid.objects → new.budgets ≡ mid.budgets →
+pub aside : (stale : Option ℕ) (k mid new : KernelState) → KeepsQueued stale k mid → new.contexts ≡ mid.contexts → new.objects ≡ mid.objects → new.budgets ≡ mid.budgets →
     new.next_stamp ≡ mid.next_stamp → new.cpus ≡ mid.cpus → KeepsQueued stale k new
 aside stale k mid new kept contexts objects budgets stamp cpus = record {
   contexts = subst (λ (ds : Contexts). LeadsBut stale k.contexts ds) (sym contexts) kept.contexts;
@@ -295,10 +295,10 @@ done_leaves k s ec (Aborts handler mark.Exit) may fits queued =
 done_leaves k s ec (Ups sm whom) may fits queued = leaves _ k _ s queued (upped_queued k ec sm whom may fits)
 done_leaves k s ec (Downs sm) may fits queued =
     leaves None k _ s queued (aside None k (with_context k ec (answered (context k ec) Success None)) _ (answered_queued k ec may) refl refl refl refl refl)
-done_leaves k s ec (Blocks sm) may fits queued =
+done_leaves k s ec (Blocks sm until) may fits queued =
     leaves _ k _ s queued
-    (aside (Some (context k ec).cpu) k (with_context k ec (actor_after (context k ec) (Blocks sm))) _
-    (moved k ec (actor_after (context k ec) (Blocks sm)) may.edges may.there refl) refl refl refl refl refl)
+    (aside (Some (context k ec).cpu) k (with_context k ec (actor_after (context k ec) (Blocks sm until))) _
+    (moved k ec (actor_after (context k ec) (Blocks sm until)) may.edges may.there refl) refl refl refl refl refl)
 done_leaves k s ec (Dies reason q0) may fits queued = leaves _ k _ s queued (moved k ec (actor_after (context k ec) (Dies reason q0)) may.edges may.there refl)
 done_leaves k s ec (Waits handler reason q0 q1) may fits queued =
     leaves _ k _ s queued (moved k ec (actor_after (context k ec) (Waits handler reason q0 q1)) may.edges may.there refl)

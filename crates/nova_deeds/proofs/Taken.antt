@@ -7,6 +7,7 @@ use Rattle.nova_model.specs.Deeds.{deed, done}
 use Rattle.nova_model.specs.Edges.{acts, chase}
 use Rattle.nova_model.specs.Inputs.{stirred}
 use Rattle.nova_model.specs.Runs.{after}
+use Rattle.nova_model.specs.Times.{due_on}
 use Rattle.nova_model.specs.State.{Contexts, KernelState}
 use Rattle.nova_model.specs.Forest.{IsForest}
 use Rattle.nova_model.specs.Turn.{charged, state_after}
@@ -50,14 +51,15 @@ told_acts k cpu chosen h =
     (chosen_acts k cpu told.candidate told.is ∙ ap (λ (c : Chosen). Some c.actor) told.told)
 
 -- the state after it, where who acts does its deed, what that stirs is counted, and the scheduling context pays
-pub turn_taken : (k mid : KernelState) (cpu : ℕ) (chosen : Chosen) (d : Deed) → Some chosen ≡ option_map chosen_of (choice k cpu) → d ≡ deed k chosen.actor →
+pub turn_taken : (k mid : KernelState) (cpu : ℕ) (chosen : Chosen) (d : Deed) → due_on k.times cpu ≡ None → Some chosen ≡ option_map chosen_of (choice k cpu) → d ≡ deed k chosen.actor →
     mid ≡ stirred k chosen.actor d (done k chosen.actor d) → after k cpu ≡ charged mid cpu chosen.sc
-turn_taken k mid cpu chosen d h is does =
-    ap (state_after k) (turn_told k cpu chosen h)
+turn_taken k mid cpu chosen d none h is does =
+    ap (state_after k) (turn_told k cpu chosen none h)
     ∙ ap (λ (s : KernelState). charged s cpu chosen.sc) (ap (λ (x : Deed). stirred k chosen.actor x (done k chosen.actor x)) (sym is) ∙ sym does)
 
 -- a deed that was done, what it stirs is counted, and the scheduling context pays: that is the turn
 pub record IsSettled (k mid new : KernelState) (cpu : ℕ) (chosen : Chosen) (d : Deed) (written : Option ℕ) : Type 0 where
+  pub none_due : due_on k.times cpu ≡ None
   pub told : Some chosen ≡ option_map chosen_of (choice k cpu)
   pub decided : d ≡ deed k chosen.actor
   pub does : mid ≡ done k chosen.actor d
@@ -72,7 +74,7 @@ pub settled_state : (k mid new : KernelState) (cpu : ℕ) (chosen : Chosen) (d :
     new ≡ after k cpu
 settled_state k mid new cpu chosen d written s =
     s.settled
-    ∙ sym (turn_taken k (risen_in mid (is_stirring mid written chosen.actor d)) cpu chosen d s.told s.decided
+    ∙ sym (turn_taken k (risen_in mid (is_stirring mid written chosen.actor d)) cpu chosen d s.none_due s.told s.decided
     (stirred_done k mid chosen.actor d written s.does s.wrote))
 
 pub settled_counts : (k mid new : KernelState) (cpu : ℕ) (chosen : Chosen) (d : Deed) (written : Option ℕ) → IsSettled k mid new cpu chosen d written →

@@ -72,7 +72,7 @@ DeedFits k ec (Sends handler ip identifier mtd reason q0 q1) =
 DeedFits k ec (Revokes range own) = IsRange range
 DeedFits k ec (Ups sm whom) = woken (semaphore k.semaphores sm) ≡ Ok whom
 DeedFits k ec (Downs sm) = answer_of (semaphore k.semaphores sm) ≡ Done
-DeedFits k ec (Blocks sm) = answer_of (semaphore k.semaphores sm) ≡ Blocked
+DeedFits k ec (Blocks sm until) = answer_of (semaphore k.semaphores sm) ≡ Blocked
 DeedFits k ec (Finishes item end words after) = (item < 62) × (IsToldThere k words × IsSequel k ec item after)
 DeedFits k ec other = Unit {0}
 
@@ -101,7 +101,7 @@ changes_actor_only (Replies caller mark items) = false
 changes_actor_only (Aborts handler mark) = false
 changes_actor_only (Ups sm whom) = false
 changes_actor_only (Downs sm) = false
-changes_actor_only (Blocks sm) = false
+changes_actor_only (Blocks sm until) = false
 changes_actor_only (Finishes item end words after) = false
 changes_actor_only other = true
 

@@ -16,11 +16,12 @@ pub record AreTables (k : KernelState) : Type 0 where
   pub identifiers : length k.identifiers ≡ length k.objects
   pub semaphores : length k.semaphores ≡ length k.objects
   pub guests : length k.stirs.guests ≡ length k.objects
+  pub deadlines : length k.times.deadlines ≡ length k.objects
 
--- the numbers that were given: at boot 3 to objects and at most 20 to derivations, and in a turn at most one of each
+-- the numbers that were given: before the first turn at most 2^20 to objects and 17 more to derivations, and in a turn at most one of each
 pub record IsNumbered (turns : ℕ) (k : KernelState) : Type 0 where
-  pub objects : length k.objects ≤ turns + 3
-  pub derivations : k.delegations.next ≤ turns + 20
+  pub objects : length k.objects ≤ turns + 2 ^ 20
+  pub derivations : k.delegations.next ≤ turns + (2 ^ 20 + 17)
 
 -- a scheduling context paid for no more turns than were taken
 abbrev pub IsPaidWithin : ℕ → Option Budget → Type 0

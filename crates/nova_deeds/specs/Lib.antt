@@ -4,3 +4,4 @@ pub use Rattle.nova_model.specs.Inputs
 pub mod Acts
 pub mod Stirs
 pub mod Counted
+pub mod Passing

@@ -10,6 +10,6 @@ mod roots;
 pub mod signs;
 
 pub use roots::{
-    first_stirs, no_entries, root_contexts, root_guests, root_objects, root_revokes,
-    root_semaphores, root_transfers,
+    no_entries, root_contexts, root_guests, root_objects, root_revokes, root_semaphores,
+    root_times, root_transfers,
 };

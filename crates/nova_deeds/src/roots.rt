@@ -8,6 +8,7 @@ use nova_model::{EcKind, EcState, Object, Root, State, Transfer};
 use nova_objects::Objects;
 use nova_running::{Guests, Revokes};
 use nova_sem::Sems;
+use nova_times::Times;
 use rv_core::Regs;
 use std::alloc::{AllocError, Global};
 
@@ -115,9 +116,14 @@ pub fn root_guests(alloc: Global) -> Result<Guests, AllocError>
     Ok(guests)
 }
 
-/// A count of 0 for each processor.
-pub fn first_stirs(alloc: Global, cpus: u32) -> Result<Vec<u64>, AllocError>
-    ensures { IfOk result (λ v. v.items ≡ replicate cpus 0) }
+/// Clocks at 0, and an entry for each of the root's objects, which has no deadline.
+pub fn root_times(alloc: Global, cpus: u32) -> Result<Times, AllocError>
+    ensures { IfOk result (λ t. t.all ≡ record { clocks = replicate cpus 0; deadlines = None ∷ None ∷ None ∷ []; alarms = [] }) }
 {
-    vec![in alloc; 0; cpus as usize]
+    let mut times = Times::new(alloc, cpus)?;
+    for _object in 0..3u32 {
+        times.room_for_ec()?;
+        times.add();
+    }
+    Ok(times)
 }

@@ -90,7 +90,7 @@ pub fn sign_of(deed: Deed) -> (EventKind, u32, u32)
         Deed::Removes { leaf } => (EventKind::Gone, leaf.id, leaf.pd),
         Deed::Returns => (EventKind::Answer, numbers::REVOKE, 0),
         Deed::Ups { .. } | Deed::Downs { .. } => (EventKind::Answer, numbers::SM_CTRL, 0),
-        Deed::Blocks { sm } => (EventKind::Begin, numbers::SM_CTRL, sm),
+        Deed::Blocks { sm, .. } => (EventKind::Begin, numbers::SM_CTRL, sm),
     }
 }
 

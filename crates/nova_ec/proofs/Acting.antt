@@ -10,7 +10,7 @@ use Rattle.nova_model.specs.declared.context.EcState.{EcState}
 use Rattle.nova_model.specs.declared.context.Mark.TheVariants as mark
 use Rattle.nova_model.specs.declared.context.State.{State}
 use Rattle.nova_model.specs.declared.context.State.TheVariants.{Fresh, Ready, Parked, Calling, Helping, Exiting, Sending, Granting, Replying, Revoking, Blocked, Dead}
-use Rattle.nova_model.specs.declared.deed.Deed.TheVariants.{Rests, Steps, Raises, Dies, Waits, Sends, Refuses, Makes, Recalls, Tells, Names, Opens, Gives, Skips, Finishes, Calls, Helps, Replies, Aborts, Revokes, Removes, Returns, Ups, Downs, Blocks}
+use Rattle.nova_model.specs.declared.deed.Deed.TheVariants.{Rests, Steps, Dies, Waits, Sends, Gives, Skips, Finishes, Calls, Helps, Replies, Aborts, Removes, Blocks}
 use Rattle.nova_model.specs.declared.transfer.Sequel.TheVariants as sequel
 use Rattle.nova_ec.specs.Changes.{ActingKeepsChases, AllStay, DeedsKeepChases}
 use Rattle.nova_ec.specs.Ways.{TurnsStay}
@@ -198,5 +198,5 @@ deeds_keep_chases cs e (Calls handler ip identifier items) before goes = absurd 
 deeds_keep_chases cs e (Helps handler) before goes = absurd cc
 deeds_keep_chases cs e (Replies caller mark false) before goes = absurd cc
 deeds_keep_chases cs e (Aborts handler mark.Exit) before goes = absurd cc
-deeds_keep_chases cs e (Blocks sm) before goes = absurd cc
+deeds_keep_chases cs e (Blocks sm until) before goes = absurd cc
 deeds_keep_chases cs e other before goes = all_stay_alone cs e (actor_after (ec_of cs e) other) before (λ handler. refl)

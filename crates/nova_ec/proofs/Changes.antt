@@ -9,7 +9,7 @@ use Rattle.nova_model.specs.declared.context.EcState.{EcState}
 use Rattle.nova_model.specs.declared.context.Mark.{Mark}
 use Rattle.nova_model.specs.declared.context.Mark.TheVariants as mark
 use Rattle.nova_model.specs.declared.deed.Deed.{Deed}
-use Rattle.nova_model.specs.declared.deed.Deed.TheVariants.{Rests, Steps, Raises, Dies, Waits, Sends, Refuses, Makes, Recalls, Tells, Names, Opens, Gives, Skips, Finishes, Calls, Helps, Replies, Aborts, Revokes, Removes, Returns, Ups, Downs, Blocks}
+use Rattle.nova_model.specs.declared.deed.Deed.TheVariants.{Rests, Steps, Waits, Sends, Gives, Skips, Finishes, Calls, Helps, Replies, Aborts, Removes}
 use Rattle.nova_model.specs.declared.transfer.Sequel.TheVariants as sequel
 use Rattle.nova_ec.specs.Changes.{AnsweringKeeps, ChangesKeep, CompletingKeeps, DeedsKeep, KeepsSound, NewWays, OthersStayTwice, ParkingKeeps, Passes, ResumingKeeps, SendingKeeps, ServingKeeps, edge_by}
 use Rattle.nova_ec.specs.Tables.{MayBecome}

@@ -115,7 +115,7 @@ goes_on (Calls handler ip identifier items) = false
 goes_on (Helps handler) = false
 goes_on (Replies caller mark items) = items
 goes_on (Aborts handler mark) = is_call mark
-goes_on (Blocks sm) = false
+goes_on (Blocks sm until) = false
 goes_on (Finishes item end words after) = acts_after after
 goes_on other = true
 

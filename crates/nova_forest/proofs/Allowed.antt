@@ -242,7 +242,7 @@ row_free k ec (asks.ScCtrl sc) selector =
     named_free k ec (named k (pd_of k ec) is_sc control_right sc) (λ n. Tells SC_CTRL (ticks_in (budget_at k n))) (λ n. tt)
 row_free k ec (asks.PtCtrl pt identifier) selector = named_free k ec (named k (pd_of k ec) is_pt control_right pt) (λ n. Names n identifier) (λ n. tt)
 row_free k ec (asks.SmCtrl sm action) selector =
-    sm_ctrl_holds (IsAllowed k ec) k (pd_of k ec) sm action (λ n whom is wakes. tt) (λ n is answers. tt) (λ n is answers. tt)
+    sm_ctrl_holds (IsAllowed k ec) k ec (pd_of k ec) sm action (λ n whom is wakes. tt) (λ n is answers. tt) (λ n until is answers till. tt)
 row_free k ec other selector = tt
 
 -- ids are below the next

@@ -1,5 +1,8 @@
 -- The boot state is a forest.
-use Rattle.std.proofs.Common.{◌≡◌, ℕ, zero, suc, ◌+◌, ◌^◌, ◌%◌, ◌<◌, ◌≤◌, List, [], ◌∷◌, ◌++◌, ap, ap₂, sym, ◌∙◌, subst, refl, arith}
+use Rattle.std.proofs.lemmas.List.{length-append}
+use Rattle.nova_objects.specs.declared.object.Object.TheVariants.{Sm}
+use Rattle.nova_model.specs.Sources.{Source, with_source, with_sources}
+use Rattle.std.proofs.Common.{◌≡◌, ℕ, zero, suc, ◌+◌, ◌^◌, ◌%◌, ◌<◌, ◌≤◌, List, [], ◌∷◌, ◌++◌, ap, ap₂, sym, ◌∙◌, subst, refl, arith, length}
 use Rattle.std.specs.Prelude.{Bool, true, false, ◌==◌, ◌&&◌, nat_lt, nat_le, map, None}
 use Rattle.std.specs.List.{AllByRecursion, range_with_len}
 use Rattle.std.proofs.lemmas.Bool.{eq-eqb}
@@ -9,11 +12,12 @@ use Rattle.nova_range.specs.declared.range.Kind.{Kind}
 use Rattle.nova_range.specs.declared.range.Kind.TheVariants.{Mem, Obj}
 use Rattle.nova_model.specs.Boot.{Scenario, Image, boot, with_image, with_images, bare, ram_derivation, console_derivation, object_derivation, root_derivations}
 use Rattle.nova_model.specs.Capabilities.{is_held}
-use Rattle.nova_model.specs.Creation.{root_capability}
+use Rattle.nova_model.specs.Creation.{root_capability, object_of}
 use Rattle.nova_model.specs.Delegations.{Delegations, range_of, has_place, covers, added}
 use Rattle.nova_model.specs.Forest.{AreApart, IsForest, IsFitting}
 use Rattle.nova_model.specs.State.{KernelState}
 use Rattle.nova_model.specs.declared.delegation.Derivation.{Derivation}
+use Rattle.nova_model.specs.declared.new_object.NewObject.TheVariants as new
 use Rattle.nova_model.specs.declared.root.Root.{Root}
 use Rattle.nova_forest.proofs.Forests.{forest_add}
 use Rattle.nova_forest.proofs.Members.{all_more, all_weaker, none_found}
@@ -160,6 +164,55 @@ with_images_delegations : (k : KernelState) (images : List Image) → (with_imag
 with_images_delegations k [] = refl
 with_images_delegations k (image ∷ images) = with_images_delegations (with_image k image) images
 
+-- what sources keep holds after all of them
+pub sources_keep : (P : KernelState → Type 0) → ((k : KernelState) (s : Source) → P k → P (with_source k s)) → (k : KernelState) (sources : List Source) → P k → P (with_sources k sources)
+sources_keep P keeps k [] h = h
+sources_keep P keeps k (s ∷ sources) h = sources_keep P keeps (with_source k s) sources (keeps k s h)
+
+-- the root holds no selector from the number of objects on
+pub record IsRooted (k : KernelState) : Type 0 where
+  pub forest : IsForest k.delegations
+  pub free : AllByRecursion (λ a. (n : ℕ) → length k.objects ≤ n → covers Obj 0 n a ≡ false) k.delegations.list
+
+object_ends : (m n : ℕ) → m + 1 ≤ n → (nat_le m n && nat_lt n (m + 1)) ≡ false
+object_ends m n past = grind arith
+
+pub source_rooted : (k : KernelState) (s : Source) → IsRooted k → IsRooted (with_source k s)
+source_rooted k s h =
+    let c = root_capability k 0 (length k.objects) (object_of (new.Sm 0)) in
+    let more : length (k.objects ++ Sm ∷ []) ≡ length k.objects + 1 = length-append k.objects (Sm ∷ []) in record {
+      forest = forest_add k.delegations c h.forest (capability_fits k.delegations c refl refl refl refl
+          (all_weaker (λ a. (n : ℕ) → length k.objects ≤ n → covers Obj 0 n a ≡ false) (λ a. covers Obj 0 (length k.objects) a ≡ false) k.delegations.list
+          (λ a free. free (length k.objects) (omega arith)) h.free));
+      free = all_more (λ a. (n : ℕ) → length (k.objects ++ Sm ∷ []) ≤ n → covers Obj 0 n a ≡ false) k.delegations.list c
+          (all_weaker (λ a. (n : ℕ) → length k.objects ≤ n → covers Obj 0 n a ≡ false) (λ a. (n : ℕ) → length (k.objects ++ Sm ∷ []) ≤ n → covers Obj 0 n a ≡ false) k.delegations.list
+          (λ a free n past. free n (omega (arith, past, more))) h.free)
+          (λ n past. object_ends (length k.objects) n (omega (arith, past, more)));
+    }
+
+object_past : (consoles object rights n : ℕ) → object < 3 → 3 ≤ n → covers Obj 0 n (object_derivation consoles object rights) ≡ false
+object_past consoles object rights n one past = object_ends object n (omega (arith, one, past))
+
+both_all : {T : Type 0} (P : T → Type 0) (xs ys : List T) → AllByRecursion P xs → AllByRecursion P ys → AllByRecursion P (xs ++ ys)
+both_all P [] ys first others = others
+both_all P (x ∷ xs) ys first others = (first.0, both_all P xs ys first.1 others)
+
+bare_free : (cpus ram consoles : ℕ) (root : Root) → AllByRecursion (λ a. (n : ℕ) → 3 ≤ n → covers Obj 0 n a ≡ false) (root_derivations ram consoles)
+bare_free cpus ram consoles root =
+    both_all (λ a. (n : ℕ) → 3 ≤ n → covers Obj 0 n a ≡ false) (pages ram consoles).list
+    (object_derivation consoles 0 1 ∷ object_derivation consoles 1 7 ∷ object_derivation consoles 2 1 ∷ [])
+    (λ n past. refl, all_consoles (λ a. (n : ℕ) → 3 ≤ n → covers Obj 0 n a ≡ false) ram 0 consoles (λ j from to n past. refl))
+    (λ n past. object_past consoles 0 1 n (omega arith) past, (λ n past. object_past consoles 1 7 n (omega arith) past, (λ n past. object_past consoles 2 1 n (omega arith) past, tt)))
+
+images_rooted : (k : KernelState) (images : List Image) → IsRooted k → IsRooted (with_images k images)
+images_rooted k [] h = h
+images_rooted k (image ∷ images) h = images_rooted (with_image k image) images (record { forest = h.forest; free = h.free })
+
+pub boot_rooted : (s : Scenario) → IsRooted (boot s)
+boot_rooted s =
+    sources_keep IsRooted source_rooted (with_images (bare s.cpus s.ram s.consoles s.root) s.images) s.sources
+    (images_rooted (bare s.cpus s.ram s.consoles s.root) s.images
+    (record { forest = bare_forest s.cpus s.ram s.consoles s.root; free = bare_free s.cpus s.ram s.consoles s.root }))
+
 pub boot_forest : (s : Scenario) → IsForest (boot s).delegations
-boot_forest s =
-    subst IsForest (sym (with_images_delegations (bare s.cpus s.ram s.consoles s.root) s.images)) (bare_forest s.cpus s.ram s.consoles s.root)
+boot_forest s = (boot_rooted s).forest

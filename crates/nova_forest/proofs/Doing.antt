@@ -14,7 +14,7 @@ use Rattle.nova_model.specs.declared.context.Mark.TheVariants as mark
 use Rattle.nova_model.specs.declared.context.State.{State}
 use Rattle.nova_model.specs.declared.context.State.TheVariants.{Calling}
 use Rattle.nova_model.specs.declared.deed.Deed.{Deed}
-use Rattle.nova_model.specs.declared.deed.Deed.TheVariants.{Rests, Steps, Aborts, Sends, Recalls, Finishes, Replies, Ups}
+use Rattle.nova_model.specs.declared.deed.Deed.TheVariants.{Rests, Steps, Aborts, Sends, Recalls, Finishes, Replies, Ups, Blocks}
 use Rattle.nova_model.specs.declared.transfer.Sequel.TheVariants as sequel
 use Rattle.nova_forest.specs.Effects.{Answers, Moves, applied, edit_at, effect, recalls_by, steps_by, store_words, words_stored}
 
@@ -79,6 +79,8 @@ done_is k ec (Replies caller mark.Exit false) = refl
 done_is k ec (Aborts handler mark.Call) = refl
 done_is k ec (Ups sm None) = refl
 done_is k ec (Ups sm (Some w)) = refl
+done_is k ec (Blocks sm None) = refl
+done_is k ec (Blocks sm (Some d)) = refl
 done_is k ec (Recalls whose) = recalled_is k ec whose (ec_in (edit_at k.contexts ec (Answers Success None)) whose) refl
 done_is k ec (Sends handler ip identifier mtd reason q0 q1) =
     ap (λ (r : Registers). applied k (record (effect k ec (Sends handler ip identifier mtd reason q0 q1)) { words = Some (handler, exited mtd q0 q1 r (message k handler)) }))

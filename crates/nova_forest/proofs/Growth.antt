@@ -1,7 +1,7 @@
 -- What a turn adds to objects and delegations: what the effect of its deed makes, and what joins or goes.
 use Rattle.std.proofs.Common.{◌≡◌, ℕ, [], ◌∷◌, ◌++◌, refl, ap, sym, ◌∙◌, subst}
 use Rattle.std.specs.Prelude.{Option, option_map}
-use Rattle.nova_model.specs.Choice.{Candidate, choice}
+use Rattle.nova_model.specs.Choice.{Candidate, next_to_act}
 use Rattle.nova_model.specs.Creation.{object_of, root_capability}
 use Rattle.nova_model.specs.Deeds.{deed, done}
 use Rattle.nova_model.specs.Delegations.{added}
@@ -13,11 +13,11 @@ use Rattle.nova_model.specs.declared.new_object.NewObject.{NewObject}
 use Rattle.nova_model.specs.declared.new_object.NewObject.TheVariants as new
 use Rattle.nova_forest.specs.Effects.{branch_by, branched, joined, made_by}
 use Rattle.nova_forest.specs.Made.{Grows, Leaves, MakesObject, GivesChild, TakesLeaf, GrowsBy}
-use Rattle.nova_forest.specs.Turns.{Acts, Idles, Takes, turned}
+use Rattle.nova_forest.specs.Turns.{Acts, Idles, Passes, Takes, turned}
 use Rattle.nova_forest.proofs.Allowed.{IsAllowed, MayMake, deed_allowed, ids_below}
 use Rattle.nova_forest.proofs.Doing.{done_is}
 use Rattle.nova_forest.proofs.Running.{root_idle}
-use Rattle.nova_forest.proofs.Turning.{comes}
+use Rattle.nova_forest.proofs.Turning.{comes, idle_none, passing_none}
 
 -- a state with one object more
 made_grows : (k s : KernelState) (ec target : ℕ) (made : NewObject) → MayMake k (pd_of k ec) target (object_of made) → s.objects ≡ k.objects ++ object_of made ∷ [] →
@@ -66,7 +66,7 @@ pub record HasGrown (old new : KernelState) : Type 0 where
 
 pub turn_growth : (k : KernelState) (cpu : ℕ) → HasGrown k (after k cpu)
 turn_growth k cpu = elim (comes k cpu) [
-  | Idles is same answer ↦
+  | Idles is moment same answer ↦
       record { ec = 0; grows = Leaves (record { objects = ap (λ (s : KernelState). s.objects) same; delegations = ap (λ (s : KernelState). s.delegations) same }) }
   | Takes t e comes state answer ↦ elim comes [
     | Acts c chosen is event ↦
@@ -74,18 +74,26 @@ turn_growth k cpu = elim (comes k cpu) [
           ec = c.actor;
           grows = grows k (after k cpu) c.actor (deed k c.actor) (deed_allowed k c.actor) (ap (λ (s : KernelState). s.objects) now) (ap (λ (s : KernelState). s.delegations) now);
         }
+    | Passes p due is event ↦ let now = state ∙ ap (turned k cpu) is in record {
+      ec = 0;
+      grows = Leaves (record { objects = ap (λ (s : KernelState). s.objects) now; delegations = ap (λ (s : KernelState). s.delegations) now });
+    }
   ]
 ]
 
-pub turn_grows : (k : KernelState) (cpu : ℕ) → GrowsBy k (choice k cpu) (after k cpu)
+pub turn_grows : (k : KernelState) (cpu : ℕ) → GrowsBy k (next_to_act k cpu) (after k cpu)
 turn_grows k cpu = elim (comes k cpu) [
-  | Idles is same answer ↦
-      subst (λ (o : Option Candidate). GrowsBy k o (after k cpu)) (sym is)
+  | Idles is moment same answer ↦
+      subst (λ (o : Option Candidate). GrowsBy k o (after k cpu)) (sym (idle_none k cpu is))
       (record { objects = ap (λ (s : KernelState). s.objects) same; delegations = ap (λ (s : KernelState). s.delegations) same })
   | Takes t e comes state answer ↦ elim comes [
     | Acts c chosen is event ↦
         let now = state ∙ ap (turned k cpu) is in
         subst (λ (o : Option Candidate). GrowsBy k o (after k cpu)) (sym chosen)
         (grows k (after k cpu) c.actor (deed k c.actor) (deed_allowed k c.actor) (ap (λ (s : KernelState). s.objects) now) (ap (λ (s : KernelState). s.delegations) now))
+    | Passes p due is event ↦
+        let now = state ∙ ap (turned k cpu) is in
+        subst (λ (o : Option Candidate). GrowsBy k o (after k cpu)) (sym (passing_none k cpu p due))
+        (record { objects = ap (λ (s : KernelState). s.objects) now; delegations = ap (λ (s : KernelState). s.delegations) now })
   ]
 ]

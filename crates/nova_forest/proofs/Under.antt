@@ -2,7 +2,7 @@
 use Rattle.std.proofs.Common.{◌≡◌, ℕ, ◌+◌, [], ◌∷◌, ap, sym, ◌∙◌, refl, arith}
 use Rattle.std.specs.Prelude.{Bool, true, false, ◌==◌, Option, Some, None}
 use Rattle.std.proofs.lemmas.Bool.{eqb-true, eqb-false}
-use Rattle.nova_model.specs.Choice.{Candidate, choice}
+use Rattle.nova_model.specs.Choice.{Candidate, next_to_act}
 use Rattle.nova_model.specs.Delegations.{Delegations}
 use Rattle.nova_model.specs.Forest.{IsForest}
 use Rattle.nova_model.specs.Revokes.{Revocation, next_leaf, taken_away}
@@ -41,8 +41,8 @@ grows_under k new runner actor r forest runs (GivesChild g) =
 grows_under k new runner actor r forest runs (TakesLeaf g) = taken_under k new runner actor r forest runs g
 
 pub turn_under : (k : KernelState) (cpu runner : ℕ) (r : Revocation) → IsForest k.delegations → revoke_of k runner ≡ Some r →
-    ChangesUnder r runner (choice k cpu) k.delegations (after k cpu).delegations
-turn_under k cpu runner r forest runs = by_choice (choice k cpu) (turn_grows k cpu)
+    ChangesUnder r runner (next_to_act k cpu) k.delegations (after k cpu).delegations
+turn_under k cpu runner r forest runs = by_choice (next_to_act k cpu) (turn_grows k cpu)
   where
     by_choice : (c : Option Candidate) → GrowsBy k c (after k cpu) → ChangesUnder r runner c k.delegations (after k cpu).delegations
     by_choice None s = s.delegations

@@ -1,7 +1,8 @@
 -- The one walk over deciding: what holds of each deed that looks alone at a state, of what an exit comes to, of what the rows of the table of
 -- hypercalls give, and of the parts and ends of items, holds of the deed of every execution context.
-use Rattle.std.proofs.Common.{◌≡◌, ℕ, ap, refl}
-use Rattle.std.specs.Prelude.{Bool, true, false, ◌==◌, Option, Some, None, option_map, Result, Ok, Err, if◌then◌else◌}
+use Rattle.std.proofs.Common.{◌≡◌, ℕ, ap, refl, arith}
+use Rattle.std.proofs.lemmas.Bool.{eqb-false}
+use Rattle.std.specs.Prelude.{Bool, true, false, ◌==◌, ◌+◌, ◌<◌, Option, Some, None, option_map, Result, Ok, Err, if◌then◌else◌}
 use Rattle.nova_model.specs.Edges.{is_giving, is_asking}
 use Rattle.rv_model.specs.Registers.{Registers, reg}
 use Rattle.rv_model.specs.Step.{Once, Raised, Went}
@@ -19,12 +20,15 @@ use Rattle.nova_model.specs.Deeds as deeds
 use Rattle.nova_model.specs.Delegations.{range_of}
 use Rattle.nova_model.specs.Deliveries.{delivery, flag, finished, range_given, parted, part_deed, delegated, answered_by, delivered, delivers}
 use Rattle.nova_model.specs.Exits.{raised_exit, exit_portal, exit_to, exit_at, exits}
-use Rattle.nova_model.specs.Hypercalls.{and_then, upped_by, downed_by, sm_ctrl, row, or_refuses, hypercall}
+use Rattle.nova_model.specs.Hypercalls.{and_then, unless, upped_by, deadline_after, downed_by, downed_within, sm_ctrl, row, or_refuses, hypercall}
 use Rattle.nova_model.specs.Revokes.{next_leaf}
 use Rattle.nova_model.specs.Running.{is_busy}
 use Rattle.nova_model.specs.Portals.{descriptor, handler_of, identifier, ip_of}
 use Rattle.nova_model.specs.Semaphores.{answer_of, semaphore, woken}
-use Rattle.nova_model.specs.State.{KernelState, context, pd_of, transfer}
+use Rattle.nova_model.specs.State.{KernelState, context, pd_of, processor_of, transfer}
+use Rattle.nova_model.specs.Times.{clock}
+use Rattle.nova_model.specs.declared.times.Deadline.{Deadline}
+use Rattle.nova_range.specs.declared.status.Status.TheVariants.{Timeout}
 use Rattle.nova_model.specs.Transfers.{job_of, next_source, child_of, judged, part_of}
 use Rattle.nova_model.specs.Translations.{translated}
 use Rattle.nova_model.specs.declared.admit.ExitAdmit.{ExitAdmit}
@@ -105,12 +109,23 @@ exits_holds P k ec reason q0 q1 raised h = by_portal (exit_portal k ec reason) r
     by_portal (Ok pt) portal = by_admit pt (exit_admitted k.contexts ec (handler_of k pt)) (record { raised = raised; portal = portal; admits = refl })
 
 -- of the row of semaphores: what holds of an up, of a down that is done and of one that waits
-pub sm_ctrl_holds : (P : Deed → Type 0) (k : KernelState) (domain selector : ℕ) (action : SmAction) →
+-- until when a down may wait: without end, or to a deadline at its semaphore, on its processor, that is not yet due after this turn
+pub record IsDeadlineOf (k : KernelState) (ec sm : ℕ) (d : Deadline) : Type 0 where
+  pub processor : d.cpu ≡ processor_of k ec
+  pub waits_at : d.sm ≡ sm
+  pub later : clock k.times (processor_of k ec) + 1 < d.at
+
+abbrev pub IsUntil : KernelState → ℕ → ℕ → Option Deadline → Type 0
+IsUntil k ec sm None = Unit {0}
+IsUntil k ec sm (Some d) = IsDeadlineOf k ec sm d
+
+pub sm_ctrl_holds : (P : Deed → Type 0) (k : KernelState) (ec domain selector : ℕ) (action : SmAction) →
     ((sm : ℕ) (whom : Option ℕ) → named k domain is_sm up_right selector ≡ Ok sm → woken (semaphore k.semaphores sm) ≡ Ok whom → P (Ups sm whom)) →
     ((sm : ℕ) → named k domain is_sm down_right selector ≡ Ok sm → answer_of (semaphore k.semaphores sm) ≡ lowering.Done → P (Downs sm)) →
-    ((sm : ℕ) → named k domain is_sm down_right selector ≡ Ok sm → answer_of (semaphore k.semaphores sm) ≡ lowering.Blocked → P (Blocks sm)) →
-    IfDone P (sm_ctrl k domain selector action)
-sm_ctrl_holds P k domain selector act.Up ups downs blocks = by_name (named k domain is_sm up_right selector) refl
+    ((sm : ℕ) (until : Option Deadline) → named k domain is_sm down_right selector ≡ Ok sm → answer_of (semaphore k.semaphores sm) ≡ lowering.Blocked →
+    IsUntil k ec sm until → P (Blocks sm until)) →
+    IfDone P (sm_ctrl k ec domain selector action)
+sm_ctrl_holds P k ec domain selector act.Up ups downs blocks = by_name (named k domain is_sm up_right selector) refl
   where
     by_woken : (sm : ℕ) → named k domain is_sm up_right selector ≡ Ok sm → (o : Result (Option ℕ) Overflow) → woken (semaphore k.semaphores sm) ≡ o →
         IfDone P (upped_by sm o)
@@ -121,14 +136,31 @@ sm_ctrl_holds P k domain selector act.Up ups downs blocks = by_name (named k dom
         IfDone P (and_then o (λ sm. upped_by sm (woken (semaphore k.semaphores sm))))
     by_name (Ok sm) is = by_woken sm is (woken (semaphore k.semaphores sm)) refl
     by_name (Err status) is = tt
-sm_ctrl_holds P k domain selector act.Down ups downs blocks = by_name (named k domain is_sm down_right selector) refl
+sm_ctrl_holds P k ec domain selector act.Down ups downs blocks = by_name (named k domain is_sm down_right selector) refl
   where
     by_answer : (sm : ℕ) → named k domain is_sm down_right selector ≡ Ok sm → (d : Down) → answer_of (semaphore k.semaphores sm) ≡ d → P (downed_by sm d)
     by_answer sm is lowering.Done answers = downs sm is answers
-    by_answer sm is lowering.Blocked answers = blocks sm is answers
+    by_answer sm is lowering.Blocked answers = blocks sm None is answers tt
 
     by_name : (o : Result ℕ Status) → named k domain is_sm down_right selector ≡ o →
         IfDone P (and_then o (λ sm. Ok (downed_by sm (answer_of (semaphore k.semaphores sm)))))
+    by_name (Ok sm) is = by_answer sm is (answer_of (semaphore k.semaphores sm)) refl
+    by_name (Err status) is = tt
+sm_ctrl_holds P k ec domain selector (act.DownWithin ticks) ups downs blocks = by_name (named k domain is_sm down_right selector) refl
+  where
+    by_ticks : (sm : ℕ) → named k domain is_sm down_right selector ≡ Ok sm → answer_of (semaphore k.semaphores sm) ≡ lowering.Blocked →
+        (none : Bool) → ticks == 0 ≡ none → IfDone P (unless none Timeout (Ok (Blocks sm (Some (deadline_after k ec sm ticks)))))
+    by_ticks sm is answers true none = tt
+    by_ticks sm is answers false none =
+        blocks sm (Some (deadline_after k ec sm ticks)) is answers (record { processor = refl; waits_at = refl; later = let some : ticks ≡ 0 → ⊥ = eqb-false ticks 0 none in omega arith })
+
+    by_answer : (sm : ℕ) → named k domain is_sm down_right selector ≡ Ok sm → (d : Down) → answer_of (semaphore k.semaphores sm) ≡ d →
+        IfDone P (downed_within sm ticks (deadline_after k ec sm ticks) d)
+    by_answer sm is lowering.Done answers = downs sm is answers
+    by_answer sm is lowering.Blocked answers = by_ticks sm is answers (ticks == 0) refl
+
+    by_name : (o : Result ℕ Status) → named k domain is_sm down_right selector ≡ o →
+        IfDone P (and_then o (λ sm. downed_within sm ticks (deadline_after k ec sm ticks) (answer_of (semaphore k.semaphores sm))))
     by_name (Ok sm) is = by_answer sm is (answer_of (semaphore k.semaphores sm)) refl
     by_name (Err status) is = tt
 

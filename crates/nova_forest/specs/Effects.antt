@@ -1,10 +1,10 @@
 -- What a deed does, as one value: the object that it makes, what becomes of delegations, edits of execution contexts one after another, the message words, the
 -- place in items, the identifier and the semaphore that it sets, and its store. And the state after it, field by field.
-use Rattle.std.specs.Prelude.{ℕ, ◌%◌, ◌==◌, ◌&&◌, Bool, true, false, not, List, [], ◌∷◌, ◌++◌, length, slice_get, slice_set, Option, Some, None, option_map}
+use Rattle.std.specs.Prelude.{ℕ, ◌%◌, ◌==◌, ◌&&◌, Bool, true, false, not, List, [], ◌∷◌, ◌++◌, length, slice_get, slice_set, Option, Some, None, option_map, Result}
 use Rattle.rv_model.specs.Registers.{Registers}
 use Rattle.rv_model.specs.Step.{Once, Raised, Went, Store}
 use Rattle.nova_range.specs.declared.status.Status.{Status}
-use Rattle.nova_range.specs.declared.status.Status.TheVariants.{Success, Aborted}
+use Rattle.nova_range.specs.declared.status.Status.TheVariants.{Success, Aborted, Timeout}
 use Rattle.nova_utcb.specs.Messages.{copied, exited, stored, with_item}
 use Rattle.nova_model.specs.AddressSpaces.{AddressSpace, after_store, words_at}
 use Rattle.nova_model.specs.Creation.{budget_of, context_of, count_of, identifier_of, idle_semaphore, object_of, root_capability, stamp_past, stir_count_of, transfer_of, words_of}
@@ -12,8 +12,15 @@ use Rattle.nova_model.specs.Deeds.{address_space, answered, gave, instruction, p
 use Rattle.nova_model.specs.Delegations.{Delegations, added, without}
 use Rattle.nova_model.specs.Inputs.{store_of}
 use Rattle.nova_model.specs.Memory.{Memory}
-use Rattle.nova_model.specs.Semaphores.{Semaphores, changed, lowered, raised}
-use Rattle.nova_model.specs.State.{Contexts, KernelState, Semaphore, context, ec_in, ec_of, entry, message, message_in, pd_of, transfer, with_ec}
+use Rattle.nova_model.specs.Semaphores.{Semaphores, changed, lowered, raised, semaphore, without_one, woken}
+use Rattle.nova_model.specs.State.{Contexts, KernelState, Semaphore, context, deadline_of, ec_in, ec_of, entry, message, message_in, pd_of, transfer, with_ec}
+use Rattle.nova_model.specs.Times.{alarm_sm, deadline_sm, rung_in}
+use Rattle.nova_model.specs.Turn.{whom_of}
+use Rattle.nova_model.specs.declared.semaphore.Overflow as o
+use Rattle.nova_model.specs.declared.times.AlarmState.{AlarmState}
+use Rattle.nova_model.specs.declared.times.Deadline.{Deadline}
+use Rattle.nova_model.specs.declared.times.Due.{Due}
+use Rattle.nova_model.specs.declared.times.Due.TheVariants as due
 use Rattle.nova_model.specs.declared.context.EcState.{EcState}
 use Rattle.nova_model.specs.declared.context.Mark.{Mark}
 use Rattle.nova_model.specs.declared.context.Mark.TheVariants as mark
@@ -82,6 +89,8 @@ pub record Effect : Type 0 where
   pub identifier : Option (ℕ × ℕ)
   pub semaphore : Option (ℕ × (Semaphore → Semaphore))
   pub store : Option (AddressSpace × Store)
+  pub deadline : Option (ℕ × Option Deadline)
+  pub rings : Option ℕ
 
 -- a table with one entry set, and with one more
 abbrev pub put : {T : Type 0} → List (Option T) → Option (ℕ × T) → List (Option T)
@@ -109,6 +118,18 @@ abbrev pub memory_with : Memory → Option (AddressSpace × Store) → Memory
 memory_with m None = m
 memory_with m (Some (a, s)) = after_store a s m
 
+abbrev pub deadlines_with : List (Option Deadline) → Option (ℕ × Option Deadline) → List (Option Deadline)
+deadlines_with ds None = ds
+deadlines_with ds (Some (ec, d)) = slice_set ds ec d
+
+abbrev pub alarms_with : List AlarmState → Option ℕ → List AlarmState
+alarms_with alarms None = alarms
+alarms_with alarms (Some n) = rung_in alarms n (slice_get alarms n)
+
+-- an object that is made has no deadline
+abbrev pub no_deadline : NewObject → Option Deadline
+no_deadline made = None
+
 -- the state after an effect
 abbrev pub applied : KernelState → Effect → KernelState
 applied k e = record {
@@ -126,6 +147,11 @@ applied k e = record {
   cpus = k.cpus;
   consoles = k.consoles;
   stirs = record k.stirs { guests = joined k.stirs.guests (option_map (λ m. stir_count_of (object_of m)) e.made) };
+  times = record {
+    clocks = k.times.clocks;
+    deadlines = joined (deadlines_with k.times.deadlines e.deadline) (option_map no_deadline e.made);
+    alarms = alarms_with k.times.alarms e.rings;
+  };
 }
 
 -- OF A DEED, PART BY PART
@@ -208,7 +234,7 @@ edits_by k ec (deed.Revokes range own) = (ec, Becomes (Revoking range own)) ∷ 
 edits_by k ec deed.Returns = (ec, Answers Success None) ∷ []
 edits_by k ec (deed.Ups sm woken) = (ec, Answers Success None) ∷ wakes_by woken
 edits_by k ec (deed.Downs sm) = (ec, Answers Success None) ∷ []
-edits_by k ec (deed.Blocks sm) = (ec, Becomes (Blocked sm)) ∷ []
+edits_by k ec (deed.Blocks sm until) = (ec, Becomes (Blocked sm)) ∷ []
 edits_by k ec other = []
 
 abbrev pub transfer_by : KernelState → ℕ → Deed → Option (ℕ × Transfer)
@@ -224,12 +250,26 @@ identifier_by other = None
 abbrev pub semaphore_by : ℕ → Deed → Option (ℕ × (Semaphore → Semaphore))
 semaphore_by ec (deed.Ups sm woken) = Some (sm, raised)
 semaphore_by ec (deed.Downs sm) = Some (sm, lowered ec)
-semaphore_by ec (deed.Blocks sm) = Some (sm, lowered ec)
+semaphore_by ec (deed.Blocks sm until) = Some (sm, lowered ec)
 semaphore_by ec other = None
 
 abbrev pub store_by : KernelState → ℕ → Deed → Option (AddressSpace × Store)
 store_by k ec deed.Steps = option_map (λ s. (address_space k ec, s)) (store_of (instruction k ec))
 store_by k ec other = None
+
+-- who is woken has no deadline any more, and who waits to one has it
+abbrev pub cleared_by : Option ℕ → Option (ℕ × Option Deadline)
+cleared_by None = None
+cleared_by (Some w) = Some (w, None)
+
+abbrev pub awaits_by : ℕ → Option Deadline → Option (ℕ × Option Deadline)
+awaits_by ec None = None
+awaits_by ec (Some d) = Some (ec, Some d)
+
+abbrev pub deadline_by : ℕ → Deed → Option (ℕ × Option Deadline)
+deadline_by ec (deed.Ups sm woken) = cleared_by woken
+deadline_by ec (deed.Blocks sm until) = awaits_by ec until
+deadline_by ec other = None
 
 abbrev pub effect : KernelState → ℕ → Deed → Effect
 effect k ec d = record {
@@ -241,4 +281,57 @@ effect k ec d = record {
   identifier = identifier_by d;
   semaphore = semaphore_by ec d;
   store = store_by k ec d;
+  deadline = deadline_by ec d;
+  rings = None;
+}
+
+-- WITHOUT AN ACTOR
+
+-- what comes of a processor by itself: something that is due, or a tick
+pub data Passing : Type 0 where
+  Falls : Due → Passing
+  Ticks : Passing
+
+-- what comes of a semaphore that an alarm ups, and who then goes on, with its status
+abbrev pub alarm_up : KernelState → ℕ → Result (Option ℕ) o.Overflow
+alarm_up k alarm = woken (semaphore k.semaphores (alarm_sm (slice_get k.times.alarms alarm)))
+
+abbrev pub with_status : Status → Option ℕ → Option (ℕ × Status)
+with_status status None = None
+with_status status (Some w) = Some (w, status)
+
+abbrev pub passing_ends : KernelState → Passing → Option (ℕ × Status)
+passing_ends k (Falls (due.Alarm alarm)) = with_status Success (whom_of (alarm_up k alarm))
+passing_ends k (Falls (due.Deadline ec)) = Some (ec, Timeout)
+passing_ends k Ticks = None
+
+abbrev pub ends_by : Option (ℕ × Status) → Edits
+ends_by None = []
+ends_by (Some (w, status)) = (w, Answers status None) ∷ []
+
+abbrev pub clears_by : Option (ℕ × Status) → Option (ℕ × Option Deadline)
+clears_by None = None
+clears_by (Some (w, status)) = Some (w, None)
+
+abbrev pub passing_semaphore : KernelState → Passing → Option (ℕ × (Semaphore → Semaphore))
+passing_semaphore k (Falls (due.Alarm alarm)) = Some (alarm_sm (slice_get k.times.alarms alarm), raised)
+passing_semaphore k (Falls (due.Deadline ec)) = Some (deadline_sm (deadline_of k.times ec), without_one ec)
+passing_semaphore k Ticks = None
+
+abbrev pub passing_rings : Passing → Option ℕ
+passing_rings (Falls (due.Alarm alarm)) = Some alarm
+passing_rings other = None
+
+abbrev pub passing_effect : KernelState → Passing → Effect
+passing_effect k p = record {
+  made = None;
+  branch = None;
+  edits = ends_by (passing_ends k p);
+  words = None;
+  transfer = None;
+  identifier = None;
+  semaphore = passing_semaphore k p;
+  store = None;
+  deadline = clears_by (passing_ends k p);
+  rings = passing_rings p;
 }

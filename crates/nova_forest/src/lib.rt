@@ -7,7 +7,7 @@ pub mod revokes;
 
 ghost use Rattle.std.specs.Prelude.{◌≡◌, ℕ, List, Contains, Some};
 ghost use Rattle.nova_model.specs.Boot.{Scenario, boot};
-ghost use Rattle.nova_model.specs.Choice.{choice};
+ghost use Rattle.nova_model.specs.Choice.{next_to_act};
 ghost use Rattle.nova_model.specs.Delegations.{Delegations};
 ghost use Rattle.nova_model.specs.Forest.{IsForest};
 ghost use Rattle.nova_model.specs.Lines.{line};
@@ -42,7 +42,7 @@ pub fn delegations_stay_a_forest()
 /// is the next one of that revoke, which where delegations are a sound forest is in the revoke's scope
 /// and has no child.
 pub fn a_turn_makes_at_most_one_object()
-    ensures { (k : KernelState) (cpu : ℕ) → GrowsBy k (choice k cpu) (after k cpu) }
+    ensures { (k : KernelState) (cpu : ℕ) → GrowsBy k (next_to_act k cpu) (after k cpu) }
 {}
 
 /// A turn leaves delegations, adds one derivation that fits them, or removes one that is no parent, as
@@ -62,7 +62,7 @@ pub fn a_turn_changes_one_derivation()
 /// for this revoke.
 pub fn nothing_joins_a_running_revoke()
     ensures turn { (k : KernelState) (cpu runner : ℕ) (r : Revocation) → IsForest k.delegations → revoke_of k runner ≡ Some r →
-        ChangesUnder r runner (choice k cpu) k.delegations (after k cpu).delegations }
+        ChangesUnder r runner (next_to_act k cpu) k.delegations (after k cpu).delegations }
     ensures steps { (r : Revocation) (runner actor : ℕ) (old new : Delegations) (change : ChangeUnder r runner actor old new) →
         IsCourse r old new (leaves_in change) }
 {}

@@ -1,6 +1,6 @@
 -- What a turn is for a virtual CPU is an input that the guest alone admits.
 use Rattle.std.proofs.Common.{◌≡◌, ℕ, zero, suc, ◌*◌, ◌^◌, ◌≤◌, ◌+◌, ◌⊎◌, List, [], ◌∷◌, length, take, drop, ◌∙◌, refl, inl, inr, arith}
-use Rattle.std.specs.Prelude.{Bool, true, false, ◌==◌, ◌%◌, IfSome, Option, Some, None, option_and_then, if◌then◌else◌}
+use Rattle.std.specs.Prelude.{◌-◌, Bool, true, false, ◌==◌, ◌%◌, IfSome, Option, Some, None, option_and_then, if◌then◌else◌}
 use Rattle.std.specs.List.{All}
 use Rattle.std.proofs.lemmas.List.{length-take-le, length-drop}
 use Rattle.std.proofs.lemmas.List.Elements.{All-cons, All-nil}
@@ -135,9 +135,9 @@ input_admitted k cpu g sound ranges =
 
 -- ALONG A RUN
 
-pub reached_ranges : (s : Scenario) (turns : List ℕ) → s.ram ≤ 14 → s.consoles ≤ 16 → AreRanges (run (boot s) turns)
-reached_ranges s turns frames consoles =
-    (run_keeps (λ (k : KernelState). IsSound k × AreRanges k) (λ k cpu h. (turn_sound k cpu h.0, turn_ranges k cpu h.0 h.1)) (boot s) turns (boot_sound s, boot_ranges s frames consoles)).1
+pub reached_ranges : (s : Scenario) (turns : List ℕ) → s.ram ≤ 14 → s.consoles ≤ 16 → length s.sources ≤ 2 ^ 20 - 3 → AreRanges (run (boot s) turns)
+reached_ranges s turns frames consoles few =
+    (run_keeps (λ (k : KernelState). IsSound k × AreRanges k) (λ k cpu h. (turn_sound k cpu h.0, turn_ranges k cpu h.0 h.1)) (boot s) turns (boot_sound s, boot_ranges s frames consoles few)).1
 
 front_admitted : (o : Option Input) (is : List Input) → IfSome o IsInput → All IsInput is → All IsInput (in_front o is)
 front_admitted None is h rest = rest
@@ -148,8 +148,8 @@ inputs_admitted k [] g sound ranges = All-nil IsInput
 inputs_admitted k (cpu ∷ turns) g sound ranges =
     front_admitted (input k cpu g) (inputs (after k cpu) turns g) (input_admitted k cpu g sound ranges) (inputs_admitted (after k cpu) turns g (turn_sound k cpu sound) (turn_ranges k cpu sound ranges))
 
-pub reached_view : (s : Scenario) (turns : List ℕ) (g : ℕ) → s.ram ≤ 14 → s.consoles ≤ 16 → IsGuest (view (run (boot s) turns) g)
-reached_view s turns g frames consoles = view_guest (run (boot s) turns) g (reached_sound s turns) (reached_ranges s turns frames consoles)
+pub reached_view : (s : Scenario) (turns : List ℕ) (g : ℕ) → s.ram ≤ 14 → s.consoles ≤ 16 → length s.sources ≤ 2 ^ 20 - 3 → IsGuest (view (run (boot s) turns) g)
+reached_view s turns g frames consoles few = view_guest (run (boot s) turns) g (reached_sound s turns) (reached_ranges s turns frames consoles few)
 
-pub reached_inputs : (s : Scenario) (turns later : List ℕ) (g : ℕ) → s.ram ≤ 14 → s.consoles ≤ 16 → All IsInput (inputs (run (boot s) turns) later g)
-reached_inputs s turns later g frames consoles = inputs_admitted (run (boot s) turns) later g (reached_sound s turns) (reached_ranges s turns frames consoles)
+pub reached_inputs : (s : Scenario) (turns later : List ℕ) (g : ℕ) → s.ram ≤ 14 → s.consoles ≤ 16 → length s.sources ≤ 2 ^ 20 - 3 → All IsInput (inputs (run (boot s) turns) later g)
+reached_inputs s turns later g frames consoles few = inputs_admitted (run (boot s) turns) later g (reached_sound s turns) (reached_ranges s turns frames consoles few)

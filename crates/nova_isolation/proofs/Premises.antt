@@ -1,4 +1,7 @@
 -- What the law of one turn stands on: facts of a state, each from what turns keep.
+use Rattle.nova_laws.proofs.Passing.{IsEnding, passing_ending}
+use Rattle.nova_forest.specs.Turns.{IsPassing}
+use Rattle.nova_forest.specs.Effects.{Passing, passing_ends}
 use Rattle.std.proofs.Common.{◌≡◌, ℕ, zero, suc, ◌+◌, List, [], ◌∷◌, ap, sym, ◌∙◌, subst, refl}
 use Rattle.std.specs.Prelude.{true, false, Option, Some, None, IsSome, option_map, slice_get}
 use Rattle.std.specs.List.{AllByRecursion}
@@ -38,7 +41,8 @@ pub record IsGuest (k : KernelState) (g : ℕ) : Type 0 where
   pub runs : IsGuestState (context k g).state
 
 -- Delegations are a sound forest, and all is whole. A portal leads to a thread. Who waits for a reply is kept as the caller of the one that is to
--- reply; one that lives is waited for by the caller that it keeps; and who came by a call is a thread. Who waits at a semaphore is blocked there.
+-- reply; one that lives is waited for by the caller that it keeps; and who came by a call is a thread. Who waits at a semaphore is blocked there,
+-- and so is one whose wait an alarm or its deadline ends.
 pub record HasPremises (k : KernelState) : Type 0 where
   pub forest : IsForest k.delegations
   pub whole : IsWhole k
@@ -48,6 +52,7 @@ pub record HasPremises (k : KernelState) : Type 0 where
       state_in k.contexts caller ≡ Some (Calling handler)
   pub called : (caller handler : ℕ) → caller_in k.contexts handler ≡ Some (caller, mark.Call) → is_thread k caller ≡ true
   pub blocked : (sm ec : ℕ) → waits k.semaphores sm ec ≡ true → state_in k.contexts ec ≡ Some (Blocked sm)
+  pub ending : (cpu : ℕ) (p : Passing) → IsPassing k cpu p → IsEnding k.contexts (passing_ends k p)
 
 -- what holds of all holds at each place
 all_at : {T : Type 0} (P : T → Type 0) (xs : List T) (i : ℕ) (x : T) → AllByRecursion P xs → slice_get xs i ≡ Some x → P x
@@ -74,6 +79,7 @@ premises k sound = record {
   waited = λ caller handler came keeps lives. (sound.kept.served.linked caller handler).waits came keeps lives;
   called = λ caller handler keeps. sound.kept.guests.callers handler caller keeps;
   blocked = λ sm ec wait. sound.kept.blocked.blocked sm ec wait;
+  ending = λ cpu p comes. passing_ending k cpu p comes sound.kept.blocked sound.kept.deadlines;
 }
 
 -- a virtual CPU has its context

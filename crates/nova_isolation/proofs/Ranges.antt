@@ -1,10 +1,13 @@
 -- Derivations have ranges of pages, and views are guests.
-use Rattle.std.proofs.Common.{◌≡◌, ℕ, zero, suc, ◌+◌, ◌/◌, ◌%◌, ◌^◌, ◌<◌, ◌⊎◌, ◌≤◌, List, [], ◌∷◌, ◌++◌, length, map, ap, sym, ◌∙◌, subst, refl, inl, inr, arith}
+use Rattle.nova_objects.specs.declared.object.Object.TheVariants.{Sm}
+use Rattle.nova_model.specs.Creation.{root_capability}
+use Rattle.nova_model.specs.Sources.{Source, with_source, with_sources}
+use Rattle.std.proofs.Common.{◌≡◌, ℕ, zero, suc, ◌+◌, ◌/◌, ◌%◌, ◌^◌, ◌<◌, ◌⊎◌, ◌≤◌, List, [], ◌∷◌, ◌++◌, length, map, ap, sym, ◌∙◌, subst, refl, inl, inr, arith, ◌-◌}
 use Rattle.std.specs.Prelude.{Bool, true, false, not, ◌==◌, replicate, slice_get, Option, Some, None, if◌then◌else◌}
 use Rattle.std.specs.List.{AllByRecursion, range_with_len}
 use Rattle.std.proofs.Math.Nat.{pow-le-pow_right}
 use Rattle.std.proofs.lemmas.Bool.{and_parts, cases_Bool}
-use Rattle.std.proofs.lemmas.List.{length-replicate, length-set}
+use Rattle.std.proofs.lemmas.List.{length-replicate, length-set, length-append}
 use Rattle.std.proofs.lemmas.List.Elements.{All-cons, All-nil}
 use Rattle.nova_forest.specs.Made.{Grows, IsFirstCapability, IsGivenChild, Leaves, MakesObject, GivesChild, TakesLeaf}
 use Rattle.nova_forest.proofs.Growth.{turn_growth}
@@ -142,14 +145,44 @@ images_frames : (k : KernelState) (images : List Image) → length (with_images 
 images_frames k [] = refl
 images_frames k (image ∷ images) = images_frames (with_image k image) images ∙ laid_frames k.memory image.address image.bytes
 
-pub boot_ranges : (s : Scenario) → s.ram ≤ 14 → s.consoles ≤ 16 → AreRanges (boot s)
-boot_ranges s frames consoles =
-    subst (λ (n : ℕ). AreIn n (boot s).delegations) (sym (images_frames (bare s.cpus s.ram s.consoles s.root) s.images ∙ length-replicate {A = List ℕ} (2 ^ s.ram) (replicate 4096 0)))
+image_ranges : (s : Scenario) → s.ram ≤ 14 → s.consoles ≤ 16 → AreRanges (with_images (bare s.cpus s.ram s.consoles s.root) s.images)
+image_ranges s frames consoles =
+    subst (λ (n : ℕ). AreIn n (with_images (bare s.cpus s.ram s.consoles s.root) s.images).delegations) (sym (images_frames (bare s.cpus s.ram s.consoles s.root) s.images ∙ length-replicate {A = List ℕ} (2 ^ s.ram) (replicate 4096 0)))
     (subst (AreIn (2 ^ s.ram)) (sym (images_delegations (bare s.cpus s.ram s.consoles s.root) s.images))
     (all_append (IsRanged (2 ^ s.ram)) (ram_derivation s.ram ∷ map (console_derivation s.ram) (range_with_len 0 s.consoles))
     (object_derivation s.consoles 0 1 ∷ object_derivation s.consoles 1 7 ∷ object_derivation s.consoles 2 1 ∷ [])
     (ram_ranged s.ram frames, all_consoles (IsRanged (2 ^ s.ram)) s.ram 0 s.consoles (λ j to. console_ranged s.ram j frames (omega (arith, to, consoles))))
     (object_ranged s.ram s.consoles 0 1 (omega arith), (object_ranged s.ram s.consoles 1 7 (omega arith), (object_ranged s.ram s.consoles 2 1 (omega arith), tt)))))
+
+-- a source's derivation is of one selector
+sources_ranged : (frames : ℕ) (k : KernelState) (sources : List Source) → length k.objects + length sources ≤ 2 ^ 20 → AreIn frames k.delegations → AreIn frames (with_sources k sources).delegations
+sources_ranged frames k [] few h = h
+sources_ranged frames k (s ∷ sources) few h =
+    let more : length (k.objects ++ Sm ∷ []) ≡ length k.objects + 1 = length-append k.objects (Sm ∷ []) in
+    sources_ranged frames (with_source k s) sources (omega (arith, few, more))
+    (all_append (IsRanged frames) k.delegations.list (root_capability k 0 (length k.objects) Sm ∷ []) h (
+      record {
+        range = record { order = omega arith; aligned = by_one (length k.objects); base = omega (arith, few) };
+        last = λ memory. absurd (cc);
+        sort = λ memory. absurd (cc);
+      },
+      tt,
+    ))
+
+sources_frames : (k : KernelState) (sources : List Source) → (with_sources k sources).memory ≡ k.memory
+sources_frames k [] = refl
+sources_frames k (s ∷ sources) = sources_frames (with_source k s) sources
+
+images_objects : (k : KernelState) (images : List Image) → (with_images k images).objects ≡ k.objects
+images_objects k [] = refl
+images_objects k (image ∷ images) = images_objects (with_image k image) images
+
+pub boot_ranges : (s : Scenario) → s.ram ≤ 14 → s.consoles ≤ 16 → length s.sources ≤ 2 ^ 20 - 3 → AreRanges (boot s)
+boot_ranges s frames consoles few =
+    let k = with_images (bare s.cpus s.ram s.consoles s.root) s.images in
+    let three : length k.objects ≡ 3 = ap (λ (os : List Object). length os) (images_objects (bare s.cpus s.ram s.consoles s.root) s.images) in
+    subst (λ (m : Memory). AreIn (length m.ram) (boot s).delegations) (sym (sources_frames k s.sources))
+    (sources_ranged (length k.memory.ram) k s.sources (omega (arith, few, three)) (image_ranges s frames consoles))
 
 -- VIEWS
 

@@ -27,7 +27,7 @@ use Rattle.nova_model.specs.declared.deed.Deed.TheVariants.{Rests, Steps, Sends,
 use Rattle.nova_model.specs.declared.transfer.ItemWords.{ItemWords}
 use Rattle.nova_model.specs.declared.transfer.Sequel.{Sequel}
 use Rattle.nova_model.specs.declared.transfer.Sequel.TheVariants as sequel
-use Rattle.nova_forest.specs.Effects.{Answers, Edit, Edits, Moves, Resumes, Serves, all_edited, edit_at, edited, edits_by, follows_by, item_words, put, recalls_by, steps_by, store_words, wakes_by, words_by, words_stored}
+use Rattle.nova_forest.specs.Effects.{Answers, Edit, Edits, Moves, Resumes, Serves, all_edited, edit_at, edited, edits_by, follows_by, item_words, put, recalls_by, steps_by, store_words, wakes_by, words_by, words_stored, ends_by}
 use Rattle.nova_isolation.proofs.Instructions.{IsGood, length_reg}
 
 -- frames stay whole
@@ -191,6 +191,10 @@ recalls_fit cs whose (Some x) = (tt, tt)
 wakes_fit : (cs : Contexts) (whom : Option ℕ) → AreFit cs (wakes_by whom)
 wakes_fit cs None = tt
 wakes_fit cs (Some w) = (tt, tt)
+
+pub ends_fit : (cs : Contexts) (o : Option (ℕ × Status)) → AreFit cs (ends_by o)
+ends_fit cs None = tt
+ends_fit cs (Some (w, status)) = (tt, tt)
 
 follows_fit : (cs : Contexts) (ec : ℕ) (m : List ℕ) (after : Sequel) → AreFit cs (follows_by ec m after)
 follows_fit cs ec m (sequel.Replied caller came) = (tt, (tt, tt))

@@ -1,6 +1,15 @@
 -- One turn, one input.
-use Rattle.std.proofs.Common.{◌≡◌, ℕ, ◌%◌, ◌≢◌, List, length, ap, sym, ◌∙◌, subst, refl, inl, inr}
-use Rattle.std.specs.Prelude.{Bool, true, false, ◌==◌, Option, Some, None, option_and_then, option_map, if◌then◌else◌}
+use Rattle.nova_model.specs.declared.event.Turn.TheVariants.{Stepped}
+use Rattle.nova_isolation.specs.Sound.{IsSound, IsVirtual}
+use Rattle.nova_model.specs.declared.context.EcState.{EcState}
+use Rattle.nova_model.specs.declared.context.State.TheVariants.{Blocked}
+use Rattle.nova_model.specs.declared.context.State.{State}
+use Rattle.nova_laws.specs.Links.{state_at}
+use Rattle.nova_laws.proofs.Serving.{is_blocked}
+use Rattle.nova_laws.proofs.Passing.{IsEnding, passing_stays}
+use Rattle.nova_forest.specs.Effects.{Falls, Passing, Ticks, passing_ends}
+use Rattle.std.proofs.Common.{append-nil, ◌≡◌, ℕ, ◌%◌, ◌≢◌, List, length, ap, sym, ◌∙◌, subst, refl, inl, inr}
+use Rattle.std.specs.Prelude.{Bool, true, false, ◌==◌, Option, Some, None, option_and_then, option_map, if◌then◌else◌, [], ◌++◌}
 use Rattle.std.proofs.lemmas.Bool.{cases_eq, ne_eqb}
 use Rattle.rv_model.specs.Step.{Store}
 use Rattle.nova_guest.specs.Alone.{applied}
@@ -8,14 +17,14 @@ use Rattle.nova_guest.specs.declared.guest.Guest.{Guest}
 use Rattle.nova_guest.specs.declared.input.Input.{Input}
 use Rattle.nova_guest.specs.declared.input.Input.TheVariants as input
 use Rattle.nova_forest.proofs.Allowed.{deed_fits}
-use Rattle.nova_model.specs.Choice.{Candidate, choice}
+use Rattle.nova_model.specs.Choice.{Candidate, next_to_act}
 use Rattle.nova_model.specs.Deeds.{deed, done, instruction, sign_of}
 use Rattle.nova_model.specs.Guests.{input as turn_input, input_by}
 use Rattle.nova_model.specs.Inputs.{foreign_at, foreign_by, frame_of_store, given_of, input_of, is_covered_for, only_if, others_input, reply_of, store_of, stirred}
 use Rattle.nova_model.specs.Memory.{Memory}
-use Rattle.nova_model.specs.State.{KernelState, message, pd_of}
+use Rattle.nova_model.specs.State.{KernelState, message, pd_of, context_at, context_in}
 use Rattle.nova_model.specs.Runs.{after}
-use Rattle.nova_model.specs.Turn.{Step, charged, event_of, turn}
+use Rattle.nova_model.specs.Turn.{Step, charged, event_of, turn, answer_of}
 use Rattle.nova_model.specs.Views.{is_memory_of, view}
 use Rattle.nova_model.specs.declared.context.Mark.TheVariants as mark
 use Rattle.nova_model.specs.declared.deed.Deed.{Deed}
@@ -24,15 +33,16 @@ use Rattle.nova_model.specs.declared.delegation.Derivation.{Derivation}
 use Rattle.nova_guest.specs.declared.input.Out.{Out}
 use Rattle.nova_model.specs.declared.event.Event.{Event}
 use Rattle.nova_model.specs.declared.event.EventKind.{EventKind}
-use Rattle.nova_forest.specs.Turns.{Acts, IsTurning, Turning, acting, turned}
-use Rattle.nova_forest.proofs.Turning.{acting_is, outcome}
+use Rattle.nova_model.specs.declared.times.Due.TheVariants as due
+use Rattle.nova_forest.specs.Turns.{Acts, IsTurning, Turning, acting, turned, Passes, passing, passing_event, is_passing}
+use Rattle.nova_forest.proofs.Turning.{acting_is, outcome, passing_none, acting_kind, of_events}
 use Rattle.nova_model.specs.declared.transfer.Sequel.TheVariants as sequel
-use Rattle.nova_isolation.specs.Law.{answered, IsLogged, IsOneInput, IsOneTurn, PutsOut, PutsOutIn}
-use Rattle.nova_isolation.proofs.Premises.{HasPremises, IsGuest}
+use Rattle.nova_isolation.specs.Law.{answered, IsLogged, IsOneInput, IsOneTurn, PutsOut, PutsOutIn, raised_by}
+use Rattle.nova_isolation.proofs.Premises.{HasPremises, IsGuest, IsGuestState, guest, premises}
 use Rattle.nova_isolation.proofs.Facts.{deed_facts}
 use Rattle.nova_isolation.proofs.OtherTurns.{other_law}
 use Rattle.nova_isolation.proofs.OwnTurns.{own_turn}
-use Rattle.nova_isolation.proofs.Seen.{log_charged, view_charged, view_stirred}
+use Rattle.nova_isolation.proofs.Seen.{log_charged, view_charged, view_stirred, seen_same}
 
 -- an input from another puts out nothing
 abbrev IsQuiet : Guest → Option Input → Type 0
@@ -140,16 +150,75 @@ chosen_law k cpu g sound is c =
       puts_out (c.actor == g) k s (charged (stirred k c.actor d s) cpu c.sc) (sign_of d) (answered (view k g) (input_of k c.actor g d)).out (log_charged (stirred k c.actor d s) cpu c.sc) law.output,
     )
 
+-- what comes by itself is not seen, and puts out nothing
+guest_free : (o : Option EcState) → IsGuestState (context_in o).state → is_blocked (state_at o) ≡ false
+guest_free None runs = refl
+guest_free (Some x) runs = by_state x.state runs
+  where
+    by_state : (s : State) → IsGuestState s → is_blocked (Some s) ≡ false
+    by_state (Blocked sm) h = absurd h
+    by_state other h = refl
+
+pub view_passing : (k : KernelState) (cpu g : ℕ) (p : Passing) → IsEnding k.contexts (passing_ends k p) → IsGuest k g → view (turned k cpu (passing k p)) g ≡ view k g
+view_passing k cpu g p ending is =
+    seen_same k (turned k cpu (passing k p)) g (record {
+      own = ap context_in (passing_stays k.contexts (passing_ends k p) ending g (guest_free (context_at k g) is.runs));
+      object = refl;
+      maps = refl;
+      ram = refl;
+    })
+
+puts_nothing : (k new : KernelState) (g : ℕ) (e : Event) → new.memory ≡ k.memory → raised_by (e.kind, e.a, e.b) ≡ None → PutsOutAs k new g (Some e) None
+puts_nothing k new g e same none = by_test (e.ec == g)
+  where
+    log : new.memory.log ≡ k.memory.log ++ []
+    log = ap (λ (m : Memory). m.log) same ∙ sym (append-nil k.memory.log)
+
+    by_test : (t : Bool) → PutsOut t k new (e.kind, e.a, e.b) None
+    by_test true = record { event = none; log = record { gained = []; log = log; bytes = refl } }
+    by_test false = refl
+
+raises_none : (k : KernelState) (cpu : ℕ) (p : Passing) → raised_by ((passing_event k cpu p).kind, (passing_event k cpu p).a, (passing_event k cpu p).b) ≡ None
+raises_none k cpu (Falls (due.Alarm alarm)) = refl
+raises_none k cpu (Falls (due.Deadline ec)) = refl
+raises_none k cpu Ticks = refl
+
 turned_law : (k : KernelState) (cpu g : ℕ) → HasPremises k → IsGuest k g → (t : Turning) (e : Event) → IsTurning k cpu t e →
-    TurnLaw k g (input_by k g (choice k cpu)) (turned k cpu t) (Some e)
+    TurnLaw k g (input_by k g (next_to_act k cpu)) (turned k cpu t) (Some e)
 turned_law k cpu g sound is t e (Acts c chosen acts event) =
     subst (λ (o : Option Candidate). TurnLaw k g (input_by k g o) (turned k cpu t) (Some e)) (sym chosen)
     (subst (λ (u : Turning). TurnLaw k g (input_by k g (Some c)) (turned k cpu u) (Some e)) (sym acts)
     (subst (λ (x : Event). TurnLaw k g (input_by k g (Some c)) (turned k cpu (acting k c)) (Some x)) (sym event) (chosen_law k cpu g sound is c)))
+turned_law k cpu g sound is t e (Passes p comes passes event) =
+    subst (λ (o : Option Candidate). TurnLaw k g (input_by k g o) (turned k cpu t) (Some e)) (sym (passing_none k cpu p comes))
+    (subst (λ (u : Turning). TurnLaw k g None (turned k cpu u) (Some e)) (sym passes)
+    (subst (λ (x : Event). TurnLaw k g None (turned k cpu (passing k p)) (Some x)) (sym event) (
+      view_passing k cpu g p (sound.ending cpu p comes) is,
+      puts_nothing k (turned k cpu (passing k p)) g (passing_event k cpu p) refl (raises_none k cpu p),
+    )))
+
+-- by its event
+pub nothing_seen : (k : KernelState) (cpu g : ℕ) (e : Event) → IsSound k → IsVirtual k g → answer_of (turn k cpu) ≡ Stepped e → is_passing e.kind ≡ true → view (after k cpu) g ≡ view k g
+nothing_seen k cpu g e sound is steps passing =
+    of_events (λ (f : Event). is_passing f.kind ≡ true → view (after k cpu) g ≡ view k g) k cpu e steps
+    (λ p comes state its. ap (λ (s : KernelState). view s g) state ∙ view_passing k cpu g p ((premises k sound).ending cpu p comes) (guest k g sound is))
+    (λ c chosen state its. absurd (let both : true ≡ false = sym its ∙ acting_kind (deed k c.actor) in cc)) passing
+
+pub no_input : (k : KernelState) (cpu g : ℕ) (e : Event) → answer_of (turn k cpu) ≡ Stepped e → is_passing e.kind ≡ true → turn_input k cpu g ≡ None
+unfolding turn_input
+no_input k cpu g e steps passing =
+    of_events (λ (f : Event). is_passing f.kind ≡ true → input_by k g (next_to_act k cpu) ≡ None) k cpu e steps
+    (λ p comes state its. ap (λ (o : Option Candidate). input_by k g o) (passing_none k cpu p comes))
+    (λ c chosen state its. absurd (let both : true ≡ false = sym its ∙ acting_kind (deed k c.actor) in cc)) passing
+
+pub memory_stays : (k : KernelState) (cpu : ℕ) (e : Event) → answer_of (turn k cpu) ≡ Stepped e → is_passing e.kind ≡ true → (after k cpu).memory ≡ k.memory
+memory_stays k cpu e steps passing =
+    of_events (λ (f : Event). is_passing f.kind ≡ true → (after k cpu).memory ≡ k.memory) k cpu e steps (λ p comes state its. ap (λ (s : KernelState). s.memory) state)
+    (λ c chosen state its. absurd (let both : true ≡ false = sym its ∙ acting_kind (deed k c.actor) in cc)) passing
 
 pub one_turn : (k : KernelState) (cpu g : ℕ) → HasPremises k → IsGuest k g → IsOneTurn k cpu g
 unfolding turn_input
 one_turn k cpu g sound is =
-    let law = outcome (TurnLaw k g (input_by k g (choice k cpu))) k cpu
+    let law = outcome (TurnLaw k g (input_by k g (next_to_act k cpu))) k cpu
     (λ none. subst (λ (o : Option Candidate). TurnLaw k g (input_by k g o) k None) (sym none) (refl, refl)) (turned_law k cpu g sound is) in
     record { guest = law.0; output = puts_as k (after k cpu) g (turn k cpu) _ law.1 }

@@ -1,4 +1,6 @@
 -- Every turn keeps frames, messages and registers whole, and a kernel begins with them.
+use Rattle.nova_model.specs.Sources.{Source, with_source}
+use Rattle.nova_forest.proofs.Boots.{sources_keep}
 use Rattle.std.proofs.Common.{◌≡◌, ℕ, zero, suc, ◌+◌, ◌/◌, ◌%◌, ◌≤◌, List, [], ◌∷◌, ◌++◌, length, ap, sym, ◌∙◌, subst, refl, arith}
 use Rattle.std.specs.Prelude.{◌^◌, true, replicate, slice_get, Option, Some, None, IfSome, option_map}
 use Rattle.std.specs.List.{AllByRecursion}
@@ -25,13 +27,13 @@ use Rattle.nova_model.specs.declared.new_object.NewObject.{NewObject}
 use Rattle.nova_model.specs.declared.new_object.NewObject.TheVariants as new
 use Rattle.nova_model.specs.declared.root.Root.{Root}
 use Rattle.nova_model.specs.declared.event.Event.{Event}
-use Rattle.nova_forest.specs.Effects.{Effect, all_edited, applied, effect, joined, memory_with, put, store_by}
-use Rattle.nova_forest.specs.Turns.{Acts, IsTurning, Turning, turned}
+use Rattle.nova_forest.specs.Effects.{Effect, all_edited, applied, effect, joined, memory_with, put, store_by, passing_effect, passing_ends}
+use Rattle.nova_forest.specs.Turns.{Acts, IsTurning, Turning, turned, Passes}
 use Rattle.nova_forest.proofs.Turning.{after_keeps}
 use Rattle.nova_laws.proofs.Courses.{edited_length}
 use Rattle.nova_isolation.specs.Sound.{AreWhole, IsWhole}
 use Rattle.nova_isolation.proofs.Instructions.{IsGood, IsInPage, length_reg, one_good}
-use Rattle.nova_isolation.proofs.Sizes.{AreFit, AreSized, IsOfSize, IsSized, edits_fit, length_all, more_each, no_words_sized, put_sized, whole_written, words_sized}
+use Rattle.nova_isolation.proofs.Sizes.{AreFit, AreSized, IsOfSize, IsSized, edits_fit, length_all, more_each, no_words_sized, put_sized, whole_written, words_sized, ends_fit}
 
 -- AN INSTRUCTION
 
@@ -119,6 +121,9 @@ turned_whole k cpu t e (Acts c chosen is event) whole =
     let good = one_good (length (context k c.actor).regs.x) (context k c.actor).regs (space (address_space k c.actor)) refl in
     let now = applied_whole k (effect k c.actor d) (edits_fit k c.actor d good) (words_sized k c.actor d whole.messages) (stores_fit k c.actor d good) whole in
     subst (λ (u : Turning). IsWhole (turned k cpu u)) (sym is) (record { frames = now.frames; messages = now.messages; registers = now.registers; places = now.places })
+turned_whole k cpu t e (Passes p comes is event) whole =
+    let now = applied_whole k (passing_effect k p) (ends_fit k.contexts (passing_ends k p)) tt tt whole in
+    subst (λ (u : Turning). IsWhole (turned k cpu u)) (sym is) (record { frames = now.frames; messages = now.messages; registers = now.registers; places = now.places })
 
 pub turn_whole : (k : KernelState) (cpu : ℕ) → IsWhole k → IsWhole (after k cpu)
 turn_whole k cpu whole = after_keeps IsWhole turned_whole k cpu whole
@@ -167,5 +172,15 @@ images_whole k [] whole = whole
 images_whole k (image ∷ images) whole = images_whole (with_image k image) images
     (record { frames = laid_whole k.memory image.address image.bytes whole.frames; messages = whole.messages; registers = whole.registers; places = whole.places })
 
+source_whole : (k : KernelState) (s : Source) → IsWhole k → IsWhole (with_source k s)
+source_whole k s whole = record {
+  frames = whole.frames;
+  messages = joined_words k.messages (Some (new.Sm 0)) whole.messages;
+  registers = joined_registers k.objects k.contexts (Some (new.Sm 0)) whole.places whole.registers;
+  places = joined_places k.objects k.contexts (Some (new.Sm 0)) whole.places;
+}
+
 pub boot_whole : (s : Scenario) → IsWhole (boot s)
-boot_whole s = images_whole (bare s.cpus s.ram s.consoles s.root) s.images (bare_whole s.cpus s.ram s.consoles s.root)
+boot_whole s =
+    sources_keep IsWhole source_whole (with_images (bare s.cpus s.ram s.consoles s.root) s.images) s.sources
+    (images_whole (bare s.cpus s.ram s.consoles s.root) s.images (bare_whole s.cpus s.ram s.consoles s.root))

@@ -2,7 +2,7 @@
 //! functions do nothing: their contracts are the laws.
 #![tactic(auto)]
 
-ghost use Rattle.std.specs.Prelude.{◌≡◌, ◌≢◌, ◌≤◌, ℕ, List, length, true, IfSome};
+ghost use Rattle.std.specs.Prelude.{◌≡◌, ◌≢◌, ◌≤◌, ◌-◌, ◌^◌, ℕ, List, length, None, true, IfSome};
 ghost use Rattle.rv_model.specs.Registers.{Registers};
 ghost use Rattle.nova_guest.specs.Admitted.{admits};
 ghost use Rattle.nova_guest.specs.Alone.{alone, guest_space, outputs, written_back as alone_written_back};
@@ -16,6 +16,10 @@ ghost use Rattle.nova_model.specs.Inputs.{reply_groups, reply_words};
 ghost use Rattle.nova_model.specs.Runs.{after, run, trace};
 ghost use Rattle.nova_model.specs.State.{KernelState};
 ghost use Rattle.nova_model.specs.Views.{view};
+ghost use Rattle.nova_forest.specs.Turns.{is_passing};
+ghost use Rattle.nova_model.specs.Turn.{answer_of, turn};
+ghost use Rattle.nova_model.specs.declared.event.Event.{Event};
+ghost use Rattle.nova_model.specs.declared.event.Turn.TheVariants.{Stepped};
 ghost use Rattle.nova_isolation.specs.Law.{bytes_of, IsGivenAsSeen, IsOneInput, IsOneTurn, IsTakenAsSeen};
 ghost use Rattle.std.specs.List.{All, filter};
 ghost use Rattle.nova_isolation.specs.Masked.{IsMasked, IsMaskedIn};
@@ -52,6 +56,16 @@ pub fn a_turn_is_one_input_of_a_guest_alone()
     ensures { (k : KernelState) (cpu g : ℕ) → IsSound k → IsVirtual k g → IsOneTurn k cpu g }
 {}
 
+/// A deadline, an alarm and a tick are nothing for a virtual CPU: such a turn is no input, leaves its view, and
+/// shows nothing of it.
+pub fn what_comes_by_itself_is_nothing_for_a_guest()
+    ensures view { (k : KernelState) (cpu g : ℕ) (e : Event) → IsSound k → IsVirtual k g → answer_of (turn k cpu) ≡ Stepped e → is_passing e.kind ≡ true
+        → view (after k cpu) g ≡ view k g }
+    ensures input { (k : KernelState) (cpu g : ℕ) (e : Event) → answer_of (turn k cpu) ≡ Stepped e → is_passing e.kind ≡ true → input k cpu g ≡ None }
+    ensures log { (k : KernelState) (cpu : ℕ) (e : Event) → answer_of (turn k cpu) ≡ Stepped e → is_passing e.kind ≡ true
+        → (after k cpu).memory ≡ k.memory }
+{}
+
 /// A reply writes back the registers of the groups that its message names, and the guest alone, which is
 /// told these groups and their words and nothing else, writes back the same.
 pub fn a_reply_is_the_groups_that_it_names()
@@ -74,23 +88,23 @@ pub fn what_is_taken_leaves_no_page()
 /// What the guest alone asks of a guest and of an input holds of each view and of each turn's input: maps
 /// are ranges of pages that share none and lead to frames below 2^32, cells are whole, a map comes with the
 /// bytes of all its frames or with none, one that goes is a range of pages, and what another stores lies
-/// within a frame. It stands on derivations being ranges, which a kernel of at most 2^14 RAM frames and 16
-/// consoles begins with and each turn keeps.
+/// within a frame. It stands on derivations being ranges, which a kernel of at most 2^14 RAM frames, 16
+/// consoles and 2^20 - 3 sources begins with and each turn keeps.
 pub fn views_and_inputs_are_admitted()
-    ensures begins { (scenario : Scenario) → scenario.ram ≤ 14 → scenario.consoles ≤ 16 → AreRanges (boot scenario) }
+    ensures begins { (scenario : Scenario) → scenario.ram ≤ 14 → scenario.consoles ≤ 16 → length scenario.sources ≤ 2 ^ 20 - 3 → AreRanges (boot scenario) }
     ensures turns { (k : KernelState) (cpu : ℕ) → IsSound k → AreRanges k → AreRanges (after k cpu) }
     ensures views { (k : KernelState) (g : ℕ) → IsSound k → AreRanges k → IsGuest (view k g) }
     ensures inputs { (k : KernelState) (cpu g : ℕ) → IsSound k → AreRanges k → IfSome (input k cpu g) IsInput }
 {}
 
-/// So it is along every list of turns from every boot state of at most 2^14 RAM frames and 16 consoles:
+/// So it is along every list of turns from every boot state of at most 2^14 RAM frames, 16 consoles and 2^20 - 3 sources:
 /// each view is one that the guest alone takes, and each input of a list of turns from there is one that it
 /// takes too, so that a caller may chain them.
 pub fn views_and_inputs_of_runs_are_admitted()
-    ensures ranges { (scenario : Scenario) (turns : List ℕ) → scenario.ram ≤ 14 → scenario.consoles ≤ 16 → AreRanges (run (boot scenario) turns) }
-    ensures views { (scenario : Scenario) (turns : List ℕ) (g : ℕ) → scenario.ram ≤ 14 → scenario.consoles ≤ 16
+    ensures ranges { (scenario : Scenario) (turns : List ℕ) → scenario.ram ≤ 14 → scenario.consoles ≤ 16 → length scenario.sources ≤ 2 ^ 20 - 3 → AreRanges (run (boot scenario) turns) }
+    ensures views { (scenario : Scenario) (turns : List ℕ) (g : ℕ) → scenario.ram ≤ 14 → scenario.consoles ≤ 16 → length scenario.sources ≤ 2 ^ 20 - 3
         → IsGuest (view (run (boot scenario) turns) g) }
-    ensures inputs { (scenario : Scenario) (turns later : List ℕ) (g : ℕ) → scenario.ram ≤ 14 → scenario.consoles ≤ 16
+    ensures inputs { (scenario : Scenario) (turns later : List ℕ) (g : ℕ) → scenario.ram ≤ 14 → scenario.consoles ≤ 16 → length scenario.sources ≤ 2 ^ 20 - 3
         → All IsInput (inputs (run (boot scenario) turns) later g) }
 {}
 

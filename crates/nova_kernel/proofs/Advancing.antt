@@ -78,7 +78,7 @@ all_charged (suc n) k cpu sc few h =
 
 -- the state with the turns charged
 pub at_once : (k : KernelState) (cpu : ℕ) (s : Steps) → (may : MayAdvance k cpu s) → charged_times s.count k cpu may.chosen.sc ≡ charged_at_once k cpu may.chosen.sc may.budget s.count
-at_once k cpu s may = charged_all s.count k cpu may.chosen.sc may.budget may.left may.may.budget may.may.processor
+at_once k cpu s may = charged_all s.count k cpu may.chosen.sc may.budget may.left may.may.budget may.may.processor may.may.clock
 
 -- WHAT THE CODE LEAVES
 
@@ -222,7 +222,7 @@ counted_after k new cpu s c is may few lays =
     let before : KernelState = laid_pages (laid_regs mid g s.regs) s.pages.items in
     let last : KernelState = laid_counts before g s.pages.items in
     let goes : new ≡ last = lays ∙ ap (λ (l : KernelState). laid_counts (laid_pages (laid_regs l g s.regs) s.pages.items) g s.pages.items) (at_once k cpu s may) in
-    let ran : run k (replicate n cpu) ≡ new = laid_advance k cpu may.chosen may.budget s is.sound may.may may.left may.runs ∙ sym lays in
+    let ran : run k (replicate n cpu) ≡ new = laid_advance k cpu may.chosen may.budget s is.sound may.may may.left may.early may.runs ∙ sym lays in
     let kept : IsKept last = subst IsKept (ran ∙ goes) (run_reached k (replicate n cpu) is).sound.kept in
     let paid : IsCharged mid = subst IsCharged (at_once k cpu s may) (all_charged n k cpu may.chosen.sc few c.charged) in
     subst IsCounted (sym goes) (record {
@@ -247,6 +247,7 @@ counted_after k new cpu s c is may few lays =
         identifiers = c.tables.identifiers;
         semaphores = c.tables.semaphores;
         guests = length_seen before g s.pages.items 0 k.stirs.guests ∙ c.tables.guests;
+        deadlines = c.tables.deadlines;
       };
       children = λ ec. more_given k.turns n (transfer_at k ec) (c.children ec);
       items = c.items;

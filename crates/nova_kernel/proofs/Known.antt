@@ -20,9 +20,12 @@ use Rattle.nova_model.specs.declared.deed.Deed.{Deed}
 use Rattle.nova_model.specs.declared.deed.Deed.TheVariants.{Rests, Steps, Finishes, Replies}
 use Rattle.nova_model.specs.declared.event.Turn.{Turn}
 use Rattle.nova_model.specs.declared.transfer.ItemEnd.TheVariants.{Given, Skipped, Translated}
-use Rattle.nova_forest.specs.Turns.{Acts, Idles, Takes}
+use Rattle.nova_forest.specs.Effects.{Falls, Passing, Ticks}
+use Rattle.nova_forest.specs.Turns.{Acts, Idles, Passes, Takes, passing_event}
+use Rattle.nova_model.specs.declared.event.Turn.TheVariants.{Stepped}
+use Rattle.nova_model.specs.declared.times.Due.TheVariants as due
 use Rattle.nova_forest.proofs.Actors.{chosen_answers}
-use Rattle.nova_forest.proofs.Turning.{acting_is, chosen_turn, comes}
+use Rattle.nova_forest.proofs.Turning.{acting_is, acts_chosen, chosen_turn, comes}
 use Rattle.nova_choice.proofs.Nexts.{chosen_acts}
 use Rattle.nova_choice.proofs.Waits.{there_at}
 use Rattle.nova_choice.specs.Choices.{chosen_of}
@@ -113,18 +116,27 @@ event_known k cpu c other known there here all = none_known k 8
 chosen_there : (k : KernelState) (cpu : ℕ) (c : Chosen) → Some c ≡ option_map chosen_of (choice k cpu) → IsSome (context_at k c.actor)
 chosen_there k cpu c told = ap is_some (awake k.contexts c.actor (told_acts k cpu c told)).there
 
+-- after what comes by itself nothing is known
+passing_known : (k new : KernelState) (cpu : ℕ) (p : Passing) (known : List (Option Chosen)) → AreKnown new (known_after (Stepped (passing_event k cpu p)) known)
+passing_known k new cpu (Falls (due.Alarm alarm)) known = none_known new 8
+passing_known k new cpu (Falls (due.Deadline ec)) known = none_known new 8
+passing_known k new cpu Ticks known = none_known new 8
+
 turn_known : (k : KernelState) (cpu : ℕ) (t : Turn) (known : List (Option Chosen)) → t ≡ answer_of (turn k cpu) → AreKnown k known →
     AreKnown (after k cpu) (known_after t known)
 turn_known k cpu t known told all = elim (comes k cpu) [
-  | Idles none same answer ↦
+  | Idles none moment same answer ↦
       subst (λ (a : Turn). AreKnown (after k cpu) (known_after a known)) (sym (told ∙ answer)) (subst (λ (s : KernelState). AreKnown s known) (sym same) all)
   | Takes u e is state answer ↦ elim is [
-    | Acts c chosen acts event ↦
+    | Acts c next acts event ↦
+        let chosen = (acts_chosen k cpu c next).0 in
         let d = deed k c.actor in
-        let new : after k cpu ≡ charged (stirred k c.actor d (done k c.actor d)) cpu c.sc = chosen_turn k cpu c chosen ∙ sym (acting_is k cpu c) in
+        let new : after k cpu ≡ charged (stirred k c.actor d (done k c.actor d)) cpu c.sc = chosen_turn k cpu c next ∙ sym (acting_is k cpu c) in
         let there = chosen_there k cpu (chosen_of c) (sym (ap (option_map chosen_of) chosen)) in
-        subst (λ (a : Turn). AreKnown (after k cpu) (known_after a known)) (sym (told ∙ chosen_answers k cpu c chosen))
+        subst (λ (a : Turn). AreKnown (after k cpu) (known_after a known)) (sym (told ∙ chosen_answers k cpu c next))
         (subst (λ (s : KernelState). AreKnown s (known_by (sign_of d).0 (event_of cpu c d) known)) (sym new) (event_known k cpu c d known there (chosen_acts k cpu c chosen) all))
+    | Passes p due passes event ↦
+        subst (λ (a : Turn). AreKnown (after k cpu) (known_after a known)) (sym (told ∙ answer ∙ ap Stepped event)) (passing_known k (after k cpu) cpu p known)
   ]
 ]
 

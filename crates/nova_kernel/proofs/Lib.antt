@@ -6,3 +6,5 @@ pub mod Booted
 pub mod Below
 pub mod Stores
 pub mod Advancing
+pub mod Begun
+pub mod Sourced

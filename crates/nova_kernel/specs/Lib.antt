@@ -13,3 +13,4 @@ pub use Rattle.nova_parts.specs.Parts
 pub use Rattle.nova_parts.specs.Revoking
 pub mod Views
 pub mod Known
+pub mod Begun

@@ -9,6 +9,7 @@ ghost use Rattle.nova_parts.specs.Parts.{state_of};
 ghost use Rattle.nova_parts.specs.Revoking.{AreRunning};
 ghost use Rattle.nova_parts.specs.Counted.{IsCounted, IsToBeCharged};
 ghost use Rattle.nova_choice.specs.Schedules.{AreQueued};
+ghost use Rattle.nova_kernel.specs.Begun.{IsBegun};
 
 use nova_leases::{Page, Steps};
 use nova_parts::{Parts, Reach};
@@ -84,6 +85,7 @@ pub fn advance(parts: &mut Parts, cpu: u32, steps: &Steps)
     requires reached { IsReached (state_of parts.old) }
     requires queued { AreQueued (state_of parts.old) parts.old.queues.all }
     requires running { AreRunning (state_of parts.old) parts.old.revokes }
+    requires begun { IsBegun (state_of parts.old) }
     requires may { MayAdvance (state_of parts.old) cpu steps.now }
     requires turns { parts.old.turns + steps.now.count ≤ 2 ^ 31 }
     ensures state { state_of parts.new ≡ run (state_of parts.old) (replicate steps.now.count cpu) }
@@ -91,6 +93,7 @@ pub fn advance(parts: &mut Parts, cpu: u32, steps: &Steps)
     ensures reached { IsReached (state_of parts.new) }
     ensures queued { AreQueued (state_of parts.new) parts.new.queues.all }
     ensures running { AreRunning (state_of parts.new) parts.new.revokes }
+    ensures begun { IsBegun (state_of parts.new) }
     ensures log { parts.new.reach.room ≡ parts.old.reach.room }
 {
     let Some(chosen) = parts.choice(cpu, &[]) else {

@@ -1,8 +1,15 @@
-ghost use Rattle.std.specs.Prelude.{◌≡◌};
+ghost use Rattle.std.specs.Prelude.{◌≡◌, IsSome, IfSome, option_map};
+ghost use Rattle.nova_model.specs.Choice.{next_to_act};
+ghost use Rattle.nova_model.specs.State.{context_at};
+ghost use Rattle.nova_choice.specs.Choices.{chosen_of};
+ghost use Rattle.nova_choice.specs.Schedules.{AreQueued};
+ghost use Rattle.nova_parts.specs.Known.{AreKnown};
+ghost use Rattle.nova_parts.specs.Parts.{state_of};
 ghost use Rattle.nova_kernel.specs.Known.{known_after};
 
 use nova_choice::Chosen;
 use nova_model::{EventKind, Turn};
+use nova_parts::Parts;
 
 /// What is known after a turn: an instruction that went on leaves all choices, and its own is known then. Any
 /// other deed may lead turns elsewhere, so that nothing is known.
@@ -22,5 +29,20 @@ pub fn keep(known: &mut [Option<Chosen>; 8], turn: &Turn)
             }
         }
         _ => *known = [None; 8],
+    }
+}
+
+/// The scheduling context that a processor's next turn is charged to, and who acts in it; none where something is due, and where
+/// nothing is runnable.
+pub fn next_to_act(parts: &Parts, cpu: u32, known: &[Option<Chosen>]) -> Option<Chosen>
+    requires queued { AreQueued (state_of parts.now) parts.now.queues.all }
+    requires known { AreKnown (state_of parts.now) known.now }
+    ensures next { result ≡ option_map chosen_of (next_to_act (state_of parts.now) cpu) }
+    ensures acts { IfSome result (λ c. IsSome (context_at (state_of parts.now) c.actor)) }
+{
+    if parts.times.is_due(cpu) {
+        None
+    } else {
+        parts.choice(cpu, known)
     }
 }

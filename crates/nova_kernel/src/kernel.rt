@@ -1,6 +1,11 @@
-ghost use Rattle.std.specs.Prelude.{◌≡◌, ◌+◌, ◌*◌, ◌^◌, ◌<◌, ◌≤◌, ◌-◌, length, replicate, slice_get, Some, IfSome, IfOk, OnOk, OnErr, option_map};
+ghost use Rattle.std.specs.Prelude.{◌≡◌, ◌+◌, ◌*◌, ◌^◌, ◌<◌, ◌≤◌, ◌-◌, length, map, replicate, slice_get, Some, IfSome, IfOk, OnOk, OnErr, option_map};
 ghost use Rattle.std.specs.Option.{option_copied};
 ghost use Rattle.nova_model.specs.State.{context_at};
+ghost use Rattle.nova_model.specs.Times.{until_due};
+ghost use Rattle.nova_model.specs.Sources.{with_source};
+ghost use Rattle.nova_times.specs.Kept.{IsAlarm};
+ghost use Rattle.std.specs.List.{AllByRecursion};
+ghost use Rattle.nova_model.specs.declared.times.AlarmState.{AlarmState};
 ghost use Rattle.nova_model.specs.Choice.{choice, choose, is_quiet};
 ghost use Rattle.nova_model.specs.Delegations.{reach};
 ghost use Rattle.nova_model.specs.Turn.{turn, state_after, answer_of};
@@ -17,14 +22,14 @@ ghost use Rattle.nova_leases.specs.Commits.{IsReached, MayAdvance};
 ghost use Rattle.nova_kernel.specs.Views.{ticks_of, left_of, semaphore_at, derivation_from, turns_taken, IsMaking};
 
 use crate::burst::advance;
-use crate::choices::keep;
+use crate::choices::{keep, next_to_act};
 use crate::view::guest_of;
 use nova_choice::Chosen;
 use nova_guest::{Guest, Input};
 use nova_laws::turns_keep_what_they_find;
 use nova_leases::Steps;
 use nova_leases::laws::what_bursts_stand_on_is_kept;
-use nova_model::{Derivation, EcState, LogByte, Object, Rights, Root, Turn};
+use nova_model::{Alarm, Derivation, EcState, LogByte, Object, Rights, Root, Turn};
 use nova_parts::Parts;
 use std::alloc::{AllocError, Global};
 use std::marker::Model;
@@ -51,8 +56,9 @@ impl Model for Kernel {
     ghost use Rattle.nova_parts.specs.Revoking.{AreRunning};
     ghost use Rattle.nova_leases.specs.Commits.{IsReached};
     ghost use Rattle.nova_parts.specs.Known.{AreKnown};
+    ghost use Rattle.nova_kernel.specs.Begun.{IsBegun};
 
-    ghost invariant = { λ k. IsCounted (state_of k.parts) × (AreQueued (state_of k.parts) k.parts.queues.all × (AreRunning (state_of k.parts) k.parts.revokes × (IsReached (state_of k.parts) × AreKnown (state_of k.parts) k.known))) };
+    ghost invariant = { λ k. IsCounted (state_of k.parts) × (AreQueued (state_of k.parts) k.parts.queues.all × (AreRunning (state_of k.parts) k.parts.revokes × (IsReached (state_of k.parts) × (AreKnown (state_of k.parts) k.known × IsBegun (state_of k.parts))))) };
 }
 
 impl Kernel {
@@ -95,7 +101,7 @@ impl Kernel {
 
     /// Lays bytes into RAM one after another from an address on. They lie in RAM, and no turn was taken yet: what is laid is no
     /// input of a virtual CPU, so it comes before there is one.
-    #[tactic(auto, using(crate::proofs::Laid::laid_length))]
+    #[tactic(auto, using(crate::proofs::Laid::laid_length, crate::proofs::Begun::laid_begun))]
     pub fn put(&mut self, address: u32, bytes: &[u8])
         requires within { address + length bytes.now ≤ 4096 * length self.old.state.memory.ram }
         requires turns { self.old.state.turns ≡ 0 }
@@ -107,9 +113,9 @@ impl Kernel {
         self.parts.reach.put(address, bytes);
     }
 
-    /// One turn of an existing processor: the execution context to which the turns of the chosen
-    /// scheduling context lead acts, and the scheduling context is charged. Idle, with nothing changed, exactly where no
-    /// scheduling context of the processor is runnable. It refuses for want of memory alone, only in
+    /// One turn of an existing processor: what is due there comes; else the execution context to which the turns of the chosen
+    /// scheduling context lead acts, and the scheduling context is charged; else the clock alone goes on, where something is to
+    /// come. Idle, with nothing changed, exactly where nothing is to come and no scheduling context of the processor is runnable. It refuses for want of memory alone, only in
     /// a turn that makes an object or a derivation, and then nothing has changed. Needs spare log, of which a turn
     /// uses at most one place, and fewer than 2^31 turns taken before.
     pub fn turn(&mut self, cpu: u32) -> Result<Turn, AllocError>
@@ -133,7 +139,7 @@ impl Kernel {
 
     /// As many turns of a processor as a virtual CPU took instructions on copies, at once. It is the one who
     /// acts there, ready and without a recall that is asked for; the instructions are no more than what is left of the
-    /// chosen quantum, and none of them raises or stores to a console. Registers, the bytes of each page,
+    /// chosen quantum, and than what is left until something is due there, and none of them raises or stores to a console. Registers, the bytes of each page,
     /// of a frame each once, and the stores to it are those after these instructions, of which none
     /// stores to a RAM frame outside the pages. With the turns taken before they are at most 2^31.
     pub fn advance(&mut self, cpu: u32, steps: &Steps)
@@ -259,7 +265,7 @@ impl Kernel {
         ensures input { IfOk result (λ i. i ≡ input self.now.state cpu ec) }
         ensures memory { OnErr result (BringsBytes (input self.now.state cpu ec)) }
     {
-        match self.parts.choice(cpu, &self.known) {
+        match next_to_act(&self.parts, cpu, &self.known) {
             Some(chosen) => self.parts.input_of(alloc, chosen.actor, ec),
             None => Ok(None),
         }
@@ -272,7 +278,47 @@ impl Kernel {
         requires cpu { cpu < self.now.state.cpus }
         ensures { result ≡ stir_of self.now.state ec cpu }
     {
-        (self.parts.guests.count(ec), self.parts.stirs[cpu as usize])
+        (self.parts.guests.count(ec), self.parts.times.clock(cpu))
+    }
+
+    /// How many turns are left until something is due on a processor, 0 where it is. None exactly where nothing is to come there.
+    pub fn until_due(&self, cpu: u32) -> Option<u64>
+        ensures { result ≡ until_due self.now.state.times cpu }
+    {
+        self.parts.times.until_due(cpu)
+    }
+
+    /// The alarms, as they were added. Each rings at least once, its rings are apart, and its last moment is below 2^64.
+    pub fn sources(&self) -> &[Alarm]
+        ensures sources { result.now ≡ map (λ (a : AlarmState). a.alarm) self.now.state.times.alarms }
+        ensures numbers { AllByRecursion IsAlarm result.now }
+    {
+        self.parts.times.sources()
+    }
+
+    /// Makes a source: a semaphore of counter 0, as the next object, that an alarm ups, with a capability of the root's to it at the
+    /// selector of its number. No turn was taken yet. It refuses for want of memory alone, and then nothing has changed.
+    pub fn add_source(
+        &mut self,
+        cpu: u32,
+        first: u64,
+        period: u64,
+        count: u64,
+    ) -> Result<u32, AllocError>
+        requires turns { self.old.state.turns ≡ 0 }
+        requires objects { length self.old.state.objects < 2 ^ 20 }
+        requires cpu { cpu < self.old.state.cpus }
+        requires alarm { IsAlarm (record { cpu = cpu; sm = length self.old.state.objects; first = first; period = period; count = count }) }
+        ensures number { IfOk result (λ n. n ≡ length self.old.state.objects) }
+        ensures added { OnOk result (self.new.state ≡ with_source self.old.state (record { cpu = cpu; first = first; period = period; count = count })) }
+        ensures room { self.new.room ≡ self.old.room }
+        ensures memory { OnErr result (self.new ≡ self.old) }
+    {
+        turns_keep_what_they_find();
+        what_bursts_stand_on_is_kept();
+        let number = self.parts.add_source(cpu, first, period, count)?;
+        self.known = [None; 8];
+        Ok(number)
     }
 
     /// The turns that a scheduling context paid for; none where no scheduling context has the number.

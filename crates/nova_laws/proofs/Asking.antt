@@ -276,7 +276,7 @@ row_asked k ec domain r (asks.EcCtrl other) is = named_holds (AsAsked k domain r
 row_asked k ec domain r (asks.ScCtrl sc) is = named_holds (AsAsked k domain r) (named k domain is_sc control_right sc) (λ n. Tells SC_CTRL (ticks_in (budget_at k n))) (λ n. tt)
 row_asked k ec domain r (asks.PtCtrl pt identifier) is = named_holds (AsAsked k domain r) (named k domain is_pt control_right pt) (λ n. Names n identifier) (λ n. tt)
 row_asked k ec domain r (asks.SmCtrl sm action) is =
-    sm_ctrl_holds (AsAsked k domain r) k domain sm action (λ n whom names wakes. tt) (λ n names answers. tt) (λ n names answers. tt)
+    sm_ctrl_holds (AsAsked k domain r) k ec domain sm action (λ n whom names wakes. tt) (λ n names answers. tt) (λ n until names answers till. tt)
 row_asked k ec domain r other is = tt
 
 deed_asked : (k : KernelState) (ec : ℕ) → AsAsked k (pd_of k ec) (context k ec).regs (deed k ec)

@@ -2,14 +2,14 @@
 use Rattle.std.proofs.Common.{◌≡◌, ℕ, arith, [], ◌∷◌, ◌++◌, List, length, refl, ap, ◌∙◌, sym, subst, inl, inr}
 use Rattle.std.specs.Prelude.{◌≢◌, ◌==◌, ◌||◌, eqb, Bool, true, false, if◌then◌else◌, slice_get, Option, Some, None, IsSome, is_some, option_map, Result, Ok, Err}
 use Rattle.nova_objects.specs.declared.object.EcKind.TheVariants.{Local, Global, Vcpu}
-use Rattle.nova_range.specs.declared.status.Status.TheVariants.{Success}
+use Rattle.nova_range.specs.declared.status.Status.TheVariants.{Success, Timeout}
 use Rattle.nova_model.specs.Boot.{root_context}
 use Rattle.nova_model.specs.Calls.{is_parked}
 use Rattle.nova_model.specs.Capabilities.{is_sm}
 use Rattle.nova_model.specs.Creation.{context_of, count_of, idle_semaphore}
 use Rattle.nova_model.specs.Deeds.{answered, deed, parked, resumed}
 use Rattle.nova_model.specs.Edges.{state_in}
-use Rattle.nova_model.specs.Semaphores.{Semaphores, answer_of, downed, greatest, has, semaphore, semaphore_at, upped, waits, woken, woken_of}
+use Rattle.nova_model.specs.Semaphores.{Semaphores, answer_of, downed, greatest, has, left, semaphore, semaphore_at, upped, waits, woken, woken_of}
 use Rattle.nova_model.specs.State.{Contexts, KernelState, context, ec_in, ec_of, entry, is_local_thread, with_ec, context_at, context_in}
 use Rattle.nova_model.specs.declared.context.EcState.{EcState}
 use Rattle.nova_model.specs.declared.context.Mark.{Mark}
@@ -25,6 +25,8 @@ use Rattle.nova_model.specs.declared.semaphore.Overflow.{Overflow}
 use Rattle.nova_sem.specs.Sound.{AreSound, IsFree}
 use Rattle.nova_sem.specs.Waiting.{AllWaitAsBefore, OthersWaitAsBefore}
 use Rattle.nova_sem.proofs.Sound.{each_waits_alone}
+use Rattle.nova_model.specs.Turn.{whom_of}
+use Rattle.nova_sem.proofs.Expiring.{only_the_late_goes}
 use Rattle.nova_sem.proofs.Waiting.{only_the_blocked_comes, only_the_woken_goes}
 use Rattle.nova_laws.specs.Links.{AreServed, state_at}
 use Rattle.nova_laws.specs.Tables.{HasTables, IsOf}
@@ -33,7 +35,7 @@ use Rattle.nova_laws.proofs.Links.{more_itself, more_other, past, place}
 use Rattle.nova_laws.proofs.Referring.{Asks, deed_asks}
 use Rattle.nova_laws.proofs.Serving.{IsActor, IsReached, awaited, is_blocked, of_there, reached_apart, reached_there, resumed_is, state_there}
 use Rattle.nova_laws.proofs.Setting.{entry_itself, entry_other}
-use Rattle.nova_forest.specs.Effects.{applied, effect, joined, made_by}
+use Rattle.nova_forest.specs.Effects.{all_edited, applied, edits_by, effect, joined, made_by, semaphore_by, semaphores_with}
 use Rattle.nova_laws.proofs.Courses.{Courses, MayCome, deed_course}
 use Rattle.nova_laws.proofs.TablesKept.{kinds_at}
 
@@ -135,7 +137,7 @@ downs cs all sm e y there before now answers h =
     (each_waits_alone.down all sm e (waits_nowhere cs all e before h) h.sound) (goes_on cs all e y there before now h)
 
 -- nobody is woken where nobody waits
-nobody_waits : (count : ℕ) (ecs : List ℕ) → woken_of count ecs ≡ Ok None → ecs ≡ []
+pub nobody_waits : (count : ℕ) (ecs : List ℕ) → woken_of count ecs ≡ Ok None → ecs ≡ []
 nobody_waits count [] is = refl
 nobody_waits count (ec ∷ ecs) is = absurd (cc)
 
@@ -143,6 +145,16 @@ wakes_nobody : (cs : Contexts) (all : Semaphores) (sm : ℕ) → woken (semaphor
 wakes_nobody cs all sm wakes h =
     let s = semaphore all sm in
     same_waits cs all (upped all sm) (only_the_woken_goes.nobody all sm (nobody_waits s.count s.waiting wakes)) (each_waits_alone.up all sm h.sound) h
+
+-- nor where the counter is at its greatest
+pub none_waits : (count : ℕ) (ecs : List ℕ) → whom_of (woken_of count ecs) ≡ None → ecs ≡ []
+none_waits count [] is = refl
+none_waits count (ec ∷ ecs) is = absurd cc
+
+pub wakes_none : (cs : Contexts) (all : Semaphores) (sm : ℕ) → whom_of (woken (semaphore all sm)) ≡ None → AreBlocked cs all → AreBlocked cs (upped all sm)
+wakes_none cs all sm wakes h =
+    let s = semaphore all sm in
+    same_waits cs all (upped all sm) (only_the_woken_goes.nobody all sm (none_waits s.count s.waiting wakes)) (each_waits_alone.up all sm h.sound) h
 
 -- who is woken is the first that waits
 first_waits : (count first : ℕ) (ecs : List ℕ) → woken_of count ecs ≡ Ok (Some first) → (rest : List ℕ) × (ecs ≡ first ∷ rest)
@@ -169,7 +181,7 @@ first_woken k ec sm first is =
     let asks : Asks k ec (Ups sm (Some first)) = subst (Asks k ec) is (deed_asks k ec) in first_waits s.count first s.waiting asks.1
 
 -- one is woken, and goes on
-wakes : (cs : Contexts) (all : Semaphores) (sm w : ℕ) → woken (semaphore all sm) ≡ Ok (Some w) → AreBlocked cs all →
+pub wakes : (cs : Contexts) (all : Semaphores) (sm w : ℕ) → woken (semaphore all sm) ≡ Ok (Some w) → AreBlocked cs all →
     AreBlocked (with_ec cs w (answered (ec_of cs w) Success None)) (upped all sm)
 wakes cs all sm w is h =
     let free = only_the_woken_goes.free all sm w h.sound is in
@@ -179,6 +191,19 @@ wakes cs all sm w is h =
       blocked = λ other waits. absurd (let none = free other in cc);
       waiting = λ other waits. absurd (cc);
       sound = each_waits_alone.up all sm h.sound;
+    }) h
+
+-- one leaves its queue, and goes on
+pub leaves : (cs : Contexts) (all : Semaphores) (sm w : ℕ) → state_in cs w ≡ Some (Blocked sm) → AreBlocked cs all →
+    AreBlocked (with_ec cs w (answered (ec_of cs w) Timeout None)) (left all sm w)
+leaves cs all sm w is h =
+    let free = only_the_late_goes.free all sm w h.sound (h.waiting sm w is) in
+    settled cs all (left all sm w) w (answered (ec_of cs w) Timeout None) (record {
+      there = state_there (ec_in cs w) (Blocked sm) is;
+      others = only_the_late_goes.others all sm w;
+      blocked = λ other waits. absurd (let none = free other in cc);
+      waiting = λ other waits. absurd (cc);
+      sound = only_the_late_goes.sound all sm w h.sound;
     }) h
 
 -- ONE JOINS
@@ -263,7 +288,7 @@ free_state : (k : KernelState) (ec : ℕ) (d : Deed) (s : State) → MayCome k e
 free_state k ec d (Blocked sm) may = absurd may
 free_state k ec d other may = refl
 
-semaphore_there : (k : KernelState) (sm : ℕ) → HasTables k → IsOf k.objects is_sm sm → IsSome (semaphore_at k.semaphores sm)
+pub semaphore_there : (k : KernelState) (sm : ℕ) → HasTables k → IsOf k.objects is_sm sm → IsSome (semaphore_at k.semaphores sm)
 semaphore_there k sm h is = by_entry (slice_get k.semaphores sm) (kinds_at is_sm k.semaphores k.objects sm h.semaphores ∙ is)
   where
     by_entry : {T : Type 0} (o : Option (Option T)) → option_map is_some o ≡ Some true → IsSome (entry o)
@@ -291,12 +316,16 @@ blocked_courses k ec d actor tables served h = record {
     answers : AreBlocked (with_ec k.contexts ec (answered (context k ec) Success None)) k.semaphores
     answers = goes_on k.contexts k.semaphores ec _ there actor.unblocked refl h
 
-joined_blocked : (n : ℕ) (cs : Contexts) (all : Semaphores) (made : Option NewObject) → AreBlocked cs all →
+pub joined_blocked : (n : ℕ) (cs : Contexts) (all : Semaphores) (made : Option NewObject) → AreBlocked cs all →
     AreBlocked (joined cs (option_map (context_of n) made)) (joined all (option_map (λ m. option_map idle_semaphore (count_of m)) made))
 joined_blocked n cs all None h = h
 joined_blocked n cs all (Some made) h = joins cs (context_of n made) all (count_of made) (born_free n made) h
 
+pub edited_blocked : (k : KernelState) (ec : ℕ) (d : Deed) → IsActor k.contexts ec → Asks k ec d → HasTables k → AreServed (is_local_thread k) k.contexts → Settled k →
+    AreBlocked (all_edited k.contexts (edits_by k ec d)) (semaphores_with k.semaphores (semaphore_by ec d))
+edited_blocked k ec d actor asks tables served h = deed_course k ec AreBlocked d actor asks (blocked_courses k ec d actor tables served h)
+
 pub applied_blocked : (k : KernelState) (ec : ℕ) (d : Deed) → IsActor k.contexts ec → Asks k ec d → HasTables k → AreServed (is_local_thread k) k.contexts → Settled k →
     Settled (applied k (effect k ec d))
 applied_blocked k ec d actor asks tables served h =
-    joined_blocked (length k.objects) _ _ (made_by d) (deed_course k ec AreBlocked d actor asks (blocked_courses k ec d actor tables served h))
+    joined_blocked (length k.objects) _ _ (made_by d) (edited_blocked k ec d actor asks tables served h)

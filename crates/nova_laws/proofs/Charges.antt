@@ -21,6 +21,9 @@ pub record IsCharged (old new : KernelState) (cpu sc : ℕ) : Type 0 where
   pub consoles : new.consoles ≡ old.consoles
   pub guests : new.stirs.guests ≡ old.stirs.guests
   pub processors : (other : ℕ) → other ≢ cpu → slice_get new.stirs.processors other ≡ slice_get old.stirs.processors other
+  pub deadlines : new.times.deadlines ≡ old.times.deadlines
+  pub alarms : new.times.alarms ≡ old.times.alarms
+  pub clocks : (other : ℕ) → other ≢ cpu → slice_get new.times.clocks other ≡ slice_get old.times.clocks other
 
 paid_leaves : (k : KernelState) (cpu sc quantum : ℕ) (o : Option Budget) → IsCharged k (counted (paid_by k sc quantum o) cpu) cpu sc
 paid_leaves k cpu sc quantum None = record {
@@ -38,6 +41,9 @@ paid_leaves k cpu sc quantum None = record {
   consoles = refl;
   guests = refl;
   processors = λ other differs. get_other k.stirs.processors cpu other _ differs;
+  deadlines = refl;
+  alarms = refl;
+  clocks = λ other differs. get_other k.times.clocks cpu other _ differs;
 }
 paid_leaves k cpu sc quantum (Some b) = record {
   delegations = refl;
@@ -54,6 +60,9 @@ paid_leaves k cpu sc quantum (Some b) = record {
   consoles = refl;
   guests = refl;
   processors = λ other differs. get_other k.stirs.processors cpu other _ differs;
+  deadlines = refl;
+  alarms = refl;
+  clocks = λ other differs. get_other k.times.clocks cpu other _ differs;
 }
 
 pub charge_leaves : (k : KernelState) (cpu sc : ℕ) → IsCharged k (charged k cpu sc) cpu sc

@@ -1,4 +1,6 @@
 -- The children that a present item made are counted: what each deed makes of the count, and the fold over turns.
+use Rattle.nova_model.specs.declared.new_object.NewObject.TheVariants as new
+use Rattle.nova_forest.proofs.Boots.{sources_keep}
 use Rattle.std.proofs.Common.{◌≡◌, ℕ, zero, suc, List, [], ◌∷◌, ◌++◌, refl, ap, ◌∙◌, sym, subst, arith}
 use Rattle.std.specs.Prelude.{◌≢◌, ◌==◌, Bool, true, false, is_some, if◌then◌else◌, slice_get, slice_set, Option, Some, None, IfSome, option_map}
 use Rattle.nova_model.specs.Boot.{Scenario, Image, boot, bare, with_image, with_images}
@@ -20,8 +22,9 @@ use Rattle.nova_model.specs.declared.transfer.Sequel.{Sequel}
 use Rattle.nova_model.specs.declared.transfer.Sequel.TheVariants as sequel
 use Rattle.nova_model.specs.declared.transfer.Skip.TheVariants as skip
 use Rattle.nova_model.specs.declared.transfer.Transfer.{Transfer}
-use Rattle.nova_forest.specs.Effects.{applied, effect, joined, made_by, put, transfer_by}
-use Rattle.nova_forest.specs.Turns.{Acts, IsTurning, Turning, turned}
+use Rattle.nova_forest.specs.Effects.{applied, effect, joined, made_by, put, transfer_by, Falls, Passing, Ticks}
+use Rattle.nova_model.specs.declared.times.Due.TheVariants as due
+use Rattle.nova_forest.specs.Turns.{Acts, IsTurning, Turning, turned, Passes, passing_event}
 use Rattle.nova_forest.proofs.Turning.{after_keeps, event_at, outcome}
 use Rattle.nova_laws.specs.Giving.{counted_after, counted_by}
 use Rattle.nova_laws.proofs.TablesFit.{TablesFit, boot_fits, chosen_acts, entry_acts, gives_there}
@@ -129,6 +132,19 @@ turned_counts k cpu e rest t f (Acts c chosen is event) fits sound =
     ap (λ (x : Event). counted_after e (transfer k e).children (x ∷ rest)) event
     ∙ ap (λ (n : ℕ). counted_after e n rest) (sym (deed_counts k c.actor e (deed k c.actor) (deed_wants k c.actor) there fits sound))
     ∙ ap (λ (u : Turning). counted_after e (transfer (turned k cpu u) e).children rest) (sym is)
+turned_counts k cpu e rest t f (Passes p comes is event) fits sound =
+    ap (λ (x : Event). counted_after e (transfer k e).children (x ∷ rest)) event
+    ∙ ap (λ (n : ℕ). counted_after e n rest) (by_test ((passing_event k cpu p).ec == e))
+    ∙ ap (λ (u : Turning). counted_after e (transfer (turned k cpu u) e).children rest) (sym is)
+  where
+    still : (q : Passing) → counted_by (passing_event k cpu q).kind (passing_event k cpu q).a (transfer k e).children ≡ (transfer k e).children
+    still (Falls (due.Alarm alarm)) = refl
+    still (Falls (due.Deadline ec)) = refl
+    still Ticks = refl
+
+    by_test : (test : Bool) → (if test then counted_by (passing_event k cpu p).kind (passing_event k cpu p).a (transfer k e).children else (transfer k e).children) ≡ (transfer k e).children
+    by_test true = still p
+    by_test false = refl
 
 turn_counts : (k : KernelState) (cpu e : ℕ) (rest : List Event) → TablesFit k × Sound k →
     counted_after e (transfer k e).children (in_front (event_at k cpu) rest) ≡ counted_after e (transfer (after k cpu) e).children rest
@@ -152,7 +168,12 @@ images_none : (k : KernelState) (images : List Image) (e : ℕ) → transfer (wi
 images_none k [] e = refl
 images_none k (image ∷ images) e = images_none (with_image k image) images e
 
+boot_none : (s : Scenario) (e : ℕ) → transfer (boot s) e ≡ no_transfer
+boot_none s =
+    sources_keep (λ (k : KernelState). (e : ℕ) → transfer k e ≡ no_transfer) (λ k source none e. at_joined k.transfers (Some (new.Sm 0)) e ∙ none e)
+    (with_images (bare s.cpus s.ram s.consoles s.root) s.images) s.sources (λ e. images_none (bare s.cpus s.ram s.consoles s.root) s.images e ∙ bare_none s e)
+
 pub counts_children : (s : Scenario) (turns : List ℕ) (ec : ℕ) → (transfer (run (boot s) turns) ec).children ≡ counted_after ec 0 (trace (boot s) turns)
 counts_children s turns ec =
     run_counts (boot s) turns ec (boot_fits s, boot_for s)
-    ∙ ap (λ (t : Transfer). counted_after ec t.children (trace (boot s) turns)) (images_none (bare s.cpus s.ram s.consoles s.root) s.images ec ∙ bare_none s ec)
+    ∙ ap (λ (t : Transfer). counted_after ec t.children (trace (boot s) turns)) (boot_none s ec)

@@ -151,7 +151,7 @@ deed_course k ec P (Replies caller its false) actor asks c = c.replies caller it
 deed_course k ec P (Finishes item end words after) actor asks c = follows_course k ec item end words P _ after actor asks.1 c
 deed_course k ec P (Ups sm whom) actor asks c = ups_course k ec sm P whom asks.1 c
 deed_course k ec P (Downs sm) actor asks c = c.downs sm refl asks.1
-deed_course k ec P (Blocks sm) actor asks c = c.blocks sm refl asks.0 asks.1
+deed_course k ec P (Blocks sm until) actor asks c = c.blocks sm refl asks.0 asks.1
 deed_course k ec P (Aborts handler mark.Call) actor asks c = c.goes _ (record { id = refl; cpu = refl; caller = refl; regs = λ gives. cc }) refl tt
 deed_course k ec P other actor asks c = c.goes _ (record { id = refl; cpu = refl; caller = refl; regs = λ gives. cc }) refl tt
 

@@ -1,8 +1,8 @@
 -- After each part the cursor is where the part moves it.
 use Rattle.std.proofs.Common.{◌≡◌, ℕ, ◌+◌, List, ap, ◌∙◌, sym, subst, refl, arith}
-use Rattle.std.specs.Prelude.{◌<◌, true, is_some, slice_get, slice_set, option_map, Option, Some, None, IfSome, IsSome}
+use Rattle.std.specs.Prelude.{◌<◌, true, is_some, slice_get, slice_set, option_map, Option, Some, None, IsSome}
 use Rattle.nova_model.specs.Boot.{Scenario, boot}
-use Rattle.nova_model.specs.Choice.{choice}
+use Rattle.nova_model.specs.Choice.{next_to_act}
 use Rattle.nova_model.specs.Deeds.{deed, done, gave, sign_of, skipped}
 use Rattle.nova_model.specs.Runs.{after, run}
 use Rattle.nova_model.specs.State.{KernelState, ec_in, entry, transfer, transfer_at, transfer_in}
@@ -20,10 +20,9 @@ use Rattle.nova_model.specs.declared.transfer.Skip.TheVariants as skip
 use Rattle.nova_model.specs.declared.transfer.Transfer.{Transfer}
 use Rattle.nova_forest.specs.Turns.{acting, turned}
 use Rattle.nova_forest.proofs.Doing.{done_is}
-use Rattle.nova_forest.proofs.Turning.{of_event}
+use Rattle.nova_forest.proofs.Turning.{of_kind}
 use Rattle.nova_laws.specs.Giving.{HasMoved, MovesCursor}
-use Rattle.nova_laws.proofs.Chosen.{Acts, choice_acts}
-use Rattle.nova_laws.proofs.TablesFit.{boot_run_fits, entry_acts, gives_there}
+use Rattle.nova_laws.proofs.TablesFit.{boot_run_fits, entry_acts, gives_there, chosen_acts}
 use Rattle.nova_laws.proofs.Moving.{gives_move, skips_move}
 use Rattle.nova_laws.proofs.Setting.{entry_itself, entry_other}
 
@@ -81,10 +80,10 @@ skips (Replies caller mark true) tells part = absurd cc
 skips other tells part = absurd cc
 
 -- who is chosen has an entry
-has_entry : (s : Scenario) (turns : List ℕ) (cpu : ℕ) (c : Candidate) → choice (run (boot s) turns) cpu ≡ Some c → IsSome (transfer_at (run (boot s) turns) c.actor)
+has_entry : (s : Scenario) (turns : List ℕ) (cpu : ℕ) (c : Candidate) → next_to_act (run (boot s) turns) cpu ≡ Some c → IsSome (transfer_at (run (boot s) turns) c.actor)
 has_entry s turns cpu c chosen =
     let k = run (boot s) turns in
-    let acts = subst (λ (o : Option Candidate). IfSome o (Acts k)) chosen (choice_acts k cpu) in
+    let acts = chosen_acts k cpu c chosen in
     by_entry (slice_get k.transfers c.actor) (gives_there k c.actor (entry_acts k.contexts (ec_in k.contexts c.actor) acts) (boot_run_fits s turns))
   where
     by_entry : (o : Option (Option Transfer)) → option_map is_some o ≡ Some true → IsSome (entry o)
@@ -104,7 +103,7 @@ moved_after k cpu c place more state h =
       others = λ other differs. ap (λ (ts : List (Option Transfer)). entry (slice_get ts other)) stays ∙ h.others other differs;
     }
 
-chosen_made : (s : Scenario) (turns : List ℕ) (cpu : ℕ) (c : Candidate) → choice (run (boot s) turns) cpu ≡ Some c →
+chosen_made : (s : Scenario) (turns : List ℕ) (cpu : ℕ) (c : Candidate) → next_to_act (run (boot s) turns) cpu ≡ Some c →
     after (run (boot s) turns) cpu ≡ turned (run (boot s) turns) cpu (acting (run (boot s) turns) c) → (sign_of (deed (run (boot s) turns) c.actor)).0 ≡ Made →
     MovesCursor (run (boot s) turns) (after (run (boot s) turns) cpu) c.actor 1
 chosen_made s turns cpu c chosen state tells =
@@ -115,7 +114,7 @@ chosen_made s turns cpu c chosen state tells =
       moved = moved_after k cpu c d.cursor 1 state (gives_set k c.actor d.cursor d.child d.is (has_entry s turns cpu c chosen));
     }
 
-chosen_skips : (s : Scenario) (turns : List ℕ) (cpu : ℕ) (c : Candidate) → choice (run (boot s) turns) cpu ≡ Some c →
+chosen_skips : (s : Scenario) (turns : List ℕ) (cpu : ℕ) (c : Candidate) → next_to_act (run (boot s) turns) cpu ≡ Some c →
     after (run (boot s) turns) cpu ≡ turned (run (boot s) turns) cpu (acting (run (boot s) turns) c) → (sign_of (deed (run (boot s) turns) c.actor)).0 ≡ Skip →
     2 < (sign_of (deed (run (boot s) turns) c.actor)).1 → MovesCursor (run (boot s) turns) (after (run (boot s) turns) cpu) c.actor 0
 chosen_skips s turns cpu c chosen state tells part =
@@ -130,10 +129,10 @@ pub made_moves : (s : Scenario) (turns : List ℕ) (cpu : ℕ) (e : Event) → a
     MovesCursor (run (boot s) turns) (after (run (boot s) turns) cpu) e.ec 1
 made_moves s turns cpu e steps tells =
     let k = run (boot s) turns in
-    of_event (λ (f : Event). f.kind ≡ Made → MovesCursor k (after k cpu) f.ec 1) k cpu e steps (λ c chosen state kind. chosen_made s turns cpu c chosen state kind) tells
+    of_kind Made refl (λ (f : Event). MovesCursor k (after k cpu) f.ec 1) k cpu e steps (λ c chosen state kind. chosen_made s turns cpu c chosen state kind) tells
 
 pub skipped_moves : (s : Scenario) (turns : List ℕ) (cpu : ℕ) (e : Event) → answer_of (turn (run (boot s) turns) cpu) ≡ Stepped e → e.kind ≡ Skip → 2 < e.a →
     MovesCursor (run (boot s) turns) (after (run (boot s) turns) cpu) e.ec 0
 skipped_moves s turns cpu e steps tells part =
     let k = run (boot s) turns in
-    of_event (λ (f : Event). f.kind ≡ Skip → 2 < f.a → MovesCursor k (after k cpu) f.ec 0) k cpu e steps (λ c chosen state kind a. chosen_skips s turns cpu c chosen state kind a) tells part
+    of_kind Skip refl (λ (f : Event). 2 < f.a → MovesCursor k (after k cpu) f.ec 0) k cpu e steps (λ c chosen state kind a. chosen_skips s turns cpu c chosen state kind a) tells part

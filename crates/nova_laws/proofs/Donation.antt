@@ -1,6 +1,10 @@
 -- Edges stay sound along all turns: an answer for each course of a deed, and the fold over turns.
+use Rattle.nova_forest.proofs.Boots.{sources_keep}
+use Rattle.nova_laws.specs.Waiting.{IsAwaiting}
+use Rattle.nova_model.specs.declared.times.Deadline.{Deadline}
+use Rattle.nova_laws.proofs.Passing.{passing_contexts, passing_ending}
 use Rattle.std.proofs.Common.{◌≡◌, ℕ, List, [], ◌∷◌, length, refl, ap, sym, subst, ◌∙◌}
-use Rattle.std.specs.Prelude.{◌↔◌, ◌≢◌, Bool, true, false, if◌then◌else◌, option_and_then, Option, Some, None, IfSome, IsSome, is_some, option_map}
+use Rattle.std.specs.Prelude.{◌↔◌, ◌≢◌, Bool, true, false, if◌then◌else◌, option_and_then, Option, Some, None, IfSome, IsSome, is_some, option_map, length}
 use Rattle.nova_objects.specs.declared.object.EcKind.TheVariants.{Local, Global, Vcpu}
 use Rattle.nova_range.specs.declared.status.Status.TheVariants.{Success}
 use Rattle.nova_model.specs.Boot.{Image, Scenario, bare, boot, root_context, with_image, with_images}
@@ -11,7 +15,7 @@ use Rattle.nova_model.specs.Edges.{AreEdges, IsNewEdge, acts, chase, circle, edg
 use Rattle.nova_model.specs.Memory.{Memory}
 use Rattle.nova_model.specs.Runs.{after, run}
 use Rattle.nova_model.specs.Semaphores.{waits}
-use Rattle.nova_model.specs.State.{Contexts, KernelState, context, context_at, context_in, ec_in, ec_of, with_ec}
+use Rattle.nova_model.specs.State.{Contexts, KernelState, context, context_at, context_in, ec_in, ec_of, with_ec, deadline_of}
 use Rattle.nova_model.specs.declared.context.EcState.{EcState}
 use Rattle.nova_model.specs.declared.context.Mark.{Mark}
 use Rattle.nova_model.specs.declared.context.State.TheVariants.{Blocked, Calling, Granting, Ready}
@@ -36,8 +40,8 @@ use Rattle.nova_model.specs.State.{ec_of}
 use Rattle.nova_model.specs.declared.context.State.{State}
 use Rattle.nova_model.specs.declared.context.State.TheVariants.{Calling, Helping, Sending, Blocked}
 use Rattle.nova_model.specs.declared.event.Event.{Event}
-use Rattle.nova_forest.specs.Effects.{applied, effect, joined, made_by}
-use Rattle.nova_forest.specs.Turns.{Acts, IsTurning, Turning, turned}
+use Rattle.nova_forest.specs.Effects.{applied, effect, joined, made_by, passing_ends}
+use Rattle.nova_forest.specs.Turns.{Acts, IsTurning, Turning, turned, Passes}
 use Rattle.nova_forest.proofs.Turning.{after_keeps, along}
 use Rattle.nova_laws.proofs.Courses.{Courses, MayCome, deed_course}
 use Rattle.nova_laws.proofs.TablesKept.{set_there, with_memory}
@@ -138,6 +142,12 @@ turned_sound k cpu t e (Acts c chosen is event) h = (
   subst (λ (u : Turning). AreEdges (turned k cpu u).contexts) (sym is)
       (applied_edges k c.actor (deed k c.actor) (actor_of k.contexts c.actor (chosen_acts k cpu c chosen)) (deed_asks k c.actor) h.0 h.1),
 )
+turned_sound k cpu t e (Passes p comes is event) h = (
+  turned_fits k cpu t e (Passes p comes is event) h.0,
+  subst (λ (u : Turning). AreEdges (turned k cpu u).contexts) (sym is)
+      (passing_contexts AreEdges k.contexts (passing_ends k p) (passing_ending k cpu p comes h.0.blocked h.0.late) h.1
+      (λ w sm status waits. free_on k.contexts w _ (ap is_some (blocked_there k.contexts w sm waits)) refl refl h.1)),
+)
 
 images_edges : (k : KernelState) (images : List Image) → AreEdges k.contexts → AreEdges (with_images k images).contexts
 images_edges k [] sound = sound
@@ -145,8 +155,10 @@ images_edges k (image ∷ images) sound = images_edges (with_image k image) imag
 
 boot_edges : (s : Scenario) → AreEdges (boot s).contexts
 boot_edges s =
-    images_edges (bare s.cpus s.ram s.consoles s.root) s.images
-    (edges_more (None ∷ Some (root_context s.root) ∷ []) None (edges_more (None ∷ []) (Some (root_context s.root)) (edges_more [] None edges_none refl) refl) refl)
+    sources_keep (λ (k : KernelState). AreEdges k.contexts) (λ k source sound. joined_edges (length k.objects) k.contexts (Some (new.Sm 0)) sound)
+    (with_images (bare s.cpus s.ram s.consoles s.root) s.images) s.sources
+    (images_edges (bare s.cpus s.ram s.consoles s.root) s.images
+    (edges_more (None ∷ Some (root_context s.root) ∷ []) None (edges_more (None ∷ []) (Some (root_context s.root)) (edges_more [] None edges_none refl) refl) refl))
 
 -- THE LAWS
 
@@ -169,17 +181,17 @@ acting s turns cpu = chosen_does (run (boot s) turns) cpu _ (boot_run_fits s tur
 -- what turns keep
 pub keeps : (k : KernelState) (cpu : ℕ) → IsKept k → IsKept (after k cpu)
 keeps k cpu h =
-    let fits : TablesFit k = record { tables = h.tables; served = h.served; blocked = h.blocked; guests = h.guests } in
+    let fits : TablesFit k = record { tables = h.tables; served = h.served; blocked = h.blocked; guests = h.guests; late = h.deadlines } in
     let now = after_fits k cpu fits in
-    record { tables = now.tables; served = now.served; edges = (after_keeps Sound turned_sound k cpu (fits, h.edges)).1; blocked = now.blocked; guests = now.guests }
+    record { tables = now.tables; served = now.served; edges = (after_keeps Sound turned_sound k cpu (fits, h.edges)).1; blocked = now.blocked; guests = now.guests; deadlines = now.late }
 
 pub keeps_in_memory : (k : KernelState) (m : Memory) → IsKept k → IsKept (record k { memory = m })
-keeps_in_memory k m h = record { tables = with_memory k m h.tables; served = h.served; edges = h.edges; blocked = h.blocked; guests = guests_of (record k { memory = m }) (among_of k h.guests) }
+keeps_in_memory k m h = record { tables = with_memory k m h.tables; served = h.served; edges = h.edges; blocked = h.blocked; guests = guests_of (record k { memory = m }) (among_of k h.guests); deadlines = h.deadlines }
 
 pub begins_kept : (cpus ram consoles : ℕ) (root : Root) → IsKept (bare cpus ram consoles root)
 begins_kept cpus ram consoles root =
-    let s : Scenario = record { cpus = cpus; ram = ram; consoles = consoles; root = root; images = [] } in
-    let fits = boot_fits s in record { tables = fits.tables; served = fits.served; edges = boot_edges s; blocked = fits.blocked; guests = fits.guests }
+    let s : Scenario = record { cpus = cpus; ram = ram; consoles = consoles; root = root; images = []; sources = [] } in
+    let fits = boot_fits s in record { tables = fits.tables; served = fits.served; edges = boot_edges s; blocked = fits.blocked; guests = fits.guests; deadlines = fits.late }
 
 images_kept : (k : KernelState) (images : List Image) → IsKept k → IsKept (with_images k images)
 images_kept k [] kept = kept
@@ -190,7 +202,17 @@ run_kept k [] kept = kept
 run_kept k (cpu ∷ turns) kept = run_kept (after k cpu) turns (keeps k cpu kept)
 
 pub reached_kept : (s : Scenario) (turns : List ℕ) → IsKept (run (boot s) turns)
-reached_kept s turns = run_kept (boot s) turns (images_kept (bare s.cpus s.ram s.consoles s.root) s.images (begins_kept s.cpus s.ram s.consoles s.root))
+reached_kept s turns =
+    let fits = boot_fits s in
+    run_kept (boot s) turns (record { tables = fits.tables; served = fits.served; edges = boot_edges s; blocked = fits.blocked; guests = fits.guests; deadlines = fits.late })
+
+-- deadlines
+
+pub late_waits : (s : Scenario) (turns : List ℕ) (ec : ℕ) (d : Deadline) → deadline_of (run (boot s) turns).times ec ≡ Some d → IsAwaiting (run (boot s) turns).contexts ec d
+late_waits s turns ec d is = (boot_run_fits s turns).late ec d is
+
+pub late_queued : (s : Scenario) (turns : List ℕ) (ec : ℕ) (d : Deadline) → deadline_of (run (boot s) turns).times ec ≡ Some d → waits (run (boot s) turns).semaphores d.sm ec ≡ true
+late_queued s turns ec d is = let h = boot_run_fits s turns in h.blocked.waiting d.sm ec (h.late ec d is).blocked
 
 -- semaphores
 

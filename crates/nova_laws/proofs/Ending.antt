@@ -23,7 +23,7 @@ use Rattle.nova_model.specs.declared.transfer.ItemEnd.TheVariants.{Given, Skippe
 use Rattle.nova_model.specs.declared.transfer.ItemWords.{ItemWords}
 use Rattle.nova_model.specs.declared.transfer.Sequel.{Sequel}
 use Rattle.nova_forest.proofs.Walk as walk
-use Rattle.nova_forest.proofs.Turning.{of_event}
+use Rattle.nova_forest.proofs.Turning.{of_kind}
 use Rattle.nova_laws.specs.Giving.{IsEndOfItem}
 use Rattle.nova_laws.proofs.Counting.{counts_children}
 use Rattle.nova_laws.proofs.Rows.{IsWhole, done_weaker, is_part, row_whole}
@@ -101,4 +101,4 @@ pub tells_children : (s : Scenario) (turns : List ℕ) (cpu : ℕ) (e : Event) �
     IsEndOfItem (run (boot s) turns) (trace (boot s) turns) e
 tells_children s turns cpu e steps tells =
     let k = run (boot s) turns in
-    of_event (λ (f : Event). f.kind ≡ Ended → IsEndOfItem k (trace (boot s) turns) f) k cpu e steps (λ c chosen state kind. chosen_ends s turns cpu c kind) tells
+    of_kind Ended refl (λ (f : Event). IsEndOfItem k (trace (boot s) turns) f) k cpu e steps (λ c chosen state kind. chosen_ends s turns cpu c kind) tells

@@ -1,4 +1,7 @@
 -- Whoever gives has a range and a protection domain to give it to, and whoever doesn't is at the beginning.
+use Rattle.nova_model.specs.Sources.{Source, with_source}
+use Rattle.nova_forest.proofs.Boots.{sources_keep}
+use Rattle.nova_laws.proofs.Passing.{IsEnding, passing_contexts, passing_ending}
 use Rattle.std.proofs.Common.{◌≡◌, ℕ, zero, suc, List, [], ◌∷◌, ◌++◌, length, refl, ap, ◌∙◌, sym, subst}
 use Rattle.std.specs.Prelude.{Bool, true, false, if◌then◌else◌, slice_get, slice_set, option_map, Option, Some, None, IsSome}
 use Rattle.rv_model.specs.Registers.{Registers}
@@ -27,8 +30,8 @@ use Rattle.nova_model.specs.declared.deed.Deed.TheVariants.{Rests, Gives, Skips,
 use Rattle.nova_model.specs.declared.new_object.NewObject.{NewObject}
 use Rattle.nova_model.specs.declared.new_object.NewObject.TheVariants as new
 use Rattle.nova_model.specs.declared.transfer.Transfer.{Transfer}
-use Rattle.nova_forest.specs.Effects.{applied, effect, joined, made_by, put, transfer_by}
-use Rattle.nova_forest.specs.Turns.{Acts, IsTurning, Turning, turned}
+use Rattle.nova_forest.specs.Effects.{applied, effect, joined, made_by, put, transfer_by, Passing, passing_effect, passing_ends}
+use Rattle.nova_forest.specs.Turns.{Acts, IsTurning, Turning, turned, Passes}
 use Rattle.nova_forest.proofs.Turning.{along}
 use Rattle.nova_laws.specs.Links.{state_at}
 use Rattle.nova_laws.proofs.Awaiting.{Serves, serves_of}
@@ -335,6 +338,12 @@ applied_for k ec d actor asks wants fits h =
 pub serves_in : (k : KernelState) → TablesFit k → Serves k.contexts
 serves_in k fits = serves_of (is_local_thread k) k.contexts fits.served
 
+-- one whose wait ends gives nothing
+passing_for : (k : KernelState) (p : Passing) → IsEnding k.contexts (passing_ends k p) → Sound k → Sound (applied k (passing_effect k p))
+passing_for k p ending h =
+    passing_contexts (λ cs. AreFor k.objects cs k.transfers) k.contexts (passing_ends k p) ending h
+    (λ w sm status waits. rests_at k.objects k.contexts k.transfers w _ (quiet_by k.contexts w (Blocked sm) waits refl) refl h)
+
 -- TURNS
 
 pub turned_gives : (k : KernelState) (cpu : ℕ) (t : Turning) (e : Event) → IsTurning k cpu t e → TablesFit k × Sound k → TablesFit (turned k cpu t) × Sound (turned k cpu t)
@@ -342,6 +351,10 @@ turned_gives k cpu t e (Acts c chosen is event) h = (
   turned_fits k cpu t e (Acts c chosen is event) h.0,
   subst (λ (u : Turning). Sound (turned k cpu u)) (sym is)
       (applied_for k c.actor (deed k c.actor) (actor_of k.contexts c.actor (chosen_acts k cpu c chosen)) (deed_asks k c.actor) (deed_wants k c.actor) h.0 h.1),
+)
+turned_gives k cpu t e (Passes p comes is event) h = (
+  turned_fits k cpu t e (Passes p comes is event) h.0,
+  subst (λ (u : Turning). Sound (turned k cpu u)) (sym is) (passing_for k p (passing_ending k cpu p comes h.0.blocked h.0.late) h.1),
 )
 
 images_for : (k : KernelState) (images : List Image) → Sound k → Sound (with_images k images)
@@ -354,8 +367,14 @@ bare_for s (suc zero) = refl
 bare_for s (suc (suc zero)) = refl
 bare_for s (suc (suc (suc e))) = refl
 
+source_for : (k : KernelState) (s : Source) → Sound k → Sound (with_source k s)
+source_for k s h =
+    joined_for (joined k.objects (Some (object_of (new.Sm 0)))) (length k.objects) k.contexts k.transfers (Some (new.Sm 0))
+    (joined_longer k.objects k.contexts k.transfers (Some (object_of (new.Sm 0))) h)
+
 pub boot_for : (s : Scenario) → Sound (boot s)
-boot_for s = images_for (bare s.cpus s.ram s.consoles s.root) s.images (bare_for s)
+boot_for s =
+    sources_keep Sound source_for (with_images (bare s.cpus s.ram s.consoles s.root) s.images) s.sources (images_for (bare s.cpus s.ram s.consoles s.root) s.images (bare_for s))
 
 pub boot_run_for : (s : Scenario) (turns : List ℕ) → Sound (run (boot s) turns)
 boot_run_for s turns = (along (λ k. TablesFit k × Sound k) (record { begins = λ b. (boot_fits b, boot_for b); turns = turned_gives }) s turns).1

@@ -137,8 +137,8 @@ rows_range r = (
                       (
                         row_if r (is_selector (reg r 10)) (Some (asks.PtCtrl (reg r 10) (reg r 11))) tt,
                         (
-                          row_if r (is_selector (reg r 10)) (option_map (λ action. asks.SmCtrl (reg r 10) action) (action_of (reg r 11)))
-                              (row_map r (λ action. asks.SmCtrl (reg r 10) action) (action_of (reg r 11)) (λ action. tt)),
+                          row_if r (is_selector (reg r 10)) (option_map (λ action. asks.SmCtrl (reg r 10) action) (action_of (reg r 11) (reg r 12)))
+                              (row_map r (λ action. asks.SmCtrl (reg r 10) action) (action_of (reg r 11) (reg r 12)) (λ action. tt)),
                           tt,
                         ),
                       ),
@@ -201,7 +201,7 @@ row_wants k ec domain (asks.ScCtrl sc) rests range =
 row_wants k ec domain (asks.PtCtrl pt identifier) rests range =
     named_holds (Wants k ec) (named k domain is_pt control_right pt) (λ n. Names n identifier) (λ n. rests)
 row_wants k ec domain (asks.SmCtrl sm action) rests range =
-    sm_ctrl_holds (Wants k ec) k domain sm action (λ n whom is wakes. (rests, wakes)) (λ n is answers. rests) (λ n is answers. rests)
+    sm_ctrl_holds (Wants k ec) k ec domain sm action (λ n whom is wakes. (rests, wakes)) (λ n is answers. rests) (λ n until is answers till. rests)
 row_wants k ec domain (asks.Revoke range own) rests has = rests
 
 -- an item ends so

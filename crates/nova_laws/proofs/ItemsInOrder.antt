@@ -1,4 +1,6 @@
 -- A turn leaves whoever gives at its item or brings it to the next one, or it gives no more after the last one.
+use Rattle.nova_laws.specs.Links.{state_at as state_found}
+use Rattle.nova_laws.proofs.Passing.{passing_ending, IsEnding, passing_stays}
 use Rattle.std.proofs.Common.{◌≡◌, ◌<◌, ℕ, ◌+◌, List, [], ◌∷◌, ◌++◌, length, refl, ap, ◌∙◌, sym, subst, inl, inr}
 use Rattle.std.specs.Prelude.{◌≢◌, true, false, is_some, slice_set, Option, Some, None, IsSome, option_map}
 use Rattle.nova_range.specs.declared.status.Status.TheVariants.{Success}
@@ -10,7 +12,7 @@ use Rattle.nova_model.specs.Runs.{after, run}
 use Rattle.nova_model.specs.State.{KernelState, Contexts, context, context_at, context_in, ec_in, ec_of, transfer, transfer_in, with_ec}
 use Rattle.nova_model.specs.declared.context.EcState.{EcState}
 use Rattle.nova_model.specs.declared.context.State.{State}
-use Rattle.nova_model.specs.declared.context.State.TheVariants.{Ready, Granting, Replying}
+use Rattle.nova_model.specs.declared.context.State.TheVariants.{Ready, Granting, Replying, Blocked}
 use Rattle.nova_model.specs.declared.deed.Deed.{Deed}
 use Rattle.nova_model.specs.declared.deed.Deed.TheVariants.{Rests, Gives, Skips, Finishes}
 use Rattle.nova_model.specs.declared.event.Event.{Event}
@@ -21,8 +23,8 @@ use Rattle.nova_model.specs.declared.transfer.ItemWords.{ItemWords}
 use Rattle.nova_model.specs.declared.transfer.Sequel.{Sequel}
 use Rattle.nova_model.specs.declared.transfer.Sequel.TheVariants as sequel
 use Rattle.nova_model.specs.declared.transfer.Transfer.{Transfer}
-use Rattle.nova_forest.specs.Effects.{all_edited, applied, edits_by, effect, joined, made_by}
-use Rattle.nova_forest.specs.Turns.{Acts, IsTurning, Turning, acting, turned}
+use Rattle.nova_forest.specs.Effects.{all_edited, applied, edits_by, effect, joined, made_by, Passing, passing_ends}
+use Rattle.nova_forest.specs.Turns.{Acts, IsTurning, Turning, acting, turned, Passes, passing}
 use Rattle.nova_forest.proofs.Turning.{outcome}
 use Rattle.nova_laws.specs.Giving.{GoesOn, Stays, Next, Ends}
 use Rattle.nova_laws.proofs.Awaiting.{acts_there, same_or_not}
@@ -34,7 +36,7 @@ use Rattle.nova_laws.proofs.GivingPremises.{Wants, deed_wants, wants_quiet}
 use Rattle.nova_laws.proofs.Ordered.{Stands, boot_run_stands, stands_at}
 use Rattle.nova_laws.proofs.Progress.{last_is}
 use Rattle.nova_laws.proofs.Referring.{Asks, deed_asks}
-use Rattle.nova_laws.proofs.Serving.{IsActor, actor_of}
+use Rattle.nova_laws.proofs.Serving.{IsActor, actor_of, is_blocked}
 use Rattle.nova_laws.proofs.Setting.{entry_itself, entry_kept, set_at}
 use Rattle.nova_laws.proofs.States.{Moves, is_waiting, others_move}
 
@@ -139,10 +141,24 @@ deed_goes k a e able gives fits h = same_or_not e a _ itself another
     another other =
         Stays (other_state k a e (deed k a) (actor_of k.contexts a able) (deed_asks k a) other fits gives) (ap (λ (t : Transfer). t.item) (others_stay k a e (deed k a) other))
 
+giving_free : (o : Option EcState) → is_giving (context_in o).state ≡ true → is_blocked (state_found o) ≡ false
+giving_free None gives = refl
+giving_free (Some x) gives = by_state x.state gives
+  where
+    by_state : (s : State) → is_giving s ≡ true → is_blocked (Some s) ≡ false
+    by_state (Blocked sm) h = absurd cc
+    by_state other h = refl
+
+passing_goes : (k : KernelState) (cpu : ℕ) (p : Passing) (e : ℕ) → IsEnding k.contexts (passing_ends k p) → is_giving (context k e).state ≡ true → GoesOn k (turned k cpu (passing k p)) e
+passing_goes k cpu p e ending gives =
+    Stays (ap (λ (o : Option EcState). (context_in o).state) (passing_stays k.contexts (passing_ends k p) ending e (giving_free (context_at k e) gives))) refl
+
 turned_goes : (k : KernelState) (cpu e : ℕ) (t : Turning) (f : Event) → IsTurning k cpu t f → is_giving (context k e).state ≡ true → TablesFit k → Stands k → GoesOn k (turned k cpu t) e
 turned_goes k cpu e t f (Acts c chosen is event) gives fits h =
     subst (λ (u : Turning). GoesOn k (turned k cpu u) e) (sym is)
     (same_goes k (applied k (effect k c.actor (deed k c.actor))) (turned k cpu (acting k c)) e refl refl (deed_goes k c.actor e (chosen_acts k cpu c chosen) gives fits h))
+turned_goes k cpu e t f (Passes p comes is event) gives fits h =
+    subst (λ (u : Turning). GoesOn k (turned k cpu u) e) (sym is) (passing_goes k cpu p e (passing_ending k cpu p comes fits.blocked fits.late) gives)
 
 turn_goes : (k : KernelState) (cpu e : ℕ) → is_giving (context k e).state ≡ true → TablesFit k → Stands k → GoesOn k (after k cpu) e
 turn_goes k cpu e gives fits h = outcome (λ s o. GoesOn k s e) k cpu (λ none. Stays refl refl) (λ t f is. turned_goes k cpu e t f is gives fits h)

@@ -52,3 +52,9 @@ pub mod Stirring
 pub mod Revoking
 pub mod Courses
 pub mod Leaving
+pub mod Dues
+pub mod Passing
+pub mod Deadlines
+pub mod Moments
+pub mod Alarms
+pub mod RowsComputed

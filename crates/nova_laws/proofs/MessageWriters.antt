@@ -1,4 +1,5 @@
 -- Whose message words a turn writes, and how: by the words of its effect.
+use Rattle.nova_forest.proofs.Boots.{sources_keep}
 use Rattle.std.proofs.Common.{◌≡◌, ℕ, List, [], ◌∷◌, ◌++◌, length, inl, inr, refl, ap, ◌∙◌, sym, subst, arith}
 use Rattle.std.proofs.lemmas.Bool.Decides.{nat_tests}
 use Rattle.std.specs.Prelude.{◌<◌, ◌≢◌, ◌⊎◌, ◌%◌, ◌/◌, ◌==◌, ◌&&◌, nat_lt, if◌then◌else◌, Bool, true, false, slice_get, slice_set, Option, Some, None, IfSome}
@@ -33,8 +34,8 @@ use Rattle.nova_model.specs.Deeds.{address_space, deed, instruction}
 use Rattle.nova_model.specs.Inputs.{store_of}
 use Rattle.nova_model.specs.declared.new_object.NewObject.{NewObject}
 use Rattle.nova_forest.specs.Effects.{applied, effect, joined, made_by, put, store_words, words_by, words_stored}
-use Rattle.nova_forest.specs.Turns.{Acts, IsTurning, Turning, turned}
-use Rattle.nova_forest.proofs.Turning.{IsTurn, along, turn_of}
+use Rattle.nova_forest.specs.Turns.{Acts, IsTurning, Turning, turned, Passes, is_passing}
+use Rattle.nova_forest.proofs.Turning.{IsTurn, along, turn_of, passing_kind, acting_kind}
 
 abbrev Messages : Type 0
 Messages = List (Option (List ℕ))
@@ -239,6 +240,7 @@ turned_sized : (k : KernelState) (cpu : ℕ) (t : Turning) (e : Event) → IsTur
 turned_sized k cpu t e (Acts c chosen is event) sized =
     subst (λ (u : Turning). AreSized (turned k cpu u).messages) (sym is)
     (applied_sized k.messages (words_by k c.actor (deed k c.actor)) _ (made_by (deed k c.actor)) (words_sized k c.actor (deed k c.actor) sized) (λ m. born_sized (object_of m)) sized)
+turned_sized k cpu t e (Passes p comes is event) sized = subst (λ (u : Turning). AreSized (turned k cpu u).messages) (sym is) sized
 
 images_sized : (k : KernelState) (images : List Image) → AreSized k.messages → AreSized (with_images k images).messages
 images_sized k [] sized = sized
@@ -248,12 +250,18 @@ root_sized : AreSized (None ∷ Some no_words ∷ None ∷ [])
 root_sized =
     joined_sized (None ∷ Some no_words ∷ []) None (joined_sized (None ∷ []) (Some no_words) (joined_sized [] None (λ n m is. absurd (cc)) tt) refl) tt
 
+boot_sized : (s : Scenario) → AreSized (boot s).messages
+boot_sized s =
+    sources_keep (λ (k : KernelState). AreSized k.messages) (λ k source sized. joined_sized k.messages None sized tt)
+    (with_images (bare s.cpus s.ram s.consoles s.root) s.images) s.sources (images_sized (bare s.cpus s.ram s.consoles s.root) s.images root_sized)
+
 -- THE LAWS
 
 -- what holds of words after a turn, from what holds after the effect of its deed
 after_turn : (P : ℕ → Deed → Messages → Type 0) (k : KernelState) (cpu : ℕ) (e : Event) → answer_of (turn k cpu) ≡ Stepped e →
+    (is_passing e.kind ≡ true → P e.ec (deed k e.ec) k.messages) →
     P e.ec (deed k e.ec) (applied k (effect k e.ec (deed k e.ec))).messages → P e.ec (deed k e.ec) (after k cpu).messages
-after_turn P k cpu e steps h = by_turn (turn_of k cpu e steps)
+after_turn P k cpu e steps still h = by_turn (turn_of k cpu e steps)
   where
     by_turn : IsTurn k (after k cpu) cpu e → P e.ec (deed k e.ec) (after k cpu).messages
     by_turn o = elim o.comes [
@@ -262,18 +270,33 @@ after_turn P k cpu e steps h = by_turn (turn_of k cpu e steps)
           let same : (after k cpu).messages ≡ (applied k (effect k e.ec (deed k e.ec))).messages =
           ap (λ (s : KernelState). s.messages) (o.state ∙ ap (turned k cpu) is) ∙ ap (λ (n : ℕ). (applied k (effect k n (deed k n))).messages) (sym who) in
           subst (P e.ec (deed k e.ec)) (sym same) h
+      | Passes p comes is event ↦
+          let same : (after k cpu).messages ≡ k.messages = ap (λ (s : KernelState). s.messages) (o.state ∙ ap (turned k cpu) is) in
+          subst (P e.ec (deed k e.ec)) (sym same) (still (ap (λ (f : Event). is_passing f.kind) event ∙ passing_kind k cpu p))
+    ]
+
+pub passing_keeps : (k : KernelState) (cpu : ℕ) (e : Event) (n : ℕ) (words : List ℕ) → answer_of (turn k cpu) ≡ Stepped e → is_passing e.kind ≡ true →
+    words_at k n ≡ Some words → words_at (after k cpu) n ≡ Some words
+passing_keeps k cpu e n words steps passing is = by_turn (turn_of k cpu e steps)
+  where
+    by_turn : IsTurn k (after k cpu) cpu e → words_at (after k cpu) n ≡ Some words
+    by_turn o = elim o.comes [
+      | Acts c chosen acts event ↦
+          absurd (let both : true ≡ false = sym passing ∙ ap (λ (f : Event). is_passing f.kind) event ∙ acting_kind (deed k c.actor) in cc)
+      | Passes p comes acts event ↦ ap (λ (s : KernelState). words_at s n) (o.state ∙ ap (turned k cpu) acts) ∙ is
     ]
 
 pub others_keep : (k : KernelState) (cpu : ℕ) (e : Event) (n : ℕ) (words : List ℕ) → answer_of (turn k cpu) ≡ Stepped e → whose_words e.ec (deed k e.ec) ≢ Some n →
     words_at k n ≡ Some words → words_at (after k cpu) n ≡ Some words
 others_keep k cpu e n words steps differs is =
-    after_turn (λ (ec : ℕ) (d : Deed) (ms : Messages). entry (slice_get ms n) ≡ Some words) k cpu e steps
+    after_turn (λ (ec : ℕ) (d : Deed) (ms : Messages). entry (slice_get ms n) ≡ Some words) k cpu e steps (λ passing. is)
     (kept_words k.messages (words_by k e.ec (deed k e.ec)) _ n words (λ writes. differs (writes_are k e.ec n (deed k e.ec) writes)) is)
 
-pub one_writes : (k : KernelState) (cpu : ℕ) (e : Event) (n : ℕ) (words : List ℕ) → answer_of (turn k cpu) ≡ Stepped e → whose_words e.ec (deed k e.ec) ≡ Some n →
+pub one_writes : (k : KernelState) (cpu : ℕ) (e : Event) (n : ℕ) (words : List ℕ) → is_passing e.kind ≡ false → answer_of (turn k cpu) ≡ Stepped e → whose_words e.ec (deed k e.ec) ≡ Some n →
     words_at k n ≡ Some words → HasWritten k (after k cpu) e.ec n (deed k e.ec) words
-one_writes k cpu e n words steps writes is =
+one_writes k cpu e n words acts steps writes is =
     let h = after_turn (λ (ec : ℕ) (d : Deed) (ms : Messages). (now : List ℕ) × (entry (slice_get ms n) ≡ Some now) × AreWritten k ec d words now) k cpu e steps
+    (λ passing. absurd (let both : true ≡ false = sym passing ∙ acts in cc))
     (done_writes k e.ec n (deed k e.ec) words writes is) in record { now = h.0; there = h.1; written = h.2 }
 
 pub told_own : (k : KernelState) (ec item : ℕ) (end : ItemEnd) (words : ItemWords) (follows : Sequel) → deed k ec ≡ Finishes item end (Some words) follows →
@@ -284,7 +307,7 @@ pub sized : (s : Scenario) (turns : List ℕ) (n : ℕ) → IfSome (words_at (ru
 sized s turns n = by_entry (words_at (run (boot s) turns) n) refl
   where
     all : AreSized (run (boot s) turns).messages
-    all = along (λ (k : KernelState). AreSized k.messages) (record { begins = λ b. images_sized (bare b.cpus b.ram b.consoles b.root) b.images root_sized; turns = turned_sized }) s turns
+    all = along (λ (k : KernelState). AreSized k.messages) (record { begins = boot_sized; turns = turned_sized }) s turns
 
     by_entry : (o : Option (List ℕ)) → words_at (run (boot s) turns) n ≡ o → IfSome o (λ m. length m ≡ 128)
     by_entry None is = tt

@@ -138,7 +138,7 @@ row_shows k ec domain (asks.ScCtrl sc) =
     named_holds (Shows k ec) (named k domain is_sc control_right sc) (λ n. Tells SC_CTRL (ticks_in (budget_at k n))) (λ n. tt)
 row_shows k ec domain (asks.PtCtrl pt identifier) = named_holds (Shows k ec) (named k domain is_pt control_right pt) (λ n. Names n identifier) (λ n. tt)
 row_shows k ec domain (asks.SmCtrl sm action) =
-    sm_ctrl_holds (Shows k ec) k domain sm action (λ n whom is wakes. tt) (λ n is answers. tt) (λ n is answers. tt)
+    sm_ctrl_holds (Shows k ec) k ec domain sm action (λ n whom is wakes. tt) (λ n is answers. tt) (λ n until is answers till. tt)
 row_shows k ec domain other = tt
 
 pub deed_shows : (k : KernelState) (ec : ℕ) → Shows k ec (deed k ec)

@@ -1,9 +1,12 @@
 -- Whom the event of a turn names.
+use Rattle.nova_model.specs.Times.{next_moment}
+use Rattle.nova_forest.specs.Effects.{Falls, Passing, Ticks}
+use Rattle.nova_forest.specs.Turns.{is_passing, passing_event}
 use Rattle.std.proofs.Common.{◌≡◌, ℕ, zero, suc, ◌<◌, length, refl, sym, ap, ◌∙◌, subst, arith}
 use Rattle.std.specs.Prelude.{◌↔◌, Bool, true, false, ◌==◌, ◌&&◌, ◌||◌, cond, if◌then◌else◌, is_none, Option, Some, None, IfSome, option_and_then, option_map}
 use Rattle.std.specs.List.{find}
 use Rattle.nova_objects.specs.declared.object.Object.TheVariants.{Sc}
-use Rattle.nova_model.specs.Choice.{Candidate, actor, candidate_of, candidate_with, choice, choose}
+use Rattle.nova_model.specs.Choice.{Candidate, actor, candidate_of, candidate_with, choice, next_to_act, choose}
 use Rattle.nova_model.specs.Deeds.{deed}
 use Rattle.nova_model.specs.Edges.{acts, after_edges, chase, edge, met_within, or_itself, stays}
 use Rattle.nova_model.specs.State.{Contexts, KernelState, budget_at}
@@ -12,8 +15,9 @@ use Rattle.nova_model.specs.declared.budget.Budget.{Budget}
 use Rattle.nova_model.specs.declared.event.Event.{Event}
 use Rattle.nova_model.specs.declared.event.Turn.TheVariants.{Stepped}
 use Rattle.nova_forest.proofs.Turning as turning
-use Rattle.nova_forest.proofs.Turning.{of_event}
-use Rattle.nova_laws.specs.Events.{ActsFor, NamesChosen}
+use Rattle.nova_model.specs.declared.times.Due.TheVariants as due
+use Rattle.nova_forest.proofs.Turning.{acting_kind, acts_chosen, of_event, of_events}
+use Rattle.nova_laws.specs.Events.{ActsFor, NamesChosen, NamesNobody}
 use Rattle.nova_laws.proofs.Candidates.{schedule_of, the_chosen}
 use Rattle.nova_laws.proofs.Chosen.{choice_acts}
 
@@ -87,23 +91,23 @@ candidate_chases k cpu sc ec its priority quantum = by_test ((its == cpu) && act
     by_test true None = tt
     by_test false b = tt
 
-names : (k : KernelState) (cpu : ℕ) (c : Candidate) → choice k cpu ≡ Some c → NamesChosen k cpu (event_of cpu c (deed k c.actor))
+names : (k : KernelState) (cpu : ℕ) (c : Candidate) → next_to_act k cpu ≡ Some c → NamesChosen k cpu (event_of cpu c (deed k c.actor))
 names k cpu c is =
-    let candidate = the_chosen k cpu c is in
+    let candidate = the_chosen k cpu c (acts_chosen k cpu c is).0 in
     let its = schedule_of k cpu c candidate in
     let same : candidate.object ≡ Sc its.ec cpu its.priority its.quantum = let at = candidate.at in let object = its.object in cc in
     let chased : chase k.contexts its.ec ≡ c.actor =
     subst (λ (o : Option Candidate). IfSome o (λ (x : Candidate). chase k.contexts its.ec ≡ x.actor))
     (sym (ap (candidate_of k cpu c.sc) same) ∙ candidate.is) (candidate_chases k cpu c.sc its.ec cpu its.priority its.quantum) in
     record {
-      chosen = ap (λ (o : Option Candidate). option_map (λ (x : Candidate). x.sc) o) is;
+      chosen = ap (λ (o : Option Candidate). option_map (λ (x : Candidate). x.sc) o) (acts_chosen k cpu c is).0;
       processor = refl;
       its = its.ec;
       priority = its.priority;
       quantum = its.quantum;
       object = its.object;
       chased = chased;
-      actor = acts_for k.contexts its.ec c.actor chased (subst (λ (o : Option Candidate). IfSome o (λ (x : Candidate). acts k.contexts x.actor ≡ true)) is (choice_acts k cpu));
+      actor = acts_for k.contexts its.ec c.actor chased (subst (λ (o : Option Candidate). IfSome o (λ (x : Candidate). acts k.contexts x.actor ≡ true)) (acts_chosen k cpu c is).0 (choice_acts k cpu));
     }
 
 -- NONE IS CHOSEN
@@ -112,11 +116,22 @@ nobody : (o : Option Candidate) → option_map (λ (c : Candidate). c.sc) o ≡ 
 nobody None h = refl
 nobody (Some c) h = absurd (cc)
 
-pub none_chosen : (k : KernelState) (cpu : ℕ) → (choose k cpu ≡ None) ↔ (turn k cpu ≡ None)
+pub none_chosen : (k : KernelState) (cpu : ℕ) → ((choose k cpu ≡ None) × (next_moment k.times cpu ≡ None)) ↔ (turn k cpu ≡ None)
 none_chosen k cpu = (
-  λ h. turning.none_taken k cpu (nobody (choice k cpu) h),
-  λ h. ap (λ (o : Option Candidate). option_map (λ (c : Candidate). c.sc) o) (turning.none_chosen k cpu h),
+  λ h. turning.none_taken k cpu (nobody (choice k cpu) h.0) h.1,
+  λ h. let both = turning.none_chosen k cpu h in (ap (λ (o : Option Candidate). option_map (λ (c : Candidate). c.sc) o) both.0, both.1),
 )
 
-pub event_names : (k : KernelState) (cpu : ℕ) (e : Event) → answer_of (turn k cpu) ≡ Stepped e → NamesChosen k cpu e
-event_names k cpu e steps = of_event (NamesChosen k cpu) k cpu e steps (λ c chosen state. names k cpu c chosen)
+-- what comes by itself names nobody who pays
+pub passing_names : (k : KernelState) (cpu : ℕ) (e : Event) → is_passing e.kind ≡ true → answer_of (turn k cpu) ≡ Stepped e → NamesNobody cpu e
+passing_names k cpu e passing steps =
+    of_events (λ (f : Event). is_passing f.kind ≡ true → NamesNobody cpu f) k cpu e steps (λ p comes state its. names_nobody p)
+    (λ c chosen state its. absurd (let both : true ≡ false = sym its ∙ acting_kind (deed k c.actor) in cc)) passing
+  where
+    names_nobody : (p : Passing) → NamesNobody cpu (passing_event k cpu p)
+    names_nobody (Falls (due.Alarm alarm)) = record { processor = refl; schedule = refl }
+    names_nobody (Falls (due.Deadline ec)) = record { processor = refl; schedule = refl }
+    names_nobody Ticks = record { processor = refl; schedule = refl }
+
+pub event_names : (k : KernelState) (cpu : ℕ) (e : Event) → is_passing e.kind ≡ false → answer_of (turn k cpu) ≡ Stepped e → NamesChosen k cpu e
+event_names k cpu e acts steps = of_event (NamesChosen k cpu) k cpu e acts steps (λ c chosen state. names k cpu c chosen)

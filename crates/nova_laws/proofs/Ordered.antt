@@ -1,6 +1,10 @@
 -- Items in order along runs.
+use Rattle.nova_model.specs.declared.new_object.NewObject.TheVariants as new
+use Rattle.nova_forest.proofs.Boots.{sources_keep}
+use Rattle.nova_forest.specs.Effects.{Passing, applied, passing_effect, passing_ends}
+use Rattle.nova_laws.proofs.Passing.{passing_ending, IsEnding, passing_contexts}
 use Rattle.std.proofs.Common.{◌≡◌, ℕ, zero, suc, List, [], ◌∷◌, refl, ap, ◌∙◌, sym, subst, arith}
-use Rattle.std.specs.Prelude.{◌≢◌, true, false, Option, Some, None, IsSome}
+use Rattle.std.specs.Prelude.{◌≢◌, true, false, Option, Some, None, IsSome, length}
 use Rattle.nova_model.specs.Edges.{is_giving}
 use Rattle.nova_model.specs.Boot.{Scenario, Image, boot, bare, with_image, with_images}
 use Rattle.nova_model.specs.Deeds.{deed}
@@ -16,17 +20,17 @@ use Rattle.nova_model.specs.declared.deed.Deed.TheVariants.{Gives, Skips, Finish
 use Rattle.nova_model.specs.declared.event.Event.{Event}
 use Rattle.nova_model.specs.declared.transfer.Sequel.TheVariants as sequel
 use Rattle.nova_model.specs.declared.transfer.Transfer.{Transfer}
-use Rattle.nova_forest.specs.Turns.{Acts, IsTurning, Turning, acting, turned}
+use Rattle.nova_forest.specs.Turns.{Acts, IsTurning, Turning, acting, turned, Passes}
 use Rattle.nova_forest.proofs.Turning.{along, outcome}
 use Rattle.nova_laws.specs.Giving.{IsAtItem, source, source_in}
 use Rattle.nova_laws.proofs.Awaiting.{same_or_not}
 use Rattle.nova_laws.proofs.Counting.{leaves, now_at, others_stay}
 use Rattle.nova_laws.proofs.TablesFit.{TablesFit, boot_fits, boot_run_fits, chosen_acts}
 use Rattle.nova_laws.proofs.Giving.{IsFor, IsForEntry, Sound, boot_for, entry_rests, serves_in, turned_gives}
-use Rattle.nova_laws.proofs.Items.{Bound, Bounded, BoundedEntry}
+use Rattle.nova_laws.proofs.Items.{Bound, Bounded, BoundedEntry, AreBounded, rests_bounded}
 use Rattle.nova_laws.proofs.Messages.{deed_shows, few_items}
 use Rattle.nova_laws.proofs.GivingPremises.{Wants, deed_wants, is_of_item}
-use Rattle.nova_laws.proofs.Progress.{applied_bound, applied_keeps}
+use Rattle.nova_laws.proofs.Progress.{applied_bound, applied_keeps, joined_bound}
 use Rattle.nova_laws.proofs.Referring.{deed_asks}
 
 -- TURNS
@@ -37,6 +41,12 @@ pub record Stands (k : KernelState) : Type 0 where
   pub sound : Sound k
   pub bound : Bound k
 
+-- one whose wait ends gives nothing
+passing_bound : (k : KernelState) (p : Passing) → IsEnding k.contexts (passing_ends k p) → Bound k → Bound (applied k (passing_effect k p))
+passing_bound k p ending h =
+    passing_contexts (λ cs. AreBounded k.messages cs k.transfers) k.contexts (passing_ends k p) ending h
+    (λ w sm status waits. rests_bounded k.messages k.contexts k.transfers w _ refl h)
+
 turned_stands : (k : KernelState) (cpu : ℕ) (t : Turning) (e : Event) → IsTurning k cpu t e → Stands k → Stands (turned k cpu t)
 turned_stands k cpu t e (Acts c chosen is event) h =
     let gives = turned_gives k cpu t e (Acts c chosen is event) (h.fits, h.sound) in record {
@@ -44,6 +54,12 @@ turned_stands k cpu t e (Acts c chosen is event) h =
       sound = gives.1;
       bound = subst (λ (u : Turning). Bound (turned k cpu u)) (sym is)
           (applied_bound k c.actor (deed k c.actor) (chosen_acts k cpu c chosen) (deed_asks k c.actor) (deed_wants k c.actor) (deed_shows k c.actor) h.fits h.sound h.bound);
+    }
+turned_stands k cpu t e (Passes p comes is event) h =
+    let gives = turned_gives k cpu t e (Passes p comes is event) (h.fits, h.sound) in record {
+      fits = gives.0;
+      sound = gives.1;
+      bound = subst (λ (u : Turning). Bound (turned k cpu u)) (sym is) (passing_bound k p (passing_ending k cpu p comes h.fits.blocked h.fits.late) h.bound);
     }
 
 images_bound : (k : KernelState) (images : List Image) → Bound k → Bound (with_images k images)
@@ -56,8 +72,13 @@ bare_bound s (suc zero) = tt
 bare_bound s (suc (suc zero)) = tt
 bare_bound s (suc (suc (suc e))) = tt
 
+boot_bound : (s : Scenario) → Bound (boot s)
+boot_bound s =
+    sources_keep Bound (λ k source bound. joined_bound k.messages k.contexts k.transfers (length k.objects) (Some (new.Sm 0)) bound) (with_images (bare s.cpus s.ram s.consoles s.root) s.images) s.sources
+    (images_bound (bare s.cpus s.ram s.consoles s.root) s.images (bare_bound s))
+
 boot_stands : (s : Scenario) → Stands (boot s)
-boot_stands s = record { fits = boot_fits s; sound = boot_for s; bound = images_bound (bare s.cpus s.ram s.consoles s.root) s.images (bare_bound s) }
+boot_stands s = record { fits = boot_fits s; sound = boot_for s; bound = boot_bound s }
 
 pub boot_run_stands : (s : Scenario) (turns : List ℕ) → Stands (run (boot s) turns)
 boot_run_stands s turns = along Stands (record { begins = boot_stands; turns = turned_stands }) s turns
@@ -115,6 +136,7 @@ turned_words k cpu ec thread t e (Acts c chosen is event) of fits =
     by_entry (Some x) is =
         applied_keeps k c.actor (deed k c.actor) (deed_wants k c.actor) (deed_shows k c.actor) (chosen_acts k cpu c chosen) (serves_in k fits) ec thread x is
         (sym (ap (λ (y : Option EcState). source_in ec (context_in y).state (context_in y).caller) is) ∙ of)
+turned_words k cpu ec thread t e (Passes p comes is event) of fits = ap (λ (u : Turning). message (turned k cpu u) thread) is
 
 words_of_turn : (k : KernelState) (cpu ec thread : ℕ) → source k ec ≡ Some thread → TablesFit k → message (after k cpu) thread ≡ message k thread
 words_of_turn k cpu ec thread of fits =
@@ -149,6 +171,8 @@ begun_at k a ec quiet sound = same_or_not ec a ((now_at k a (deed k a) ec).item 
 turned_begins : (k : KernelState) (cpu ec : ℕ) (t : Turning) (e : Event) → IsTurning k cpu t e → is_giving (context k ec).state ≡ false → Sound k →
     (transfer (turned k cpu t) ec).item ≡ 0
 turned_begins k cpu ec t e (Acts c chosen is event) quiet sound = ap (λ (u : Turning). (transfer (turned k cpu u) ec).item) is ∙ begun_at k c.actor ec quiet sound
+turned_begins k cpu ec t e (Passes p comes is event) quiet sound =
+    ap (λ (u : Turning). (transfer (turned k cpu u) ec).item) is ∙ ap (λ (y : Transfer). y.item) (entry_rests k.objects (ec_in k.contexts ec) (transfer k ec) quiet (sound ec))
 
 begins_turn : (k : KernelState) (cpu ec : ℕ) → is_giving (context k ec).state ≡ false → Sound k → (transfer (after k cpu) ec).item ≡ 0
 begins_turn k cpu ec quiet sound =

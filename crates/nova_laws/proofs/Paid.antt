@@ -1,6 +1,8 @@
 -- What the turn of the one who is chosen does to budgets and the next stamp.
+use Rattle.nova_forest.proofs.Boots.{sources_keep}
+use Rattle.nova_forest.specs.Turns.{is_passing, passing_event}
 use Rattle.std.proofs.Common.{◌≡◌, length, ℕ, zero, suc, ◌≤◌, ◌-◌, ◌+◌, List, [], ◌∷◌, ◌++◌, inl, inr, refl, sym, ap, ◌∙◌, subst, arith}
-use Rattle.std.specs.Prelude.{◌≢◌, Bool, true, false, ◌==◌, slice_get, slice_set, Option, Some, None, IsSome, option_map}
+use Rattle.std.specs.Prelude.{◌≢◌, Bool, true, false, ◌==◌, slice_get, slice_set, Option, Some, None, IsSome, option_map, ◌&&◌, not}
 use Rattle.nova_objects.specs.declared.object.Object.{Object}
 use Rattle.nova_model.specs.Boot.{Image, Scenario, bare, boot, with_image, with_images}
 use Rattle.nova_model.specs.Hypercalls.{ticks_in}
@@ -10,18 +12,18 @@ use Rattle.nova_model.specs.Creation.{budget_of, object_of}
 use Rattle.nova_model.specs.Deeds.{deed}
 use Rattle.nova_model.specs.Runs.{after, run, trace}
 use Rattle.nova_model.specs.State.{KernelState, budget_at, entry}
-use Rattle.nova_model.specs.Turn.{Step, answer_of, budget_after, event_of, is_spent, quantum_in, stamp_after, turn}
+use Rattle.nova_model.specs.Turn.{answer_of, budget_after, event_of, is_spent, quantum_in, stamp_after, turn}
 use Rattle.nova_model.specs.declared.budget.Budget.{Budget}
 use Rattle.nova_model.specs.declared.event.Event.{Event}
 use Rattle.nova_model.specs.declared.event.Turn.TheVariants.{Stepped}
 use Rattle.nova_model.specs.declared.new_object.NewObject.{NewObject}
 use Rattle.nova_model.specs.declared.new_object.NewObject.TheVariants as new
-use Rattle.nova_forest.proofs.Turning.{of_event}
-use Rattle.nova_laws.specs.Scheduling.{GoesOn, IsPaidBy, IsUsed, Renewed, is_on, turns_paid_by}
+use Rattle.nova_forest.proofs.Turning.{acting_kind, event_at, of_event, of_events, passing_kind}
+use Rattle.nova_laws.specs.Scheduling.{GoesOn, IsPaidBy, IsUsed, Renewed, is_on, turns_paid_by, IsUnpaid}
 use Rattle.nova_laws.proofs.TablesFit.{boot_run_fits}
-use Rattle.nova_laws.proofs.Paying.{Adds, AddsNone, AddsOne, Comes, Idles, IsTurn, Takes, comes, spent_ticks, still_budget, turn_is}
-use Rattle.nova_laws.proofs.Ticks.{event_is, front_passes, lengths, one_if}
-use Rattle.nova_laws.proofs.Setting.{entry_itself, entry_joined, entry_other, get_last}
+use Rattle.nova_laws.proofs.Paying.{Adds, AddsNone, AddsOne, Comes, Idles, IsTurn, Takes, comes, spent_ticks, still_budget, turn_is, Passes}
+use Rattle.nova_laws.proofs.Ticks.{both_false, both_true, front_passes, lengths, one_if}
+use Rattle.nova_laws.proofs.Setting.{entry_itself, entry_joined, entry_other, get_last, more_at}
 use Rattle.nova_laws.proofs.Stamps.{adds_rise, after_rises, new_stamp}
 
 -- what is left, and the stamp
@@ -116,17 +118,24 @@ tick_more k s cpu sc n p = by_test (sc == n) refl
         by_old (budget_at k n) refl differs
 
 after_ticks : (k : KernelState) (cpu n : ℕ) (es : List Event) →
-    ticks_in (budget_at (after k cpu) n) + turns_paid_by n es ≡ ticks_in (budget_at k n) + turns_paid_by n (in_front (option_map (λ (s : Step). s.event) (turn k cpu)) es)
+    ticks_in (budget_at (after k cpu) n) + turns_paid_by n es ≡ ticks_in (budget_at k n) + turns_paid_by n (in_front (event_at k cpu) es)
 after_ticks k cpu n es = by_turn (after k cpu) (comes k cpu)
   where
-    by_turn : (s : KernelState) → Comes k s cpu →
-        ticks_in (budget_at s n) + turns_paid_by n es ≡ ticks_in (budget_at k n) + turns_paid_by n (in_front (option_map (λ (x : Step). x.event) (turn k cpu)) es)
-    by_turn s (Idles idle is) = rw (is, event_is k cpu None idle) refl
-    by_turn s (Takes c chosen t) =
+    by_turn : (s : KernelState) → Comes k s cpu (event_at k cpu) →
+        ticks_in (budget_at s n) + turns_paid_by n es ≡ ticks_in (budget_at k n) + turns_paid_by n (in_front (event_at k cpu) es)
+    by_turn s (Idles idle is none) = rw (is, none) refl
+    by_turn s (Passes p is nobody one) =
+        let e = passing_event k cpu p in
+        let front = front_passes (λ (x : Event). (x.sc == n) && not (is_passing x.kind)) e es in
+        let none = both_false (e.sc == n) (not (is_passing e.kind)) (ap not (passing_kind k cpu p)) in
+        let same = ap (λ (x : KernelState). ticks_in (budget_at x n)) is in
+        rw one (omega arith)
+    by_turn s (Takes c chosen t one) =
         let e = event_of cpu c (deed k c.actor) in
-        let front = front_passes (λ (x : Event). x.sc == n) e es in
+        let front = front_passes (λ (x : Event). (x.sc == n) && not (is_passing x.kind)) e es in
+        let paid = both_true (c.sc == n) (not (is_passing e.kind)) (ap not (acting_kind (deed k c.actor))) in
         let more = tick_more k s cpu c.sc n (paid_by_chosen k s cpu c t) in
-        rw (event_is k cpu (Some c) chosen) (omega arith)
+        rw one (omega arith)
 
 run_each : (k : KernelState) (turns : List ℕ) (n : ℕ) → ticks_in (budget_at (run k turns) n) ≡ ticks_in (budget_at k n) + turns_paid_by n (trace k turns)
 run_each k [] n = omega arith
@@ -142,9 +151,14 @@ root_each s (suc zero) = refl
 root_each s (suc (suc zero)) = refl
 root_each s (suc (suc (suc n))) = refl
 
+boot_each : (s : Scenario) (n : ℕ) → ticks_in (budget_at (boot s) n) ≡ 0
+boot_each s =
+    sources_keep (λ (k : KernelState). (n : ℕ) → ticks_in (budget_at k n) ≡ 0) (λ k source none n. more_at (λ (o : Option Budget). ticks_in o ≡ 0) k.budgets None n (none n) (λ old. old))
+    (with_images (bare s.cpus s.ram s.consoles s.root) s.images) s.sources (λ n. ap ticks_in (images_each (bare s.cpus s.ram s.consoles s.root) s.images n) ∙ root_each s n)
+
 pub each_paid : (s : Scenario) (turns : List ℕ) (n : ℕ) → ticks_in (budget_at (run (boot s) turns) n) ≡ turns_paid_by n (trace (boot s) turns)
 each_paid s turns n =
-    let none = ap ticks_in (images_each (bare s.cpus s.ram s.consoles s.root) s.images n) ∙ root_each s n in
+    let none = boot_each s n in
     omega (arith, run_each (boot s) turns n)
 
 -- A NEW ONE BEGINS WITH ITS WHOLE QUANTUM
@@ -181,9 +195,10 @@ after_whole : (k : KernelState) (cpu n : ℕ) (b : Budget) → length k.budgets 
     b.left ≡ quantum_in (slice_get (after k cpu).objects n)
 after_whole k cpu n b same none is = by_turn (after k cpu) (comes k cpu) is
   where
-    by_turn : (s : KernelState) → Comes k s cpu → budget_at s n ≡ Some b → b.left ≡ quantum_in (slice_get s.objects n)
-    by_turn s (Idles idle kept) at = let e = ap (λ (x : KernelState). budget_at x n) kept in absurd (cc)
-    by_turn s (Takes c chosen t) at =
+    by_turn : (s : KernelState) → Comes k s cpu (event_at k cpu) → budget_at s n ≡ Some b → b.left ≡ quantum_in (slice_get s.objects n)
+    by_turn s (Idles idle kept no_event) at = let e = ap (λ (x : KernelState). budget_at x n) kept in absurd (cc)
+    by_turn s (Passes p kept nobody event) at = let e = ap (λ (x : KernelState). budget_at x n) kept in absurd (cc)
+    by_turn s (Takes c chosen t event) at =
         let other : n ≢ c.sc = λ equal. let its = t.its.there in let e = ap (budget_at k) equal in absurd (cc) in
         let x = budget_after (is_spent t.its.budget) t.its.quantum t.between.next_stamp t.its.budget in
         let there : budget_at t.between n ≡ Some b =
@@ -196,6 +211,13 @@ new_whole s turns cpu n b = after_whole (run (boot s) turns) cpu n b (lengths (r
 
 -- THE EVENT OF A TURN NAMES WHO PAYS
 
-pub turn_paid : (k : KernelState) (cpu : ℕ) (e : Event) → answer_of (turn k cpu) ≡ Stepped e → IsPaidBy k (after k cpu) cpu e.sc
-turn_paid k cpu e steps =
-    of_event (λ (f : Event). IsPaidBy k (after k cpu) cpu f.sc) k cpu e steps (λ c chosen state. paid_by_chosen k (after k cpu) cpu c (turn_is k cpu c chosen))
+-- and a turn that nobody pays leaves all budgets
+pub turn_free : (k : KernelState) (cpu : ℕ) (e : Event) → is_passing e.kind ≡ true → answer_of (turn k cpu) ≡ Stepped e → IsUnpaid k (after k cpu)
+turn_free k cpu e passing steps =
+    of_events (λ (f : Event). is_passing f.kind ≡ true → IsUnpaid k (after k cpu)) k cpu e steps
+    (λ p comes state its. record { budgets = ap (λ (s : KernelState). s.budgets) state; next = ap (λ (s : KernelState). s.next_stamp) state })
+    (λ c chosen state its. absurd (let both : true ≡ false = sym its ∙ acting_kind (deed k c.actor) in cc)) passing
+
+pub turn_paid : (k : KernelState) (cpu : ℕ) (e : Event) → is_passing e.kind ≡ false → answer_of (turn k cpu) ≡ Stepped e → IsPaidBy k (after k cpu) cpu e.sc
+turn_paid k cpu e acts steps =
+    of_event (λ (f : Event). IsPaidBy k (after k cpu) cpu f.sc) k cpu e acts steps (λ c chosen state. paid_by_chosen k (after k cpu) cpu c (turn_is k cpu c chosen))

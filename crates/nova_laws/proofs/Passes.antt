@@ -1,12 +1,12 @@
 -- Runs one after another, and the orders of a round robin.
+use Rattle.nova_laws.proofs.Idleness.{turn_idle}
 use Rattle.std.proofs.Common.{◌≡◌, ℕ, zero, suc, ◌+◌, ◌-◌, ◌≤◌, ◌<◌, List, [], ◌∷◌, ◌++◌, length, inl, inr, refl, ap, ◌∙◌, subst, arith}
-use Rattle.std.specs.Prelude.{Bool, true, false, ◌&&◌, ◌⊎◌, Option, Some, None, is_some, is_none, nat_lt, if◌then◌else◌}
+use Rattle.std.specs.Prelude.{Bool, true, false, ◌&&◌, ◌⊎◌, Option, Some, None, is_some, nat_lt, if◌then◌else◌}
 use Rattle.std.specs.List.{AllByRecursion, list_all, range_with_len}
 use Rattle.std.proofs.lemmas.List.{length-append}
 use Rattle.nova_model.specs.State.{KernelState}
-use Rattle.nova_model.specs.Choice.{choice, is_quiet}
+use Rattle.nova_model.specs.Choice.{is_quiet, is_idle}
 use Rattle.nova_model.specs.Turn.{Step, turn}
-use Rattle.nova_forest.proofs.Turning.{none_chosen}
 use Rattle.nova_model.specs.Runs.{IsFreeOfIdle, after, run, pass, passes, rounds}
 use Rattle.nova_laws.specs.Orders.{IsRunOut}
 use Rattle.nova_laws.proofs.Processors.{run_cpus}
@@ -100,9 +100,9 @@ passes_within (suc n) k most =
 
 -- THE END
 
--- a processor has no turn where it has no choice
-idle : (k : KernelState) (cpu : ℕ) → is_some (turn k cpu) ≡ false → is_none (choice k cpu) ≡ true
-idle k cpu h = ap is_none (none_chosen k cpu (none_is (turn k cpu) h))
+-- a processor that has no turn is idle
+idle : (k : KernelState) (cpu : ℕ) → is_some (turn k cpu) ≡ false → is_idle k cpu ≡ true
+idle k cpu h = turn_idle k cpu (none_is (turn k cpu) h)
   where
     none_is : (o : Option Step) → is_some o ≡ false → o ≡ None
     none_is None none = refl
@@ -110,14 +110,14 @@ idle k cpu h = ap is_none (none_chosen k cpu (none_is (turn k cpu) h))
 
 -- a pass that may take a turn and takes none finds each processor idle
 pass_idle : (k : KernelState) (cpu count most : ℕ) → pass k cpu count (suc most) ≡ [] →
-    list_all (λ c. is_none (choice k c)) (range_with_len cpu count) ≡ true
+    list_all (is_idle k) (range_with_len cpu count) ≡ true
 pass_idle k cpu zero most h = refl
 pass_idle k cpu (suc count) most h = by_test (is_some (turn k cpu)) refl h (λ g. pass_idle k (cpu + 1) count most g)
   where
     by_test : (t : Bool) → is_some (turn k cpu) ≡ t →
         (if t then cpu ∷ pass (after k cpu) (cpu + 1) count most else pass k (cpu + 1) count (suc most)) ≡ [] →
-        (pass k (cpu + 1) count (suc most) ≡ [] → list_all (λ c. is_none (choice k c)) (range_with_len (cpu + 1) count) ≡ true) →
-        (is_none (choice k cpu) && list_all (λ c. is_none (choice k c)) (range_with_len (cpu + 1) count)) ≡ true
+        (pass k (cpu + 1) count (suc most) ≡ [] → list_all (is_idle k) (range_with_len (cpu + 1) count) ≡ true) →
+        (is_idle k cpu && list_all (is_idle k) (range_with_len (cpu + 1) count)) ≡ true
     by_test true is h others = absurd (cc)
     by_test false is h others = rw (idle k cpu is) (others h)
 

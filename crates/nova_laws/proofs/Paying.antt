@@ -1,4 +1,6 @@
 -- What a turn does to objects, budgets, the next stamp and the counts of turns: what its deed adds, and then the charge.
+use Rattle.nova_forest.proofs.Boots.{sources_keep}
+use Rattle.nova_model.specs.declared.event.Event.{Event}
 use Rattle.std.proofs.Common.{◌≡◌, ℕ, ◌+◌, List, [], ◌∷◌, ◌++◌, refl, sym, ap, ap₂, ◌∙◌, subst}
 use Rattle.std.specs.List.{list_any}
 use Rattle.std.specs.Prelude.{Bool, true, false, ◌≤◌, true, false, option_map, slice_get, slice_index, slice_set, Option, Some, None}
@@ -6,13 +8,13 @@ use Rattle.nova_objects.specs.declared.object.Object.{Object}
 use Rattle.nova_objects.specs.declared.object.Object.TheVariants.{Sc}
 use Rattle.nova_model.specs.Boot.{Image, Scenario, bare, boot, with_image, with_images}
 use Rattle.nova_model.specs.Capabilities.{is_schedulable}
-use Rattle.nova_model.specs.Choice.{Candidate, choice}
+use Rattle.nova_model.specs.Choice.{Candidate, next_to_act}
 use Rattle.nova_model.specs.Creation.{budget_of, object_of, stamp_past}
 use Rattle.nova_model.specs.Deeds.{deed}
 use Rattle.nova_model.specs.Hypercalls.{schedules}
 use Rattle.nova_model.specs.Runs.{after, run}
 use Rattle.nova_model.specs.State.{KernelState, budget_at, entry, pd_of}
-use Rattle.nova_model.specs.Turn.{budget_after, is_spent, quantum_in, stamp_after}
+use Rattle.nova_model.specs.Turn.{budget_after, is_spent, quantum_in, stamp_after, event_of, turn}
 use Rattle.nova_model.specs.declared.budget.Budget.{Budget}
 use Rattle.nova_model.specs.declared.deed.Deed.{Deed}
 use Rattle.nova_model.specs.declared.deed.Deed.TheVariants.{Makes, Opens}
@@ -20,11 +22,11 @@ use Rattle.nova_model.specs.declared.new_object.NewObject.{NewObject}
 use Rattle.nova_model.specs.declared.new_object.NewObject.TheVariants as new
 use Rattle.nova_forest.specs.Made.{IsBoundBy}
 use Rattle.nova_forest.proofs.Allowed.{IsAllowed, deed_allowed}
-use Rattle.nova_forest.specs.Effects.{applied, effect, joined, made_by, stamp_with}
+use Rattle.nova_forest.specs.Effects.{applied, effect, joined, made_by, stamp_with, Passing}
 use Rattle.nova_forest.specs.Turns as turns
 use Rattle.nova_forest.specs.Turns.{budgets_paid, stamp_paid}
 use Rattle.nova_forest.proofs.Turning as turning
-use Rattle.nova_forest.proofs.Turning.{chosen_turn, run_keeps}
+use Rattle.nova_forest.proofs.Turning.{chosen_turn, run_keeps, acts_chosen, event_answered, event_at, event_in}
 use Rattle.nova_laws.proofs.Candidates.{HasSchedule, schedule_of, the_chosen}
 use Rattle.nova_laws.proofs.Setting.{entry_kept, get_kept}
 
@@ -70,14 +72,15 @@ pub record IsTurn (k new : KernelState) (cpu : ℕ) (c : Candidate) : Type 0 whe
   pub next : new.next_stamp ≡ stamp_after (is_spent its.budget) between.next_stamp
   pub processors : new.stirs.processors ≡ slice_set k.stirs.processors cpu (slice_index k.stirs.processors cpu + 1)
   pub turns : new.turns ≡ k.turns + 1
+  pub clocks : new.times.clocks ≡ slice_set k.times.clocks cpu (slice_index k.times.clocks cpu + 1)
 
 pub spent_ticks : (t : Bool) (quantum stamp : ℕ) (b : Budget) → (budget_after t quantum stamp b).ticks ≡ b.ticks + 1
 spent_ticks true quantum stamp b = refl
 spent_ticks false quantum stamp b = refl
 
-pub turn_is : (k : KernelState) (cpu : ℕ) (c : Candidate) → choice k cpu ≡ Some c → IsTurn k (after k cpu) cpu c
+pub turn_is : (k : KernelState) (cpu : ℕ) (c : Candidate) → next_to_act k cpu ≡ Some c → IsTurn k (after k cpu) cpu c
 turn_is k cpu c chosen =
-    let its = schedule_of k cpu c (the_chosen k cpu c chosen) in
+    let its = schedule_of k cpu c (the_chosen k cpu c (acts_chosen k cpu c chosen).0) in
     let s = applied k (effect k c.actor (deed k c.actor)) in
     let adds = applied_adds k c.actor (deed k c.actor) (deed_allowed k c.actor) in
     let object = still_object k s c.actor c.sc (Sc its.ec cpu its.priority its.quantum) adds its.object in
@@ -94,17 +97,22 @@ turn_is k cpu c chosen =
       next = ap (stamp_paid s.next_stamp) there;
       processors = refl;
       turns = refl;
+      clocks = refl;
     })
 
--- what a turn of a processor comes to, by its choice
-pub data Comes (k new : KernelState) (cpu : ℕ) : Type 0 where
-  Idles : choice k cpu ≡ None → new ≡ k → Comes k new cpu
-  Takes : (c : Candidate) → choice k cpu ≡ Some c → IsTurn k new cpu c → Comes k new cpu
+-- what a turn of a processor comes to, with its event: none, that of who acts, or that of what comes by itself
+pub data Comes (k new : KernelState) (cpu : ℕ) (event : Option Event) : Type 0 where
+  Idles : next_to_act k cpu ≡ None → new ≡ k → event ≡ None → Comes k new cpu event
+  Takes : (c : Candidate) → next_to_act k cpu ≡ Some c → IsTurn k new cpu c → event ≡ Some (event_of cpu c (deed k c.actor)) → Comes k new cpu event
+  Passes : (p : Passing) → new ≡ turns.turned k cpu (turns.passing k p) → next_to_act k cpu ≡ None → event ≡ Some (turns.passing_event k cpu p) → Comes k new cpu event
 
-pub comes : (k : KernelState) (cpu : ℕ) → Comes k (after k cpu) cpu
+pub comes : (k : KernelState) (cpu : ℕ) → Comes k (after k cpu) cpu (event_at k cpu)
 comes k cpu = elim (turning.comes k cpu) [
-  | turns.Idles none same answer ↦ Idles none same
-  | turns.Takes t e is state answer ↦ elim is [ turns.Acts c chosen acts event ↦ Takes c chosen (turn_is k cpu c chosen) ]
+  | turns.Idles none moment same answer ↦ Idles (turning.idle_none k cpu none) same (event_answered (turn k cpu) ∙ ap event_in answer)
+  | turns.Takes t e is state answer ↦ elim is [
+    | turns.Acts c chosen acts event ↦ Takes c chosen (turn_is k cpu c chosen) (event_answered (turn k cpu) ∙ ap event_in answer ∙ ap Some event)
+    | turns.Passes p due passes event ↦ Passes p (state ∙ ap (turns.turned k cpu) passes) (turning.passing_none k cpu p due) (event_answered (turn k cpu) ∙ ap event_in answer ∙ ap Some event)
+  ]
 ]
 
 -- WHAT TURNS KEEP
@@ -140,9 +148,10 @@ adds_holds P lasts k s ec (AddsOne made bound objects budgets next) h =
 pub after_holds : (P : List Object → List (Option Budget) → ℕ → Type 0) → Lasts P → (k : KernelState) (cpu : ℕ) → Holds P k → Holds P (after k cpu)
 after_holds P lasts k cpu h = by_turn (after k cpu) (comes k cpu)
   where
-    by_turn : (s : KernelState) → Comes k s cpu → Holds P s
-    by_turn s (Idles idle is) = rw is h
-    by_turn s (Takes c chosen t) =
+    by_turn : (s : KernelState) → Comes k s cpu (event_at k cpu) → Holds P s
+    by_turn s (Idles idle is none) = rw is h
+    by_turn s (Passes p is none event) = subst (Holds P) (sym is) h
+    by_turn s (Takes c chosen t event) =
         let b = t.between in
         let held = adds_holds P lasts k b c.actor t.adds h in
         rw (t.objects, t.budgets, t.next)
@@ -158,4 +167,7 @@ images_hold P k (image ∷ images) h = images_hold P (with_image k image) images
 -- along every list of turns, where it holds of the root's objects and its budget
 pub boot_run_holds : (P : List Object → List (Option Budget) → ℕ → Type 0) → Lasts P → (s : Scenario) (turns : List ℕ) →
     Holds P (bare s.cpus s.ram s.consoles s.root) → Holds P (run (boot s) turns)
-boot_run_holds P lasts s turns h = run_holds P lasts (boot s) turns (images_hold P (bare s.cpus s.ram s.consoles s.root) s.images h)
+boot_run_holds P lasts s turns h =
+    run_holds P lasts (boot s) turns
+    (sources_keep (Holds P) (λ k source held. lasts.more k.objects k.budgets k.next_stamp (new.Sm 0) tt held) (with_images (bare s.cpus s.ram s.consoles s.root) s.images) s.sources
+    (images_hold P (bare s.cpus s.ram s.consoles s.root) s.images h))

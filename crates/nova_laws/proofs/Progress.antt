@@ -254,7 +254,7 @@ bound_courses k ec d actor wants shows fits sound keeps h =
         by_test true gives = set_bounded (words_after k ec d) k.contexts (transfers_by k ec d) ec y (given y.state y.caller may gives) base
         by_test false still = quiet y still
 
-joined_bound : (ms : List (Option (List ℕ))) (cs : Contexts) (ts : List (Option Transfer)) (n : ℕ) (made : Option NewObject) → AreBounded ms cs ts →
+pub joined_bound : (ms : List (Option (List ℕ))) (cs : Contexts) (ts : List (Option Transfer)) (n : ℕ) (made : Option NewObject) → AreBounded ms cs ts →
     AreBounded (joined ms (option_map (λ m. words_of (object_of m)) made)) (joined cs (option_map (context_of n) made)) (joined ts (option_map (λ m. transfer_of (object_of m)) made))
 joined_bound ms cs ts n None h = h
 joined_bound ms cs ts n (Some made) h = joins_bounded ms cs ts (object_of made) (context_of n made) (new_quiet n made _) h

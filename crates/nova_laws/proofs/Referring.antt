@@ -43,7 +43,7 @@ use Rattle.nova_model.specs.declared.transfer.Sequel.{Sequel}
 use Rattle.nova_model.specs.declared.transfer.Sequel.TheVariants as sequel
 use Rattle.nova_laws.specs.Tables.{IsOf, Refers, cpu_of}
 use Rattle.nova_laws.proofs.Rows.{unless_holds, create_pd_holds}
-use Rattle.nova_forest.proofs.Walk.{IfDone, IsExit, deed_holds, sm_ctrl_holds}
+use Rattle.nova_forest.proofs.Walk.{IfDone, IsExit, IsUntil, deed_holds, sm_ctrl_holds}
 
 -- a call that its handler, that of a portal, takes
 pub record IsSent (k : KernelState) (ec handler ip : ℕ) : Type 0 where
@@ -86,7 +86,7 @@ Asks k ec (Waits handler reason q0 q1) = exit_admitted k.contexts ec handler ≡
 Asks k ec (Sends handler ip identifier mtd reason q0 q1) = IsExitSent k ec handler ip mtd
 Asks k ec (Ups sm whom) = IsOf k.objects is_sm sm × (woken (semaphore k.semaphores sm) ≡ Ok whom)
 Asks k ec (Downs sm) = IsOf k.objects is_sm sm × (answer_of (semaphore k.semaphores sm) ≡ down.Done)
-Asks k ec (Blocks sm) = IsOf k.objects is_sm sm × (answer_of (semaphore k.semaphores sm) ≡ down.Blocked)
+Asks k ec (Blocks sm until) = IsOf k.objects is_sm sm × (answer_of (semaphore k.semaphores sm) ≡ down.Blocked) × IsUntil k ec sm until
 Asks k ec other = Unit {0}
 
 named_is : (k : KernelState) (domain : ℕ) (is : Object → Bool) (right selector : ℕ) → IfDone (IsOf k.objects is) (named k domain is right selector)
@@ -238,10 +238,10 @@ row_asks k ec domain (call.ScCtrl sc) =
     named_asks k ec is_sc (named k domain is_sc control_right sc) (λ n. Tells SC_CTRL (ticks_in (budget_at k n))) (named_is k domain is_sc control_right sc) (λ n is. tt)
 row_asks k ec domain (call.PtCtrl pt identifier) =
     named_asks k ec is_pt (named k domain is_pt control_right pt) (λ n. Names n identifier) (named_is k domain is_pt control_right pt) (λ n is. is)
-row_asks k ec domain (call.SmCtrl sm action) = sm_ctrl_holds (Asks k ec) k domain sm action
+row_asks k ec domain (call.SmCtrl sm action) = sm_ctrl_holds (Asks k ec) k ec domain sm action
     (λ n whom is wakes. (names_kind k domain is_sm up_right sm n is, wakes))
     (λ n is answers. (names_kind k domain is_sm down_right sm n is, answers))
-    (λ n is answers. (names_kind k domain is_sm down_right sm n is, answers))
+    (λ n until is answers till. (names_kind k domain is_sm down_right sm n is, answers, till))
 row_asks k ec domain other = tt
 
 -- ends of items

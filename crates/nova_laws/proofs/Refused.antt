@@ -4,7 +4,7 @@ use Rattle.std.specs.Prelude.{◌≢◌, ◌==◌, Bool, true, false, if◌then�
 use Rattle.nova_model.specs.Edges.{is_asking}
 use Rattle.nova_range.specs.Statuses.{status_code}
 use Rattle.nova_range.specs.declared.status.Status.{Status}
-use Rattle.nova_model.specs.Choice.{choice}
+use Rattle.nova_model.specs.Choice.{next_to_act}
 use Rattle.nova_model.specs.Deeds.{answered, deed, deed_in, done, sign_of, with_context, removes}
 use Rattle.nova_model.specs.Deliveries.{delivers, delivery}
 use Rattle.nova_model.specs.Inputs.{stirred}
@@ -30,7 +30,7 @@ use Rattle.nova_model.specs.declared.event.Turn.TheVariants.{Stepped}
 use Rattle.nova_model.specs.declared.transfer.Delivery.{Delivery}
 use Rattle.nova_model.specs.declared.transfer.ItemEnd.TheVariants.{Given}
 use Rattle.nova_forest.proofs.Stirred.{acted, refusal_stirred}
-use Rattle.nova_forest.proofs.Turning.{acting_is, chosen_turn, of_event}
+use Rattle.nova_forest.proofs.Turning.{acting_is, chosen_turn, of_kind}
 use Rattle.nova_laws.specs.Refusals.{IsAnswered, IsRefusal, LeavesRest}
 use Rattle.nova_forest.proofs.Walk.{delivers_holds}
 use Rattle.nova_laws.proofs.Charges.{charge_leaves}
@@ -98,7 +98,7 @@ unfolding deed
 deed_first k ec = state_first k ec (context k ec).state refl
 
 -- the turn of the chosen one
-pub turn_chosen : (k : KernelState) (cpu : ℕ) (c : Candidate) → choice k cpu ≡ Some c → after k cpu ≡ charged (acted k c.actor) cpu c.sc
+pub turn_chosen : (k : KernelState) (cpu : ℕ) (c : Candidate) → next_to_act k cpu ≡ Some c → after k cpu ≡ charged (acted k c.actor) cpu c.sc
 turn_chosen k cpu c chosen = chosen_turn k cpu c chosen ∙ sym (acting_is k cpu c)
 
 -- the caller, and the rest, after a refusal and its charge
@@ -146,6 +146,9 @@ charged_rest k ec cpu sc x =
       guests = left.guests;
       processors = left.processors;
       turns = left.turns;
+      deadlines = left.deadlines;
+      alarms = left.alarms;
+      clocks = left.clocks;
     }
 
 -- of the turn of who is chosen
@@ -162,7 +165,7 @@ refusal_of k cpu c d status number is asks turns =
       after = turns;
     }
 
-chosen_refusal : (k : KernelState) (cpu : ℕ) (c : Candidate) → choice k cpu ≡ Some c → (sign_of (deed k c.actor)).0 ≡ Answer → (sign_of (deed k c.actor)).2 ≢ 0 →
+chosen_refusal : (k : KernelState) (cpu : ℕ) (c : Candidate) → next_to_act k cpu ≡ Some c → (sign_of (deed k c.actor)).0 ≡ Answer → (sign_of (deed k c.actor)).2 ≢ 0 →
     IsRefusal k cpu (event_of cpu c (deed k c.actor))
 chosen_refusal k cpu c chosen answers failed =
     let r = refuses (deed k c.actor) answers failed in
@@ -174,4 +177,4 @@ chosen_refusal k cpu c chosen answers failed =
 
 pub refusal : (k : KernelState) (cpu : ℕ) (e : Event) → answer_of (turn k cpu) ≡ Stepped e → e.kind ≡ Answer → e.b ≢ 0 → IsRefusal k cpu e
 refusal k cpu e steps answers failed =
-    of_event (λ (f : Event). f.kind ≡ Answer → f.b ≢ 0 → IsRefusal k cpu f) k cpu e steps (λ c chosen state kind b. chosen_refusal k cpu c chosen kind b) answers failed
+    of_kind Answer refl (λ (f : Event). f.b ≢ 0 → IsRefusal k cpu f) k cpu e steps (λ c chosen state kind b. chosen_refusal k cpu c chosen kind b) answers failed

@@ -1,4 +1,5 @@
 -- Revokes that run: after a deed, the list of all, and a turn.
+use Rattle.nova_laws.proofs.Passing.{passing_ending, Ended, IsEnding, Same, passing_each}
 use Rattle.std.proofs.lemmas.Bool.{eq-eqb, ne_eqb}
 use Rattle.std.proofs.Common.{inl, inr, ◌≡◌, ◌≤◌, ℕ, zero, suc, ◌+◌, ◌-◌, List, [], ◌∷◌, ◌++◌, length, refl, ap, ap₂, ◌∙◌, sym, subst, arith}
 use Rattle.std.specs.Prelude.{◌≢◌, ◌==◌, Bool, true, false, if◌then◌else◌, slice_get, Option, Some, None, IsSome, option_and_then, option_map, Ok}
@@ -12,7 +13,7 @@ use Rattle.nova_objects.specs.declared.object.Object.{Object}
 use Rattle.nova_range.specs.declared.range.Range.{Range}
 use Rattle.nova_range.specs.declared.rights.Rights.{Rights}
 use Rattle.nova_model.specs.Capabilities.{control_right, is_ec, is_pt, is_sc, named}
-use Rattle.nova_model.specs.Choice.{Candidate, choice}
+use Rattle.nova_model.specs.Choice.{Candidate, next_to_act}
 use Rattle.nova_model.specs.Creation.{context_of, object_of}
 use Rattle.nova_model.specs.Deeds.{actor_after, deed, deed_in, done, removes}
 use Rattle.nova_model.specs.Edges.{acts}
@@ -32,11 +33,11 @@ use Rattle.nova_model.specs.declared.new_object.NewObject.{NewObject}
 use Rattle.nova_model.specs.declared.new_object.NewObject.TheVariants as new
 use Rattle.nova_model.specs.declared.transfer.Sequel.TheVariants as sequel
 use Rattle.nova_model.specs.declared.event.Event.{Event}
-use Rattle.nova_forest.specs.Effects.{all_edited, applied, edits_by, effect, joined, made_by}
-use Rattle.nova_forest.specs.Turns.{Acts, IsTurning, Turning, turned}
+use Rattle.nova_forest.specs.Effects.{all_edited, applied, edits_by, effect, joined, made_by, Passing, passing_effect, passing_ends}
+use Rattle.nova_forest.specs.Turns.{Acts, IsTurning, Turning, turned, Passes}
 use Rattle.nova_forest.proofs.Doing.{done_is}
 use Rattle.nova_forest.proofs.Running.{revokes_there}
-use Rattle.nova_forest.proofs.Turning.{outcome}
+use Rattle.nova_forest.proofs.Turning.{outcome, passing_none}
 use Rattle.nova_forest.proofs.Walk.{IfDone, deed_holds, sm_ctrl_holds}
 use Rattle.nova_laws.specs.Keeping.{IsKept}
 use Rattle.nova_laws.specs.Revoking.{AsksRevoke, HasRevoked, revoke_after, revoke_in_turn, running_after}
@@ -296,7 +297,7 @@ row_told k ec domain (asks.ScCtrl sc) is =
     named_holds (Told k ec) (named k domain is_sc control_right sc) (λ n. Tells SC_CTRL (ticks_in (budget_at k n))) (λ n. tt)
 row_told k ec domain (asks.PtCtrl pt identifier) is = named_holds (Told k ec) (named k domain is_pt control_right pt) (λ n. Names n identifier) (λ n. tt)
 row_told k ec domain (asks.SmCtrl sm action) is =
-    sm_ctrl_holds (Told k ec) k domain sm action (λ n whom names wakes. tt) (λ n names answers. tt) (λ n names answers. tt)
+    sm_ctrl_holds (Told k ec) k ec domain sm action (λ n whom names wakes. tt) (λ n names answers. tt) (λ n until names answers till. tt)
 
 deed_told : (k : KernelState) (ec : ℕ) → Told k ec (deed k ec)
 deed_told k ec =
@@ -318,7 +319,7 @@ deed_told k ec =
 -- THE LAWS
 
 fits_of : (k : KernelState) → IsKept k → TablesFit k
-fits_of k h = record { tables = h.tables; served = h.served; blocked = h.blocked; guests = h.guests }
+fits_of k h = record { tables = h.tables; served = h.served; blocked = h.blocked; guests = h.guests; late = h.deadlines }
 
 pub deeds_leave : (k : KernelState) (ec : ℕ) → IsKept k → acts k.contexts ec ≡ true → (e : ℕ) → revoke_of (done k ec (deed k ec)) e ≡ revoke_after k ec (deed k ec) e
 deeds_leave k ec h able e = deed_runs k ec able (fits_of k h) e
@@ -329,14 +330,25 @@ all_after k ec h able = all_run k ec able (fits_of k h)
 pub none_goes : (k : KernelState) (ec : ℕ) → IsKept k → acts k.contexts ec ≡ true → length k.contexts ≤ length (done k ec (deed k ec)).contexts
 none_goes k ec h able = stays_long k ec (deed k ec)
 
-turned_runs : (k : KernelState) (cpu e : ℕ) (t : Turning) (f : Event) → IsTurning k cpu t f → TablesFit k → revoke_of (turned k cpu t) e ≡ revoke_in_turn k (choice k cpu) e
+passing_runs : (k : KernelState) (p : Passing) (e : ℕ) → IsEnding k.contexts (passing_ends k p) → revoke_of (applied k (passing_effect k p)) e ≡ revoke_of k e
+passing_runs k p e ending = elim (passing_each k.contexts (passing_ends k p) ending e) [
+  | Same same ↦ ap (λ (o : Option EcState). option_and_then (λ (x : EcState). revoke_by (pd_of k e) x.state) o) same
+  | Ended x sm status old waits new ↦
+      ap (λ (o : Option EcState). option_and_then (λ (y : EcState). revoke_by (pd_of k e) y.state) o) new
+      ∙ sym (ap (λ (o : Option EcState). option_and_then (λ (y : EcState). revoke_by (pd_of k e) y.state) o) old ∙ ap (revoke_by (pd_of k e)) waits)
+]
+
+turned_runs : (k : KernelState) (cpu e : ℕ) (t : Turning) (f : Event) → IsTurning k cpu t f → TablesFit k → revoke_of (turned k cpu t) e ≡ revoke_in_turn k (next_to_act k cpu) e
 turned_runs k cpu e t f (Acts c chosen is event) fits =
     ap (λ (u : Turning). revoke_of (turned k cpu u) e) is ∙ chosen_runs k c.actor e (chosen_acts k cpu c chosen) fits
     ∙ ap (λ (o : Option Candidate). revoke_in_turn k o e) (sym chosen)
+turned_runs k cpu e t f (Passes p comes is event) fits =
+    ap (λ (u : Turning). revoke_of (turned k cpu u) e) is ∙ passing_runs k p e (passing_ending k cpu p comes fits.blocked fits.late)
+    ∙ ap (λ (o : Option Candidate). revoke_in_turn k o e) (sym (passing_none k cpu p comes))
 
-pub turns_leave : (k : KernelState) (cpu : ℕ) → IsKept k → (e : ℕ) → revoke_of (after k cpu) e ≡ revoke_in_turn k (choice k cpu) e
+pub turns_leave : (k : KernelState) (cpu : ℕ) → IsKept k → (e : ℕ) → revoke_of (after k cpu) e ≡ revoke_in_turn k (next_to_act k cpu) e
 turns_leave k cpu h e =
-    outcome (λ s o. revoke_of s e ≡ revoke_in_turn k (choice k cpu) e) k cpu
+    outcome (λ s o. revoke_of s e ≡ revoke_in_turn k (next_to_act k cpu) e) k cpu
     (λ none. ap (λ (o : Option Candidate). revoke_in_turn k o e) (sym none)) (λ t f is. turned_runs k cpu e t f is (fits_of k h))
 
 pub begins_asked : (k : KernelState) (ec : ℕ) (range : Range) (own : Bool) → deed k ec ≡ Revokes range own → AsksRevoke k ec range own

@@ -142,5 +142,5 @@ row_whole k ec domain (asks.ScCtrl sc) =
     named_holds IsWhole (named k domain is_sc control_right sc) (λ n. Tells SC_CTRL (ticks_in (budget_at k n))) (λ n. refl)
 row_whole k ec domain (asks.PtCtrl pt identifier) = named_holds IsWhole (named k domain is_pt control_right pt) (λ n. Names n identifier) (λ n. refl)
 row_whole k ec domain (asks.SmCtrl sm action) =
-    sm_ctrl_holds IsWhole k domain sm action (λ n whom is wakes. refl) (λ n is answers. refl) (λ n is answers. refl)
+    sm_ctrl_holds IsWhole k ec domain sm action (λ n whom is wakes. refl) (λ n is answers. refl) (λ n until is answers till. refl)
 row_whole k ec domain (asks.Revoke range own) = refl

@@ -1,6 +1,7 @@
 -- Callers stay with those who serve them, whatever becomes of one or two execution contexts.
 use Rattle.std.proofs.Common.{◌≡◌, ℕ, zero, suc, List, [], ◌∷◌, refl, ap, ◌∙◌, sym, subst, inl, inr}
 use Rattle.std.specs.Prelude.{◌≢◌, Bool, true, false, if◌then◌else◌, Option, Some, None, IsSome, is_some, option_and_then}
+use Rattle.nova_range.specs.declared.status.Status.{Status}
 use Rattle.nova_range.specs.declared.status.Status.TheVariants.{Success}
 use Rattle.nova_model.specs.Calls.{admitted, exit_admitted, is_parked}
 use Rattle.nova_model.specs.Deeds.{answered, parked, resumed, serving}
@@ -130,11 +131,11 @@ stays_on is_local cs e y there caller cpu same served =
     served_on is_local cs e (ec_of cs e) y (of_there cs e there) (remains (is_local e) cs (ec_of cs e) y (well_of is_local cs e there served) caller cpu same) served
 
 -- one that is blocked goes on
-pub wakes_on : (is_local : ℕ → Bool) (cs : Contexts) (e sm : ℕ) → state_in cs e ≡ Some (Blocked sm) → AreServed is_local cs →
-    AreServed is_local (with_ec cs e (answered (ec_of cs e) Success None))
-wakes_on is_local cs e sm blocked served =
+pub ends_on : (is_local : ℕ → Bool) (cs : Contexts) (e sm : ℕ) (status : Status) → state_in cs e ≡ Some (Blocked sm) → AreServed is_local cs →
+    AreServed is_local (with_ec cs e (answered (ec_of cs e) status None))
+ends_on is_local cs e sm status blocked served =
     let there = blocked_there cs e sm blocked in
-    served_on is_local cs e (ec_of cs e) (answered (ec_of cs e) Success None) there (record {
+    served_on is_local cs e (ec_of cs e) (answered (ec_of cs e) status None) there (record {
       caller = refl;
       cpu = refl;
       calls = λ h is. absurd (cc);
@@ -145,6 +146,10 @@ wakes_on is_local cs e sm blocked served =
       gives = λ gives. absurd (cc);
       takes = λ is. absurd (cc);
     }) served
+
+pub wakes_on : (is_local : ℕ → Bool) (cs : Contexts) (e sm : ℕ) → state_in cs e ≡ Some (Blocked sm) → AreServed is_local cs →
+    AreServed is_local (with_ec cs e (answered (ec_of cs e) Success None))
+wakes_on is_local cs e sm blocked served = ends_on is_local cs e sm Success blocked served
 
 -- of a caller with its mark: its number, and the mark
 abbrev pub number_in : Option (ℕ × Mark) → ℕ

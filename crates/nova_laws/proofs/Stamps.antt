@@ -16,7 +16,8 @@ use Rattle.nova_model.specs.declared.new_object.NewObject.TheVariants as new
 use Rattle.nova_laws.specs.Choices.{IsBest, IsOnlyBest}
 use Rattle.nova_laws.proofs.Best.{choice_best}
 use Rattle.nova_laws.proofs.Candidates.{IsCandidate, each_candidate, same_candidate, schedule_of}
-use Rattle.nova_laws.proofs.Paying.{Adds, AddsNone, AddsOne, Comes, Idles, Lasts, Takes, boot_run_holds, comes}
+use Rattle.nova_forest.proofs.Turning.{event_at}
+use Rattle.nova_laws.proofs.Paying.{Adds, AddsNone, AddsOne, Comes, Idles, Lasts, Passes, Takes, boot_run_holds, comes}
 use Rattle.nova_laws.proofs.Setting.{entry_joined, entry_set}
 
 pub record AreStamped (os : List Object) (bs : List (Option Budget)) (next : ℕ) : Type 0 where
@@ -160,9 +161,10 @@ after_rises next false = record { least = omega arith; most = omega arith }
 pub turn_rises : (k : KernelState) (cpu : ℕ) → k.next_stamp ≤ (after k cpu).next_stamp
 turn_rises k cpu = by_turn (after k cpu) (comes k cpu)
   where
-    by_turn : (s : KernelState) → Comes k s cpu → k.next_stamp ≤ s.next_stamp
-    by_turn s (Idles idle is) = rw is (omega arith)
-    by_turn s (Takes c chosen t) =
+    by_turn : (s : KernelState) → Comes k s cpu (event_at k cpu) → k.next_stamp ≤ s.next_stamp
+    by_turn s (Idles idle is event) = rw is (omega arith)
+    by_turn s (Passes p is none event) = rw is (omega arith)
+    by_turn s (Takes c chosen t event) =
         let first = (adds_rise k t.between c.actor t.adds).least in
         let second = (after_rises t.between.next_stamp (is_spent t.its.budget)).least in
         let next = t.next in omega arith

@@ -1,4 +1,5 @@
 -- What a turn makes of stir counts: what its deed adds, what it stirs, and the charge.
+use Rattle.nova_forest.proofs.Boots.{sources_keep}
 use Rattle.std.proofs.Common.{◌≡◌, ◌≤◌, ℕ, zero, suc, ◌+◌, List, [], ◌∷◌, ◌++◌, length, inl, inr, refl, ap, ◌∙◌, sym, subst, arith}
 use Rattle.std.proofs.lemmas.List.{length-map}
 use Rattle.std.specs.Prelude.{◌≢◌, Bool, true, false, if◌then◌else◌, is_some, option_and_then, option_map, slice_get, Option, Some, None}
@@ -9,7 +10,7 @@ use Rattle.nova_objects.specs.declared.object.Object.{Object}
 use Rattle.nova_objects.specs.declared.object.Object.TheVariants.{Ec}
 use Rattle.nova_model.specs.Boot.{Image, Scenario, bare, boot, with_image, with_images}
 use Rattle.nova_model.specs.Capabilities.{is_vcpu}
-use Rattle.nova_model.specs.Choice.{Candidate, choice}
+use Rattle.nova_model.specs.Choice.{Candidate, next_to_act}
 use Rattle.nova_model.specs.Creation.{stir_count_of, object_of}
 use Rattle.nova_model.specs.Deeds.{deed}
 use Rattle.nova_model.specs.Guests as turns
@@ -23,10 +24,10 @@ use Rattle.nova_model.specs.declared.new_object.NewObject.{NewObject}
 use Rattle.nova_model.specs.declared.new_object.NewObject.TheVariants as new
 use Rattle.nova_model.specs.declared.root.Root.{Root}
 use Rattle.nova_model.specs.declared.event.Event.{Event}
-use Rattle.nova_forest.specs.Effects.{Effect, applied, effect, joined}
-use Rattle.nova_forest.specs.Turns.{Acts, IsTurning, Turning, acting, settled, stirred_counts, turned}
+use Rattle.nova_forest.specs.Effects.{Effect, applied, effect, joined, passing_effect}
+use Rattle.nova_forest.specs.Turns.{Acts, IsTurning, Turning, acting, settled, stirred_counts, turned, Passes, passing}
 use Rattle.nova_forest.proofs.Stirred.{calm_by}
-use Rattle.nova_forest.proofs.Turning.{after_keeps, outcome}
+use Rattle.nova_forest.proofs.Turning.{after_keeps, outcome, passing_none}
 use Rattle.nova_laws.specs.Stirs.{AreWithinTurns, stirs_of}
 use Rattle.nova_laws.specs.Tables.{HasTables}
 use Rattle.nova_laws.proofs.TablesFit.{boot_run_fits}
@@ -74,18 +75,21 @@ abbrev count_by : Bool → ℕ → ℕ
 count_by test count = if test then count + 1 else count
 
 turned_count : (k : KernelState) (cpu g count : ℕ) (t : Turning) (e : Event) → IsTurning k cpu t e → stirs_of k g ≡ Some count →
-    stirs_of (turned k cpu t) g ≡ Some (count_by (outside (input_by k g (choice k cpu))) count)
+    stirs_of (turned k cpu t) g ≡ Some (count_by (outside (input_by k g (next_to_act k cpu))) count)
 turned_count k cpu g count t e (Acts c chosen acts event) is =
     let d = deed k c.actor in
     let s = applied k (effect k c.actor d) in
     ap (λ (u : Turning). stirs_of (turned k cpu u) g) acts ∙ stirs_after s cpu (acting k c) g
     ∙ ap (λ (o : Option ℕ). option_map (risen (is_stirred k c.actor d) g) o) (still k s c.actor g count d (counts_by k c.actor d) is)
     ∙ ap (λ (o : Option Candidate). Some (count_by (outside (input_by k g o)) count)) (sym chosen)
+turned_count k cpu g count t e (Passes p comes acts event) is =
+    ap (λ (u : Turning). stirs_of (turned k cpu u) g) acts ∙ stirs_after (applied k (passing_effect k p)) cpu (passing k p) g ∙ ap (λ (o : Option ℕ). option_map (risen (λ n. false) g) o) is
+    ∙ ap (λ (o : Option Candidate). Some (count_by (outside (input_by k g o)) count)) (sym (passing_none k cpu p comes))
 
 input_counts : (k : KernelState) (cpu g count : ℕ) → stirs_of k g ≡ Some count → stirs_of (after k cpu) g ≡ Some (count_by (outside (turns.input k cpu g)) count)
 unfolding turns.input
 input_counts k cpu g count is =
-    outcome (λ s o. stirs_of s g ≡ Some (count_by (outside (input_by k g (choice k cpu))) count)) k cpu
+    outcome (λ s o. stirs_of s g ≡ Some (count_by (outside (input_by k g (next_to_act k cpu))) count)) k cpu
     (λ none. is ∙ ap (λ (o : Option Candidate). Some (count_by (outside (input_by k g o)) count)) (sym none))
     (λ t e comes. turned_count k cpu g count t e comes is)
 
@@ -131,6 +135,8 @@ turned_begins : (k : KernelState) (cpu g : ℕ) (o : Object) (t : Turning) (e : 
 turned_begins k cpu g o t e (Acts c chosen acts event) h none some =
     deed_begins k c.actor cpu g o (deed k c.actor) t (ap (λ (u : Turning). u.effect) acts) (λ n. ap (λ (u : Turning). u.stirs n) acts) h none
     (sym (ap (λ (u : Turning). slice_get (turned k cpu u).objects g) acts) ∙ some)
+turned_begins k cpu g o t e (Passes p comes acts event) h none some =
+    absurd (let both : None ≡ Some o = sym none ∙ sym (ap (λ (u : Turning). slice_get (turned k cpu u).objects g) acts) ∙ some in cc)
 
 turn_begins : (k : KernelState) (cpu g : ℕ) (o : Object) → HasTables k → slice_get k.objects g ≡ None → slice_get (after k cpu).objects g ≡ Some o →
     stirs_of (after k cpu) g ≡ stir_count_of o
@@ -204,4 +210,5 @@ images_within k (image ∷ images) h = images_within (with_image k image) images
 pub within_turns : (s : Scenario) (turns : List ℕ) → AreWithinTurns (run (boot s) turns)
 within_turns s turns =
     run_within (boot s) turns
-    (images_within (bare s.cpus s.ram s.consoles s.root) s.images (within_begins s.cpus s.ram s.consoles s.root))
+    (sources_keep AreWithinTurns (λ k source h. joined_within k.stirs.guests (Some (new.Sm 0)) k.turns h) (with_images (bare s.cpus s.ram s.consoles s.root) s.images) s.sources
+    (images_within (bare s.cpus s.ram s.consoles s.root) s.images (within_begins s.cpus s.ram s.consoles s.root)))

@@ -1,13 +1,16 @@
 -- Tables fit the objects, and callers stay with those who serve them: what is kept of both in a deed and along turns.
+use Rattle.nova_laws.proofs.Tags.{made_fits}
+use Rattle.nova_model.specs.Sources.{Source, with_source}
+use Rattle.nova_forest.proofs.Boots.{sources_keep}
 use Rattle.std.proofs.Common.{◌≡◌, ℕ, List, [], ◌∷◌, ◌++◌, length, refl, ap, ◌∙◌, sym, subst, inl, inr}
-use Rattle.std.specs.Prelude.{◌≢◌, Bool, true, false, slice_get, Option, Some, None, IfSome, IsSome, Ok, is_some, option_map}
+use Rattle.std.specs.Prelude.{◌≢◌, zero, suc, replicate, Bool, true, false, slice_get, Option, Some, None, IfSome, IsSome, Ok, is_some, option_map}
 use Rattle.rv_model.specs.Step.{Once, Raised, Went}
 use Rattle.nova_objects.specs.declared.object.EcKind.TheVariants.{Local, Global, Vcpu}
 use Rattle.nova_objects.specs.declared.object.Object.{Object}
 use Rattle.nova_range.specs.declared.status.Status.TheVariants.{Success}
 use Rattle.nova_model.specs.Boot.{Image, Scenario, bare, boot, root_context, root_objects, with_image, with_images}
 use Rattle.nova_model.specs.Calls.{is_parked}
-use Rattle.nova_model.specs.Choice.{Candidate, choice}
+use Rattle.nova_model.specs.Choice.{Candidate, next_to_act}
 use Rattle.nova_model.specs.Creation.{context_of, object_of}
 use Rattle.nova_model.specs.Deeds.{answered, deed, instruction}
 use Rattle.nova_model.specs.Edges.{acts, acts_as, state_in}
@@ -33,23 +36,25 @@ use Rattle.nova_model.specs.Deeds.{address_space}
 use Rattle.nova_model.specs.Inputs.{store_of}
 use Rattle.nova_model.specs.Capabilities.{is_pt}
 use Rattle.nova_model.specs.declared.event.Event.{Event}
-use Rattle.nova_forest.specs.Effects.{all_edited, joined, Answers, Becomes, Edit, Parks, edit_at, edited, edits_by, effect, follows_by, identifier_by, item_words, made_by, recalls_by, steps_by, store_words, transfer_by, wakes_by, words_by, words_stored, applied}
-use Rattle.nova_forest.specs.Turns.{Acts, IsTurning, Turning, acting, settled, turned}
-use Rattle.nova_forest.proofs.Turning.{after_keeps, along}
+use Rattle.nova_forest.specs.Effects.{all_edited, joined, Answers, Becomes, Edit, Parks, edit_at, edited, edits_by, effect, ends_by, passing_ends, passing_effect, Passing, follows_by, identifier_by, item_words, made_by, recalls_by, steps_by, store_words, transfer_by, wakes_by, words_by, words_stored, applied}
+use Rattle.nova_forest.specs.Turns.{Acts, IsPassing, IsTurning, Passes, Turning, acting, passing, settled, turned}
+use Rattle.nova_forest.proofs.Turning.{acts_chosen, after_keeps, along}
 use Rattle.nova_laws.specs.Tables.{IsOf, Refers}
 use Rattle.nova_laws.specs.Links.{AreServed, IsLinked, handles_items, state_at}
 use Rattle.nova_laws.specs.Tables.{HasTables}
 use Rattle.nova_laws.specs.Virtual.{AreGuests}
-use Rattle.nova_laws.specs.Waiting.{AreBlocked}
+use Rattle.nova_laws.specs.Waiting.{AreBlocked, AreDeadlines}
 use Rattle.nova_laws.proofs.Courses.{Courses, IsSelf, MayCome, deed_course, edited_length, has_caller, of_call}
-use Rattle.nova_laws.proofs.Blocking.{applied_blocked, bare_blocked, woken_blocked}
+use Rattle.nova_laws.proofs.Blocking.{applied_blocked, bare_blocked, edited_blocked, woken_blocked, joined_blocked}
+use Rattle.nova_laws.proofs.Deadlines.{deed_deadlines, joined_deadlines, passing_deadlines}
+use Rattle.nova_laws.proofs.Passing.{IsEnding, passing_blocked, passing_contexts, passing_ending, passing_placed}
 use Rattle.nova_laws.proofs.Chosen.{choice_acts}
 use Rattle.nova_laws.proofs.Links.{IsNewborn, is_taking, served_more}
 use Rattle.nova_laws.proofs.Referring.{Asks, Follows, IsCallerOf, TellsIn, deed_asks}
-use Rattle.nova_laws.proofs.Serving.{IsActor, acts_on, actor_of, awaited, blocked_there, exit_reaches, is_blocked, replies_on, reached_there, send_reaches, sends_on, stays_on, wakes_on}
+use Rattle.nova_laws.proofs.Serving.{IsActor, acts_on, actor_of, awaited, blocked_there, ends_on, exit_reaches, is_blocked, replies_on, reached_there, send_reaches, sends_on, stays_on, wakes_on}
 use Rattle.nova_laws.proofs.Setting.{entry_other, get_last, joined_other}
-use Rattle.nova_laws.proofs.TablesKept.{AreThere, IsPlaced, applied_tables, contexts_length, owner_thread, set_there, settled_tables, transfer_there, with_memory}
-use Rattle.nova_laws.proofs.Virtual.{among_of, applied_guests, caller_thread, guests_of, is_guest_deed, reached_thread, root_among, thread_does}
+use Rattle.nova_laws.proofs.TablesKept.{AreThere, IsPlaced, applied_tables, contexts_length, edited_tags, owner_thread, set_there, settled_tables, transfer_there, with_memory}
+use Rattle.nova_laws.proofs.Virtual.{AreAmong, among_of, applied_guests, ended_among, caller_thread, guests_of, is_guest_deed, reached_thread, root_among, thread_does, joined_among}
 
 abbrev Served : KernelState → Type 0
 Served k = AreServed (is_local_thread k) k.contexts
@@ -59,6 +64,7 @@ pub record TablesFit (k : KernelState) : Type 0 where
   pub served : AreServed (is_local_thread k) k.contexts
   pub blocked : AreBlocked k.contexts k.semaphores
   pub guests : AreGuests k
+  pub late : AreDeadlines k.contexts k.times.deadlines
 
 -- A DEED AND TABLES
 
@@ -285,6 +291,9 @@ applied_fits k ec actor h =
       served = applied_served k ec (deed k ec) actor asks h.blocked h.tables h.served;
       blocked = applied_blocked k ec (deed k ec) actor asks h.tables h.served h.blocked;
       guests = applied_guests k ec (deed k ec) actor thread asks h.tables h.served h.guests;
+      late = joined_deadlines (length k.objects) _ _ (made_by (deed k ec))
+          (deed_deadlines k _ ec (deed k ec) actor asks h.tables (edited_tags k.contexts (edits_by k ec (deed k ec)) (edits_placed k ec (deed k ec) actor asks h)) h.blocked h.late
+          (edited_blocked k ec (deed k ec) actor asks h.tables h.served h.blocked));
     }
 
 settled_fits : (s : KernelState) (cpu : ℕ) (t : Turning) → TablesFit s → TablesFit (settled s cpu t)
@@ -293,19 +302,41 @@ settled_fits s cpu t h = record {
   served = h.served;
   blocked = h.blocked;
   guests = guests_of _ (among_of s h.guests);
+  late = h.late;
 }
 
-pub chosen_acts : (k : KernelState) (cpu : ℕ) (c : Candidate) → choice k cpu ≡ Some c → acts k.contexts c.actor ≡ true
-chosen_acts k cpu c chosen = subst (λ (o : Option Candidate). IfSome o (λ d. acts k.contexts d.actor ≡ true)) chosen (choice_acts k cpu)
+pub chosen_acts : (k : KernelState) (cpu : ℕ) (c : Candidate) → next_to_act k cpu ≡ Some c → acts k.contexts c.actor ≡ true
+chosen_acts k cpu c chosen =
+    subst (λ (o : Option Candidate). IfSome o (λ d. acts k.contexts d.actor ≡ true)) (acts_chosen k cpu c chosen).0 (choice_acts k cpu)
 
 pub entry_acts : (cs : Contexts) (o : Option EcState) → acts_as cs (option_map (λ x. x.state) o) ≡ true → is_some o ≡ true
 entry_acts cs None h = absurd (cc)
 entry_acts cs (Some x) h = refl
 
+-- what comes by itself: at most one that is blocked goes on
+pub passing_served : (k : KernelState) (p : Passing) → IsEnding k.contexts (passing_ends k p) → Served k → AreServed (is_local_thread k) (all_edited k.contexts (ends_by (passing_ends k p)))
+passing_served k p ending served =
+    passing_contexts (λ cs. AreServed (is_local_thread k) cs) k.contexts (passing_ends k p) ending served
+    (λ w sm status is. ends_on (is_local_thread k) k.contexts w sm status is served)
+
+passing_fits : (k : KernelState) (cpu : ℕ) (p : Passing) → IsPassing k cpu p → TablesFit k → TablesFit (applied k (passing_effect k p))
+passing_fits k cpu p comes h =
+    let ending = passing_ending k cpu p comes h.blocked h.late in
+    let placed = passing_placed k p ending in
+    let blocked = passing_blocked k cpu p comes h.blocked h.late in record {
+      tables = applied_tables k (passing_effect k p) placed h.tables;
+      served = passing_served k p ending h.served;
+      blocked = blocked;
+      guests = guests_of (applied k (passing_effect k p))
+          (passing_contexts (λ cs. AreAmong k.objects cs) k.contexts (passing_ends k p) ending (among_of k h.guests) (λ w sm status is. ended_among k w status (among_of k h.guests)));
+      late = passing_deadlines k cpu _ p comes (edited_tags k.contexts (ends_by (passing_ends k p)) placed.edits) h.blocked h.late blocked;
+    }
+
 pub turned_fits : (k : KernelState) (cpu : ℕ) (t : Turning) (e : Event) → IsTurning k cpu t e → TablesFit k → TablesFit (turned k cpu t)
 turned_fits k cpu t e (Acts c chosen is event) h =
     subst (λ (u : Turning). TablesFit (turned k cpu u)) (sym is)
     (settled_fits _ cpu (acting k c) (applied_fits k c.actor (actor_of k.contexts c.actor (chosen_acts k cpu c chosen)) h))
+turned_fits k cpu t e (Passes p comes is event) h = subst (λ (u : Turning). TablesFit (turned k cpu u)) (sym is) (settled_fits _ cpu (passing k p) (passing_fits k cpu p comes h))
 
 pub after_fits : (k : KernelState) (cpu : ℕ) → TablesFit k → TablesFit (after k cpu)
 after_fits k cpu h = after_keeps TablesFit turned_fits k cpu h
@@ -317,6 +348,7 @@ images_fit k (image ∷ images) h = images_fit (with_image k image) images (reco
   served = h.served;
   blocked = h.blocked;
   guests = guests_of (with_image k image) (among_of k h.guests);
+  late = h.late;
 })
 
 no_link : (c h : ℕ) → IsLinked c None h None
@@ -330,13 +362,49 @@ root_served root =
     (served_more local local (None ∷ []) (Some (root_context root)) (served_more local local [] None none (none_born false) (λ h other. refl)) (alone_born (root_context root) Ready refl refl (λ h is. cc) refl refl refl) (λ h other. refl))
     (none_born false) (λ h other. refl)
 
-pub boot_fits : (s : Scenario) → TablesFit (boot s)
-boot_fits s = images_fit (bare s.cpus s.ram s.consoles s.root) s.images (record {
-  tables = record { contexts = refl; messages = refl; transfers = refl; budgets = refl; identifiers = refl; semaphores = refl; guests = refl; refer = (tt, (refl, (refl, tt))) };
+none_late : {cs : Contexts} → AreDeadlines cs (None ∷ None ∷ None ∷ [])
+none_late zero d is = absurd cc
+none_late (suc zero) d is = absurd cc
+none_late (suc (suc zero)) d is = absurd cc
+none_late (suc (suc (suc n))) d is = absurd cc
+
+pub zeros_length : (n : ℕ) → length {A = ℕ} (replicate n 0) ≡ n
+zeros_length zero = refl
+zeros_length (suc n) = ap suc (zeros_length n)
+
+-- and a source
+pub source_fits : (k : KernelState) (s : Source) → TablesFit k → TablesFit (with_source k s)
+source_fits k s h =
+    let tables = made_fits k 0 (length k.objects) (new.Sm 0) tt h.tables in record {
+      tables = record {
+        contexts = tables.contexts;
+        messages = tables.messages;
+        transfers = tables.transfers;
+        budgets = tables.budgets;
+        identifiers = tables.identifiers;
+        semaphores = tables.semaphores;
+        guests = tables.guests;
+        refer = tables.refer;
+        deadlines = tables.deadlines;
+        clocks = tables.clocks;
+      };
+      served = joined_served k.objects k.contexts (Some (new.Sm 0)) (contexts_length k h.tables) h.served;
+      blocked = joined_blocked (length k.objects) k.contexts k.semaphores (Some (new.Sm 0)) h.blocked;
+      guests = guests_of (with_source k s) (joined_among k.objects k.contexts (Some (new.Sm 0)) (contexts_length k h.tables) (among_of k h.guests));
+      late = joined_deadlines (length k.objects) k.contexts k.times.deadlines (Some (new.Sm 0)) h.late;
+    }
+
+pub image_fits : (s : Scenario) → TablesFit (with_images (bare s.cpus s.ram s.consoles s.root) s.images)
+image_fits s = images_fit (bare s.cpus s.ram s.consoles s.root) s.images (record {
+  tables = record { contexts = refl; messages = refl; transfers = refl; budgets = refl; identifiers = refl; semaphores = refl; guests = refl; refer = (tt, (refl, (refl, tt))); deadlines = refl; clocks = zeros_length s.cpus };
   served = root_served s.root;
   blocked = bare_blocked s.root;
   guests = guests_of (bare s.cpus s.ram s.consoles s.root) (root_among s.root);
+  late = none_late;
 })
+
+pub boot_fits : (s : Scenario) → TablesFit (boot s)
+boot_fits s = sources_keep TablesFit source_fits (with_images (bare s.cpus s.ram s.consoles s.root) s.images) s.sources (image_fits s)
 
 pub boot_run_fits : (s : Scenario) (turns : List ℕ) → TablesFit (run (boot s) turns)
 boot_run_fits s turns = along TablesFit (record { begins = boot_fits; turns = turned_fits }) s turns

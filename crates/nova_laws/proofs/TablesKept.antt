@@ -18,7 +18,9 @@ use Rattle.nova_laws.proofs.Tags.{get_map, get_tags, map_set, tags_length}
 use Rattle.nova_model.specs.Creation.{budget_of, context_of, count_of, identifier_of, idle_semaphore, object_of, stir_count_of, transfer_of, words_of}
 use Rattle.nova_model.specs.Capabilities.{is_sc, is_sm, is_vcpu}
 use Rattle.nova_model.specs.declared.new_object.NewObject.{NewObject}
-use Rattle.nova_forest.specs.Effects.{Edit, Edits, Effect, Resumes, all_edited, applied, edit_at, edited, joined, put, semaphores_with}
+use Rattle.nova_forest.specs.Effects.{Edit, Edits, Effect, Resumes, all_edited, applied, edit_at, edited, deadlines_with, joined, no_deadline, put, semaphores_with}
+use Rattle.nova_laws.proofs.Setting.{joined_length, set_length}
+use Rattle.nova_model.specs.declared.times.Deadline.{Deadline}
 use Rattle.nova_forest.specs.Turns.{Turning, budgets_charged, budgets_paid, settled, stirred_counts}
 use Rattle.nova_laws.specs.Tables.{Refers, tags_from}
 use Rattle.nova_laws.proofs.Tags.{all_refer, budget_new, guest_new, identifier_new, map_more, maps_more, semaphore_new, tag_new, tags_more, transfer_new, words_new}
@@ -115,7 +117,7 @@ edited_entry None e there = tt
 edited_entry (Some None) e there = absurd cc
 edited_entry (Some (Some x)) e there = edited_tag x e
 
-edited_tags : (cs : Contexts) (es : Edits) → AreThere cs es → map tag (all_edited cs es) ≡ map tag cs
+pub edited_tags : (cs : Contexts) (es : Edits) → AreThere cs es → map tag (all_edited cs es) ≡ map tag cs
 edited_tags cs [] there = refl
 edited_tags cs ((n, e) ∷ es) there =
     edited_tags (edit_at cs n e) es there.1 ∙ map_set tag cs n (Some (edited (ec_of cs n) e)) (edited_entry (slice_get cs n) e there.0)
@@ -159,6 +161,15 @@ words_at_thread : (k : KernelState) (p : Option (ℕ × List ℕ)) → IfSome p 
 words_at_thread k None thread h = tt
 words_at_thread k (Some w) thread h = words_there k w.0 thread h
 
+joined_many : (ds : List (Option Deadline)) (os : List Object) (born : NewObject → Option Deadline) (made : Option NewObject) → length ds ≡ length os →
+    length (joined ds (option_map born made)) ≡ length (joined os (option_map object_of made))
+joined_many ds os born None same = same
+joined_many ds os born (Some m) same = joined_length ds (born m) ∙ ap (λ (n : ℕ). n + 1) same ∙ sym (joined_length os (object_of m))
+
+deadlines_length : (ds : List (Option Deadline)) (p : Option (ℕ × Option Deadline)) → length (deadlines_with ds p) ≡ length ds
+deadlines_length ds None = refl
+deadlines_length ds (Some (ec, d)) = set_length ds ec d
+
 pub applied_tables : (k : KernelState) (e : Effect) → IsPlaced k e → HasTables k → HasTables (applied k e)
 applied_tables k e is h = record {
   contexts = joined_tags (all_edited k.contexts e.edits) k.objects e.made (edited_tags k.contexts e.edits is.edits ∙ h.contexts);
@@ -173,6 +184,8 @@ applied_tables k e is h = record {
       (semaphore_kinds k.semaphores e.semaphore ∙ h.semaphores);
   guests = joined_kinds is_vcpu k.stirs.guests k.objects (λ m. stir_count_of (object_of m)) e.made (λ m. guest_new (object_of m)) h.guests;
   refer = joined_refer k.objects e.made is.made h.refer;
+  deadlines = joined_many (deadlines_with k.times.deadlines e.deadline) k.objects no_deadline e.made (deadlines_length k.times.deadlines e.deadline ∙ h.deadlines);
+  clocks = h.clocks;
 }
   where
     by_transfer : {T : Type 0} (p : Option (ℕ × T)) → IfSome p (λ t. is_some (context_at k t.0) ≡ true) → IfSome p (λ t. option_map is_some (slice_get k.transfers t.0) ≡ Some true)
@@ -210,6 +223,8 @@ settled_tables s cpu t h = record {
   semaphores = h.semaphores;
   guests = stirred_kinds t.stirs 0 s.stirs.guests ∙ h.guests;
   refer = h.refer;
+  deadlines = h.deadlines;
+  clocks = set_length s.times.clocks cpu _ ∙ h.clocks;
 }
 
 pub with_memory : (k : KernelState) (m : Memory) → HasTables k → HasTables (record k { memory = m })
@@ -222,4 +237,6 @@ with_memory k m h = record {
   semaphores = h.semaphores;
   guests = h.guests;
   refer = h.refer;
+  deadlines = h.deadlines;
+  clocks = h.clocks;
 }

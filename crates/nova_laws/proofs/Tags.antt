@@ -11,7 +11,7 @@ use Rattle.nova_model.specs.State.{KernelState}
 use Rattle.nova_model.specs.declared.new_object.NewObject.{NewObject}
 use Rattle.nova_model.specs.declared.new_object.NewObject.TheVariants as new
 use Rattle.nova_laws.specs.Tables.{HasTables, IsOf, Refers, cpu_of, has_words, tag, tag_of, tags_from}
-use Rattle.nova_laws.proofs.Setting.{get_kept}
+use Rattle.nova_laws.proofs.Setting.{get_kept, joined_length}
 
 -- LISTS
 
@@ -139,4 +139,6 @@ made_fits k domain target made refers h = record {
   semaphores = maps_more is_sm k.semaphores k.objects (option_map idle_semaphore (count_of made)) (object_of made) h.semaphores (semaphore_new made);
   guests = maps_more is_vcpu k.stirs.guests k.objects (stir_count_of (object_of made)) (object_of made) h.guests (guest_new (object_of made));
   refer = all_refer k.objects (object_of made) k.objects h.refer refers;
+  deadlines = joined_length k.times.deadlines None ∙ ap (λ (n : ℕ). n + 1) h.deadlines ∙ sym (joined_length k.objects (object_of made));
+  clocks = h.clocks;
 }

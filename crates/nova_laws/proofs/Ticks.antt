@@ -1,29 +1,34 @@
 -- The ticks of a processor's scheduling contexts, the events of its turns, and its count of turns.
+use Rattle.nova_model.specs.Sources.{Source, with_source}
+use Rattle.nova_forest.proofs.Boots.{sources_keep}
 use Rattle.std.proofs.Common.{◌≡◌, ℕ, zero, suc, ◌<◌, ◌+◌, List, [], ◌∷◌, ◌++◌, length, refl, sym, ap, ap₂, ◌∙◌, arith}
-use Rattle.std.specs.Prelude.{◌≢◌, Bool, true, false, ◌==◌, cond, filter, is_some, replicate, sum, if◌then◌else◌, slice_get, slice_index, slice_set, Option, Some, None, option_map}
+use Rattle.std.specs.Prelude.{◌≢◌, Bool, true, false, ◌==◌, cond, filter, is_some, replicate, sum, if◌then◌else◌, slice_get, slice_index, slice_set, Option, Some, None, ◌&&◌}
 use Rattle.std.proofs.lemmas.Bool.{eqb-true}
 use Rattle.std.proofs.lemmas.List.{length-map}
 use Rattle.std.proofs.lemmas.List.Sums.{sum_by-cons}
 use Rattle.nova_objects.specs.declared.object.Object.{Object}
-use Rattle.nova_objects.specs.declared.object.Object.TheVariants.{Sc}
+use Rattle.nova_objects.specs.declared.object.Object.TheVariants.{Sc, Sm}
 use Rattle.nova_model.specs.Boot.{Image, Scenario, bare, boot, with_image, with_images}
-use Rattle.nova_model.specs.Choice.{Candidate, choice, in_front}
+use Rattle.nova_model.specs.Choice.{Candidate, in_front}
 use Rattle.nova_model.specs.Creation.{budget_of, object_of}
 use Rattle.nova_model.specs.Deeds.{deed}
 use Rattle.nova_model.specs.Hypercalls.{ticks_in}
 use Rattle.nova_model.specs.Runs.{after, run, trace}
 use Rattle.nova_model.specs.State.{KernelState, entry}
-use Rattle.nova_model.specs.Turn.{Step, budget_after, event_of, is_spent, turn}
+use Rattle.nova_model.specs.Turn.{budget_after, event_of, is_spent}
 use Rattle.nova_model.specs.declared.event.Event.{Event}
-use Rattle.nova_forest.specs.Turns.{Acts, IsTurning, Turning}
-use Rattle.nova_forest.proofs.Turning.{outcome}
+use Rattle.nova_model.specs.Times.{clock}
+use Rattle.nova_model.specs.declared.times.Due.TheVariants as due
+use Rattle.nova_forest.specs.Effects.{Falls, Passing, Ticks}
+use Rattle.nova_forest.specs.Turns.{is_passing, passing_event}
+use Rattle.nova_forest.proofs.Turning.{acting_kind, event_at, passing_kind}
 use Rattle.nova_model.specs.declared.budget.Budget.{Budget}
 use Rattle.nova_model.specs.declared.event.Event.{Event}
 use Rattle.nova_model.specs.declared.new_object.NewObject.{NewObject}
 use Rattle.nova_model.specs.declared.new_object.NewObject.TheVariants as new
-use Rattle.nova_laws.specs.Scheduling.{is_on, paid_on, ticks_on, turns_of}
-use Rattle.nova_laws.proofs.TablesFit.{TablesFit, after_fits, boot_fits}
-use Rattle.nova_laws.proofs.Paying.{Adds, AddsNone, AddsOne, Comes, Idles, IsTurn, Takes, comes, spent_ticks}
+use Rattle.nova_laws.specs.Scheduling.{is_on, paid_on, ticks_on, turns_of, turns_passed}
+use Rattle.nova_laws.proofs.TablesFit.{TablesFit, after_fits, boot_fits, zeros_length, image_fits, source_fits}
+use Rattle.nova_laws.proofs.Paying.{Adds, AddsNone, AddsOne, Comes, Idles, IsTurn, Passes, Takes, comes, spent_ticks}
 use Rattle.nova_laws.proofs.Setting.{index_itself, index_other, set_length}
 
 -- LISTS OF TICKS
@@ -106,23 +111,14 @@ front_passes p e es = by_test (p e)
     by_test true = omega arith
     by_test false = omega arith
 
-pub event_is : (k : KernelState) (cpu : ℕ) (o : Option Candidate) → choice k cpu ≡ o →
-    option_map (λ (s : Step). s.event) (turn k cpu) ≡ option_map (λ (c : Candidate). event_of cpu c (deed k c.actor)) o
-event_is k cpu o is =
-    outcome (λ s x. x ≡ option_map (λ (c : Candidate). event_of cpu c (deed k c.actor)) (choice k cpu)) k cpu
-    (λ none. sym (ap (option_map (λ (c : Candidate). event_of cpu c (deed k c.actor))) none)) turned
-    ∙ ap (option_map (λ (c : Candidate). event_of cpu c (deed k c.actor))) is
-  where
-    turned : (t : Turning) (e : Event) → IsTurning k cpu t e → Some e ≡ option_map (λ (c : Candidate). event_of cpu c (deed k c.actor)) (choice k cpu)
-    turned t e (Acts c chosen acts event) = ap Some event ∙ sym (ap (option_map (λ (d : Candidate). event_of cpu d (deed k d.actor))) chosen)
-
 -- what one turn does to a sum, the events do after it
 record IsCountedOn (k s : KernelState) (by cpu : ℕ) (es : List Event) : Type 0 where
-  ticks : paid_on s cpu + turns_of cpu es ≡ paid_on k cpu + turns_of cpu (in_front (option_map (λ (s : Step). s.event) (turn k by)) es)
-  counts : cpu < length k.stirs.processors →
-      slice_index s.stirs.processors cpu + turns_of cpu es ≡ slice_index k.stirs.processors cpu + turns_of cpu (in_front (option_map (λ (s : Step). s.event) (turn k by)) es)
-  all : s.turns + length es ≡ k.turns + length (in_front (option_map (λ (s : Step). s.event) (turn k by)) es)
+  ticks : paid_on s cpu + (turns_of cpu es + turns_passed cpu (in_front (event_at k by) es)) ≡ paid_on k cpu + (turns_of cpu (in_front (event_at k by) es) + turns_passed cpu es)
+  counts : cpu < length k.stirs.processors → slice_index s.stirs.processors cpu + turns_of cpu es ≡ slice_index k.stirs.processors cpu + turns_of cpu (in_front (event_at k by) es)
+  clocks : cpu < length k.times.clocks → clock s.times cpu + turns_of cpu es ≡ clock k.times cpu + turns_of cpu (in_front (event_at k by) es)
+  all : s.turns + length es ≡ k.turns + length (in_front (event_at k by) es)
   there : length s.stirs.processors ≡ length k.stirs.processors
+  all_there : length s.times.clocks ≡ length k.times.clocks
 
 index_more : (xs : List ℕ) (by cpu : ℕ) → cpu < length xs → slice_index (slice_set xs by (slice_index xs by + 1)) cpu ≡ slice_index xs cpu + one_if (by == cpu)
 index_more xs by cpu there = by_test (by == cpu) refl
@@ -136,34 +132,83 @@ index_more xs by cpu there = by_test (by == cpu) refl
         let none : slice_index xs cpu ≡ slice_index xs cpu + 0 = omega arith in
         index_other xs by cpu (slice_index xs by + 1) differs ∙ none
 
+-- a turn of a deed is none that comes by itself, and one of these is
+pub both_false : (a b : Bool) → b ≡ false → one_if (a && b) ≡ 0
+both_false true b is = ap one_if is
+both_false false b is = refl
+
+pub both_true : (a b : Bool) → b ≡ true → one_if (a && b) ≡ one_if a
+both_true true b is = ap one_if is
+both_true false b is = refl
+
+pub event_on : (k : KernelState) (by : ℕ) (p : Passing) → (passing_event k by p).cpu ≡ by
+event_on k by (Falls (due.Alarm alarm)) = refl
+event_on k by (Falls (due.Deadline ec)) = refl
+event_on k by Ticks = refl
+
 counted_on : (k : KernelState) (by cpu : ℕ) (es : List Event) → TablesFit k → IsCountedOn k (after k by) by cpu es
 counted_on k by cpu es h = by_turn (after k by) (comes k by)
   where
-    by_turn : (s : KernelState) → Comes k s by → IsCountedOn k s by cpu es
-    by_turn s (Idles idle is) =
-        let none = event_is k by None idle in record {
-          ticks = rw (is, none) refl;
-          counts = λ below. rw (is, none) refl;
-          all = rw (is, none) refl;
-          there = rw is refl;
+    of_cpu : Event → Bool
+    of_cpu x = x.cpu == cpu
+
+    of_passed : Event → Bool
+    of_passed x = (x.cpu == cpu) && is_passing x.kind
+
+    by_turn : (s : KernelState) → Comes k s by (event_at k by) → IsCountedOn k s by cpu es
+    by_turn s (Idles idle is none) = record {
+      ticks = rw (is, none) refl;
+      counts = λ below. rw (is, none) refl;
+      clocks = λ below. rw (is, none) refl;
+      all = rw (is, none) refl;
+      there = rw is refl;
+      all_there = rw is refl;
+    }
+    by_turn s (Passes p is nobody one) =
+        let e = passing_event k by p in
+        let on : (e.cpu == cpu) ≡ (by == cpu) = ap (λ (n : ℕ). n == cpu) (event_on k by p) in
+        let front = front_passes (λ (x : Event). x.cpu == cpu) e es in
+        let passed = front_passes (λ (x : Event). (x.cpu == cpu) && is_passing x.kind) e es in
+        let both = both_true (e.cpu == cpu) (is_passing e.kind) (passing_kind k by p) in
+        let same = ap one_if on in record {
+          ticks = rw one (let still : paid_on s cpu ≡ paid_on k cpu = ap (λ (x : KernelState). paid_on x cpu) is in omega arith);
+          counts = λ below. rw one (
+              let more = ap (λ (x : KernelState). slice_index x.stirs.processors cpu) is ∙ index_more k.stirs.processors by cpu below in omega arith);
+          clocks = λ below. rw one (let more = ap (λ (x : KernelState). slice_index x.times.clocks cpu) is ∙ index_more k.times.clocks by cpu below in omega arith);
+          all = rw one (let more = ap (λ (x : KernelState). x.turns) is in omega arith);
+          there = ap (λ (x : KernelState). length x.stirs.processors) is ∙ set_length k.stirs.processors by _;
+          all_there = ap (λ (x : KernelState). length x.times.clocks) is ∙ set_length k.times.clocks by _;
         }
-    by_turn s (Takes c chosen t) =
-        let one = event_is k by (Some c) chosen in
+    by_turn s (Takes c chosen t one) =
         let e = event_of by c (deed k c.actor) in
-        let front = front_passes (λ (x : Event). x.cpu == cpu) e es in record {
+        let front = front_passes (λ (x : Event). x.cpu == cpu) e es in
+        let passed = front_passes (λ (x : Event). (x.cpu == cpu) && is_passing x.kind) e es in
+        let none = both_false (by == cpu) (is_passing e.kind) (acting_kind (deed k c.actor)) in record {
           ticks = rw one (let more = turn_ticks k s by cpu c t (lengths k h) in omega arith);
           counts = λ below. rw one (
               let more = ap (λ (l : List ℕ). slice_index l cpu) t.processors ∙ index_more k.stirs.processors by cpu below in
               omega arith);
+          clocks = λ below. rw one (let more = ap (λ (l : List ℕ). slice_index l cpu) t.clocks ∙ index_more k.times.clocks by cpu below in omega arith);
           all = rw one (let more = t.turns in omega arith);
           there = ap length t.processors ∙ set_length k.stirs.processors by _;
+          all_there = ap length t.clocks ∙ set_length k.times.clocks by _;
         }
 
 -- TURNS
 
-run_ticks : (k : KernelState) (turns : List ℕ) (cpu : ℕ) → TablesFit k → paid_on (run k turns) cpu ≡ paid_on k cpu + turns_of cpu (trace k turns)
+run_ticks : (k : KernelState) (turns : List ℕ) (cpu : ℕ) → TablesFit k →
+    paid_on (run k turns) cpu + turns_passed cpu (trace k turns) ≡ paid_on k cpu + turns_of cpu (trace k turns)
 run_ticks k [] cpu h = omega arith
-run_ticks k (by ∷ turns) cpu h = run_ticks (after k by) turns cpu (after_fits k by h) ∙ (counted_on k by cpu (trace (after k by) turns) h).ticks
+run_ticks k (by ∷ turns) cpu h =
+    let rest = run_ticks (after k by) turns cpu (after_fits k by h) in
+    let first = (counted_on k by cpu (trace (after k by) turns) h).ticks in omega arith
+
+run_clocks : (k : KernelState) (turns : List ℕ) (cpu : ℕ) → TablesFit k → cpu < length k.times.clocks →
+    clock (run k turns).times cpu ≡ clock k.times cpu + turns_of cpu (trace k turns)
+run_clocks k [] cpu h below = omega arith
+run_clocks k (by ∷ turns) cpu h below =
+    let counts = counted_on k by cpu (trace (after k by) turns) h in
+    run_clocks (after k by) turns cpu (after_fits k by h) (rw counts.all_there below) ∙ counts.clocks below
 
 run_counts : (k : KernelState) (turns : List ℕ) (cpu : ℕ) → TablesFit k → cpu < length k.stirs.processors →
     slice_index (run k turns).stirs.processors cpu ≡ slice_index k.stirs.processors cpu + turns_of cpu (trace k turns)
@@ -181,11 +226,12 @@ record IsAtRest (k : KernelState) (cpus : ℕ) : Type 0 where
   ticks : (cpu : ℕ) → paid_on k cpu ≡ 0
   processors : k.stirs.processors ≡ replicate cpus 0
   turns : k.turns ≡ 0
+  clocks : k.times.clocks ≡ replicate cpus 0
 
 images_rest : (k : KernelState) (cpus : ℕ) (images : List Image) → IsAtRest k cpus → IsAtRest (with_images k images) cpus
 images_rest k cpus [] h = h
 images_rest k cpus (image ∷ images) h =
-    images_rest (with_image k image) cpus images (record { ticks = h.ticks; processors = h.processors; turns = h.turns })
+    images_rest (with_image k image) cpus images (record { ticks = h.ticks; processors = h.processors; turns = h.turns; clocks = h.clocks })
 
 root_ticks : (s : Scenario) (cpu : ℕ) → paid_on (bare s.cpus s.ram s.consoles s.root) cpu ≡ 0
 root_ticks s cpu = by_test (0 == cpu)
@@ -194,27 +240,46 @@ root_ticks s cpu = by_test (0 == cpu)
     by_test true = refl
     by_test false = refl
 
-boot_rests : (s : Scenario) → IsAtRest (boot s) s.cpus
-boot_rests s = images_rest (bare s.cpus s.ram s.consoles s.root) s.cpus s.images (record { ticks = root_ticks s; processors = refl; turns = refl })
-
-zeros_length : (n : ℕ) → length {A = ℕ} (replicate n 0) ≡ n
-zeros_length zero = refl
-zeros_length (suc n) = ap suc (zeros_length n)
+image_rests : (s : Scenario) → IsAtRest (with_images (bare s.cpus s.ram s.consoles s.root) s.images) s.cpus
+image_rests s = images_rest (bare s.cpus s.ram s.consoles s.root) s.cpus s.images (record { ticks = root_ticks s; processors = refl; turns = refl; clocks = refl })
 
 zeros_index : (n i : ℕ) → i < n → slice_index (replicate n 0) i ≡ 0
 zeros_index zero i h = absurd (omega arith)
 zeros_index (suc n) zero h = refl
 zeros_index (suc n) (suc i) h = zeros_index n i (omega arith)
 
-pub ticks_are_turns : (s : Scenario) (turns : List ℕ) (cpu : ℕ) → paid_on (run (boot s) turns) cpu ≡ turns_of cpu (trace (boot s) turns)
+source_rests : (cpus : ℕ) (k : KernelState) (s : Source) → IsAtRest k cpus × TablesFit k → IsAtRest (with_source k s) cpus × TablesFit (with_source k s)
+source_rests cpus k s h = (
+  record {
+    ticks = λ cpu. let none = h.0.ticks cpu in let more = more_ticks cpu k.objects k.budgets Sm None (lengths k h.1) in omega (arith, none, more);
+    processors = h.0.processors;
+    turns = h.0.turns;
+    clocks = h.0.clocks;
+  },
+  source_fits k s h.1,
+)
+
+boot_rests : (s : Scenario) → IsAtRest (boot s) s.cpus
+boot_rests s =
+    (sources_keep (λ (k : KernelState). IsAtRest k s.cpus × TablesFit k) (source_rests s.cpus) (with_images (bare s.cpus s.ram s.consoles s.root) s.images) s.sources (image_rests s, image_fits s)).0
+
+pub ticks_are_turns : (s : Scenario) (turns : List ℕ) (cpu : ℕ) →
+    paid_on (run (boot s) turns) cpu + turns_passed cpu (trace (boot s) turns) ≡ turns_of cpu (trace (boot s) turns)
 ticks_are_turns s turns cpu = let none = (boot_rests s).ticks cpu in omega (arith, run_ticks (boot s) turns cpu (boot_fits s))
 
-pub ticks_are_counted : (s : Scenario) (turns : List ℕ) (cpu : ℕ) → cpu < s.cpus → paid_on (run (boot s) turns) cpu ≡ slice_index (run (boot s) turns).stirs.processors cpu
-ticks_are_counted s turns cpu below =
+pub turns_are_counts : (s : Scenario) (turns : List ℕ) (cpu : ℕ) → cpu < s.cpus → turns_of cpu (trace (boot s) turns) ≡ slice_index (run (boot s) turns).stirs.processors cpu
+turns_are_counts s turns cpu below =
     let rests = boot_rests s in
     let there : length (boot s).stirs.processors ≡ s.cpus = ap length rests.processors ∙ zeros_length s.cpus in
     let none : slice_index (boot s).stirs.processors cpu ≡ 0 = ap (λ (l : List ℕ). slice_index l cpu) rests.processors ∙ zeros_index s.cpus cpu below in
-    ticks_are_turns s turns cpu ∙ sym (omega (arith, run_counts (boot s) turns cpu (boot_fits s) (rw there below)))
+    sym (omega (arith, run_counts (boot s) turns cpu (boot_fits s) (rw there below)))
+
+pub clocks_are_turns : (s : Scenario) (turns : List ℕ) (cpu : ℕ) → cpu < s.cpus → clock (run (boot s) turns).times cpu ≡ turns_of cpu (trace (boot s) turns)
+clocks_are_turns s turns cpu below =
+    let rests = boot_rests s in
+    let there : length (boot s).times.clocks ≡ s.cpus = ap length rests.clocks ∙ zeros_length s.cpus in
+    let none : slice_index (boot s).times.clocks cpu ≡ 0 = ap (λ (l : List ℕ). slice_index l cpu) rests.clocks ∙ zeros_index s.cpus cpu below in
+    omega (arith, run_clocks (boot s) turns cpu (boot_fits s) (rw there below))
 
 pub turns_are_counted : (s : Scenario) (turns : List ℕ) → (run (boot s) turns).turns ≡ length (trace (boot s) turns)
 turns_are_counted s turns = let none = (boot_rests s).turns in omega (arith, run_turns (boot s) turns (boot_fits s))

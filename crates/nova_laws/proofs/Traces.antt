@@ -1,5 +1,5 @@
 -- The events along an order without an idle turn.
-use Rattle.std.proofs.Common.{◌≡◌, ℕ, zero, suc, subst, List, [], ◌∷◌, length, refl, sym, ap, ◌∙◌, arith}
+use Rattle.std.proofs.Common.{◌≡◌, ℕ, zero, suc, subst, List, [], ◌∷◌, length, refl, sym, ap, ◌∙◌, arith, ◌+◌}
 use Rattle.std.specs.Prelude.{slice_get, take, Bool, true, false, ◌==◌, filter, if◌then◌else◌, map, Option, Some, None, IfSome, IsSome, option_map}
 use Rattle.std.proofs.lemmas.List.{length-map}
 use Rattle.nova_model.specs.Boot.{Scenario, boot}
@@ -9,17 +9,18 @@ use Rattle.nova_model.specs.State.{KernelState}
 use Rattle.nova_model.specs.Turn.{Step, answer_of, turn}
 use Rattle.nova_model.specs.declared.event.Event.{Event}
 use Rattle.nova_model.specs.declared.event.Turn.TheVariants.{Stepped}
-use Rattle.nova_forest.specs.Turns.{Acts, IsTurning, Turning}
+use Rattle.nova_forest.specs.Turns.{Acts, IsTurning, Passes, Turning}
 use Rattle.nova_forest.proofs.Turning.{outcome}
 use Rattle.nova_laws.specs.Events.{turns_given}
-use Rattle.nova_laws.specs.Scheduling.{paid_on, turns_of}
-use Rattle.nova_laws.proofs.Ticks.{ticks_are_turns}
+use Rattle.nova_laws.specs.Scheduling.{paid_on, turns_of, turns_passed}
+use Rattle.nova_laws.proofs.Ticks.{event_on, ticks_are_turns}
 
 abbrev IsOn : ℕ → Step → Type 0
 IsOn cpu s = s.event.cpu ≡ cpu
 
 turning_on : (k : KernelState) (cpu : ℕ) (t : Turning) (e : Event) → IsTurning k cpu t e → e.cpu ≡ cpu
 turning_on k cpu t e (Acts c chosen is event) = ap (λ (x : Event). x.cpu) event
+turning_on k cpu t e (Passes p due is event) = ap (λ (x : Event). x.cpu) event ∙ event_on k cpu p
 
 turn_on : (k : KernelState) (cpu : ℕ) → IfSome (turn k cpu) (IsOn cpu)
 turn_on k cpu = by_step (turn k cpu) (outcome (λ s o. IfSome o (λ e. e.cpu ≡ cpu)) k cpu (λ none. tt) (turning_on k cpu))
@@ -70,5 +71,6 @@ turns_named cpu (e ∷ es) = by_test (e.cpu == cpu) (turns_named cpu es)
     by_test true others = omega (arith, others)
     by_test false others = others
 
-pub ticks_given : (s : Scenario) (order : List ℕ) (cpu : ℕ) → IsFreeOfIdle (boot s) order → paid_on (run (boot s) order) cpu ≡ turns_given cpu order
+pub ticks_given : (s : Scenario) (order : List ℕ) (cpu : ℕ) → IsFreeOfIdle (boot s) order →
+    paid_on (run (boot s) order) cpu + turns_passed cpu (trace (boot s) order) ≡ turns_given cpu order
 ticks_given s order cpu free = ticks_are_turns s order cpu ∙ turns_named cpu (trace (boot s) order) ∙ ap (turns_given cpu) (events_on (boot s) order free)

@@ -226,6 +226,10 @@ resumed_among : (os : List Object) (cs : Contexts) (e : ℕ) (its : Mark) (m : L
 resumed_among os cs e mark.Call m h = set_among os cs e _ (ready_entry os e (ec_of cs e) _ refl refl (h e)) h
 resumed_among os cs e mark.Exit m h = set_among os cs e _ (ready_entry os e (ec_of cs e) _ refl refl (h e)) h
 
+-- one whose wait ends goes on
+pub ended_among : (k : KernelState) (w : ℕ) (status : Status) → AreAmong k.objects k.contexts → AreAmong k.objects (with_ec k.contexts w (answered (ec_of k.contexts w) status None))
+ended_among k w status h = set_among k.objects k.contexts w _ (ready_entry k.objects w (ec_of k.contexts w) _ refl refl (h w)) h
+
 -- a handler begins
 pub reached_thread : (k : KernelState) (ec h : ℕ) → IsReached k.contexts ec h → AreServed (is_local_thread k) k.contexts → is_thread k h ≡ true
 reached_thread k ec h reached served = local_thread (slice_get k.objects h) ((served.well h).parked reached.parked).1
@@ -291,7 +295,7 @@ guest_courses k ec d actor thread served h = record {
         set_among k.objects cs w y
         (record { state = λ virtual. ap is_guest_state same ∙ old.state virtual; callers = λ c keeps. old.callers c (sym self.caller ∙ keeps) }) now
 
-joined_among : (os : List Object) (cs : Contexts) (made : Option NewObject) → length cs ≡ length os → AreAmong os cs →
+pub joined_among : (os : List Object) (cs : Contexts) (made : Option NewObject) → length cs ≡ length os → AreAmong os cs →
     AreAmong (joined os (option_map object_of made)) (joined cs (option_map (context_of (length os)) made))
 joined_among os cs None as_many h = h
 joined_among os cs (Some made) as_many h = more_among os (object_of made) cs (context_of (length os) made) as_many (born_entry os (length os) made) h

@@ -24,6 +24,11 @@ pub record NamesChosen (k : KernelState) (cpu : ℕ) (e : Event) : Type 0 where
   pub chased : chase k.contexts its ≡ e.ec
   pub actor : ActsFor k.contexts its e.ec
 
+-- the event of a turn that no scheduling context pays names its processor, and 0 for the scheduling context
+pub record NamesNobody (cpu : ℕ) (e : Event) : Type 0 where
+  pub processor : e.cpu ≡ cpu
+  pub schedule : e.sc ≡ 0
+
 -- how often an order names a processor
 abbrev pub turns_given : ℕ → List ℕ → ℕ
 turns_given cpu order = length (filter (λ named. named == cpu) order)

@@ -1,5 +1,5 @@
 -- Execution contexts that give items: what, to whom, and how far they are.
-use Rattle.std.specs.Prelude.{◌≡◌, ◌≢◌, ◌<◌, ◌≤◌, ℕ, ◌+◌, ◌-◌, ◌^◌, bit_and, Contains, ◌==◌, ◌&&◌, Bool, true, false, if◌then◌else◌, nat_lt, List, [], ◌∷◌, Option, Some, None, Ok, slice_get}
+use Rattle.std.specs.Prelude.{◌≡◌, ◌≢◌, ◌<◌, ◌≤◌, ℕ, ◌+◌, ◌-◌, ◌^◌, bit_and, Contains, ◌==◌, ◌&&◌, true, false, if◌then◌else◌, nat_lt, List, [], ◌∷◌, Option, Some, None, Ok, slice_get}
 use Rattle.nova_model.specs.Edges.{is_giving}
 use Rattle.rv_model.specs.Registers.{reg}
 use Rattle.nova_objects.specs.declared.object.Object.TheVariants.{Pd}
@@ -20,7 +20,7 @@ use Rattle.nova_model.specs.declared.context.State.TheVariants.{Granting, Replyi
 use Rattle.nova_model.specs.declared.delegation.Derivation.{Derivation}
 use Rattle.nova_model.specs.declared.event.Event.{Event}
 use Rattle.nova_model.specs.declared.event.EventKind.{EventKind}
-use Rattle.nova_model.specs.declared.event.EventKind.TheVariants.{Made, Skip}
+use Rattle.nova_model.specs.declared.event.EventKind.TheVariants.{Irq, Late, Made, Skip, Tick}
 use Rattle.nova_model.specs.declared.transfer.Delivery.{Delivery}
 use Rattle.nova_model.specs.declared.transfer.Job.{Job}
 
@@ -39,10 +39,13 @@ pub record GivesRange (k : KernelState) (ec domain : ℕ) : Type 0 where
   pub job : job_of (reg (context k ec).regs 12) 1 (reg (context k ec).regs 12) (pd_of k ec) domain ≡ Ok (whole range rights (pd_of k ec) domain)
 
 -- how many children an item made, after an event of this kind of the execution context that gives it: a child is one more, and a part that is
--- skipped, of which the first number is a reason above 2, leaves it; any other event ends an item or is of none
+-- skipped, of which the first number is a reason above 2, leaves it, as what comes by itself does; any other event ends an item or is of none
 abbrev pub counted_by : EventKind → ℕ → ℕ → ℕ
 counted_by Made number count = count + 1
 counted_by Skip number count = if nat_lt 2 number then count else 0
+counted_by Late number count = count
+counted_by Irq number count = count
+counted_by Tick number count = count
 counted_by other number count = 0
 
 -- how many the present item of an execution context made, where it was so many before these events

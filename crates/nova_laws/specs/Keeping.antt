@@ -1,11 +1,11 @@
 -- What turns keep of a state, whatever it is: tables go with objects, edges are sound, callers stay with those who serve them, and the blocked wait at
--- their semaphores; and virtual CPUs run, raise exits and wait for their replies.
+-- their semaphores, and they alone have deadlines; and virtual CPUs run, raise exits and wait for their replies.
 use Rattle.nova_model.specs.Edges.{AreEdges}
 use Rattle.nova_model.specs.State.{KernelState, is_local_thread}
 use Rattle.nova_laws.specs.Links.{AreServed}
 use Rattle.nova_laws.specs.Tables.{HasTables}
 use Rattle.nova_laws.specs.Virtual.{AreGuests}
-use Rattle.nova_laws.specs.Waiting.{AreBlocked}
+use Rattle.nova_laws.specs.Waiting.{AreBlocked, AreDeadlines}
 
 pub record IsKept (k : KernelState) : Type 0 where
   pub tables : HasTables k
@@ -13,3 +13,4 @@ pub record IsKept (k : KernelState) : Type 0 where
   pub edges : AreEdges k.contexts
   pub blocked : AreBlocked k.contexts k.semaphores
   pub guests : AreGuests k
+  pub deadlines : AreDeadlines k.contexts k.times.deadlines

@@ -17,3 +17,4 @@ pub mod Windows
 pub mod Stirs
 pub mod Revoking
 pub mod Left
+pub mod Moments

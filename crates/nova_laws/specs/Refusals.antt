@@ -1,5 +1,5 @@
 -- A turn in which a hypercall is refused.
-use Rattle.std.specs.Prelude.{◌≡◌, ◌≢◌, ◌<◌, ℕ, Bool, true, false, ◌+◌, ◌%◌, ◌^◌, length, slice_get, IsSome, None}
+use Rattle.std.specs.Prelude.{◌≡◌, ◌≢◌, ◌<◌, ℕ, true, ◌+◌, ◌%◌, ◌^◌, length, slice_get, IsSome, None}
 use Rattle.nova_model.specs.Edges.{is_asking}
 use Rattle.rv_model.specs.Registers.{reg}
 use Rattle.nova_range.specs.Statuses.{status_code}
@@ -9,8 +9,7 @@ use Rattle.nova_model.specs.Runs.{after}
 use Rattle.nova_model.specs.State.{KernelState, budget_at, context, context_at}
 use Rattle.nova_model.specs.Turn.{charged}
 use Rattle.nova_model.specs.declared.context.EcState.{EcState}
-use Rattle.nova_model.specs.declared.context.State.{State}
-use Rattle.nova_model.specs.declared.context.State.TheVariants.{Helping, Ready}
+use Rattle.nova_model.specs.declared.context.State.TheVariants.{Ready}
 use Rattle.nova_model.specs.declared.event.Event.{Event}
 
 -- the caller has the status in x10, where it has that register, and its pc is after the instruction; one that helped is ready; all else of it is
@@ -26,8 +25,8 @@ pub record IsAnswered (code : ℕ) (old new : EcState) : Type 0 where
   pub caller : new.caller ≡ old.caller
   pub recall : new.recall ≡ old.recall
 
--- the rest is as before: all but one execution context, the budget of one scheduling context, the next stamp, and the counts of turns, of
--- which those of other processors stay
+-- the rest is as before: all but one execution context, the budget of one scheduling context, the next stamp, and the counts of turns and
+-- the clock, of which those of other processors stay
 pub record LeavesRest (old new : KernelState) (ec sc cpu : ℕ) : Type 0 where
   pub contexts : (other : ℕ) → other ≢ ec → context_at new other ≡ context_at old other
   pub budgets : (other : ℕ) → other ≢ sc → budget_at new other ≡ budget_at old other
@@ -43,6 +42,9 @@ pub record LeavesRest (old new : KernelState) (ec sc cpu : ℕ) : Type 0 where
   pub guests : new.stirs.guests ≡ old.stirs.guests
   pub processors : (other : ℕ) → other ≢ cpu → slice_get new.stirs.processors other ≡ slice_get old.stirs.processors other
   pub turns : new.turns ≡ old.turns + 1
+  pub deadlines : new.times.deadlines ≡ old.times.deadlines
+  pub alarms : new.times.alarms ≡ old.times.alarms
+  pub clocks : (other : ℕ) → other ≢ cpu → slice_get new.times.clocks other ≡ slice_get old.times.clocks other
 
 -- the status is the event's second number: it changes x10 and pc of the caller, and the state of one that helped, the charge what it charges, and nothing else is changed
 pub record IsRefusal (k : KernelState) (cpu : ℕ) (e : Event) : Type 0 where

@@ -1,5 +1,6 @@
 -- Scheduling contexts: whose they are, the turns that they pay for, and their stamps.
-use Rattle.std.specs.Prelude.{◌≡◌, ◌≢◌, ◌<◌, ◌≤◌, ℕ, ◌+◌, ◌==◌, Bool, false, List, [], ◌∷◌, filter, length, sum, if◌then◌else◌, slice_get, Option, Some, None, IfSome, IsSome}
+use Rattle.nova_forest.specs.Turns.{is_passing}
+use Rattle.std.specs.Prelude.{◌≡◌, ◌≢◌, ◌<◌, ◌≤◌, ℕ, ◌+◌, ◌==◌, Bool, false, List, [], ◌∷◌, filter, length, sum, if◌then◌else◌, slice_get, Option, Some, None, IfSome, IsSome, ◌&&◌, not}
 use Rattle.nova_objects.specs.declared.object.Object.{Object}
 use Rattle.nova_objects.specs.declared.object.Object.TheVariants.{Sc}
 use Rattle.nova_model.specs.Hypercalls.{ticks_in}
@@ -28,9 +29,13 @@ paid_on k cpu = sum (ticks_on cpu k.objects k.budgets)
 abbrev pub turns_of : ℕ → List Event → ℕ
 turns_of cpu events = length (filter (λ e. e.cpu == cpu) events)
 
+-- how many of those are deadlines, alarms and ticks, which no scheduling context pays
+abbrev pub turns_passed : ℕ → List Event → ℕ
+turns_passed cpu events = length (filter (λ e. (e.cpu == cpu) && is_passing e.kind) events)
+
 -- how many of them a scheduling context paid for
 abbrev pub turns_paid_by : ℕ → List Event → ℕ
-turns_paid_by sc events = length (filter (λ e. e.sc == sc) events)
+turns_paid_by sc events = length (filter (λ e. (e.sc == sc) && not (is_passing e.kind)) events)
 
 -- of a scheduling context of this number at least 1 turn is left, and at most its quantum
 abbrev pub HasTurnsLeft : KernelState → ℕ → Object → Type 0
@@ -42,6 +47,11 @@ HasTurnsLeft k n other = Unit {0}
 pub data IsUsed (before after : Budget) (quantum next last : ℕ) : Type 0 where
   GoesOn : 1 < before.left → after.left + 1 ≡ before.left → after.stamp ≡ before.stamp → IsUsed before after quantum next last
   Renewed : before.left ≤ 1 → after.left ≡ quantum → next ≤ after.stamp → after.stamp + 1 ≡ last → IsUsed before after quantum next last
+
+-- a turn that no scheduling context pays leaves all budgets, and gives no stamp
+pub record IsUnpaid (old new : KernelState) : Type 0 where
+  pub budgets : new.budgets ≡ old.budgets
+  pub next : new.next_stamp ≡ old.next_stamp
 
 -- a turn of a processor, that a scheduling context of it pays: that one has a tick more, the budgets of all others that are there stay, and a
 -- new one has no ticks and the stamp that was next. At most two stamps are given.

@@ -1,5 +1,5 @@
 -- Tables go with objects: an entry is there exactly where the object of its number is of that kind, and what objects refer to is there.
-use Rattle.std.specs.Prelude.{◌≡◌, ℕ, ◌+◌, Bool, true, false, not, List, [], ◌∷◌, map, Option, Some, None, IsSome, is_some, option_map, slice_get}
+use Rattle.std.specs.Prelude.{◌≡◌, ℕ, ◌+◌, Bool, true, false, not, List, [], ◌∷◌, length, map, Option, Some, None, IsSome, is_some, option_map, slice_get}
 use Rattle.std.specs.List.{AllByRecursion}
 use Rattle.nova_objects.specs.declared.object.Object.{Object}
 use Rattle.nova_objects.specs.declared.object.Object.TheVariants.{Pd, Ec, Sc, Pt, Sm}
@@ -63,7 +63,8 @@ Refers objects (Sc ec cpu priority quantum) = cpu_of (slice_get objects ec) ≡ 
 Refers objects (Pt ec mtd ip) = IsOf objects is_local ec
 Refers objects Sm = Unit {0}
 
--- each table has an entry where the object of its number is of its kind, and objects refer to such as are there
+-- each table has an entry where the object of its number is of its kind, and objects refer to such as are there; there is room for a deadline of each, and
+-- a clock of each processor
 pub record HasTables (k : KernelState) : Type 0 where
   pub contexts : map tag k.contexts ≡ tags_from 0 k.objects
   pub messages : map is_some k.messages ≡ map has_words k.objects
@@ -73,3 +74,5 @@ pub record HasTables (k : KernelState) : Type 0 where
   pub semaphores : map is_some k.semaphores ≡ map is_sm k.objects
   pub guests : map is_some k.stirs.guests ≡ map is_vcpu k.objects
   pub refer : AllByRecursion (Refers k.objects) k.objects
+  pub deadlines : length k.times.deadlines ≡ length k.objects
+  pub clocks : length k.times.clocks ≡ k.cpus

@@ -16,6 +16,7 @@ mod scheduling;
 mod semaphores;
 mod stirs;
 mod tables;
+mod times;
 mod transfers;
 mod virtual_cpus;
 mod words;
@@ -38,6 +39,10 @@ pub use scheduling::{
 pub use semaphores::{the_blocked_wait_at_their_semaphores, the_first_is_woken};
 pub use stirs::{stir_counts_are_within_turns, stir_counts_rise_with_inputs_from_outside};
 pub use tables::tables_go_with_objects;
+pub use times::{
+    alarms_keep_their_moments, the_first_that_is_to_come_is_due, what_is_due_takes_the_turn,
+    who_has_a_deadline_waits_there,
+};
 pub use transfers::{
     a_child_is_what_range_and_derivation_share, a_creator_gives_a_range_to_a_domain,
     an_item_counts_its_children, each_part_moves_on, items_are_given_in_order,

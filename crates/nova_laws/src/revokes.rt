@@ -1,7 +1,7 @@
 // Laws of revokes that run.
 ghost use Rattle.std.specs.Prelude.{◌≡◌, ◌≤◌, ℕ, Bool, length, true};
 ghost use Rattle.nova_range.specs.declared.range.Range.{Range};
-ghost use Rattle.nova_model.specs.Choice.{choice};
+ghost use Rattle.nova_model.specs.Choice.{next_to_act};
 ghost use Rattle.nova_model.specs.Deeds.{deed, done};
 ghost use Rattle.nova_model.specs.Edges.{acts};
 ghost use Rattle.nova_model.specs.Running.{revoke_of, running};
@@ -23,7 +23,7 @@ pub fn running_revokes_are_their_runners()
         → running (done k ec (deed k ec)) ≡ running_after k ec (deed k ec) }
     ensures longer { (k : KernelState) (ec : ℕ) → IsKept k → acts k.contexts ec ≡ true
         → length k.contexts ≤ length (done k ec (deed k ec)).contexts }
-    ensures turns { (k : KernelState) (cpu : ℕ) → IsKept k → (e : ℕ) → revoke_of (after k cpu) e ≡ revoke_in_turn k (choice k cpu) e }
+    ensures turns { (k : KernelState) (cpu : ℕ) → IsKept k → (e : ℕ) → revoke_of (after k cpu) e ≡ revoke_in_turn k (next_to_act k cpu) e }
     ensures begins { (k : KernelState) (ec : ℕ) (range : Range) (own : Bool) → deed k ec ≡ Revokes range own → AsksRevoke k ec range own }
     ensures returns { (k : KernelState) (ec : ℕ) → deed k ec ≡ Returns → HasRevoked k ec }
 {}

@@ -1,5 +1,5 @@
 // Laws of message words.
-ghost use Rattle.std.specs.Prelude.{◌≡◌, ◌≢◌, ◌⊎◌, ℕ, List, Some, IfSome, length};
+ghost use Rattle.std.specs.Prelude.{◌≡◌, ◌≢◌, ◌⊎◌, ℕ, List, Some, IfSome, false, length};
 ghost use Rattle.nova_range.specs.declared.mtd.Mtd.{Mtd};
 ghost use Rattle.nova_model.specs.Boot.{Scenario, boot};
 ghost use Rattle.nova_model.specs.Deeds.{deed};
@@ -13,9 +13,10 @@ ghost use Rattle.nova_model.specs.declared.event.Turn.TheVariants.{Stepped};
 ghost use Rattle.nova_model.specs.declared.transfer.ItemEnd.{ItemEnd};
 ghost use Rattle.nova_model.specs.declared.transfer.ItemWords.{ItemWords};
 ghost use Rattle.nova_model.specs.declared.transfer.Sequel.{Sequel};
+ghost use Rattle.nova_forest.specs.Turns.{is_passing};
 ghost use Rattle.nova_laws.specs.Words.{HasWritten, words_at, whose_words};
 
-/// A turn changes the message words of one thread at most. They are those of the one who acts, where it
+/// A turn changes the message words of one thread at most, and a deadline, an alarm and a tick those of none. They are those of the one who acts, where it
 /// does an instruction: its store is done to them where it is a thread and the store lies among the first
 /// 512 bytes of its page 0xfffff, and else they stay. Or they are those of the handler of a call that is
 /// sent, or of the caller of a reply to a call, and change by the counts and the counted words of the
@@ -31,6 +32,7 @@ pub fn a_turn_writes_the_words_of_one()
         → words_at k n ≡ Some words
         → words_at (after k cpu) n ≡ Some words }
     ensures writes { (k : KernelState) (cpu : ℕ) (e : Event) (n : ℕ) (words : List ℕ)
+        → is_passing e.kind ≡ false
         → answer_of (turn k cpu) ≡ Stepped e
         → whose_words e.ec (deed k e.ec) ≡ Some n
         → words_at k n ≡ Some words

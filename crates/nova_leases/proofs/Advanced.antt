@@ -59,15 +59,16 @@ raised_none k g n (count ∷ counts) = ap₂ (λ (o : Option ℕ) (os : List (Op
 
 -- one and n turns are n + 1
 changed_again : (k : KernelState) (cpu sc g n : ℕ) (r s : Registers) (ram new : List (List ℕ)) (b d : Budget) (stamp last : ℕ) (gs hs : List (Option ℕ)) →
-    cpu < length k.stirs.processors → IsSome (context_at k g) →
+    cpu < length k.stirs.processors → cpu < length k.times.clocks → IsSome (context_at k g) →
     changed_by (changed_by k cpu sc g 1 r ram b stamp gs) cpu sc g n s new d last hs ≡ changed_by k cpu sc g (suc n) s new d last hs
-changed_again k cpu sc g n r s ram new b d stamp last gs hs within there = λ i. record k {
+changed_again k cpu sc g n r s ram new b d stamp last gs hs within clocked there = λ i. record k {
   contexts = contexts i;
   memory = record k.memory { ram = new };
   budgets = set-set k.budgets sc (Some b) (Some d) i;
   next_stamp = last;
   turns = turns i;
   stirs = record { guests = hs; processors = processors i };
+  times = record k.times { clocks = clocks i };
 }
   where
     itself : context (changed_by k cpu sc g 1 r ram b stamp gs) g ≡ record (context k g) { regs = r }
@@ -88,6 +89,14 @@ changed_again k cpu sc g n r s ram new b d stamp last gs hs within there = λ i.
         (slice_index (slice_set k.stirs.processors cpu (slice_index k.stirs.processors cpu + 1)) cpu + n) ≡ slice_set k.stirs.processors cpu (slice_index k.stirs.processors cpu + suc n)
     processors = set-set k.stirs.processors cpu (slice_index k.stirs.processors cpu + 1) (slice_index (slice_set k.stirs.processors cpu (slice_index k.stirs.processors cpu + 1)) cpu + n)
         ∙ ap (slice_set k.stirs.processors cpu) (let e = found in omega arith)
+
+    shown : slice_index (slice_set k.times.clocks cpu (slice_index k.times.clocks cpu + 1)) cpu ≡ slice_index k.times.clocks cpu + 1
+    shown = get_or-set_same k.times.clocks cpu (slice_index k.times.clocks cpu + 1) 0 clocked
+
+    clocks : slice_set (slice_set k.times.clocks cpu (slice_index k.times.clocks cpu + 1)) cpu
+        (slice_index (slice_set k.times.clocks cpu (slice_index k.times.clocks cpu + 1)) cpu + n) ≡ slice_set k.times.clocks cpu (slice_index k.times.clocks cpu + suc n)
+    clocks = set-set k.times.clocks cpu (slice_index k.times.clocks cpu + 1) (slice_index (slice_set k.times.clocks cpu (slice_index k.times.clocks cpu + 1)) cpu + n)
+        ∙ ap (slice_set k.times.clocks cpu) (let e = shown in omega arith)
 
 -- what is paid
 abbrev pub paid_one : Budget → Budget
@@ -114,10 +123,10 @@ abbrev pub midway : KernelState → ℕ → Candidate → Budget → Registers �
 midway k cpu c b regs ram fs = changed_by k cpu c.sc c.actor 1 regs ram (paid_one b) k.next_stamp (raised_from k c.actor fs 0 k.stirs.guests)
 
 pub advanced_again : (k : KernelState) (cpu : ℕ) (c : Candidate) (b : Budget) (n : ℕ) (r s : Registers) (ram new : List (List ℕ)) (fs gs : List ℕ) →
-    cpu < length k.stirs.processors → IsSome (context_at k c.actor) → 1 < b.left → 0 < n →
+    cpu < length k.stirs.processors → cpu < length k.times.clocks → IsSome (context_at k c.actor) → 1 < b.left → 0 < n →
     advanced_by (midway k cpu c b r ram fs) cpu c (paid_one b) n s new gs ≡ advanced_by k cpu c b (suc n) s new (fs ++ gs)
-advanced_again k cpu c b n r s ram new fs gs within there more some =
-    changed_again k cpu c.sc c.actor n r s ram new (paid_one b) _ k.next_stamp _ (raised_from k c.actor fs 0 k.stirs.guests) _ within there
+advanced_again k cpu c b n r s ram new fs gs within clocked there more some =
+    changed_again k cpu c.sc c.actor n r s ram new (paid_one b) _ k.next_stamp _ (raised_from k c.actor fs 0 k.stirs.guests) _ within clocked there
     ∙ (λ i. changed_by k cpu c.sc c.actor (suc n) s new
     ((ap (λ (t : Bool). budget_used t n (quantum_in (slice_get k.objects c.sc)) k.next_stamp (paid_one b)) (used_again n b.left more some) ∙ budget_again n (quantum_in (slice_get k.objects c.sc)) k.next_stamp b (is_used (suc n) b)) i)
     (ap (λ (t : Bool). stamp_after t k.next_stamp) (used_again n b.left more some) i)
@@ -140,6 +149,7 @@ advanced_none k cpu c b there budget = λ i. record k {
   budgets = sym (ap (λ (d : Budget). slice_set k.budgets c.sc (Some d)) unpaid ∙ set_there k.budgets c.sc b budget) i;
   turns = turns i;
   stirs = record { guests = raised_none k c.actor 0 k.stirs.guests i; processors = sym processors i };
+  times = record k.times { clocks = sym clocks i };
 }
   where
     unpaid : budget_used false 0 (quantum_in (slice_get k.objects c.sc)) k.next_stamp b ≡ b
@@ -151,3 +161,7 @@ advanced_none k cpu c b there budget = λ i. record k {
     processors : slice_set k.stirs.processors cpu (slice_index k.stirs.processors cpu + 0) ≡ k.stirs.processors
     processors = let e : slice_index k.stirs.processors cpu + 0 ≡ slice_index k.stirs.processors cpu = omega arith in
         ap (slice_set k.stirs.processors cpu) e ∙ set-get_or k.stirs.processors cpu 0
+
+    clocks : slice_set k.times.clocks cpu (slice_index k.times.clocks cpu + 0) ≡ k.times.clocks
+    clocks = let e : slice_index k.times.clocks cpu + 0 ≡ slice_index k.times.clocks cpu = omega arith in
+        ap (slice_set k.times.clocks cpu) e ∙ set-get_or k.times.clocks cpu 0

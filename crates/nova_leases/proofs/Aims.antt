@@ -1,4 +1,5 @@
 -- Edges lead to local threads along all turns.
+use Rattle.nova_range.specs.declared.status.Status.{Status}
 use Rattle.std.proofs.Common.{◌≡◌, ℕ, List, [], ◌∷◌, ◌++◌, length, inl, inr, ap, sym, ◌∙◌, subst, refl}
 use Rattle.std.specs.Prelude.{Bool, true, false, slice_get, Option, Some, None, IfSome, option_map, Ok}
 use Rattle.std.proofs.lemmas.Option.{same_Some}
@@ -30,8 +31,8 @@ use Rattle.nova_model.specs.declared.transfer.Sequel.TheVariants as sequel
 use Rattle.nova_range.specs.declared.status.Status.TheVariants.{Success}
 use Rattle.nova_model.specs.declared.context.State.TheVariants.{Calling, Blocked}
 use Rattle.nova_model.specs.declared.event.Event.{Event}
-use Rattle.nova_forest.specs.Effects.{joined, made_by}
-use Rattle.nova_forest.specs.Turns.{Acts, IsTurning, Turning, turned}
+use Rattle.nova_forest.specs.Effects.{joined, made_by, all_edited, ends_by, passing_ends}
+use Rattle.nova_forest.specs.Turns.{Acts, IsTurning, Turning, turned, Passes}
 use Rattle.nova_forest.proofs.Turning.{outcome}
 use Rattle.nova_laws.specs.Tables.{HasTables, IsOf, Refers}
 use Rattle.nova_laws.proofs.Courses.{Courses, IsTo, deed_course}
@@ -86,7 +87,7 @@ row_aims k ec domain tables (asks.Lookup range) = tt
 row_aims k ec domain tables (asks.EcCtrl whose) = named_holds (Aims k) (named k domain is_ec control_right whose) (λ n. Recalls n) (λ n. tt)
 row_aims k ec domain tables (asks.ScCtrl sc) = named_holds (Aims k) (named k domain is_sc control_right sc) (λ n. Tells SC_CTRL (ticks_in (budget_at k n))) (λ n. tt)
 row_aims k ec domain tables (asks.PtCtrl pt identifier) = named_holds (Aims k) (named k domain is_pt control_right pt) (λ n. Names n identifier) (λ n. tt)
-row_aims k ec domain tables (asks.SmCtrl sm action) = sm_ctrl_holds (Aims k) k domain sm action (λ n whom is wakes. tt) (λ n is answers. tt) (λ n is answers. tt)
+row_aims k ec domain tables (asks.SmCtrl sm action) = sm_ctrl_holds (Aims k) k ec domain sm action (λ n whom is wakes. tt) (λ n is answers. tt) (λ n until is answers till. tt)
 row_aims k ec domain tables (asks.Revoke range own) = tt
 
 deed_aims : (k : KernelState) (ec : ℕ) → HasTables k → Aims k (deed k ec)
@@ -131,7 +132,7 @@ local_kept os o h (Some x) is local = ap (option_map is_local) (get_kept os o h 
 old_entry : (os : List Object) (o : Object) (x : EcState) → IsAimed os x → IsAimed (os ++ o ∷ []) x
 old_entry os o x aimed h leads = local_kept os o h (slice_get os h) refl (aimed h leads)
 
-more_aimed : (os : List Object) (o : Object) (cs : Contexts) (entry : Option EcState) → edge_of (context_in entry).state ≡ None → AreAimed os cs → AreAimed (os ++ o ∷ []) (cs ++ entry ∷ [])
+pub more_aimed : (os : List Object) (o : Object) (cs : Contexts) (entry : Option EcState) → edge_of (context_in entry).state ≡ None → AreAimed os cs → AreAimed (os ++ o ∷ []) (cs ++ entry ∷ [])
 more_aimed os o cs entry free all n = by_entry (ec_in (cs ++ entry ∷ []) n) refl
   where
     by_entry : (e : Option EcState) → ec_in (cs ++ entry ∷ []) n ≡ e → IsAimed (os ++ o ∷ []) (context_in e)
@@ -203,6 +204,11 @@ joined_aimed os n cs (Some made) all = more_aimed os (object_of made) cs (contex
 abbrev Aimed : KernelState → Type 0
 Aimed k = AreAimed k.objects k.contexts
 
+-- one whose wait ends waits for nobody
+passed_aimed : (os : List Object) (cs : Contexts) (o : Option (ℕ × Status)) → AreAimed os cs → AreAimed os (all_edited cs (ends_by o))
+passed_aimed os cs None all = all
+passed_aimed os cs (Some (w, status)) all = set_aimed os cs w _ (λ h leads. absurd (cc)) all
+
 turned_aimed : (k : KernelState) (cpu : ℕ) (t : Turning) (e : Event) → IsTurning k cpu t e → HasTables k → Aimed k → Aimed (turned k cpu t)
 turned_aimed k cpu t e (Acts c chosen is event) tables all =
     let d = deed k c.actor in
@@ -210,6 +216,8 @@ turned_aimed k cpu t e (Acts c chosen is event) tables all =
     subst (λ (u : Turning). Aimed (turned k cpu u)) (sym is)
     (joined_aimed k.objects (length k.objects) _ (made_by d)
     (deed_course k c.actor (λ cs all. AreAimed k.objects cs) d actor (deed_asks k c.actor) (aimed_courses k c.actor d (deed_aims k c.actor tables) all)))
+turned_aimed k cpu t e (Passes p comes is event) tables all =
+    subst (λ (u : Turning). Aimed (turned k cpu u)) (sym is) (passed_aimed k.objects k.contexts (passing_ends k p) all)
 
 pub turn_aimed : (k : KernelState) (cpu : ℕ) → HasTables k → AreAimed k.objects k.contexts → AreAimed (after k cpu).objects (after k cpu).contexts
 turn_aimed k cpu tables all = outcome (λ s o. Aimed s) k cpu (λ none. all) (λ t e is. turned_aimed k cpu t e is tables all)

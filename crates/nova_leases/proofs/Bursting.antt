@@ -1,4 +1,7 @@
 -- n inputs of its own of a virtual CPU that acts, none of which puts anything out, are n turns of its processor.
+use Rattle.nova_laws.proofs.Moments.{early_calm, early_next}
+use Rattle.nova_laws.specs.Moments.{IsEarly}
+use Rattle.nova_forest.proofs.Turning.{acts_next}
 use Rattle.std.proofs.Common.{◌≡◌, ℕ, zero, suc, ◌+◌, ◌<◌, ◌≤◌, ◌++◌, List, [], ap, ap₂, sym, ◌∙◌, subst, refl, arith}
 use Rattle.std.specs.Prelude.{Bool, replicate, slice_index, Option, Some, None, IsSome, if◌then◌else◌}
 use Rattle.std.proofs.lemmas.Bool.{eq-eqb}
@@ -11,7 +14,7 @@ use Rattle.nova_guest.specs.declared.input.Input.{Input}
 use Rattle.nova_guest.specs.declared.input.Input.TheVariants.{Own}
 use Rattle.nova_guest.specs.declared.input.Out.{Out}
 use Rattle.nova_guest.specs.declared.map.Map.{Map}
-use Rattle.nova_model.specs.Choice.{Candidate, choice, in_front}
+use Rattle.nova_model.specs.Choice.{Candidate, choice, in_front, next_to_act}
 use Rattle.nova_model.specs.Deeds.{deed}
 use Rattle.nova_model.specs.Guests.{input, input_by}
 use Rattle.nova_model.specs.Inputs.{input_of, others_input, own_input}
@@ -35,7 +38,7 @@ use Rattle.nova_leases.proofs.Stepping.{IsPlain, plain, plain_turn, ram_after}
 
 -- ONE TURN
 
-comes_own : (k : KernelState) (cpu : ℕ) (c : Candidate) → choice k cpu ≡ Some c → deed k c.actor ≡ Steps → input k cpu c.actor ≡ Some Own
+comes_own : (k : KernelState) (cpu : ℕ) (c : Candidate) → next_to_act k cpu ≡ Some c → deed k c.actor ≡ Steps → input k cpu c.actor ≡ Some Own
 unfolding input input_of
 comes_own k cpu c chosen does =
     ap (input_by k c.actor) chosen
@@ -48,15 +51,19 @@ pub record IsStepped (k : KernelState) (cpu : ℕ) (c : Candidate) (b : Budget) 
   pub seen : view new c.actor ≡ (applied (view k c.actor) Own).guest
   pub covers : IsRamOf (maps_at k c.actor) k.memory.ram ram
 
-pub one_step : (k : KernelState) (cpu : ℕ) (c : Candidate) (b : Budget) → IsSound k → IsLeasable k cpu c b → (applied (view k c.actor) Own).out ≡ None → IsStepped k cpu c b (after k cpu)
-one_step k cpu c b sound may out =
+-- where nothing is due the chosen one acts
+pub acts_now : (k : KernelState) (cpu n : ℕ) (c : Candidate) (b : Budget) → IsLeasable k cpu c b → IsEarly k.times cpu (suc n) → next_to_act k cpu ≡ Some c
+acts_now k cpu n c b may early = acts_next k cpu c may.chosen (early_calm k.times cpu n early)
+
+pub one_step : (k : KernelState) (cpu : ℕ) (c : Candidate) (b : Budget) → IsSound k → IsLeasable k cpu c b → next_to_act k cpu ≡ Some c → (applied (view k c.actor) Own).out ≡ None → IsStepped k cpu c b (after k cpu)
+one_step k cpu c b sound may acts out =
     let its : IsGuest k c.actor = guest k c.actor sound may.guest in
     let p : IsPlain k c.actor = plain k c.actor (premises k sound) its may.ready may.recall out in
     record {
       regs = p.regs;
       ram = ram_after k c.actor p.store;
-      is = plain_turn k cpu c b (premises k sound) its may.chosen may.budget p;
-      seen = (turn_is_one k cpu c.actor sound may.guest).guest ∙ ap (λ (i : Option Input). (answered (view k c.actor) i).guest) (comes_own k cpu c may.chosen p.does);
+      is = plain_turn k cpu c b (premises k sound) its acts may.budget p;
+      seen = (turn_is_one k cpu c.actor sound may.guest).guest ∙ ap (λ (i : Option Input). (answered (view k c.actor) i).guest) (comes_own k cpu c acts p.does);
       covers = plain_ram k c.actor p.store (premises k sound);
     }
 
@@ -104,6 +111,7 @@ midway_leasable k cpu c b regs ram fs sound may virtual =
       recall = ap (λ (x : EcState). x.recall) same ∙ may.recall;
       budget = entry_itself k.budgets c.sc (paid_one b) (budget_there (budget_at k c.sc) b may.budget);
       processor = subst (λ (n : ℕ). cpu < n) (sym (length-set k.stirs.processors cpu (slice_index k.stirs.processors cpu + 1))) may.processor;
+      clock = subst (λ (n : ℕ). cpu < n) (sym (length-set k.times.clocks cpu (slice_index k.times.clocks cpu + 1))) may.clock;
     }
 
 -- SEVERAL TURNS
@@ -137,7 +145,7 @@ more_turns : (k mid new : KernelState) (cpu n : ℕ) (c : Candidate) (b : Budget
     IsAdvanced n mid cpu c (paid_one b) new → IsAdvanced (suc n) k cpu c b new
 more_turns k mid new cpu n c b sound may more some step rest = record {
   is = rest.is ∙ (ap₂ (λ (s : KernelState) (gs : List ℕ). advanced_by s cpu c (paid_one b) n (view new c.actor).regs new.memory.ram gs) goes (ap (frames_stored n) step.seen)
-      ∙ (advanced_again k cpu c b n step.regs (view new c.actor).regs step.ram new.memory.ram fs gs may.processor (guest k c.actor sound may.guest).there more some
+      ∙ (advanced_again k cpu c b n step.regs (view new c.actor).regs step.ram new.memory.ram fs gs may.processor may.clock (guest k c.actor sound may.guest).there more some
       ∙ ap (advanced_by k cpu c b (suc n) (view new c.actor).regs new.memory.ram) (in_front_of (next_frame (view k c.actor)) gs)));
   seen = rest.seen ∙ ap (own_after n) step.seen;
   covers = ram_through (maps_at k c.actor) k.memory.ram step.ram new.memory.ram step.covers
@@ -181,23 +189,29 @@ next_quiet n k cpu c b step quiet = ap (λ (v : Guest). outputs v (replicate n O
 pub first_quiet : (n : ℕ) (v : Guest) → outputs v (replicate (suc n) Own) ≡ [] → (applied v Own).out ≡ None
 first_quiet n v quiet = none_out (applied v Own).out (outputs (applied v Own).guest (replicate n Own)) quiet
 
-pub advances : (n : ℕ) (k : KernelState) (cpu : ℕ) (c : Candidate) (b : Budget) → IsSound k → IsLeasable k cpu c b → n ≤ b.left →
+-- and a turn less is left until something is due
+pub next_early : (n : ℕ) (k : KernelState) (cpu : ℕ) (c : Candidate) (b : Budget) → IsLeasable k cpu c b → 1 < b.left → IsStepped k cpu c b (after k cpu) →
+    IsEarly k.times cpu (suc n) → IsEarly (after k cpu).times cpu n
+next_early n k cpu c b may more step early =
+    subst (λ (s : KernelState). IsEarly s.times cpu n) (sym (goes_on k cpu c b more step)) (early_next k.times cpu n may.clock early)
+
+pub advances : (n : ℕ) (k : KernelState) (cpu : ℕ) (c : Candidate) (b : Budget) → IsSound k → IsLeasable k cpu c b → n ≤ b.left → IsEarly k.times cpu n →
     outputs (view k c.actor) (replicate n Own) ≡ [] → IsAdvanced n k cpu c b (run k (replicate n cpu))
-advances zero k cpu c b sound may left quiet = no_turns k cpu c b sound may
-advances (suc zero) k cpu c b sound may left quiet =
-    one_turn k (after k cpu) cpu c b (guest k c.actor sound may.guest).there (one_step k cpu c b sound may (first_quiet 0 (view k c.actor) quiet))
-advances (suc (suc n)) k cpu c b sound may left quiet =
-    let step : IsStepped k cpu c b (after k cpu) = one_step k cpu c b sound may (first_quiet (suc n) (view k c.actor) quiet) in
+advances zero k cpu c b sound may left early quiet = no_turns k cpu c b sound may
+advances (suc zero) k cpu c b sound may left early quiet =
+    one_turn k (after k cpu) cpu c b (guest k c.actor sound may.guest).there (one_step k cpu c b sound may (acts_now k cpu 0 c b may early) (first_quiet 0 (view k c.actor) quiet))
+advances (suc (suc n)) k cpu c b sound may left early quiet =
+    let step : IsStepped k cpu c b (after k cpu) = one_step k cpu c b sound may (acts_now k cpu (suc n) c b may early) (first_quiet (suc n) (view k c.actor) quiet) in
     more_turns k (after k cpu) (run k (replicate (suc (suc n)) cpu)) cpu (suc n) c b sound may (omega arith) (omega arith) step
     (advances (suc n) (after k cpu) cpu c (paid_one b) (turn_sound k cpu sound) (next_leasable k cpu c b sound may (omega arith) step) (omega arith)
-    (next_quiet (suc n) k cpu c b step quiet))
+    (next_early (suc n) k cpu c b may (omega arith) step early) (next_quiet (suc n) k cpu c b step quiet))
 
 -- THE LAW
 
-pub burst : (n : ℕ) (k : KernelState) (cpu : ℕ) (c : Candidate) (b : Budget) → IsSound k → IsLeasable k cpu c b → n ≤ b.left →
+pub burst : (n : ℕ) (k : KernelState) (cpu : ℕ) (c : Candidate) (b : Budget) → IsSound k → IsLeasable k cpu c b → n ≤ b.left → IsEarly k.times cpu n →
     outputs (view k c.actor) (replicate n Own) ≡ [] → run k (replicate n cpu) ≡ advanced k cpu c b n
-burst n k cpu c b sound may left quiet =
-    let all : IsAdvanced n k cpu c b (run k (replicate n cpu)) = advances n k cpu c b sound may left quiet in
+burst n k cpu c b sound may left early quiet =
+    let all : IsAdvanced n k cpu c b (run k (replicate n cpu)) = advances n k cpu c b sound may left early quiet in
     all.is ∙ ap₂ (λ (r : Registers) (ram : List (List ℕ)). advanced_by k cpu c b n r ram (frames_stored n (view k c.actor)))
     (ap (λ (v : Guest). v.regs) all.seen)
     (ram_is_laid (maps_at k c.actor) k.memory.ram new.memory.ram all.covers ∙ ap (λ (cells : List Cell). laid_over 0 cells k.memory.ram) (cells_seen all))

@@ -1,6 +1,8 @@
 -- A commit that goes through leaves what as many turns leave.
+use Rattle.nova_forest.proofs.Boots.{sources_keep}
+use Rattle.nova_model.specs.Times.{until_due}
 use Rattle.std.proofs.Common.{◌≡◌, ◌≢◌, ℕ, zero, suc, List, [], ◌∷◌, ap, sym, ◌∙◌, subst, refl, arith}
-use Rattle.std.specs.Prelude.{Bool, true, false, ◌==◌, ◌&&◌, nat_le, replicate, slice_get, slice_index, Option, Some, None, option_map, if◌then◌else◌}
+use Rattle.std.specs.Prelude.{Bool, true, false, ◌==◌, ◌&&◌, nat_le, replicate, slice_get, slice_index, Option, Some, None, option_map, if◌then◌else◌, IfSome, ◌<◌, ◌≤◌, length}
 use Rattle.std.proofs.lemmas.Bool.{eqb-true}
 use Rattle.std.proofs.lemmas.Option.{same_Some}
 use Rattle.nova_guest.specs.declared.guest.Guest.{Guest}
@@ -29,17 +31,17 @@ use Rattle.nova_isolation.proofs.Runs.{boot_sound, turn_sound}
 use Rattle.nova_isolation.proofs.Seen.{view_is}
 use Rattle.nova_leases.specs.Advances.{IsLeasable, step_of}
 use Rattle.nova_leases.specs.Aims.{AreAimed}
-use Rattle.nova_leases.specs.Commits.{IsCommitted, IsReached, LeaseRun, MayCommit, Stems, by_actor, by_room, commit_done, number_of, same_counts, stirs_now}
+use Rattle.nova_leases.specs.Commits.{IsCommitted, IsReached, LeaseRun, MayCommit, Stems, by_actor, by_room, commit_done, number_of, same_counts, stirs_now, lesser}
 use Rattle.nova_leases.specs.Counts.{IsAsBefore, IsOn, IsPayer, IsUnstirred}
 use Rattle.nova_leases.specs.Paging.{IsStepping, advanced_to}
 use Rattle.nova_leases.specs.declared.commit.CommitDone.{CommitDone}
 use Rattle.nova_leases.specs.declared.commit.CommitDone.TheVariants.{Dropped, Away, Committed}
-use Rattle.nova_leases.proofs.Aims.{turn_aimed}
+use Rattle.nova_leases.proofs.Aims.{turn_aimed, more_aimed}
 use Rattle.nova_leases.proofs.Homes.{chosen_home, home}
 use Rattle.nova_leases.proofs.Paged.{steps_advance}
 use Rattle.nova_leases.proofs.Payers.{its_payer, not_idle, schedules_it}
 use Rattle.nova_leases.proofs.Traced.{traced}
-use Rattle.nova_leases.proofs.Unchanged.{counted, on_virtual, run_on, unstirred}
+use Rattle.nova_leases.proofs.Unchanged.{counted, on_virtual, run_on, unstirred, run_clocks}
 
 -- WHAT ALWAYS HOLDS
 
@@ -67,7 +69,11 @@ images_aimed k (image ∷ images) all = images_aimed (with_image k image) images
 pub boot_reached : (s : Scenario) → IsReached (boot s)
 boot_reached s = record {
   sound = boot_sound s;
-  single = record { aimed = images_aimed (bare s.cpus s.ram s.consoles s.root) s.images (bare_aimed s); alone = run_alone s [] };
+  single = record {
+    aimed = sources_keep (λ (k : KernelState). AreAimed k.objects k.contexts) (λ k source all. more_aimed k.objects Sm k.contexts None refl all)
+        (with_images (bare s.cpus s.ram s.consoles s.root) s.images) s.sources (images_aimed (bare s.cpus s.ram s.consoles s.root) s.images (bare_aimed s));
+    alone = run_alone s [];
+  };
 }
 
 -- WHAT IS LEASED STAYS
@@ -120,9 +126,9 @@ own_payer k cpu c b is may its = record {
 }
 
 -- where it acts again, it may be leased with the same budget
-still_leasable : (k l : KernelState) (cpu : ℕ) (c d : Candidate) (b : Budget) → IsReached k → IsReached l → IsLeasable k cpu c b → IsOn l c.actor cpu → IsAsBefore k l c.actor cpu →
+still_leasable : (k l : KernelState) (cpu : ℕ) (c d : Candidate) (b : Budget) → IsReached k → IsReached l → IsLeasable k cpu c b → IsOn l c.actor cpu → cpu < length l.times.clocks → IsAsBefore k l c.actor cpu →
     choice l cpu ≡ Some d → d.actor ≡ c.actor → IsLeasable l cpu d b
-still_leasable k l cpu c d b is now may on same chosen acts =
+still_leasable k l cpu c d b is now may on clocked same chosen acts =
     let its : HasSchedule k cpu c = schedule_of k cpu c (the_chosen k cpu c may.chosen) in
     let theirs : HasSchedule l cpu d = schedule_of l cpu d (the_chosen l cpu d chosen) in
     let virtual : IsVirtual l d.actor = subst (IsVirtual l) (sym acts) (on_virtual l c.actor cpu on) in
@@ -137,6 +143,7 @@ still_leasable k l cpu c d b is now may on same chosen acts =
       recall = ap (λ (n : ℕ). (context l n).recall) acts ∙ still_free k l c.actor same.view may.recall;
       budget = ap (budget_at l) (sym one) ∙ kept.budget;
       processor = on.processor;
+      clock = clocked;
     }
 
 -- COUNTS THAT ARE EQUAL
@@ -197,29 +204,35 @@ still_busy k turns lease stems same =
     (state_in_there l g virtual.there ∙ ap Some (still_ready k l g f.same.view stems.may.ready))
     (f.same.payers stems.chosen.sc g its.priority its.quantum stems.budget (own_payer k lease.cpu stems.chosen stems.budget stems.state stems.may its))
 
+-- the lesser bounds both
+lesser_bounds : (left : ℕ) (until : Option ℕ) (n : ℕ) → n ≤ lesser left until → (n ≤ left) × IfSome until (λ turns. n ≤ turns)
+lesser_bounds left None n within = (within, tt)
+lesser_bounds left (Some until) n within = (omega (arith, within), omega (arith, within))
+
 pub may_commit : (k : KernelState) (turns : List ℕ) (lease : LeaseRun) (d : Candidate) → (stems : Stems lease k) →
     same_counts lease.kept (stirs_now (run k turns) lease.guest lease.cpu) ≡ true → choice (run k turns) lease.cpu ≡ Some d → d.actor ≡ lease.guest →
     MayCommit (run k turns) lease d stems.budget
 may_commit k turns lease d stems same chosen acts =
     let f : IsFound k (run k turns) lease stems.chosen stems.budget = found k turns lease stems same in
     let one : d.actor ≡ stems.chosen.actor = acts ∙ sym stems.actor in
-    let a = stems.within in let b = stems.bound in
+    let bound = lesser_bounds stems.budget.left (until_due k.times lease.cpu) lease.steps.count (subst (λ (n : ℕ). lease.steps.count ≤ n) stems.bound stems.within) in
     record {
       state = f.state;
-      may = still_leasable k (run k turns) lease.cpu stems.chosen d stems.budget stems.state f.state stems.may f.on f.same chosen one;
+      may = still_leasable k (run k turns) lease.cpu stems.chosen d stems.budget stems.state f.state stems.may f.on (subst (λ (n : ℕ). lease.cpu < n) (sym (run_clocks turns k)) stems.may.clock) f.same chosen one;
       actor = acts;
-      left = omega arith;
+      left = bound.0;
+      early = f.same.early lease.steps.count bound.1;
       runs = subst (λ (v : Guest). IsStepping v lease.steps) (ap (view k) (sym stems.actor) ∙ (sym f.same.view ∙ ap (view (run k turns)) (sym one))) stems.runs;
     }
 
 -- it leaves as many turns, each a plain step of the leased one that the chosen pays
 pub commits : (l : KernelState) (lease : LeaseRun) (d : Candidate) (b : Budget) → MayCommit l lease d b →
     run l (replicate lease.steps.count lease.cpu) ≡ advanced_to l lease.cpu d b lease.steps
-commits l lease d b is = steps_advance l lease.cpu d b lease.steps is.state.sound is.may is.left is.runs
+commits l lease d b is = steps_advance l lease.cpu d b lease.steps is.state.sound is.may is.left is.early is.runs
 
 pub commit_traced : (l : KernelState) (lease : LeaseRun) (d : Candidate) (b : Budget) → MayCommit l lease d b →
     trace l (replicate lease.steps.count lease.cpu) ≡ replicate lease.steps.count (step_of lease.cpu d)
-commit_traced l lease d b is = traced lease.steps.count l lease.cpu d b is.state.sound is.may is.left is.runs.pages.quiet
+commit_traced l lease d b is = traced lease.steps.count l lease.cpu d b is.state.sound is.may is.left is.early is.runs.pages.quiet
 
 -- THE ANSWERS
 

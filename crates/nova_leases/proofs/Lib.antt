@@ -21,3 +21,4 @@ pub mod Stops
 pub mod Stored
 pub mod Laid
 pub mod Parts
+pub mod Nearing

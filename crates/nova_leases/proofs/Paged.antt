@@ -1,4 +1,5 @@
 -- What was done on copies, laid over the kernel's state, is what as many turns leave.
+use Rattle.nova_laws.specs.Moments.{IsEarly}
 use Rattle.std.proofs.Common.{◌≡◌, ◌≢◌, ◌≤◌, ℕ, zero, suc, ◌+◌, ◌%◌, List, [], ◌∷◌, length, inl, inr, ap, ap₂, sym, ◌∙◌, subst, refl, arith}
 use Rattle.std.specs.Prelude.{Bool, true, false, ◌==◌, filter, replicate, slice_get, Option, Some, None, IsSome, is_some, option_map, option_and_then, if◌then◌else◌}
 use Rattle.std.specs.List.{AllByRecursion}
@@ -190,10 +191,10 @@ ram_same k g n pages are = laid_same 0 (own_after n (view k g)).cells (cells_in 
 
 -- THE LAW
 
-pub steps_advance : (k : KernelState) (cpu : ℕ) (c : Candidate) (b : Budget) (s : Steps) → IsSound k → IsLeasable k cpu c b → s.count ≤ b.left → IsStepping (view k c.actor) s →
+pub steps_advance : (k : KernelState) (cpu : ℕ) (c : Candidate) (b : Budget) (s : Steps) → IsSound k → IsLeasable k cpu c b → s.count ≤ b.left → IsEarly k.times cpu s.count → IsStepping (view k c.actor) s →
     run k (replicate s.count cpu) ≡ advanced_to k cpu c b s
-steps_advance k cpu c b s sound may left is =
-    burst s.count k cpu c b sound may left is.pages.quiet
+steps_advance k cpu c b s sound may left early is =
+    burst s.count k cpu c b sound may left early is.pages.quiet
     ∙ (λ i. changed_by k cpu c.sc c.actor s.count (sym is.regs i) (ram_same k c.actor s.count s.pages.items is.pages i)
     (budget_used (is_used s.count b) s.count (quantum_in (slice_get k.objects c.sc)) k.next_stamp b) (stamp_after (is_used s.count b) k.next_stamp)
     (counts_same k c.actor s.count 0 k.stirs.guests (view k c.actor) s.pages.items is.pages i))

@@ -23,6 +23,7 @@ none_charged k cpu sc b budget = λ i. record k {
   budgets = sym (ap (λ (d : Budget). slice_set k.budgets sc (Some d)) unpaid ∙ set_there k.budgets sc b budget) i;
   turns = turns i;
   stirs = record k.stirs { processors = sym processors i };
+  times = record k.times { clocks = sym clocks i };
 }
   where
     unpaid : budget_used false 0 (quantum_in (slice_get k.objects sc)) k.next_stamp b ≡ b
@@ -34,6 +35,10 @@ none_charged k cpu sc b budget = λ i. record k {
     processors : slice_set k.stirs.processors cpu (slice_index k.stirs.processors cpu + 0) ≡ k.stirs.processors
     processors = let e : slice_index k.stirs.processors cpu + 0 ≡ slice_index k.stirs.processors cpu = omega arith in
         ap (slice_set k.stirs.processors cpu) e ∙ set-get_or k.stirs.processors cpu 0
+
+    clocks : slice_set k.times.clocks cpu (slice_index k.times.clocks cpu + 0) ≡ k.times.clocks
+    clocks = let e : slice_index k.times.clocks cpu + 0 ≡ slice_index k.times.clocks cpu = omega arith in
+        ap (slice_set k.times.clocks cpu) e ∙ set-get_or k.times.clocks cpu 0
 
 -- one more
 unused : (n left : ℕ) → n < left → (nat_lt 0 n && nat_le left n) ≡ false
@@ -55,6 +60,7 @@ charged_so_far k cpu sc b n = record k {
   budgets = slice_set k.budgets sc (Some (used n b));
   turns = k.turns + n;
   stirs = record k.stirs { processors = slice_set k.stirs.processors cpu (slice_index k.stirs.processors cpu + n) };
+  times = record k.times { clocks = slice_set k.times.clocks cpu (slice_index k.times.clocks cpu + n) };
 }
 
 so_far : (k : KernelState) (cpu sc n : ℕ) (b : Budget) → n < b.left → charged_at_once k cpu sc b n ≡ charged_so_far k cpu sc b n
@@ -63,17 +69,19 @@ so_far k cpu sc n b more = λ i. record k {
   next_stamp = stamp_after (unused n b.left more i) k.next_stamp;
   turns = k.turns + n;
   stirs = record k.stirs { processors = slice_set k.stirs.processors cpu (slice_index k.stirs.processors cpu + n) };
+  times = record k.times { clocks = slice_set k.times.clocks cpu (slice_index k.times.clocks cpu + n) };
 }
 
-one_more : (k : KernelState) (cpu sc n : ℕ) (b : Budget) → n < b.left → budget_at k sc ≡ Some b → cpu < length k.stirs.processors →
+one_more : (k : KernelState) (cpu sc n : ℕ) (b : Budget) → n < b.left → budget_at k sc ≡ Some b → cpu < length k.stirs.processors → cpu < length k.times.clocks →
     charged (charged_so_far k cpu sc b n) cpu sc ≡ charged_at_once k cpu sc b (suc n)
-one_more k cpu sc n b more budget within =
+one_more k cpu sc n b more budget within clocked =
     charged_is (charged_so_far k cpu sc b n) cpu sc (used n b) (entry_itself k.budgets sc (used n b) (some_budget (budget_at k sc) b budget))
     ∙ (λ i. record k {
       budgets = budgets i;
       next_stamp = ap (λ (t : Bool). stamp_after t k.next_stamp) (next_used n b.left more) i;
       turns = turns i;
       stirs = record k.stirs { processors = processors i };
+      times = record k.times { clocks = clocks i };
     })
   where
     q : ℕ
@@ -97,9 +105,17 @@ one_more k cpu sc n b more budget within =
     processors = set-set k.stirs.processors cpu (slice_index k.stirs.processors cpu + n) (slice_index (slice_set k.stirs.processors cpu (slice_index k.stirs.processors cpu + n)) cpu + 1)
         ∙ ap (slice_set k.stirs.processors cpu) (let e = found in omega arith)
 
-pub charged_all : (n : ℕ) (k : KernelState) (cpu sc : ℕ) (b : Budget) → n ≤ b.left → budget_at k sc ≡ Some b → cpu < length k.stirs.processors →
+    shown : slice_index (slice_set k.times.clocks cpu (slice_index k.times.clocks cpu + n)) cpu ≡ slice_index k.times.clocks cpu + n
+    shown = get_or-set_same k.times.clocks cpu (slice_index k.times.clocks cpu + n) 0 clocked
+
+    clocks : slice_set (slice_set k.times.clocks cpu (slice_index k.times.clocks cpu + n)) cpu
+        (slice_index (slice_set k.times.clocks cpu (slice_index k.times.clocks cpu + n)) cpu + 1) ≡ slice_set k.times.clocks cpu (slice_index k.times.clocks cpu + suc n)
+    clocks = set-set k.times.clocks cpu (slice_index k.times.clocks cpu + n) (slice_index (slice_set k.times.clocks cpu (slice_index k.times.clocks cpu + n)) cpu + 1)
+        ∙ ap (slice_set k.times.clocks cpu) (let e = shown in omega arith)
+
+pub charged_all : (n : ℕ) (k : KernelState) (cpu sc : ℕ) (b : Budget) → n ≤ b.left → budget_at k sc ≡ Some b → cpu < length k.stirs.processors → cpu < length k.times.clocks →
     charged_times n k cpu sc ≡ charged_at_once k cpu sc b n
-charged_all zero k cpu sc b left budget within = none_charged k cpu sc b budget
-charged_all (suc n) k cpu sc b left budget within =
-    ap (λ (s : KernelState). charged s cpu sc) (charged_all n k cpu sc b (omega arith) budget within ∙ so_far k cpu sc n b (omega arith))
-    ∙ one_more k cpu sc n b (omega arith) budget within
+charged_all zero k cpu sc b left budget within clocked = none_charged k cpu sc b budget
+charged_all (suc n) k cpu sc b left budget within clocked =
+    ap (λ (s : KernelState). charged s cpu sc) (charged_all n k cpu sc b (omega arith) budget within clocked ∙ so_far k cpu sc n b (omega arith))
+    ∙ one_more k cpu sc n b (omega arith) budget within clocked

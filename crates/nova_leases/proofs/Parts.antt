@@ -1,4 +1,5 @@
 -- Steps laid over a state part by part are as many turns.
+use Rattle.nova_laws.specs.Moments.{IsEarly}
 use Rattle.std.proofs.Common.{◌≡◌, ◌<◌, ◌≤◌, ℕ, zero, suc, ◌+◌, List, [], ◌∷◌, ap, ap₂, sym, ◌∙◌, refl, arith}
 use Rattle.std.specs.Prelude.{replicate, slice_set, Option, Some, None}
 use Rattle.nova_guest.specs.Cells.{cell_at}
@@ -55,9 +56,9 @@ written_same k g n pages are =
     written_laid (stored_to pages) k.memory.ram fewer.once ∙ (sym (ram_same k g n (stored_to pages) fewer) ∙ ram_same k g n pages are)
 
 -- all parts
-pub laid_advance : (k : KernelState) (cpu : ℕ) (c : Candidate) (b : Budget) (s : Steps) → IsSound k → IsLeasable k cpu c b → s.count ≤ b.left → IsStepping (view k c.actor) s →
+pub laid_advance : (k : KernelState) (cpu : ℕ) (c : Candidate) (b : Budget) (s : Steps) → IsSound k → IsLeasable k cpu c b → s.count ≤ b.left → IsEarly k.times cpu s.count → IsStepping (view k c.actor) s →
     run k (replicate s.count cpu) ≡ laid_steps k cpu c.sc c.actor s
-laid_advance k cpu c b s sound may left is =
-    steps_advance k cpu c b s sound may left is
-    ∙ sym (ap (λ (m : KernelState). laid_counts (laid_pages (laid_regs m c.actor s.regs) s.pages.items) c.actor s.pages.items) (charged_all s.count k cpu c.sc b left may.budget may.processor)
+laid_advance k cpu c b s sound may left early is =
+    steps_advance k cpu c b s sound may left early is
+    ∙ sym (ap (λ (m : KernelState). laid_counts (laid_pages (laid_regs m c.actor s.regs) s.pages.items) c.actor s.pages.items) (charged_all s.count k cpu c.sc b left may.budget may.processor may.clock)
     ∙ (λ i. record (advanced_to k cpu c b s) { memory = record k.memory { ram = written_same k c.actor s.count s.pages.items is.pages i } }))

@@ -14,7 +14,7 @@ use Rattle.nova_guest.specs.declared.input.Input.TheVariants.{Own}
 use Rattle.nova_guest.specs.declared.map.Map.{Map}
 use Rattle.nova_range.specs.Rights.{write_right}
 use Rattle.nova_model.specs.AddressSpaces.{AddressSpace, message_size, own_page, stored_among}
-use Rattle.nova_model.specs.Choice.{Candidate, choice, in_front}
+use Rattle.nova_model.specs.Choice.{Candidate, next_to_act, in_front}
 use Rattle.nova_model.specs.Deeds.{deed, deed_in, done, instruction, memory_after, messages_after, ready, signalled, stepped, stepping}
 use Rattle.nova_model.specs.Inputs.{foreign, foreign_at, foreign_by, frame_of_store, in_ram, is_covered_for, is_outside, only_if, input_of, own_input, store_of, stirred, stirred_count, stirred_from}
 use Rattle.nova_model.specs.Runs.{after}
@@ -192,7 +192,7 @@ charged_plainly : (k s : KernelState) (cpu sc : ℕ) (b : Budget) → s.budgets 
 unfolding charged
 charged_plainly k s cpu sc b same is = ap (λ (o : Option Budget). counted (paid_by s sc (quantum_in (slice_get s.objects sc)) o) cpu) is
 
-pub plain_turn : (k : KernelState) (cpu : ℕ) (c : Candidate) (b : Budget) → HasPremises k → IsGuest k c.actor → choice k cpu ≡ Some c → budget_at k c.sc ≡ Some b →
+pub plain_turn : (k : KernelState) (cpu : ℕ) (c : Candidate) (b : Budget) → HasPremises k → IsGuest k c.actor → next_to_act k cpu ≡ Some c → budget_at k c.sc ≡ Some b →
     (p : IsPlain k c.actor) → after k cpu ≡ advanced_by k cpu c b 1 p.regs (ram_after k c.actor p.store) (in_front (next_frame (view k c.actor)) [])
 plain_turn k cpu c b sound is chosen budget p =
     let g = c.actor in

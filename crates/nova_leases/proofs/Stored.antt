@@ -156,7 +156,7 @@ held_in false o b is = absurd (cc)
 pub pages_whole : (k : KernelState) (cpu : ℕ) (s : Steps) → IsReached k → MayAdvance k cpu s → AreFrames k.memory.ram s.pages.items
 pages_whole k cpu s is may =
     let g = may.chosen.actor in
-    let all : IsAdvanced s.count k cpu may.chosen may.budget new = advances s.count k cpu may.chosen may.budget is.sound may.may may.left may.runs.pages.quiet in
+    let all : IsAdvanced s.count k cpu may.chosen may.budget new = advances s.count k cpu may.chosen may.budget is.sound may.may may.left may.early may.runs.pages.quiet in
     let later : IsReached new = run_reached k (replicate s.count cpu) is in
     of_frames (own_after s.count (view k g)).cells k.memory.ram s.pages.items
     (λ f b at.

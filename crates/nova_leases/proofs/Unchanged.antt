@@ -1,6 +1,9 @@
 -- Along turns that stir neither a virtual CPU nor its processor, its view and the processor's budgets stay.
+use Rattle.nova_model.specs.declared.event.Event.{Event}
+use Rattle.nova_leases.proofs.Nearing.{turn_early}
+use Rattle.nova_forest.proofs.Turning.{acts_chosen, event_at}
 use Rattle.std.proofs.Common.{◌≡◌, ◌≢◌, ◌<◌, ℕ, ◌+◌, List, [], ◌∷◌, length, inl, inr, ap, sym, ◌∙◌, subst, refl, arith}
-use Rattle.std.specs.Prelude.{Bool, true, false, slice_get, slice_index, Option, Some, None, IsSome, is_some, option_map}
+use Rattle.std.specs.Prelude.{Bool, true, false, slice_get, slice_index, Option, Some, None, IsSome, is_some, option_map, slice_set}
 use Rattle.std.proofs.lemmas.Bool.{cases_eq}
 use Rattle.std.proofs.lemmas.List.{length-set}
 use Rattle.std.proofs.lemmas.Option.{same_Some}
@@ -9,17 +12,17 @@ use Rattle.nova_objects.specs.declared.object.Object.{Object}
 use Rattle.nova_objects.specs.declared.object.Object.TheVariants.{Ec, Sc}
 use Rattle.nova_objects.specs.declared.object.EcKind.TheVariants.{Vcpu}
 use Rattle.nova_model.specs.Capabilities.{is_vcpu}
-use Rattle.nova_model.specs.Choice.{Candidate, choice}
+use Rattle.nova_model.specs.Choice.{Candidate}
 use Rattle.nova_model.specs.Creation.{object_of}
 use Rattle.nova_model.specs.Edges.{cpu_in}
 use Rattle.nova_model.specs.Guests.{input}
 use Rattle.nova_model.specs.Runs.{after, run}
-use Rattle.nova_model.specs.State.{KernelState, entry}
+use Rattle.nova_model.specs.State.{KernelState, entry, budget_at}
 use Rattle.nova_model.specs.Views.{view}
 use Rattle.nova_model.specs.declared.budget.Budget.{Budget}
 use Rattle.nova_laws.specs.Stirs.{stirs_of}
 use Rattle.nova_laws.specs.Tables.{HasTables, cpu_of}
-use Rattle.nova_laws.proofs.Paying.{Adds, AddsNone, AddsOne, Comes, Idles, Takes, IsTurn, comes, still_budget}
+use Rattle.nova_laws.proofs.Paying.{Adds, AddsNone, AddsOne, Comes, Idles, Takes, IsTurn, comes, still_budget, Passes}
 use Rattle.nova_laws.proofs.Setting.{entry_other, get_kept, index_itself}
 use Rattle.nova_laws.proofs.Stirring.{counts_outside}
 use Rattle.nova_laws.proofs.Tags.{get_map}
@@ -28,7 +31,7 @@ use Rattle.nova_isolation.specs.Sound.{IsSound, IsVirtual}
 use Rattle.nova_isolation.proofs.Runs.{turn_is_one, turn_sound}
 use Rattle.nova_leases.specs.Counts.{IsAsBefore, IsOn, IsPayer, IsUnstirred}
 use Rattle.nova_leases.proofs.Homes.{chosen_home, home}
-use Rattle.nova_leases.proofs.Unstirred.{apart_no, is_outside, is_own, processor_rises, processors_rise, run_rises, turn_rises}
+use Rattle.nova_leases.proofs.Unstirred.{apart_no, is_outside, is_own, processor_rises, processors_rise, run_rises, turn_rises, nobody_no}
 
 -- WHAT IS THERE STAYS
 
@@ -36,13 +39,25 @@ still_object : (k s : KernelState) (ec n : ℕ) (o : Object) → Adds k s ec →
 still_object k s ec n o (AddsNone objects budgets next) is = ap (λ (os : List Object). slice_get os n) objects ∙ is
 still_object k s ec n o (AddsOne made bound objects budgets next) is = ap (λ (os : List Object). slice_get os n) objects ∙ get_kept k.objects (object_of made) n o is
 
-turn_object : (k new : KernelState) (cpu n : ℕ) (o : Object) → Comes k new cpu → slice_get k.objects n ≡ Some o → slice_get new.objects n ≡ Some o
-turn_object k new cpu n o (Idles idle is) at = ap (λ (s : KernelState). slice_get s.objects n) is ∙ at
-turn_object k new cpu n o (Takes c chosen t) at = ap (λ (os : List Object). slice_get os n) t.objects ∙ still_object k t.between c.actor n o t.adds at
+turn_object : (k new : KernelState) (cpu n : ℕ) (o : Object) (event : Option Event) → Comes k new cpu event → slice_get k.objects n ≡ Some o → slice_get new.objects n ≡ Some o
+turn_object k new cpu n o event (Idles idle is its) at = ap (λ (s : KernelState). slice_get s.objects n) is ∙ at
+turn_object k new cpu n o event (Passes p is none its) at = ap (λ (s : KernelState). slice_get s.objects n) is ∙ at
+turn_object k new cpu n o event (Takes c chosen t its) at = ap (λ (os : List Object). slice_get os n) t.objects ∙ still_object k t.between c.actor n o t.adds at
 
-turn_processors : (k new : KernelState) (cpu : ℕ) → Comes k new cpu → length new.stirs.processors ≡ length k.stirs.processors
-turn_processors k new cpu (Idles idle is) = ap (λ (s : KernelState). length s.stirs.processors) is
-turn_processors k new cpu (Takes c chosen t) = ap length t.processors ∙ length-set k.stirs.processors cpu (slice_index k.stirs.processors cpu + 1)
+turn_processors : (k new : KernelState) (cpu : ℕ) (event : Option Event) → Comes k new cpu event → length new.stirs.processors ≡ length k.stirs.processors
+turn_processors k new cpu event (Idles idle is its) = ap (λ (s : KernelState). length s.stirs.processors) is
+turn_processors k new cpu event (Passes p is none its) =
+    ap (λ (s : KernelState). length s.stirs.processors) is ∙ length-set k.stirs.processors cpu (slice_index k.stirs.processors cpu + 1)
+turn_processors k new cpu event (Takes c chosen t its) = ap length t.processors ∙ length-set k.stirs.processors cpu (slice_index k.stirs.processors cpu + 1)
+
+turn_clocks : (k new : KernelState) (cpu : ℕ) (event : Option Event) → Comes k new cpu event → length new.times.clocks ≡ length k.times.clocks
+turn_clocks k new cpu event (Idles idle is its) = ap (λ (s : KernelState). length s.times.clocks) is
+turn_clocks k new cpu event (Passes p is none its) = ap (λ (s : KernelState). length s.times.clocks) is ∙ length-set k.times.clocks cpu (slice_index k.times.clocks cpu + 1)
+turn_clocks k new cpu event (Takes c chosen t its) = ap length t.clocks ∙ length-set k.times.clocks cpu (slice_index k.times.clocks cpu + 1)
+
+pub run_clocks : (turns : List ℕ) (k : KernelState) → length (run k turns).times.clocks ≡ length k.times.clocks
+run_clocks [] k = refl
+run_clocks (p ∷ turns) k = run_clocks turns (after k p) ∙ turn_clocks k (after k p) p (event_at k p) (comes k p)
 
 pub on_virtual : (k : KernelState) (g cpu : ℕ) → IsOn k g cpu → IsVirtual k g
 on_virtual k g cpu on = ap (option_map is_vcpu) on.object
@@ -51,8 +66,8 @@ pub turn_on : (k : KernelState) (p g cpu : ℕ) → IsOn k g cpu → IsOn (after
 turn_on k p g cpu on = record {
   pd = on.pd;
   event = on.event;
-  object = turn_object k (after k p) p g (Ec on.pd cpu Vcpu on.event) (comes k p) on.object;
-  processor = subst (λ (n : ℕ). cpu < n) (sym (turn_processors k (after k p) p (comes k p))) on.processor;
+  object = turn_object k (after k p) p g (Ec on.pd cpu Vcpu on.event) (event_at k p) (comes k p) on.object;
+  processor = subst (λ (n : ℕ). cpu < n) (sym (turn_processors k (after k p) p (event_at k p) (comes k p))) on.processor;
 }
 
 -- its count is there
@@ -72,18 +87,19 @@ counted k g tables is = some_number (stirs_of k g) (counted_by (slice_get k.stir
 -- ONE TURN
 
 pub as_itself : (k : KernelState) (g cpu : ℕ) → IsAsBefore k k g cpu
-as_itself k g cpu = record { view = refl; payers = λ sc ec priority quantum b is. is }
+as_itself k g cpu = record { view = refl; payers = λ sc ec priority quantum b is. is; early = λ n is. is }
 
 pub as_through : (k l m : KernelState) (g cpu : ℕ) → IsAsBefore k l g cpu → IsAsBefore l m g cpu → IsAsBefore k m g cpu
 as_through k l m g cpu p q = record {
   view = q.view ∙ p.view;
   payers = λ sc ec priority quantum b is. q.payers sc ec priority quantum b (p.payers sc ec priority quantum b is);
+  early = λ n is. q.early n (p.early n is);
 }
 
 -- a turn of another processor that is no input from outside
-view_stays : (k : KernelState) (p g : ℕ) (c : Candidate) → IsSound k → IsVirtual k g → choice k p ≡ Some c → c.actor ≢ g → stirs_of (after k p) g ≡ stirs_of k g →
+view_stays : (k : KernelState) (p g : ℕ) → IsSound k → IsVirtual k g → is_own (input k p g) ≡ false → stirs_of (after k p) g ≡ stirs_of k g →
     view (after k p) g ≡ view k g
-view_stays k p g c sound is chosen ne same = by_input (input k p g) refl (apart_no k p g c chosen ne)
+view_stays k p g sound is other same = by_input (input k p g) refl other
   where
     its : (n : ℕ) × (stirs_of k g ≡ Some n)
     its = counted k g sound.kept.tables is
@@ -117,20 +133,39 @@ payers_stay k p cpu c ne t sc ec priority quantum b is =
 turn_leaves : (k : KernelState) (p g cpu : ℕ) → IsSound k → IsOn k g cpu → IsUnstirred k (after k p) g cpu → IsAsBefore k (after k p) g cpu
 turn_leaves k p g cpu sound on still = by_turn (comes k p)
   where
-    by_turn : Comes k (after k p) p → IsAsBefore k (after k p) g cpu
-    by_turn (Idles idle is) = subst (λ (s : KernelState). IsAsBefore k s g cpu) (sym is) (as_itself k g cpu)
-    by_turn (Takes c chosen t) = elim (cases_eq p cpu) [
-      | inl same ↦
-          let risen : slice_index (after k p).stirs.processors p ≡ slice_index k.stirs.processors p + 1 =
-          ap (λ (l : List ℕ). slice_index l p) t.processors
-          ∙ index_itself k.stirs.processors p (slice_index k.stirs.processors p + 1) (subst (λ (n : ℕ). n < length k.stirs.processors) (sym same) on.processor) in
-          let kept : slice_index (after k p).stirs.processors p ≡ slice_index k.stirs.processors p =
-          subst (λ (n : ℕ). slice_index (after k p).stirs.processors n ≡ slice_index k.stirs.processors n) (sym same) still.processor in
-          absurd (omega arith)
+    -- its own turn raises its count
+    no_own : slice_index (after k p).stirs.processors p ≡ slice_index k.stirs.processors p + 1 → p ≡ cpu → ⊥
+    no_own risen same =
+        let kept : slice_index (after k p).stirs.processors p ≡ slice_index k.stirs.processors p =
+        subst (λ (n : ℕ). slice_index (after k p).stirs.processors n ≡ slice_index k.stirs.processors n) (sym same) still.processor in
+        absurd (omega arith)
+
+    index_now : p ≡ cpu → slice_index (slice_set k.stirs.processors p (slice_index k.stirs.processors p + 1)) p ≡ slice_index k.stirs.processors p + 1
+    index_now same = index_itself k.stirs.processors p (slice_index k.stirs.processors p + 1) (subst (λ (n : ℕ). n < length k.stirs.processors) (sym same) on.processor)
+
+    by_turn : Comes k (after k p) p (event_at k p) → IsAsBefore k (after k p) g cpu
+    by_turn (Idles idle is its) = subst (λ (s : KernelState). IsAsBefore k s g cpu) (sym is) (as_itself k g cpu)
+    by_turn (Passes q is none its) = elim (cases_eq p cpu) [
+      | inl same ↦ absurd (no_own (ap (λ (s : KernelState). slice_index s.stirs.processors p) is ∙ index_now same) same)
+      | inr ne ↦ record {
+        view = view_stays k p g sound (on_virtual k g cpu on) (nobody_no k p g none) still.guest;
+        payers = λ sc ec priority quantum b at. record {
+          object = ap (λ (s : KernelState). slice_get s.objects sc) is ∙ at.object;
+          budget = ap (λ (s : KernelState). budget_at s sc) is ∙ at.budget;
+        };
+        early = λ n early. turn_early k p cpu n sound ne early;
+      }
+    ]
+    by_turn (Takes c chosen t its) = elim (cases_eq p cpu) [
+      | inl same ↦ absurd (no_own (ap (λ (l : List ℕ). slice_index l p) t.processors ∙ index_now same) same)
       | inr ne ↦
-          let other : c.actor ≢ g = λ e. ne (same_Some p cpu (sym (chosen_home k p c sound chosen)
+          let other : c.actor ≢ g = λ e. ne (same_Some p cpu (sym (chosen_home k p c sound (acts_chosen k p c chosen).0)
           ∙ (ap (cpu_in k.contexts) e ∙ home k g cpu sound.kept.tables (ap cpu_of on.object)))) in
-          record { view = view_stays k p g c sound (on_virtual k g cpu on) chosen other still.guest; payers = payers_stay k p cpu c ne t }
+          record {
+            view = view_stays k p g sound (on_virtual k g cpu on) (apart_no k p g c chosen other) still.guest;
+            payers = payers_stay k p cpu c ne t;
+            early = λ n early. turn_early k p cpu n sound ne early;
+          }
     ]
 
 -- A LIST OF TURNS

@@ -1,11 +1,12 @@
 -- Equal stir counts of a virtual CPU and its processor mean an equal view, and equal budgets of the processor.
+use Rattle.nova_forest.proofs.Turning.{event_at}
 use Rattle.std.proofs.Common.{◌≡◌, ◌≢◌, ◌≤◌, ℕ, zero, suc, ◌+◌, ◌%◌, List, [], ◌∷◌, ap, sym, ◌∙◌, subst, refl, arith}
 use Rattle.std.specs.Prelude.{Bool, true, false, ◌==◌, slice_set, slice_index, Option, Some, None, option_and_then, if◌then◌else◌}
 use Rattle.std.proofs.lemmas.Bool.{ne_eqb, true≢false}
 use Rattle.rv_model.specs.Step.{Store}
 use Rattle.nova_guest.specs.declared.input.Input.{Input}
 use Rattle.nova_guest.specs.declared.input.Input.TheVariants.{Own, Reply, Recall, Given, Taken, Foreign, Sent, Died}
-use Rattle.nova_model.specs.Choice.{Candidate, choice}
+use Rattle.nova_model.specs.Choice.{Candidate, next_to_act}
 use Rattle.nova_model.specs.Deeds.{deed, instruction}
 use Rattle.nova_model.specs.Guests.{input, input_by}
 use Rattle.nova_model.specs.Inputs.{foreign_at, foreign_by, frame_of_store, given_of, input_of, is_covered_for, only_if, others_input, own_input, reply_of, store_of}
@@ -17,7 +18,7 @@ use Rattle.nova_model.specs.declared.deed.Deed.{Deed}
 use Rattle.nova_model.specs.declared.deed.Deed.TheVariants.{Steps, Recalls, Gives, Removes, Finishes, Replies}
 use Rattle.nova_model.specs.declared.transfer.Sequel.TheVariants as sequel
 use Rattle.nova_laws.specs.Stirs.{stirs_of}
-use Rattle.nova_laws.proofs.Paying.{Comes, Idles, Takes, comes}
+use Rattle.nova_laws.proofs.Paying.{Comes, Idles, Takes, comes, Passes}
 use Rattle.nova_laws.proofs.Stirring.{counts_nothing, counts_outside, counts_own}
 
 -- A TURN OF ANOTHER IS NO INPUT OF ITS OWN
@@ -57,11 +58,16 @@ others_no k ec g (Gives child cursor) = if_no (is_memory_of (pd_of k g) child) (
 others_no k ec g (Removes leaf) = if_no (is_memory_of (pd_of k g) leaf) (Taken leaf.base leaf.order) refl
 others_no k ec g other = refl
 
-pub apart_no : (k : KernelState) (cpu g : ℕ) (c : Candidate) → choice k cpu ≡ Some c → c.actor ≢ g → is_own (input k cpu g) ≡ false
+pub apart_no : (k : KernelState) (cpu g : ℕ) (c : Candidate) → next_to_act k cpu ≡ Some c → c.actor ≢ g → is_own (input k cpu g) ≡ false
 unfolding input input_of
 apart_no k cpu g c chosen ne =
     ap (λ (o : Option Candidate). is_own (input_by k g o)) chosen
     ∙ (ap (λ (t : Bool). is_own (if t then own_input (deed k c.actor) else others_input k c.actor g (deed k c.actor))) (ne_eqb c.actor g ne) ∙ others_no k c.actor g (deed k c.actor))
+
+-- and neither is a turn of nobody
+pub nobody_no : (k : KernelState) (cpu g : ℕ) → next_to_act k cpu ≡ None → is_own (input k cpu g) ≡ false
+unfolding input
+nobody_no k cpu g none = ap (λ (o : Option Candidate). is_own (input_by k g o)) none
 
 -- COUNTS RISE
 
@@ -113,9 +119,11 @@ index_rises (x ∷ xs) (suc i) (suc j) = index_rises xs i j
 pub processor_rises : (k : KernelState) (cpu p : ℕ) → slice_index k.stirs.processors p ≤ slice_index (after k cpu).stirs.processors p
 processor_rises k cpu p = by_turn (after k cpu) (comes k cpu)
   where
-    by_turn : (new : KernelState) → Comes k new cpu → slice_index k.stirs.processors p ≤ slice_index new.stirs.processors p
-    by_turn new (Idles idle is) = let e : slice_index new.stirs.processors p ≡ slice_index k.stirs.processors p = ap (λ (s : KernelState). slice_index s.stirs.processors p) is in omega arith
-    by_turn new (Takes c chosen t) = subst (λ (l : List ℕ). slice_index k.stirs.processors p ≤ slice_index l p) (sym t.processors) (index_rises k.stirs.processors cpu p)
+    by_turn : (new : KernelState) → Comes k new cpu (event_at k cpu) → slice_index k.stirs.processors p ≤ slice_index new.stirs.processors p
+    by_turn new (Idles idle is event) = let e : slice_index new.stirs.processors p ≡ slice_index k.stirs.processors p = ap (λ (s : KernelState). slice_index s.stirs.processors p) is in omega arith
+    by_turn new (Passes q is none event) =
+        subst (λ (s : KernelState). slice_index k.stirs.processors p ≤ slice_index s.stirs.processors p) (sym is) (index_rises k.stirs.processors cpu p)
+    by_turn new (Takes c chosen t event) = subst (λ (l : List ℕ). slice_index k.stirs.processors p ≤ slice_index l p) (sym t.processors) (index_rises k.stirs.processors cpu p)
 
 pub processors_rise : (k : KernelState) (turns : List ℕ) (p : ℕ) → slice_index k.stirs.processors p ≤ slice_index (run k turns).stirs.processors p
 processors_rise k [] p = omega arith

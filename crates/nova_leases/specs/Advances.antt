@@ -72,7 +72,7 @@ abbrev pub laid_over : ℕ → List Cell → List (List ℕ) → List (List ℕ)
 laid_over n cells [] = []
 laid_over n cells (b ∷ ram) = over (cell_at cells n) b ∷ laid_over (n + 1) cells ram
 
--- what n turns change: the registers of an execution context, RAM, the budget of a scheduling context, and counts
+-- what n turns change: the registers of an execution context, RAM, the budget of a scheduling context, counts, and a clock
 abbrev pub changed_by : KernelState → ℕ → ℕ → ℕ → ℕ → Registers → List (List ℕ) → Budget → ℕ → List (Option ℕ) → KernelState
 changed_by k cpu sc g n regs ram b stamp guests = record k {
   contexts = with_ec k.contexts g (record (context k g) { regs = regs });
@@ -81,6 +81,7 @@ changed_by k cpu sc g n regs ram b stamp guests = record k {
   next_stamp = stamp;
   turns = k.turns + n;
   stirs = record { guests = guests; processors = slice_set k.stirs.processors cpu (slice_index k.stirs.processors cpu + n) };
+  times = record k.times { clocks = slice_set k.times.clocks cpu (slice_index k.times.clocks cpu + n) };
 }
 
 -- the same, with the turns paid and the stores counted
@@ -106,3 +107,4 @@ pub record IsLeasable (k : KernelState) (cpu : ℕ) (c : Candidate) (b : Budget)
   pub recall : (context k c.actor).recall ≡ false
   pub budget : budget_at k c.sc ≡ Some b
   pub processor : cpu < length k.stirs.processors
+  pub clock : cpu < length k.times.clocks

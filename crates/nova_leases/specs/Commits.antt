@@ -1,5 +1,7 @@
 -- A lease that ran, the states from which it stems, and what a commit answers.
-use Rattle.std.specs.Prelude.{◌≡◌, ◌≤◌, ℕ, ◌==◌, ◌&&◌, Bool, true, false, nat_le, slice_index, Option, Some, None, if◌then◌else◌}
+use Rattle.nova_model.specs.Times.{until_due}
+use Rattle.nova_laws.specs.Moments.{IsEarly}
+use Rattle.std.specs.Prelude.{◌≡◌, ◌≤◌, ℕ, ◌==◌, ◌&&◌, Bool, true, false, nat_le, slice_index, Option, Some, None, if◌then◌else◌, min}
 use Rattle.nova_model.specs.Choice.{Candidate, choice}
 use Rattle.nova_model.specs.State.{KernelState}
 use Rattle.nova_model.specs.Views.{view}
@@ -35,13 +37,19 @@ pub record IsReached (k : KernelState) : Type 0 where
   pub single : IsSingle k
 
 -- so many turns of a processor may be taken at once: the one who acts may be leased with this budget, these are its steps, and they are no more than what
--- is left of the quantum
+-- is left of the quantum, and than what is left until something is due
 pub record MayAdvance (k : KernelState) (cpu : ℕ) (s : Steps) : Type 0 where
   pub chosen : Candidate
   pub budget : Budget
   pub may : IsLeasable k cpu chosen budget
   pub left : s.count ≤ budget.left
+  pub early : IsEarly k.times cpu s.count
   pub runs : IsStepping (view k chosen.actor) s
+
+-- what is left of the quantum, or the turns that are left until something is due where they are fewer
+abbrev pub lesser : ℕ → Option ℕ → ℕ
+lesser left None = left
+lesser left (Some until) = min left until
 
 -- it could be leased in this state; counts and bound are those of the state; it ran within the bound; and registers, pages and stores are those of
 -- the guest after what it ran
@@ -52,7 +60,7 @@ pub record Stems (l : LeaseRun) (k : KernelState) : Type 0 where
   pub may : IsLeasable k l.cpu chosen budget
   pub actor : chosen.actor ≡ l.guest
   pub kept : l.kept ≡ stirs_now k l.guest l.cpu
-  pub bound : l.left ≡ budget.left
+  pub bound : l.left ≡ lesser budget.left (until_due k.times l.cpu)
   pub within : l.steps.count ≤ l.left
   pub runs : IsStepping (view k l.guest) l.steps
 
@@ -78,6 +86,7 @@ pub record MayCommit (l : KernelState) (lease : LeaseRun) (d : Candidate) (b : B
   pub may : IsLeasable l lease.cpu d b
   pub actor : d.actor ≡ lease.guest
   pub left : lease.steps.count ≤ b.left
+  pub early : IsEarly l.times lease.cpu lease.steps.count
   pub runs : IsStepping (view l d.actor) lease.steps
 
 -- a commit that goes through

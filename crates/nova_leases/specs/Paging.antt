@@ -76,6 +76,7 @@ charged_at_once k cpu sc b n = record k {
   next_stamp = stamp_after (is_used n b) k.next_stamp;
   turns = k.turns + n;
   stirs = record k.stirs { processors = slice_set k.stirs.processors cpu (slice_index k.stirs.processors cpu + n) };
+  times = record k.times { clocks = slice_set k.times.clocks cpu (slice_index k.times.clocks cpu + n) };
 }
 
 -- the pages that were stored to

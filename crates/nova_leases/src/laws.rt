@@ -10,6 +10,7 @@ ghost use Rattle.nova_model.specs.Runs.{after, run, trace};
 ghost use Rattle.nova_model.specs.State.{KernelState};
 ghost use Rattle.nova_model.specs.Views.{view};
 ghost use Rattle.nova_model.specs.declared.budget.Budget.{Budget};
+ghost use Rattle.nova_laws.specs.Moments.{IsEarly};
 ghost use Rattle.nova_isolation.specs.Sound.{IsSound};
 ghost use Rattle.nova_leases.specs.Advances.{IsLeasable, advanced, step_of};
 ghost use Rattle.nova_leases.specs.Commits.{IsCommitted, IsReached, LeaseRun, MayCommit, Stems, commit_done, same_counts, stirs_now};
@@ -22,19 +23,19 @@ ghost use Rattle.nova_leases.specs.declared.commit.CommitDone.TheVariants.{Commi
 ghost use Rattle.nova_leases.specs.declared.steps.Steps.{Steps};
 
 /// So many inputs of its own of a virtual CPU that acts and is about to take an instruction, within what is
-/// left of the chosen quantum, of which none puts anything out, are as many turns of its processor, which
-/// are one change of the state. Each turn is a plain step of that one, paid by the chosen scheduling context.
+/// left of the chosen quantum and before anything is due on the processor, of which none puts anything out,
+/// are as many turns of its processor, which are one change of the state. Each turn is a plain step of that one, paid by the chosen scheduling context.
 pub fn own_inputs_without_output_are_turns()
-    ensures state { (n : ℕ) (k : KernelState) (cpu : ℕ) (c : Candidate) (b : Budget) → IsSound k → IsLeasable k cpu c b → n ≤ b.left
+    ensures state { (n : ℕ) (k : KernelState) (cpu : ℕ) (c : Candidate) (b : Budget) → IsSound k → IsLeasable k cpu c b → n ≤ b.left → IsEarly k.times cpu n
         → outputs (view k c.actor) (replicate n Own) ≡ [] → run k (replicate n cpu) ≡ advanced k cpu c b n }
-    ensures events { (n : ℕ) (k : KernelState) (cpu : ℕ) (c : Candidate) (b : Budget) → IsSound k → IsLeasable k cpu c b → n ≤ b.left
+    ensures events { (n : ℕ) (k : KernelState) (cpu : ℕ) (c : Candidate) (b : Budget) → IsSound k → IsLeasable k cpu c b → n ≤ b.left → IsEarly k.times cpu n
         → outputs (view k c.actor) (replicate n Own) ≡ [] → trace k (replicate n cpu) ≡ replicate n (step_of cpu c) }
 {}
 
 /// Registers, the bytes of the frames that are stored to and the numbers of stores there say all that such
 /// turns change of memory, and of the stir counts of others.
 pub fn steps_with_their_pages_are_turns()
-    ensures { (k : KernelState) (cpu : ℕ) (c : Candidate) (b : Budget) (s : Steps) → IsSound k → IsLeasable k cpu c b → s.count ≤ b.left
+    ensures { (k : KernelState) (cpu : ℕ) (c : Candidate) (b : Budget) (s : Steps) → IsSound k → IsLeasable k cpu c b → s.count ≤ b.left → IsEarly k.times cpu s.count
         → IsStepping (view k c.actor) s → run k (replicate s.count cpu) ≡ advanced_to k cpu c b s }
 {}
 

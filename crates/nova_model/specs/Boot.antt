@@ -3,6 +3,7 @@ use Rattle.std.specs.Prelude.{false, ℕ, ◌+◌, ◌/◌, ◌%◌, ◌^◌, Li
 use Rattle.std.specs.List.{range_with_len}
 use Rattle.rv_model.specs.Registers.{Registers, with_reg}
 use Rattle.nova_model.specs.Memory.{Memory, written}
+use Rattle.nova_model.specs.Sources.{Source, with_sources}
 use Rattle.nova_model.specs.State.{KernelState, no_transfer, no_words}
 use Rattle.nova_model.specs.declared.delegation.Derivation.{Derivation}
 use Rattle.nova_range.specs.declared.range.Kind.TheVariants.{Mem, Obj}
@@ -19,13 +20,14 @@ pub record Image : Type 0 where
   pub address : ℕ
   pub bytes : List ℕ
 
--- what a kernel is started with: processors, the order of the number of RAM frames, consoles, the root, and the images
+-- what a kernel is started with: processors, the order of the number of RAM frames, consoles, the root, the images, and the sources
 pub record Scenario : Type 0 where
   pub cpus : ℕ
   pub ram : ℕ
   pub consoles : ℕ
   pub root : Root
   pub images : List Image
+  pub sources : List Source
 
 -- the objects: 0 the root's protection domain, 1 its execution context, a thread with event base 16, and 2 its scheduling context
 abbrev pub root_objects : Root → List Object
@@ -78,6 +80,7 @@ bare cpus ram consoles root = record {
   cpus = cpus;
   consoles = consoles;
   stirs = record { guests = None ∷ None ∷ None ∷ []; processors = replicate cpus 0 };
+  times = record { clocks = replicate cpus 0; deadlines = None ∷ None ∷ None ∷ []; alarms = [] };
 }
 
 -- bytes laid into RAM one after another from an address on
@@ -92,6 +95,6 @@ abbrev pub with_images : KernelState → List Image → KernelState
 with_images k [] = k
 with_images k (image ∷ images) = with_images (with_image k image) images
 
--- the state that a scenario begins in: the images are written last
+-- the state that a scenario begins in: the images are written, and then the sources are made
 abbrev pub boot : Scenario → KernelState
-boot s = with_images (bare s.cpus s.ram s.consoles s.root) s.images
+boot s = with_sources (with_images (bare s.cpus s.ram s.consoles s.root) s.images) s.sources

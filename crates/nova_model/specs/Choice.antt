@@ -4,7 +4,9 @@ use Rattle.std.specs.List.{find, list_all, range_with_len}
 use Rattle.nova_model.specs.Numbers.{EcId, ScId, CpuId}
 use Rattle.nova_model.specs.Edges.{acts, chase}
 use Rattle.nova_model.specs.State.{KernelState, budget_at}
+use Rattle.nova_model.specs.Times.{due_on, next_moment}
 use Rattle.nova_model.specs.declared.budget.Budget.{Budget}
+use Rattle.nova_model.specs.declared.times.Due.{Due}
 use Rattle.nova_objects.specs.declared.object.Object.{Object}
 use Rattle.nova_objects.specs.declared.object.Object.TheVariants.{Sc}
 
@@ -63,6 +65,17 @@ choice k cpu = foremost (candidates k cpu)
 abbrev pub choose : KernelState → CpuId → Option ScId
 choose k cpu = option_map (λ c. c.sc) (choice k cpu)
 
--- no processor has a turn to take
+-- a processor is idle where nothing is runnable and nothing is to come; and no processor has a turn to take
+abbrev pub is_idle : KernelState → CpuId → Bool
+is_idle k cpu = is_none (choice k cpu) && is_none (next_moment k.times cpu)
+
 abbrev pub is_quiet : KernelState → Bool
-is_quiet k = list_all (λ cpu. is_none (choice k cpu)) (range_with_len 0 k.cpus)
+is_quiet k = list_all (is_idle k) (range_with_len 0 k.cpus)
+
+-- who acts in the processor's next turn: the one that is chosen, where nothing is due
+abbrev pub unless_due : Option Due → Option Candidate → Option Candidate
+unless_due (Some what) c = None
+unless_due None c = c
+
+unfoldable pub next_to_act : KernelState → CpuId → Option Candidate
+next_to_act k cpu = unless_due (due_on k.times cpu) (choice k cpu)

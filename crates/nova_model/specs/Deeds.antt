@@ -19,6 +19,7 @@ use Rattle.nova_model.specs.Exits.{exits}
 use Rattle.nova_model.specs.Revokes.{next_leaf}
 use Rattle.nova_model.specs.Semaphores.{upped, downed}
 use Rattle.nova_model.specs.State.{KernelState, with_ec, context_at, context, message, with_message, own_words, pd_of, is_thread, no_transfer, transfer}
+use Rattle.nova_model.specs.Times.{awaited, with_deadline}
 use Rattle.nova_model.specs.declared.context.EcState.{EcState}
 use Rattle.nova_model.specs.declared.context.Mark.{Mark}
 use Rattle.nova_model.specs.declared.context.Mark.TheVariants as mark
@@ -158,7 +159,7 @@ actor_after x (Removes leaf) = x
 actor_after x Returns = answered x Success None
 actor_after x (Ups sm woken) = answered x Success None
 actor_after x (Downs sm) = answered x Success None
-actor_after x (Blocks sm) = record x { state = Blocked sm }
+actor_after x (Blocks sm until) = record x { state = Blocked sm }
 
 abbrev pub with_context : KernelState → EcId → EcState → KernelState
 with_context k ec x = record k { contexts = with_ec k.contexts ec x }
@@ -216,10 +217,14 @@ abbrev pub followed : KernelState → EcId → Sequel → KernelState
 followed k ec (sequel.Replied caller mark) = completed k ec caller mark
 followed k ec other = k
 
--- who is woken at a semaphore has done its call
+-- who waited at a semaphore has done its call, with this status, and has no deadline
+abbrev pub ended_wait : KernelState → EcId → Status → KernelState
+ended_wait k ec status = record (with_context k ec (answered (context k ec) status None)) { times = with_deadline k.times ec None }
+
+-- who is woken at one has done it with success
 abbrev pub woken_in : KernelState → Option EcId → KernelState
 woken_in k None = k
-woken_in k (Some ec) = with_context k ec (answered (context k ec) Success None)
+woken_in k (Some ec) = ended_wait k ec Success
 
 -- what it does to the rest, where the execution context is of protection domain `domain`
 abbrev pub effect_on_others : KernelState → EcId → PdId → Deed → KernelState
@@ -232,7 +237,7 @@ effect_on_others k ec domain (Replies caller mark items) = replied_to k ec calle
 effect_on_others k ec domain (Sends handler ip identifier mtd reason q0 q1) = exit_sent k ec handler ip identifier mtd q0 q1
 effect_on_others k ec domain (Ups sm woken) = woken_in (record k { semaphores = upped k.semaphores sm }) woken
 effect_on_others k ec domain (Downs sm) = record k { semaphores = downed k.semaphores sm ec }
-effect_on_others k ec domain (Blocks sm) = record k { semaphores = downed k.semaphores sm ec }
+effect_on_others k ec domain (Blocks sm until) = record k { semaphores = downed k.semaphores sm ec; times = awaited k.times ec until }
 effect_on_others k ec domain (Finishes item end words after) = followed (told k item words) ec after
 effect_on_others k ec domain other = k
 
@@ -334,7 +339,7 @@ sign_of (Removes leaf) = (event.Gone, leaf.id, leaf.pd)
 sign_of Returns = (event.Answer, REVOKE, status_code Success)
 sign_of (Ups sm woken) = (event.Answer, SM_CTRL, status_code Success)
 sign_of (Downs sm) = (event.Answer, SM_CTRL, status_code Success)
-sign_of (Blocks sm) = (event.Begin, SM_CTRL, sm)
+sign_of (Blocks sm until) = (event.Begin, SM_CTRL, sm)
 
 -- memory may be wanted where an object or a derivation is made
 abbrev pub is_making : Deed → Bool

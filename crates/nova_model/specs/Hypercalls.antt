@@ -1,6 +1,6 @@
 -- The table of hypercalls: for each number its refusals in their order, each with its condition, and else the deed.
 -- (NOVA specification, hypercalls; the numbers and statuses are this project's.)
-use Rattle.std.specs.Prelude.{ℕ, ◌==◌, Bool, true, false, not, nat_lt, length, Option, Some, None, option_map, Result, Ok, Err}
+use Rattle.std.specs.Prelude.{ℕ, ◌+◌, ◌==◌, Bool, true, false, not, nat_lt, length, Option, Some, None, option_map, Result, Ok, Err}
 use Rattle.std.specs.List.{find, list_any}
 use Rattle.nova_model.specs.Numbers.{PdId, EcId, PtId, SmId, CpuId, Selector}
 use Rattle.rv_model.specs.Registers.{Registers, reg}
@@ -19,7 +19,7 @@ use Rattle.nova_range.specs.RangeWords.{word_of}
 use Rattle.nova_range.specs.declared.range.Range.{Range}
 use Rattle.nova_range.specs.declared.rights.Rights.{Rights}
 use Rattle.nova_range.specs.declared.status.Status.{Status}
-use Rattle.nova_range.specs.declared.status.Status.TheVariants.{BadCap, BadPar, BadCpu, Busy, Overflow}
+use Rattle.nova_range.specs.declared.status.Status.TheVariants.{BadCap, BadPar, BadCpu, Busy, Overflow, Timeout}
 use Rattle.nova_model.specs.Capabilities.{create_right, control_right, call_right, bind_scheduling_right, bind_portal_right, is_pd, is_ec, is_local, is_schedulable, is_sc, is_pt, is_sm, up_right, down_right, is_held, named}
 use Rattle.nova_model.specs.Calls.{admitted}
 use Rattle.nova_model.specs.Portals.{handler_of, ip_of, identifier}
@@ -38,6 +38,8 @@ use Rattle.nova_model.specs.declared.new_object.NewObject.TheVariants as new
 use Rattle.nova_model.specs.declared.semaphore.Down.{Down}
 use Rattle.nova_model.specs.declared.semaphore.Down.TheVariants.{Done, Blocked}
 use Rattle.nova_model.specs.declared.semaphore.Overflow as too
+use Rattle.nova_model.specs.declared.times.Deadline.{Deadline}
+use Rattle.nova_model.specs.Times.{clock}
 
 -- what comes next, unless the answer is there already
 abbrev pub and_then : {A B : Type 0} → Result A Status → (A → Result B Status) → Result B Status
@@ -136,18 +138,27 @@ reply k ec =
     unless (not (has_counts (message k ec))) BadPar (replied k ec (context k ec).caller))
 
 -- sm_ctrl: BAD_CAP where the selector names no semaphore with the right to it. An up is OVERFLOW at the greatest counter with nobody waiting; a down
--- lowers the counter, or waits.
+-- lowers the counter, or waits. One that waits for so many ticks has its deadline that long after this turn, and without any tick it is TIMEOUT.
 abbrev pub upped_by : SmId → Result (Option EcId) too.Overflow → Result Deed Status
 upped_by sm (Ok whom) = Ok (Ups sm whom)
 upped_by sm (Err e) = Err Overflow
 
 abbrev pub downed_by : SmId → Down → Deed
 downed_by sm Done = Downs sm
-downed_by sm Blocked = Blocks sm
+downed_by sm Blocked = Blocks sm None
 
-abbrev pub sm_ctrl : KernelState → PdId → Selector → SmAction → Result Deed Status
-sm_ctrl k domain selector act.Up = and_then (named k domain is_sm up_right selector) (λ sm. upped_by sm (woken (semaphore k.semaphores sm)))
-sm_ctrl k domain selector act.Down = and_then (named k domain is_sm down_right selector) (λ sm. Ok (downed_by sm (answer_of (semaphore k.semaphores sm))))
+abbrev pub deadline_after : KernelState → EcId → SmId → ℕ → Deadline
+deadline_after k ec sm ticks = record { cpu = processor_of k ec; sm = sm; at = clock k.times (processor_of k ec) + 1 + ticks }
+
+abbrev pub downed_within : SmId → ℕ → Deadline → Down → Result Deed Status
+downed_within sm ticks until Done = Ok (Downs sm)
+downed_within sm ticks until Blocked = unless (ticks == 0) Timeout (Ok (Blocks sm (Some until)))
+
+abbrev pub sm_ctrl : KernelState → EcId → PdId → Selector → SmAction → Result Deed Status
+sm_ctrl k ec domain selector act.Up = and_then (named k domain is_sm up_right selector) (λ sm. upped_by sm (woken (semaphore k.semaphores sm)))
+sm_ctrl k ec domain selector act.Down = and_then (named k domain is_sm down_right selector) (λ sm. Ok (downed_by sm (answer_of (semaphore k.semaphores sm))))
+sm_ctrl k ec domain selector (act.DownWithin ticks) =
+    and_then (named k domain is_sm down_right selector) (λ sm. downed_within sm ticks (deadline_after k ec sm ticks) (answer_of (semaphore k.semaphores sm)))
 
 -- the rows. revoke and lookup have no refusal. ec_ctrl, sc_ctrl, pt_ctrl: BAD_CAP where the selector names no such object with control.
 abbrev pub row : KernelState → EcId → PdId → Call → Result Deed Status
@@ -163,7 +174,7 @@ row k ec domain (Lookup range) = Ok (Tells LOOKUP (looked_up k domain range))
 row k ec domain (EcCtrl whose) = and_then (named k domain is_ec control_right whose) (λ n. Ok (Recalls n))
 row k ec domain (ScCtrl sc) = and_then (named k domain is_sc control_right sc) (λ n. Ok (Tells SC_CTRL (ticks_in (budget_at k n))))
 row k ec domain (PtCtrl pt identifier) = and_then (named k domain is_pt control_right pt) (λ n. Ok (Names n identifier))
-row k ec domain (SmCtrl sm action) = sm_ctrl k domain sm action
+row k ec domain (SmCtrl sm action) = sm_ctrl k ec domain sm action
 
 -- the arguments are read, and the row of the number says what is asked for
 abbrev pub asked : KernelState → EcId → PdId → Registers → Result Deed Status

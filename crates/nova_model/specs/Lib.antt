@@ -2,6 +2,7 @@ pub mod Numbers
 pub mod Memory
 pub mod Delegations
 pub mod AddressSpaces
+pub mod Times
 pub mod State
 pub mod Edges
 pub mod Calls
@@ -18,6 +19,7 @@ pub mod Inputs
 pub mod Turn
 pub mod Runs
 pub mod Guests
+pub mod Sources
 pub mod Boot
 pub mod Forest
 pub mod Lines

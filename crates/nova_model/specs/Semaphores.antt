@@ -1,5 +1,5 @@
 -- Semaphores: counters, and the execution contexts that wait at them, the first that came before all others. (NOVA specification, semaphores.)
-use Rattle.std.specs.Prelude.{ℕ, ◌+◌, ◌-◌, ◌^◌, ◌==◌, eqb, Bool, if◌then◌else◌, List, [], ◌∷◌, ◌++◌, slice_get, slice_set, Option, Some, None, Result}
+use Rattle.std.specs.Prelude.{ℕ, ◌+◌, ◌-◌, ◌^◌, ◌==◌, eqb, Bool, not, if◌then◌else◌, List, [], ◌∷◌, ◌++◌, filter, slice_get, slice_set, Option, Some, None, Result}
 use Rattle.std.specs.List.{list_any}
 use Rattle.std.specs.declared.result.Result.TheVariants.{Ok, Err}
 use Rattle.nova_model.specs.Numbers.{EcId, SmId}
@@ -76,3 +76,12 @@ downed all sm ec = changed (lowered ec) all sm
 
 abbrev pub answer_of : Semaphore → Down
 answer_of s = if s.count == 0 then Blocked else Done
+
+-- LEAVING
+
+-- an execution context leaves the queue, where the others keep their order
+abbrev pub without_one : EcId → Semaphore → Semaphore
+without_one ec s = record s { waiting = filter (λ w. not (w == ec)) s.waiting }
+
+abbrev pub left : Semaphores → SmId → EcId → Semaphores
+left all sm ec = changed (without_one ec) all sm

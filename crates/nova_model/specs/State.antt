@@ -2,6 +2,7 @@
 use Rattle.std.specs.Prelude.{ℕ, Bool, true, false, if◌then◌else◌, List, [], replicate, Option, Some, None, slice_get, slice_set}
 use Rattle.nova_model.specs.Numbers.{PdId, EcId, ScId, CpuId, Selector}
 use Rattle.nova_model.specs.Memory.{Memory}
+use Rattle.nova_model.specs.Times.{Times}
 use Rattle.nova_model.specs.Delegations.{Delegations}
 use Rattle.nova_objects.specs.declared.object.Object.{Object}
 use Rattle.nova_objects.specs.declared.object.Object.TheVariants.{Ec}
@@ -10,6 +11,7 @@ use Rattle.nova_objects.specs.declared.object.EcKind.TheVariants.{Local, Global,
 use Rattle.nova_model.specs.declared.context.EcState.{EcState}
 use Rattle.nova_model.specs.declared.context.State.TheVariants.{Dead}
 use Rattle.nova_model.specs.declared.budget.Budget.{Budget}
+use Rattle.nova_model.specs.declared.times.Deadline.{Deadline}
 use Rattle.nova_model.specs.declared.transfer.Transfer.{Transfer}
 
 -- of a semaphore: its counter, and the execution contexts that wait at it
@@ -27,6 +29,10 @@ pub record Stirs : Type 0 where
 abbrev pub entry : {T : Type 0} → Option (Option T) → Option T
 entry (Some x) = x
 entry None = None
+
+-- until when an execution context waits, where it waits to a deadline
+abbrev pub deadline_of : Times → EcId → Option Deadline
+deadline_of t ec = entry (slice_get t.deadlines ec)
 
 -- execution contexts by number
 abbrev pub Contexts : Type 0
@@ -66,6 +72,7 @@ pub record KernelState : Type 0 where
   pub cpus : ℕ
   pub consoles : ℕ
   pub stirs : Stirs
+  pub times : Times
 
 abbrev pub context_at : KernelState → EcId → Option EcState
 context_at k ec = ec_in k.contexts ec

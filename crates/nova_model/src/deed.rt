@@ -1,6 +1,7 @@
 use crate::context::Mark;
 use crate::delegation::Derivation;
 use crate::new_object::NewObject;
+use crate::times::Deadline;
 use crate::transfer::{ItemEnd, ItemWords, Reason, Sequel};
 use nova_range::{Mtd, Range, Status};
 
@@ -137,8 +138,9 @@ pub enum Deed {
     Downs {
         sm: u32,
     },
-    /// Its down of a semaphore whose counter is 0: it waits there.
+    /// Its down of a semaphore whose counter is 0: it waits there, to a deadline or without one.
     Blocks {
         sm: u32,
+        until: Option<Deadline>,
     },
 }

@@ -27,6 +27,12 @@ pub enum EventKind {
     Ended,
     /// A derivation was removed: its id, its protection domain.
     Gone,
+    /// A deadline came: the semaphore, the status.
+    Late,
+    /// An alarm rang: its number, the status.
+    Irq,
+    /// Nothing ran, and something is to come: the clock alone went on.
+    Tick,
 }
 
 /// One turn of a processor: the scheduling context that paid, the execution context that acted, and

@@ -3,8 +3,8 @@ use Rattle.std.proofs.Common.{◌≡◌, ℕ, zero, suc, ◌<◌, List, [], ◌�
 use Rattle.std.specs.Prelude.{true, false, slice_get, Option, Some, None, option_map}
 use Rattle.std.proofs.lemmas.Option.{same_Some, slice_get_within}
 use Rattle.nova_forest.specs.Effects.{branch_by, branched, joined, made_by}
-use Rattle.nova_forest.specs.Turns.{Acts as Chosen, Idles, Takes, acting, turned}
-use Rattle.nova_forest.proofs.Turning.{comes}
+use Rattle.nova_forest.specs.Turns.{Acts as Chosen, Idles, Takes, acting, turned, Passes}
+use Rattle.nova_forest.proofs.Turning.{comes, idle_none, passing_none}
 use Rattle.nova_guest.specs.declared.input.Input.{Input}
 use Rattle.nova_isolation.specs.Sound.{IsSound, IsVirtual}
 use Rattle.nova_forest.proofs.Actors.{chosen_input, of_input, who_acts}
@@ -59,10 +59,11 @@ turned_done k cpu c = record { objects = refl; delegations = refl }
 
 pub is_done : (k : KernelState) (cpu ec : ℕ) → Acts k cpu ec → IsDone k (after k cpu) ec
 is_done k cpu ec is = elim (comes k cpu) [
-  | Idles none same answer ↦ absurd (let h : None ≡ Some ec = ap (option_map (λ c. c.actor)) (sym none) ∙ is in cc)
+  | Idles none moment same answer ↦ absurd (let h : None ≡ Some ec = ap (option_map (λ c. c.actor)) (sym (idle_none k cpu none)) ∙ is in cc)
   | Takes t e takes state answer ↦ elim takes [
     | Chosen c chosen its event ↦ subst (IsDone k (after k cpu)) (same_Some c.actor ec (ap (option_map (λ c. c.actor)) (sym chosen) ∙ is))
         (subst (λ (s : KernelState). IsDone k s c.actor) (sym (state ∙ ap (turned k cpu) its)) (turned_done k cpu c))
+    | Passes p due its event ↦ absurd (let h : None ≡ Some ec = ap (option_map (λ c. c.actor)) (sym (passing_none k cpu p due)) ∙ is in cc)
   ]
 ]
 
@@ -70,7 +71,7 @@ is_done k cpu ec is = elim (comes k cpu) [
 
 pub objects_after : (k : KernelState) (cpu : ℕ) → (o : Option Object) × ((after k cpu).objects ≡ joined k.objects o)
 objects_after k cpu = elim (comes k cpu) [
-  | Idles none same answer ↦ (None, ap (λ (s : KernelState). s.objects) same)
+  | Idles none moment same answer ↦ (None, ap (λ (s : KernelState). s.objects) same)
   | Takes t e takes state answer ↦ (option_map object_of t.effect.made, ap (λ (s : KernelState). s.objects) state)
 ]
 
@@ -98,7 +99,7 @@ special_there cs n s special is = by_entry (slice_get cs n) refl (subst IsSpecia
 pub special_object : (k : KernelState) (n : ℕ) (s : State) → IsSound k → IsSpecial s → (context k n).state ≡ s → n < length k.objects
 special_object k n s sound special is = let within = special_there k.contexts n s special is in let same = sound.whole.places in omega (arith, within, same)
 
-there_within : (cs : Contexts) (n : ℕ) (x : EcState) → ec_in cs n ≡ Some x → n < length cs
+pub there_within : (cs : Contexts) (n : ℕ) (x : EcState) → ec_in cs n ≡ Some x → n < length cs
 there_within cs n x is = by_entry (slice_get cs n) refl is
   where
     by_entry : (o : Option (Option EcState)) → slice_get cs n ≡ o → entry o ≡ Some x → n < length cs

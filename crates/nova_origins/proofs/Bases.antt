@@ -1,9 +1,14 @@
 -- Exits that are raised go to portals at selectors below 2^20.
+use Rattle.nova_model.specs.declared.context.EcState.{EcState}
+use Rattle.nova_objects.specs.declared.object.Object.TheVariants.{Sm}
+use Rattle.nova_laws.proofs.Setting.{more_at}
+use Rattle.nova_model.specs.Sources.{Source, with_source}
+use Rattle.nova_forest.proofs.Boots.{sources_keep}
 use Rattle.std.proofs.Common.{◌≡◌, ℕ, zero, suc, ◌-◌, ◌^◌, ◌≤◌, List, [], ◌∷◌, ◌++◌, ap, sym, ◌∙◌, subst, refl, inl, inr, ◌⊎◌, arith}
-use Rattle.std.specs.Prelude.{slice_get, Some, option_map}
+use Rattle.std.specs.Prelude.{slice_get, Some, option_map, Option, None}
 use Rattle.std.proofs.lemmas.Option.{same_Some}
-use Rattle.nova_forest.specs.Effects.{joined, made_by}
-use Rattle.nova_forest.specs.Turns.{Acts as Chosen, IsTurning, Turning, acting, turned}
+use Rattle.nova_forest.specs.Effects.{joined, made_by, Passing}
+use Rattle.nova_forest.specs.Turns.{Acts as Chosen, IsTurning, Turning, acting, turned, Passes, passing}
 use Rattle.nova_forest.proofs.Turning.{along}
 use Rattle.nova_model.specs.Boot.{Image, Scenario, bare, boot, with_image, with_images}
 use Rattle.nova_model.specs.Choice.{Candidate}
@@ -11,7 +16,7 @@ use Rattle.nova_model.specs.Creation.{object_of}
 use Rattle.nova_model.specs.Deeds.{deed}
 use Rattle.nova_model.specs.Exits.{raised_exit}
 use Rattle.nova_model.specs.Runs.{run}
-use Rattle.nova_model.specs.State.{KernelState, context, event_base, event_base_in}
+use Rattle.nova_model.specs.State.{KernelState, context, event_base, event_base_in, context_in}
 use Rattle.nova_model.specs.declared.context.State.{State}
 use Rattle.nova_model.specs.declared.context.State.TheVariants.{Exiting, Sending}
 use Rattle.nova_model.specs.declared.deed.Deed.{Deed}
@@ -21,7 +26,7 @@ use Rattle.nova_model.specs.declared.new_object.NewObject.{NewObject}
 use Rattle.nova_model.specs.declared.new_object.NewObject.TheVariants as new
 use Rattle.nova_objects.specs.declared.object.Object.{Object}
 use Rattle.nova_origins.specs.Events.{AreSelectors, HasEvents}
-use Rattle.nova_origins.proofs.Coming.{Begins, acting_came}
+use Rattle.nova_origins.proofs.Coming.{Begins, acting_came, passed}
 use Rattle.nova_origins.proofs.Warrants.{HasReason, Warrant, deed_reason, deed_warrant}
 
 -- AT THE START
@@ -41,9 +46,6 @@ root_reasons s (suc (suc (suc ec))) reason q0 q1 is = absurd (cc)
 images_keep : (k : KernelState) (images : List Image) → HasEvents k → HasEvents (with_images k images)
 images_keep k [] h = h
 images_keep k (image ∷ images) h = images_keep (with_image k image) images (record { bases = h.bases; reasons = h.reasons })
-
-begins : (s : Scenario) → HasEvents (boot s)
-begins s = images_keep (bare s.cpus s.ram s.consoles s.root) s.images (record { bases = root_bases s; reasons = root_reasons s })
 
 -- IN A TURN
 
@@ -94,13 +96,37 @@ came_reason k cpu c ec reason q0 q1 h s at is = by_state s at is
     by_state (Sending r a b handler) its raised = by_came (Sending r a b handler) raised (acting_came k cpu c ec (Sending r a b handler) tt its)
     by_state other its raised = absurd (cc)
 
+passed_reason : (k : KernelState) (cpu : ℕ) (p : Passing) (ec reason q0 q1 : ℕ) → HasEvents k → (s : State) → (context (turned k cpu (passing k p)) ec).state ≡ s →
+    raised_exit s ≡ Some (reason, q0, q1) → reason ≤ 8
+passed_reason k cpu p ec reason q0 q1 h (Exiting r a b) at is = h.reasons ec reason q0 q1 (ap raised_exit (passed k p ec (Exiting r a b) tt at) ∙ is)
+passed_reason k cpu p ec reason q0 q1 h (Sending r a b handler) at is = h.reasons ec reason q0 q1 (ap raised_exit (passed k p ec (Sending r a b handler) tt at) ∙ is)
+passed_reason k cpu p ec reason q0 q1 h other at is = absurd (cc)
+
 turn_keeps : (k : KernelState) (cpu : ℕ) (t : Turning) (e : Event) → IsTurning k cpu t e → HasEvents k → HasEvents (turned k cpu t)
 turn_keeps k cpu t e is h = elim is [
   | Chosen c chosen its event ↦ subst (λ (t : Turning). HasEvents (turned k cpu t)) (sym its) (record {
     bases = λ ec. made_bases k c.actor (deed k c.actor) ec (deed_warrant k c.actor) (h.bases ec);
     reasons = λ ec reason q0 q1 raised. came_reason k cpu c ec reason q0 q1 h _ refl raised;
   })
+  | Passes p due its event ↦ subst (λ (t : Turning). HasEvents (turned k cpu t)) (sym its) (record {
+    bases = h.bases;
+    reasons = λ ec reason q0 q1 raised. passed_reason k cpu p ec reason q0 q1 h _ refl raised;
+  })
 ]
+
+begins : (s : Scenario) → HasEvents (boot s)
+begins s =
+    sources_keep HasEvents source_keeps (with_images (bare s.cpus s.ram s.consoles s.root) s.images) s.sources
+    (images_keep (bare s.cpus s.ram s.consoles s.root) s.images (record { bases = root_bases s; reasons = root_reasons s }))
+  where
+    source_keeps : (k : KernelState) (source : Source) → HasEvents k → HasEvents (with_source k source)
+    source_keeps k source h = record {
+      bases = λ ec. more_bases k.objects Sm (omega arith) ec (h.bases ec);
+      reasons = λ ec reason q0 q1 raised.
+          h.reasons ec reason q0 q1
+          (more_at (λ (o : Option EcState). raised_exit (context_in o).state ≡ Some (reason, q0, q1) → raised_exit (context k ec).state ≡ Some (reason, q0, q1)) k.contexts None ec
+          (λ is. is) (λ old. old) raised);
+    }
 
 pub reached_events : (s : Scenario) (turns : List ℕ) → HasEvents (run (boot s) turns)
 reached_events s turns = along HasEvents (record { begins = begins; turns = turn_keeps }) s turns

@@ -1,13 +1,14 @@
 -- How an execution context comes to wait for a handler, to give a first range, or to an exit that is raised and not sent.
+use Rattle.nova_range.specs.declared.status.Status.{Status}
 use Rattle.std.proofs.Common.{◌≡◌, ◌≢◌, ℕ, zero, suc, ◌⊎◌, List, [], ◌∷◌, ◌++◌, length, ap, sym, ◌∙◌, subst, refl, inl, inr}
 use Rattle.std.specs.Prelude.{Bool, true, false, Option, Some, None, option_map, if◌then◌else◌}
 use Rattle.std.proofs.lemmas.Bool.{cases_eq}
 use Rattle.rv_model.specs.Step.{Once, Raised, Went}
 use Rattle.nova_range.specs.declared.status.Status.TheVariants.{Success}
-use Rattle.nova_forest.specs.Effects.{Edit, Edits, Stays, Becomes, Raises as Raising, Answers, Serves, Parks, Resumes, Recalled, Moves, all_edited, edit_at, edited, edits_by, follows_by, joined, recalls_by, steps_by, wakes_by}
-use Rattle.nova_forest.specs.Turns.{Acts as Chosen, Idles, Takes, acting, turned}
+use Rattle.nova_forest.specs.Effects.{Edit, Edits, Stays, Becomes, Raises as Raising, Answers, Serves, Parks, Resumes, Recalled, Moves, all_edited, edit_at, edited, edits_by, follows_by, joined, recalls_by, steps_by, wakes_by, Passing, ends_by, passing_ends}
+use Rattle.nova_forest.specs.Turns.{Acts as Chosen, Idles, Takes, acting, turned, Passes}
 use Rattle.nova_forest.proofs.Turning.{comes}
-use Rattle.nova_model.specs.Choice.{Candidate, choice}
+use Rattle.nova_model.specs.Choice.{Candidate, next_to_act}
 use Rattle.nova_model.specs.Creation.{context_of}
 use Rattle.nova_model.specs.Deeds.{deed, instruction}
 use Rattle.nova_model.specs.Runs.{after}
@@ -207,7 +208,7 @@ begun k ec (deeds.Revokes range own) n s special b = one_plain ec n (Revoking ra
 begun k ec deeds.Returns n s special b = one_plain ec n Ready s none_special special b
 begun k ec (deeds.Ups sm woken) n s special b = begun_wakes ec n woken s special b
 begun k ec (deeds.Downs sm) n s special b = one_plain ec n Ready s none_special special b
-begun k ec (deeds.Blocks sm) n s special b = one_plain ec n (Blocked sm) s none_special special b
+begun k ec (deeds.Blocks sm until) n s special b = one_plain ec n (Blocked sm) s none_special special b
 begun k ec other n s special b = absurd b
 
 -- ONE TURN
@@ -221,17 +222,27 @@ acting_came k cpu c n s special h =
       | inr brings ↦ inr (begun k c.actor (deed k c.actor) n s special brings)
     ]
 
+-- what comes by itself brings nobody to such a state
+pub passed : (k : KernelState) (p : Passing) (n : ℕ) (s : State) → IsSpecial s → (ec_of (all_edited k.contexts (ends_by (passing_ends k p))) n).state ≡ s → (context k n).state ≡ s
+passed k p n s special h = by_end (passing_ends k p) (edits_bring k.contexts (ends_by (passing_ends k p)) n s h)
+  where
+    by_end : (o : Option (ℕ × Status)) → ((context k n).state ≡ s) ⊎ Brought (ends_by o) n s → (context k n).state ≡ s
+    by_end o (inl before) = before
+    by_end None (inr brings) = absurd brings
+    by_end (Some (w, status)) (inr brings) = one_plain w n Ready s none_special special brings
+
 pub came : (k : KernelState) (cpu n : ℕ) (s : State) → IsSpecial s → (context (after k cpu) n).state ≡ s →
     ((context k n).state ≡ s) ⊎ (Acts k cpu n × Begins (deed k n) s)
 came k cpu n s special h = elim (comes k cpu) [
-  | Idles is same answer ↦ inl (ap (λ (k : KernelState). (context k n).state) (sym same) ∙ h)
+  | Idles is moment same answer ↦ inl (ap (λ (k : KernelState). (context k n).state) (sym same) ∙ h)
   | Takes t e is state answer ↦ elim is [
     | Chosen c chosen its event ↦ by_case c chosen
         (acting_came k cpu c n s special (ap (λ (k : KernelState). (context k n).state) (sym (state ∙ ap (turned k cpu) its)) ∙ h))
+    | Passes p due its event ↦ inl (passed k p n s special (ap (λ (k : KernelState). (context k n).state) (sym (state ∙ ap (turned k cpu) its)) ∙ h))
   ]
 ]
   where
-    by_case : (c : Candidate) → choice k cpu ≡ Some c → (((context k n).state ≡ s) ⊎ ((c.actor ≡ n) × Begins (deed k c.actor) s)) →
+    by_case : (c : Candidate) → next_to_act k cpu ≡ Some c → (((context k n).state ≡ s) ⊎ ((c.actor ≡ n) × Begins (deed k c.actor) s)) →
         ((context k n).state ≡ s) ⊎ (Acts k cpu n × Begins (deed k n) s)
     by_case c chosen (inl before) = inl before
     by_case c chosen (inr (same, begins)) =

@@ -6,6 +6,6 @@ mod Lists
 mod Actors
 mod Origins
 mod Rights
-mod Births
+pub mod Births
 mod Lives
 mod Once

@@ -1,5 +1,5 @@
 -- From the turn in which it was made a virtual CPU is a guest alone, and what the whole run shows of it is what that guest puts out.
-use Rattle.std.proofs.Common.{◌≡◌, ◌≢◌, ℕ, List, [], ◌∷◌, ◌++◌, length, ap, ap₂, sym, ◌∙◌, subst, refl}
+use Rattle.std.proofs.Common.{◌≡◌, ◌≢◌, ℕ, List, [], ◌∷◌, ◌++◌, length, ap, ap₂, sym, ◌∙◌, subst, refl, ◌<◌}
 use Rattle.std.specs.Prelude.{false, ◌==◌, Option, Some, None, option_map, option_and_then}
 use Rattle.std.specs.List.{AllByRecursion, filter}
 use Rattle.std.proofs.lemmas.Bool.{ne_eqb}
@@ -21,7 +21,7 @@ use Rattle.nova_model.specs.Views.{view}
 use Rattle.nova_model.specs.declared.event.Event.{Event}
 use Rattle.nova_model.specs.declared.log.LogByte.{LogByte}
 use Rattle.nova_origins.specs.Lives.{AreGuestsAlone, IsGuestAlone, IsMade, born}
-use Rattle.nova_origins.proofs.Births.{all_of, is_made, unnamed}
+use Rattle.nova_origins.proofs.Births.{all_of, is_made, unnamed, boot_some}
 use Rattle.nova_origins.proofs.Lists.{run_append}
 use Rattle.nova_origins.proofs.Once.{one_birth}
 
@@ -74,24 +74,24 @@ at_birth k turns g m = run_append k m.before (m.cpu ∷ [])
 at_end : (k : KernelState) (turns : List ℕ) (g : ℕ) (m : IsMade k turns g) → run k turns ≡ run (born k turns g m) m.later
 at_end k turns g m = ap (run k) (parted k turns g m) ∙ (run_append k (m.before ++ m.cpu ∷ []) m.later ∙ ap (λ (s : KernelState). run s m.later) (at_birth k turns g m))
 
-shown_since : (k : KernelState) (turns : List ℕ) (g : ℕ) → IsSound k → (m : IsMade k turns g) → shown k turns g ≡ shown (born k turns g m) m.later g
-shown_since k turns g sound m =
+shown_since : (k : KernelState) (turns : List ℕ) (g : ℕ) → IsSound k → 0 < length k.objects → (m : IsMade k turns g) → shown k turns g ≡ shown (born k turns g m) m.later g
+shown_since k turns g sound some m =
     ap (λ (l : List ℕ). shown k l g) (parted k turns g m)
     ∙ (shown_append k (m.before ++ m.cpu ∷ []) m.later g
-    ∙ (ap (λ (os : List Out). os ++ shown (run k (m.before ++ m.cpu ∷ [])) m.later g) (shown_none k (m.before ++ m.cpu ∷ []) g (unnamed k turns g sound m))
+    ∙ (ap (λ (os : List Out). os ++ shown (run k (m.before ++ m.cpu ∷ [])) m.later g) (shown_none k (m.before ++ m.cpu ∷ []) g (unnamed k turns g sound some m))
     ∙ ap (λ (s : KernelState). shown s m.later g) (at_birth k turns g m)))
 
 run_sound : (k : KernelState) (turns : List ℕ) → IsSound k → IsSound (run k turns)
 run_sound k [] sound = sound
 run_sound k (cpu ∷ turns) sound = run_sound (after k cpu) turns (turn_sound k cpu sound)
 
-guest_alone : (k : KernelState) (turns : List ℕ) (g : ℕ) → IsSound k → (m : IsMade k turns g) → IsGuestAlone k turns g m
-guest_alone k turns g sound m =
+guest_alone : (k : KernelState) (turns : List ℕ) (g : ℕ) → IsSound k → 0 < length k.objects → (m : IsMade k turns g) → IsGuestAlone k turns g m
+guest_alone k turns g sound some m =
     let b : KernelState = born k turns g m in
     let its : IsSound b = turn_sound (run k m.before) m.cpu (run_sound k m.before sound) in
-    let all : outputs (view b g) (inputs b m.later g) ≡ shown k turns g = outputs_shown b m.later g its m.made ∙ sym (shown_since k turns g sound m) in
+    let all : outputs (view b g) (inputs b m.later g) ≡ shown k turns g = outputs_shown b m.later g its m.made ∙ sym (shown_since k turns g sound some m) in
     record {
-      unnamed = all_of (λ (e : Event). e.ec ≢ g) (trace k (m.before ++ m.cpu ∷ [])) (unnamed k turns g sound m);
+      unnamed = all_of (λ (e : Event). e.ec ≢ g) (trace k (m.before ++ m.cpu ∷ [])) (unnamed k turns g sound some m);
       becomes = ap (λ (s : KernelState). view s g) (at_end k turns g m) ∙ run_alone b m.later g its m.made;
       shows = all;
       raises = ap (filter is_exit) all ∙ exits_of_shown k turns g;
@@ -102,5 +102,5 @@ pub guests_alone : (s : Scenario) (turns : List ℕ) → AreGuestsAlone (boot s)
 guests_alone s turns = record {
   made = λ g is. is_made s turns g is;
   once = λ g m n. one_birth (boot s) turns g m n;
-  alone = λ g m. guest_alone (boot s) turns g (reached_sound s []) m;
+  alone = λ g m. guest_alone (boot s) turns g (reached_sound s []) (boot_some s) m;
 }

@@ -1,4 +1,7 @@
 -- Whence one waits for a handler, or gives a first range: from the turn in which it began.
+use Rattle.nova_model.specs.declared.context.EcState.{EcState}
+use Rattle.nova_laws.proofs.Setting.{more_at}
+use Rattle.nova_forest.proofs.Boots.{sources_keep}
 use Rattle.std.proofs.Common.{◌≡◌, ℕ, zero, suc, ◌+◌, ◌^◌, ◌<◌, ◌⊎◌, List, [], ◌∷◌, ◌++◌, length, ap, sym, ◌∙◌, subst, refl, inl, inr, arith}
 use Rattle.std.specs.Prelude.{true, false, IfSome, slice_get, Option, Some, None, option_map}
 use Rattle.std.proofs.lemmas.Option.{same_Some}
@@ -28,7 +31,7 @@ use Rattle.nova_model.specs.Guests.{input}
 use Rattle.nova_model.specs.Inputs.{own_input}
 use Rattle.nova_model.specs.Portals.{handler_in}
 use Rattle.nova_model.specs.Runs.{after, run}
-use Rattle.nova_model.specs.State.{Contexts, KernelState, context, ec_of, event_base, pd_of}
+use Rattle.nova_model.specs.State.{Contexts, KernelState, context, ec_of, event_base, pd_of, context_in}
 use Rattle.nova_model.specs.Views.{guest_state, view}
 use Rattle.nova_model.specs.declared.context.State.{State}
 use Rattle.nova_model.specs.declared.context.State.TheVariants.{Calling, Granting, Exiting, Sending}
@@ -140,7 +143,11 @@ root_plain s (suc (suc (suc n))) p = p
 
 boot_plain : (s : Scenario) (n : ℕ) (t : State) → IsSpecial t → (context (boot s) n).state ≡ t → ⊥
 boot_plain s n t special is =
-    root_plain s n (subst IsSpecial (sym (ap (λ (cs : Contexts). (ec_of cs n).state) (sym (images_contexts (bare s.cpus s.ram s.consoles s.root) s.images)) ∙ is)) special)
+    sources_keep (λ (k : KernelState). (m : ℕ) → IsSpecial (context k m).state → ⊥)
+    (λ k source none m p. more_at (λ (o : Option EcState). IsSpecial (context_in o).state → ⊥) k.contexts None m (none m) (λ old. old) p)
+    (with_images (bare s.cpus s.ram s.consoles s.root) s.images) s.sources
+    (λ m p. root_plain s m (subst (λ (cs : Contexts). IsSpecial (ec_of cs m).state) (images_contexts (bare s.cpus s.ram s.consoles s.root) s.images) p))
+    n (subst IsSpecial (sym is) special)
 
 -- it was so before the last turn
 later_sent : (s : Scenario) (turns : List ℕ) (cpu n h : ℕ) → sent_in (input (run (boot s) turns) cpu n) ≡ false → HandlesLast (boot s) turns n h →

@@ -156,7 +156,7 @@ row_warrant k ec r (asks.ScCtrl sc) reads =
 row_warrant k ec r (asks.PtCtrl pt identifier) reads =
     named_holds (Warrant k ec) (named k (pd_of k ec) is_pt control_right pt) (λ n. deeds.Names n identifier) (λ n. tt)
 row_warrant k ec r (asks.SmCtrl sm action) reads =
-    sm_ctrl_holds (Warrant k ec) k (pd_of k ec) sm action (λ n whom is wakes. tt) (λ n is answers. tt) (λ n is answers. tt)
+    sm_ctrl_holds (Warrant k ec) k ec (pd_of k ec) sm action (λ n whom is wakes. tt) (λ n is answers. tt) (λ n until is answers till. tt)
 
 pub deed_warrant : (k : KernelState) (ec : ℕ) → Warrant k ec (deed k ec)
 deed_warrant k ec =
@@ -199,7 +199,7 @@ row_reason k ec domain (asks.Revoke range own) = tt
 row_reason k ec domain (asks.EcCtrl other) = named_holds HasReason (named k domain is_ec control_right other) (λ n. deeds.Recalls n) (λ n. tt)
 row_reason k ec domain (asks.ScCtrl sc) = named_holds HasReason (named k domain is_sc control_right sc) (λ n. deeds.Tells SC_CTRL (ticks_in (budget_at k n))) (λ n. tt)
 row_reason k ec domain (asks.PtCtrl pt identifier) = named_holds HasReason (named k domain is_pt control_right pt) (λ n. deeds.Names n identifier) (λ n. tt)
-row_reason k ec domain (asks.SmCtrl sm action) = sm_ctrl_holds HasReason k domain sm action (λ n whom is wakes. tt) (λ n is answers. tt) (λ n is answers. tt)
+row_reason k ec domain (asks.SmCtrl sm action) = sm_ctrl_holds HasReason k ec domain sm action (λ n whom is wakes. tt) (λ n is answers. tt) (λ n until is answers till. tt)
 
 call_reason : (k : KernelState) (ec domain : ℕ) (r : Registers) → HasReason (hypercall k ec domain r)
 call_reason k ec domain r = hypercall_holds HasReason k ec domain r (λ call status. tt) (λ c reads. row_reason k ec domain c)

@@ -1,6 +1,6 @@
 -- Who gives memory to a virtual CPU's protection domain, and who takes it.
 use Rattle.std.specs.Prelude.{◌≡◌, ℕ, Contains, Bool, true, List, ◌∷◌, ◌++◌, length, slice_get, Some, None, option_map}
-use Rattle.nova_model.specs.Choice.{choice}
+use Rattle.nova_model.specs.Choice.{next_to_act}
 use Rattle.nova_model.specs.Delegations.{added, reach, without}
 use Rattle.nova_model.specs.Inputs.{contents_of}
 use Rattle.nova_model.specs.Lines.{line}
@@ -18,7 +18,7 @@ use Rattle.nova_range.specs.declared.rights.Rights.{Rights}
 
 -- the execution context acts in the turn of the processor
 abbrev pub Acts : KernelState → ℕ → ℕ → Type 0
-Acts k cpu ec = option_map (λ c. c.actor) (choice k cpu) ≡ Some ec
+Acts k cpu ec = option_map (λ c. c.actor) (next_to_act k cpu) ≡ Some ec
 
 -- some page of the protection domain leads to the frame, with the right
 pub record Reaches (k : KernelState) (pd right frame : ℕ) : Type 0 where

@@ -15,3 +15,4 @@ pub mod Foreseen
 pub mod Ongoing
 pub mod Going
 pub mod Homes
+pub mod Dues

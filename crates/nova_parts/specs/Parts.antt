@@ -23,7 +23,8 @@ state_of p = record {
   turns = p.turns;
   cpus = p.cpus;
   consoles = p.reach.consoles;
-  stirs = record { guests = p.guests.counts; processors = p.stirs.items };
+  stirs = record { guests = p.guests.counts; processors = p.times.all.clocks };
+  times = p.times.all;
 }
 
 -- each list has room for one more, that of derivations for one of a protection domain
@@ -36,6 +37,7 @@ pub record HasRoom (pd : ℕ) (p : Parts) : Type 0 where
   pub identifiers : vec_len p.identifiers < vec_capacity p.identifiers
   pub semaphores : 0 < p.semaphores.spare
   pub waiting : length p.semaphores.all < p.semaphores.contexts
+  pub deadlines : length p.times.all.deadlines < p.times.contexts
   pub guests : 0 < p.guests.spare
   pub revokes : length p.objects.items < p.revokes.places
 

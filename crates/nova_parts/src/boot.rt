@@ -8,8 +8,8 @@ use crate::inventory::Inventory;
 use crate::parts::{Counts, Entries, Parts, Rest, Tables, let_go, together};
 use nova_choice::root_queues;
 use nova_deeds::{
-    first_stirs, no_entries, root_contexts, root_guests, root_objects, root_revokes,
-    root_semaphores, root_transfers,
+    no_entries, root_contexts, root_guests, root_objects, root_revokes, root_semaphores,
+    root_times, root_transfers,
 };
 use nova_memory::Reach;
 use nova_model::Root;
@@ -49,16 +49,16 @@ fn root_entries(alloc: Global, cpus: u32, root: Root) -> Result<Entries, AllocEr
 
 /// The last three tables.
 fn root_counts(alloc: Global, cpus: u32) -> Result<Counts, AllocError>
-    ensures stirs { IfOk result (λ t. t.stirs.items ≡ replicate cpus 0) }
+    ensures times { IfOk result (λ t. t.times.all ≡ record { clocks = replicate cpus 0; deadlines = None ∷ None ∷ None ∷ []; alarms = [] }) }
     ensures guests { IfOk result (λ t. t.guests.counts ≡ None ∷ None ∷ None ∷ []) }
     ensures revokes { IfOk result (λ t. t.revokes.list ≡ []) }
     ensures places { IfOk result (λ t. 3 ≤ t.revokes.places) }
 {
-    let stirs = first_stirs(alloc, cpus)?;
+    let times = root_times(alloc, cpus)?;
     let guests = root_guests(alloc)?;
     let revokes = root_revokes(alloc)?;
     Ok(Counts {
-        stirs,
+        times,
         guests,
         revokes,
     })
@@ -72,7 +72,7 @@ fn root_rest(alloc: Global, cpus: u32, root: Root) -> Result<Rest, AllocError>
     ensures queues { IfOk result (λ r. r.entries.queues.all ≡ root_schedule cpus root) }
     ensures identifiers { IfOk result (λ r. r.entries.identifiers.items ≡ None ∷ None ∷ None ∷ []) }
     ensures semaphores { IfOk result (λ r. r.entries.semaphores.all ≡ None ∷ None ∷ None ∷ []) }
-    ensures stirs { IfOk result (λ r. r.counts.stirs.items ≡ replicate cpus 0) }
+    ensures times { IfOk result (λ r. r.counts.times.all ≡ record { clocks = replicate cpus 0; deadlines = None ∷ None ∷ None ∷ []; alarms = [] }) }
     ensures guests { IfOk result (λ r. r.counts.guests.counts ≡ None ∷ None ∷ None ∷ []) }
     ensures revokes { IfOk result (λ r. r.counts.revokes.list ≡ []) }
     ensures places { IfOk result (λ r. 3 ≤ r.counts.revokes.places) }

@@ -43,7 +43,7 @@ impl Parts {
         requires stamp { self.old.queues.all.next_stamp < 2 ^ 64 - 1 }
         ensures turns { self.new.turns ≡ self.old.turns }
         ensures cpus { self.new.cpus ≡ self.old.cpus }
-        ensures stirs { self.new.stirs.items ≡ self.old.stirs.items }
+        ensures times { self.new.times ≡ self.old.times }
         ensures charged { self.new.queues.all ≡ queues.charged_schedule self.old.queues.all sc }
         ensures paid { state_of self.new ≡ paid_by (state_of self.old) sc (quantum_in (slice_get (state_of self.old).objects sc)) (budget_at (state_of self.old) sc) }
         ensures revokes { self.new.revokes ≡ self.old.revokes }
@@ -52,11 +52,11 @@ impl Parts {
         self.queues.charge(sc);
     }
 
-    /// The turn is counted, for the kernel and for the processor.
-    fn count(&mut self, cpu: u32)
+    /// The turn is counted, for the kernel and for the processor, whose clock goes on.
+    pub(crate) fn count(&mut self, cpu: u32)
         requires turns { self.old.turns < 2 ^ 31 }
-        requires cpu { cpu < length self.old.stirs.items }
-        requires stirs { slice_index self.old.stirs.items cpu < 2 ^ 32 }
+        requires cpu { cpu < length self.old.times.all.clocks }
+        requires stirs { slice_index self.old.times.all.clocks cpu < 2 ^ 32 }
         ensures turns { self.new.turns ≡ self.old.turns + 1 }
         ensures cpus { self.new.cpus ≡ self.old.cpus }
         ensures queues { self.new.queues.all ≡ self.old.queues.all }
@@ -65,7 +65,7 @@ impl Parts {
         ensures log { self.new.reach.room ≡ self.old.reach.room }
     {
         self.turns += 1;
-        self.stirs[cpu as usize] += 1;
+        self.times.tick(cpu);
     }
 
     /// A turn of the processor is charged to the scheduling context.

@@ -1,5 +1,5 @@
 ghost use Rattle.std.specs.Prelude.{◌≡◌, IsSome, IfSome, option_map};
-ghost use Rattle.nova_model.specs.Choice.{choice, choose, is_quiet};
+ghost use Rattle.nova_model.specs.Choice.{choice, choose, is_idle, is_quiet};
 ghost use Rattle.nova_model.specs.State.{context_at};
 ghost use Rattle.nova_sched.specs.Queues as queues;
 ghost use Rattle.nova_choice.specs.Choices.{chosen_of};
@@ -30,7 +30,8 @@ impl Parts {
         Some(Chosen { sc, actor })
     }
 
-    /// The scheduling context that the processor's next turn is charged to; none where it is idle.
+    /// The scheduling context that the processor's next turn is charged to, unless something is due there; none where none is
+    /// runnable.
     #[tactic(auto, using(nova_choice::proofs::Nexts::choose_told))]
     pub fn choose(&self, cpu: u32) -> Option<u32>
         requires { AreQueued (state_of self.now) self.now.queues.all }
@@ -39,13 +40,21 @@ impl Parts {
         self.queues.choose(cpu)
     }
 
+    /// Whether a processor has no turn to take: nothing is runnable there, and nothing is to come.
+    fn is_idle(&self, cpu: u32) -> bool
+        requires { AreQueued (state_of self.now) self.now.queues.all }
+        ensures { result ≡ is_idle (state_of self.now) cpu }
+    {
+        self.choose(cpu).is_none() && self.times.next(cpu).is_none()
+    }
+
     /// Whether no processor has a turn to take.
     pub fn is_quiet(&self) -> bool
         requires { AreQueued (state_of self.now) self.now.queues.all }
         ensures { result ≡ is_quiet (state_of self.now) }
     {
         for cpu in 0..self.cpus {
-            if self.choose(cpu).is_some() {
+            if !self.is_idle(cpu) {
                 return false;
             }
         }

@@ -18,6 +18,7 @@ use nova_ec::Ecs;
 use nova_model::{Deed, NewObject, Rights, Transfer};
 use nova_running::Guests;
 use nova_sem::Sems;
+use nova_times::Times;
 use std::alloc::AllocError;
 
 /// Makes room for one more object among the execution contexts, with how far they are with items, and the
@@ -40,18 +41,27 @@ fn reserve_entries(
     Ok(())
 }
 
-/// Makes room for one more object among the semaphores, at which it may wait, and the stir counts of virtual
-/// CPUs. It refuses for want of memory alone.
-fn reserve_counts(semaphores: &mut Sems, guests: &mut Guests) -> Result<(), AllocError>
-    requires { length semaphores.old.all < 2 ^ 32 - 1 }
+/// Makes room for one more object among the semaphores, at which it may wait to a deadline, and the stir counts of
+/// virtual CPUs. It refuses for want of memory alone.
+fn reserve_counts(
+    semaphores: &mut Sems,
+    times: &mut Times,
+    guests: &mut Guests,
+) -> Result<(), AllocError>
+    requires semaphores { length semaphores.old.all < 2 ^ 32 - 1 }
+    requires deadlines { length times.old.all.deadlines < 2 ^ 32 - 1 }
     ensures semaphores { semaphores.new.all ≡ semaphores.old.all }
+    ensures times { times.new.all ≡ times.old.all }
+    ensures alarms { times.old.spare ≤ times.new.spare }
     ensures guests { guests.new.counts ≡ guests.old.counts }
     ensures semaphore { OnOk result (0 < semaphores.new.spare) }
     ensures waiting { OnOk result (length semaphores.new.all < semaphores.new.contexts) }
+    ensures deadline { OnOk result (length times.new.all.deadlines < times.new.contexts) }
     ensures guest { OnOk result (0 < guests.new.spare) }
 {
     semaphores.reserve(1)?;
     semaphores.room_for_ec()?;
+    times.room_for_ec()?;
     guests.reserve(1)?;
     Ok(())
 }
@@ -59,14 +69,16 @@ fn reserve_counts(semaphores: &mut Sems, guests: &mut Guests) -> Result<(), Allo
 impl Parts {
     /// Makes room for one more object and its capability, which a protection domain holds. It refuses
     /// for want of memory alone.
-    fn reserve(&mut self, domain: u32) -> Result<(), AllocError>
+    pub(crate) fn reserve(&mut self, domain: u32) -> Result<(), AllocError>
         requires objects { length (state_of self.old).objects < 2 ^ 32 }
         requires numbers { length (state_of self.old).semaphores < 2 ^ 32 - 1 }
+        requires deadlines { length (state_of self.old).times.deadlines < 2 ^ 32 - 1 }
         ensures shown { state_of self.new ≡ state_of self.old }
         ensures queues { self.new.queues ≡ self.old.queues }
         ensures log { self.new.reach.room ≡ self.old.reach.room }
         ensures revokes { self.new.revokes.list ≡ self.old.revokes.list }
         ensures places { self.old.revokes.places ≤ self.new.revokes.places }
+        ensures alarms { self.old.times.spare ≤ self.new.times.spare }
         ensures room { OnOk result (HasRoom domain self.new) }
     {
         self.objects.reserve(1)?;
@@ -77,7 +89,7 @@ impl Parts {
             &mut self.transfers,
             &mut self.identifiers,
         )?;
-        reserve_counts(&mut self.semaphores, &mut self.guests)?;
+        reserve_counts(&mut self.semaphores, &mut self.times, &mut self.guests)?;
         self.revokes.reserve(self.objects.len() + 1)?;
         Ok(())
     }
@@ -86,6 +98,7 @@ impl Parts {
     fn reserve_domain(&mut self, domain: u32) -> Result<(), AllocError>
         requires objects { length (state_of self.old).objects < 2 ^ 32 }
         requires numbers { length (state_of self.old).semaphores < 2 ^ 32 - 1 }
+        requires deadlines { length (state_of self.old).times.deadlines < 2 ^ 32 - 1 }
         ensures shown { state_of self.new ≡ state_of self.old }
         ensures queues { self.new.queues ≡ self.old.queues }
         ensures log { self.new.reach.room ≡ self.old.reach.room }
@@ -101,6 +114,7 @@ impl Parts {
     fn reserve_sc(&mut self, domain: u32, cpu: u32) -> Result<(), AllocError>
         requires objects { length (state_of self.old).objects < 2 ^ 32 }
         requires numbers { length (state_of self.old).semaphores < 2 ^ 32 - 1 }
+        requires deadlines { length (state_of self.old).times.deadlines < 2 ^ 32 - 1 }
         requires cpu { cpu < self.old.queues.all.cpus }
         ensures shown { state_of self.new ≡ state_of self.old }
         ensures queues { self.new.queues.all ≡ self.old.queues.all }
@@ -119,6 +133,7 @@ impl Parts {
     pub(crate) fn make_room(&mut self, domain: u32, deed: Deed) -> Result<(), AllocError>
         requires objects { length (state_of self.old).objects < 2 ^ 32 }
         requires numbers { length (state_of self.old).semaphores < 2 ^ 32 - 1 }
+        requires deadlines { length (state_of self.old).times.deadlines < 2 ^ 32 - 1 }
         requires queue { FitsQueues deed self.old.queues.all }
         ensures shown { state_of self.new ≡ state_of self.old }
         ensures queues { self.new.queues.all ≡ self.old.queues.all }
@@ -159,6 +174,7 @@ impl Parts {
         ensures added { state_of self.new ≡ with_object (state_of self.old) pd selector new }
         ensures joined { self.new.queues.all ≡ joined (state_of self.old).contexts self.old.queues.all (length (state_of self.old).objects) new }
         ensures revokes { self.new.revokes ≡ self.old.revokes }
+        ensures alarms { self.new.times.spare ≡ self.old.times.spare }
         ensures log { self.new.reach.room ≡ self.old.reach.room }
     {
         let object = object_of(new);
@@ -173,6 +189,7 @@ impl Parts {
         self.transfers.push_reserved(transfer_of(object));
         self.identifiers.push_reserved(identifier_of(new));
         self.semaphores.add(count_of(new));
+        self.times.add();
         self.guests.add(stir_count_of(object));
     }
 }

@@ -111,7 +111,7 @@ impl Parts {
             } => self.reply_to(ec, caller, mark, items),
             Deed::Ups { sm, woken } => self.raise_counter(ec, sm, woken),
             Deed::Downs { sm } => self.lower_counter(ec, sm),
-            Deed::Blocks { sm } => self.block(ec, sm),
+            Deed::Blocks { sm, until } => self.block(ec, sm, until),
             Deed::Finishes {
                 item,
                 words,

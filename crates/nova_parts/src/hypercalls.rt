@@ -303,7 +303,7 @@ impl Parts {
                 let pt = self.named(domain, ObjectType::Pt, Rights::CONTROL, pt)?;
                 Ok(Deed::Names { pt, identifier })
             }
-            Call::SmCtrl { sm, action } => self.sm_ctrl(domain, sm, action),
+            Call::SmCtrl { sm, action } => self.sm_ctrl(ec, domain, sm, action),
         }
     }
 

@@ -10,6 +10,7 @@ mod creation;
 mod deciding;
 mod deliveries;
 mod doing;
+mod due;
 mod exits;
 mod hypercalls;
 mod input;
@@ -22,6 +23,7 @@ mod portals;
 mod queues;
 mod revoking;
 mod semaphores;
+mod sources;
 mod stirs;
 mod turn;
 

@@ -9,12 +9,13 @@ use nova_model::Transfer;
 use nova_running::{Guests, Revokes};
 use nova_sched::Queues;
 use nova_sem::Sems;
+use nova_times::Times;
 use std::alloc::AllocError;
 
 /// The parts of a kernel, which a turn changes one by one; `Kernel` shows them as one state. Tables
 /// are by the number of the object: execution contexts, how far they are with the items that they give,
 /// the identifiers of portals, semaphores, and the stir counts of virtual CPUs. Scheduling contexts wait in queues,
-/// and the revokes that run are in a list.
+/// and the revokes that run are in a list. A processor's clock is its stir count too: both count its turns.
 #[derive(Drop)]
 pub struct Parts {
     pub reach: Reach,
@@ -26,7 +27,7 @@ pub struct Parts {
     pub semaphores: Sems,
     pub turns: u64,
     pub cpus: u32,
-    pub stirs: Vec<u64>,
+    pub times: Times,
     pub guests: Guests,
     pub revokes: Revokes,
 }
@@ -50,7 +51,7 @@ pub(crate) struct Entries {
 /// The last three.
 #[derive(Drop)]
 pub(crate) struct Counts {
-    pub stirs: Vec<u64>,
+    pub times: Times,
     pub guests: Guests,
     pub revokes: Revokes,
 }
@@ -68,7 +69,7 @@ pub(crate) fn let_go<T: Drop>(_value: T) {}
 
 /// The parts of a kernel, of what they are made from.
 pub(crate) fn together(reach: Reach, rest: Rest, turns: u64, cpus: u32) -> Parts
-    ensures { result ≡ record { reach = reach; objects = rest.tables.objects; contexts = rest.tables.contexts; queues = rest.entries.queues; transfers = rest.tables.transfers; identifiers = rest.entries.identifiers; semaphores = rest.entries.semaphores; turns = turns; cpus = cpus; stirs = rest.counts.stirs; guests = rest.counts.guests; revokes = rest.counts.revokes } }
+    ensures { result ≡ record { reach = reach; objects = rest.tables.objects; contexts = rest.tables.contexts; queues = rest.entries.queues; transfers = rest.tables.transfers; identifiers = rest.entries.identifiers; semaphores = rest.entries.semaphores; turns = turns; cpus = cpus; times = rest.counts.times; guests = rest.counts.guests; revokes = rest.counts.revokes } }
 {
     let Rest {
         tables,
@@ -85,7 +86,7 @@ pub(crate) fn together(reach: Reach, rest: Rest, turns: u64, cpus: u32) -> Parts
         semaphores: entries.semaphores,
         turns,
         cpus,
-        stirs: counts.stirs,
+        times: counts.times,
         guests: counts.guests,
         revokes: counts.revokes,
     }
@@ -129,7 +130,7 @@ impl Parts {
         ensures queues { IfOk result (λ r. r.entries.queues.all ≡ self.now.queues.all) }
         ensures identifiers { IfOk result (λ r. r.entries.identifiers.items ≡ self.now.identifiers.items) }
         ensures semaphores { IfOk result (λ r. r.entries.semaphores.all ≡ self.now.semaphores.all) }
-        ensures stirs { IfOk result (λ r. r.counts.stirs.items ≡ self.now.stirs.items) }
+        ensures times { IfOk result (λ r. r.counts.times.all ≡ self.now.times.all) }
         ensures guests { IfOk result (λ r. r.counts.guests.counts ≡ self.now.guests.counts) }
         ensures revokes { IfOk result (λ r. r.counts.revokes.list ≡ self.now.revokes.list) }
         ensures places { IfOk result (λ r. length self.now.objects.items ≤ r.counts.revokes.places) }
@@ -178,16 +179,16 @@ impl Parts {
 
     /// The last three tables in memory of their own.
     fn copied_counts(&self) -> Result<Counts, AllocError>
-        ensures stirs { IfOk result (λ t. t.stirs.items ≡ self.now.stirs.items) }
+        ensures times { IfOk result (λ t. t.times.all ≡ self.now.times.all) }
         ensures guests { IfOk result (λ t. t.guests.counts ≡ self.now.guests.counts) }
         ensures revokes { IfOk result (λ t. t.revokes.list ≡ self.now.revokes.list) }
         ensures places { IfOk result (λ t. length self.now.objects.items ≤ t.revokes.places) }
     {
-        let stirs = Vec::from_slice(*self.stirs.allocator(), &self.stirs)?;
+        let times = self.times.copy(*self.transfers.allocator())?;
         let guests = self.guests.copy()?;
         let revokes = self.revokes.copy(self.objects.len())?;
         Ok(Counts {
-            stirs,
+            times,
             guests,
             revokes,
         })

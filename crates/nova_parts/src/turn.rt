@@ -1,8 +1,9 @@
-ghost use Rattle.std.specs.Prelude.{◌≡◌, ℕ, ◌==◌, ◌&&◌, not, is_some, length, ◌+◌, ◌^◌, ◌<◌, ◌≤◌, true, false, Some, IsSome, IfOk, OnOk, OnErr, option_map};
+ghost use Rattle.std.specs.Prelude.{◌≡◌, ℕ, ◌==◌, ◌&&◌, not, is_some, length, ◌+◌, ◌^◌, ◌<◌, ◌≤◌, true, false, None, Some, IsSome, IfOk, OnOk, OnErr, option_map};
 ghost use Rattle.nova_model.specs.Deeds.{deed, done, is_making, sign_of};
 ghost use Rattle.nova_model.specs.Choice.{choice};
 ghost use Rattle.nova_model.specs.Edges.{acts};
 ghost use Rattle.nova_model.specs.State.{context_at};
+ghost use Rattle.nova_model.specs.Times.{due_on};
 ghost use Rattle.nova_model.specs.Turn.{state_after, answer_of, turn};
 ghost use Rattle.nova_parts.specs.Views.{IsMaking, turns_taken};
 ghost use Rattle.nova_sched.specs.Queues.{queued_at};
@@ -198,6 +199,7 @@ impl Parts {
         requires turns { self.old.turns < 2 ^ 31 }
         requires cpu { cpu < self.old.cpus }
         requires log { 0 < self.old.reach.room }
+        requires none_due { due_on (state_of self.old).times cpu ≡ None }
         requires told { Some chosen ≡ option_map chosen_of (choice (state_of self.old) cpu) }
         requires there { IsSome (context_at (state_of self.old) chosen.actor) }
         requires pays { IsSome (queued_at self.old.queues.all chosen.sc) }
@@ -245,8 +247,11 @@ impl Parts {
         ensures turns { IfOk result (λ t. self.new.turns ≡ self.old.turns + turns_taken t) }
         ensures cpus { self.new.cpus ≡ self.old.cpus }
     {
+        if self.times.is_due(cpu) {
+            return Ok(self.come_due(cpu));
+        }
         let Some(chosen) = self.choice(cpu, known) else {
-            return Ok(Turn::Idle);
+            return Ok(self.tick_on(cpu));
         };
         turns_keep_what_they_find();
         match self.go_on(chosen.actor) {

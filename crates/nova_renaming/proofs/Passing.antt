@@ -10,10 +10,9 @@ use Rattle.nova_guest.specs.declared.input.Input.{Input}
 use Rattle.nova_guest.specs.declared.input.Input.TheVariants.{Own, Reply, Recall, Taken, Foreign, Sent, Died}
 use Rattle.nova_range.specs.Rights.{write_right}
 use Rattle.nova_model.specs.AddressSpaces.{frame_for}
-use Rattle.nova_model.specs.Choice.{Candidate, choice}
 use Rattle.nova_model.specs.Deeds.{address_space, deed, instruction}
 use Rattle.nova_model.specs.Delegations.{is_memory}
-use Rattle.nova_model.specs.Guests.{input, input_by}
+use Rattle.nova_model.specs.Guests.{input}
 use Rattle.nova_model.specs.Inputs.{foreign_at, foreign_by, given_of, in_ram, input_of, is_covered_for, only_if, others_input, own_input, reply_of, store_of}
 use Rattle.nova_model.specs.State.{KernelState, message, pd_of}
 use Rattle.nova_model.specs.Views.{is_memory_of}

@@ -1,13 +1,16 @@
 -- The report of a kernel and the events of its turns, section by section. Each line ends with a line feed.
-use Rattle.std.specs.Prelude.{ℕ, ◌==◌, Bool, true, false, not, List, [], ◌++◌, filter, flat_map, codes, decimal, Option, Some, None, length, if◌then◌else◌}
-use Rattle.std.specs.List.{enumerate_from, range_with_len, list_any}
+use Rattle.std.specs.Prelude.{ℕ, ◌==◌, Bool, true, false, not, List, [], ◌++◌, filter, flat_map, map, codes, decimal, Option, Some, None, length, if◌then◌else◌}
+use Rattle.std.specs.List.{enumerate_from, range_with_len, list_any, zip}
 use Rattle.rv_model.specs.Registers.{Registers, reg}
 use Rattle.nova_model.specs.State.{KernelState, Semaphore, context_at}
 use Rattle.nova_model.specs.Choice.{is_quiet}
 use Rattle.nova_kernel.specs.Views.{ticks_of, semaphore_at}
 use Rattle.nova_model.specs.declared.event.Event.{Event}
 use Rattle.nova_model.specs.declared.event.EventKind.{EventKind}
-use Rattle.nova_model.specs.declared.event.EventKind.TheVariants.{Step}
+use Rattle.nova_model.specs.declared.event.EventKind.TheVariants.{Step, Tick}
+use Rattle.nova_model.specs.declared.times.Alarm.{Alarm}
+use Rattle.nova_gsi.specs.Firings.{table}
+use Rattle.nova_gsi.specs.declared.source_line.SourceLine.{SourceLine}
 use Rattle.nova_objects.specs.declared.object.Object.{Object}
 use Rattle.nova_objects.specs.declared.object.Object.TheVariants.{Ec, Sc, Sm}
 use Rattle.nova_objects.specs.declared.object.EcKind.{EcKind}
@@ -20,13 +23,14 @@ use Rattle.nova_report.specs.Words.{line_feed, hexadecimal, quiet_word, event_wo
 abbrev pub run_line : KernelState → List ℕ
 run_line k = codes "run " ++ (quiet_word (is_quiet k) ++ (codes " " ++ (decimal k.turns ++ line_feed)))
 
--- each event but step, by place from 1
-abbrev pub is_step : EventKind → Bool
-is_step Step = true
-is_step other = false
+-- each event but step and tick, by place from 1
+abbrev pub is_silent : EventKind → Bool
+is_silent Step = true
+is_silent Tick = true
+is_silent other = false
 
 abbrev pub is_told : ℕ × Event → Bool
-is_told (place, e) = not (is_step e.kind)
+is_told (place, e) = not (is_silent e.kind)
 
 abbrev pub event_line : ℕ × Event → List ℕ
 event_line (place, e) = codes "at " ++ (decimal place ++ (codes " " ++ (decimal e.cpu ++ (codes " " ++ (decimal e.ec ++ (codes " "
@@ -78,6 +82,14 @@ semaphore_of k (id, other) = []
 abbrev pub semaphore_lines : KernelState → List ℕ
 semaphore_lines k = flat_map (semaphore_of k) (enumerate_from 0 k.objects)
 
+-- each source by number, with its processor and semaphore, how often it fired, and by how many ticks the latest was late
+abbrev pub source_line : ℕ × (Alarm × SourceLine) → List ℕ
+source_line (n, (s, l)) = codes "source " ++ (decimal n ++ (codes " " ++ (decimal s.cpu ++ (codes " " ++ (decimal s.sm ++ (codes " "
+    ++ (decimal l.fired ++ (codes " " ++ (decimal l.worst ++ line_feed)))))))))
+
+abbrev pub source_lines : List Alarm → List Event → List ℕ
+source_lines sources trace = flat_map source_line (enumerate_from 0 (zip sources (table sources trace)))
+
 -- each console, with the bytes that were stored to it
 abbrev pub is_of : ℕ → LogByte → Bool
 is_of console b = b.console == console
@@ -105,4 +117,5 @@ abbrev pub derivation_lines : KernelState → List ℕ
 derivation_lines k = flat_map derivation_line k.delegations.list
 
 unfoldable pub report : KernelState → List Event → List ℕ
-report k trace = run_line k ++ (event_lines trace ++ (context_lines k ++ (budget_lines k ++ (semaphore_lines k ++ (console_lines k ++ derivation_lines k)))))
+report k trace = run_line k ++ (event_lines trace ++ (context_lines k ++ (budget_lines k ++ (semaphore_lines k
+    ++ (source_lines (map (λ a. a.alarm) k.times.alarms) trace ++ (console_lines k ++ derivation_lines k))))))

@@ -1,7 +1,7 @@
 -- The words of a report, each as its text.
 use Rattle.std.specs.Prelude.{ℕ, zero, suc, ◌/◌, ◌%◌, Bool, true, false, List, [], ◌∷◌, ◌++◌, slice_index, codes, decimal, Option, Some, None}
 use Rattle.nova_model.specs.declared.event.EventKind.{EventKind}
-use Rattle.nova_model.specs.declared.event.EventKind.TheVariants.{Step, Raise, Answer, Begin, Help, Sent, Died, Abort, Made, Skip, Xlat, Ended, Gone}
+use Rattle.nova_model.specs.declared.event.EventKind.TheVariants.{Step, Raise, Answer, Begin, Help, Sent, Died, Abort, Made, Skip, Xlat, Ended, Gone, Late, Irq, Tick}
 use Rattle.nova_objects.specs.declared.object.EcKind.{EcKind}
 use Rattle.nova_objects.specs.declared.object.EcKind.TheVariants.{Local, Global, Vcpu}
 use Rattle.nova_model.specs.declared.context.State.{State}
@@ -39,6 +39,9 @@ event_word Skip = codes "skip"
 event_word Xlat = codes "xlat"
 event_word Ended = codes "ended"
 event_word Gone = codes "gone"
+event_word Late = codes "late"
+event_word Irq = codes "irq"
+event_word Tick = codes "tick"
 
 abbrev pub context_word : EcKind → List ℕ
 context_word Local = codes "local"

@@ -8,6 +8,7 @@ mod events;
 mod hex;
 mod objects;
 mod run;
+mod sources;
 
 pub use bench::summary;
 pub use run::report;

@@ -6,13 +6,14 @@ use crate::consoles::write_consoles;
 use crate::derivations::write_derivations;
 use crate::events::write_events;
 use crate::objects::{write_budgets, write_contexts, write_semaphores};
+use crate::sources::write_sources;
 use nova_kernel::Kernel;
 use nova_model::Event;
 use std::alloc::{AllocError, Global};
 
 /// The report of a kernel and of the events of its turns, in order. The only error is that memory
 /// ran out.
-#[tactic(auto, unfolding(crate::specs::Report::report))]
+#[tactic(auto, using(crate::proofs::Sourced::are_sources), unfolding(crate::specs::Report::report))]
 pub fn report(alloc: Global, kernel: &Kernel, trace: &[Event]) -> Result<Vec<u8>, AllocError>
     ensures { IfOk result (λ text. text.items ≡ report kernel.now.state trace.now) }
 {
@@ -22,6 +23,7 @@ pub fn report(alloc: Global, kernel: &Kernel, trace: &[Event]) -> Result<Vec<u8>
     write_contexts(&mut out, kernel)?;
     write_budgets(&mut out, kernel)?;
     write_semaphores(&mut out, kernel)?;
+    write_sources(alloc, &mut out, kernel.sources(), trace)?;
     write_consoles(&mut out, kernel)?;
     write_derivations(&mut out, kernel)?;
     Ok(out.into_bytes())

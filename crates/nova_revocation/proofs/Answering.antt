@@ -66,7 +66,7 @@ row_gives k ec domain (asks.ScCtrl sc) =
     named_holds IsOfRow (named k domain is_sc control_right sc) (λ n. Tells SC_CTRL (ticks_in (budget_at k n))) (λ n. refl)
 row_gives k ec domain (asks.PtCtrl pt identifier) = named_holds IsOfRow (named k domain is_pt control_right pt) (λ n. Names n identifier) (λ n. tt)
 row_gives k ec domain (asks.SmCtrl sm action) =
-    sm_ctrl_holds IsOfRow k domain sm action (λ n whom is wakes. tt) (λ n is answers. tt) (λ n is answers. tt)
+    sm_ctrl_holds IsOfRow k ec domain sm action (λ n whom is wakes. tt) (λ n is answers. tt) (λ n until is answers till. tt)
 
 -- the row of a revoke has no refusal
 revoke_done : (k : KernelState) (ec domain : ℕ) (c : Call) (status : Status) → number_of c ≡ REVOKE → row k ec domain c ≡ Err status → ⊥

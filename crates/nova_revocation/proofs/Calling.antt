@@ -1,6 +1,9 @@
 -- What runs was called.
+use Rattle.nova_model.specs.declared.context.EcState.{EcState}
+use Rattle.nova_laws.proofs.Setting.{more_at}
+use Rattle.nova_forest.proofs.Boots.{sources_keep}
 use Rattle.std.proofs.Common.{◌≡◌, ℕ, zero, suc, List, [], ◌∷◌, ap, sym, ◌∙◌, inl, inr, refl}
-use Rattle.std.specs.Prelude.{◌≢◌, ◌⊎◌, Some, None}
+use Rattle.std.specs.Prelude.{◌≢◌, ◌⊎◌, Some, None, Option, option_and_then}
 use Rattle.std.proofs.lemmas.Bool.{eq-eqb}
 use Rattle.nova_calls.specs.declared.numbers.TheConstants.{REVOKE}
 use Rattle.nova_range.specs.Statuses.{status_code}
@@ -8,9 +11,9 @@ use Rattle.nova_range.specs.declared.status.Status.TheVariants.{Success}
 use Rattle.nova_model.specs.Boot.{Image, Scenario, bare, boot, with_image, with_images}
 use Rattle.nova_model.specs.Deeds.{deed}
 use Rattle.nova_model.specs.Revokes.{Revocation}
-use Rattle.nova_model.specs.Running.{revoke_of}
+use Rattle.nova_model.specs.Running.{revoke_of, revoke_by}
 use Rattle.nova_model.specs.Runs.{after, run}
-use Rattle.nova_model.specs.State.{KernelState}
+use Rattle.nova_model.specs.State.{KernelState, context_at, pd_of}
 use Rattle.nova_model.specs.declared.deed.Deed.{Deed}
 use Rattle.nova_model.specs.declared.deed.Deed.TheVariants.{Returns, Revokes}
 use Rattle.nova_model.specs.declared.event.EventKind.TheVariants.{Answer}
@@ -73,18 +76,25 @@ called k turns ec r sound none now = by_since (since k turns ec r sound now)
     by_since (inr c) = c
 
 -- at boot none runs
-bare_none : (cpus ram consoles : ℕ) (root : Root) (ec : ℕ) → revoke_of (bare cpus ram consoles root) ec ≡ None
-bare_none cpus ram consoles root zero = refl
-bare_none cpus ram consoles root (suc zero) = refl
-bare_none cpus ram consoles root (suc (suc zero)) = refl
-bare_none cpus ram consoles root (suc (suc (suc ec))) = refl
+-- none is about to
+abbrev AreIdle : KernelState → Type 0
+AreIdle k = (pd ec : ℕ) → option_and_then (λ (x : EcState). revoke_by pd x.state) (context_at k ec) ≡ None
 
-images_none : (k : KernelState) (images : List Image) (ec : ℕ) → revoke_of k ec ≡ None → revoke_of (with_images k images) ec ≡ None
-images_none k [] ec none = none
-images_none k (image ∷ images) ec none = images_none (with_image k image) images ec none
+bare_none : (cpus ram consoles : ℕ) (root : Root) → AreIdle (bare cpus ram consoles root)
+bare_none cpus ram consoles root pd zero = refl
+bare_none cpus ram consoles root pd (suc zero) = refl
+bare_none cpus ram consoles root pd (suc (suc zero)) = refl
+bare_none cpus ram consoles root pd (suc (suc (suc ec))) = refl
+
+images_none : (k : KernelState) (images : List Image) → AreIdle k → AreIdle (with_images k images)
+images_none k [] none = none
+images_none k (image ∷ images) none = images_none (with_image k image) images none
 
 boot_none : (s : Scenario) (ec : ℕ) → revoke_of (boot s) ec ≡ None
-boot_none s ec = images_none (bare s.cpus s.ram s.consoles s.root) s.images ec (bare_none s.cpus s.ram s.consoles s.root ec)
+boot_none s ec =
+    sources_keep AreIdle (λ k source none pd n. more_at (λ (o : Option EcState). option_and_then (λ (x : EcState). revoke_by pd x.state) o ≡ None) k.contexts None n (none pd n) (λ old. old))
+    (with_images (bare s.cpus s.ram s.consoles s.root) s.images) s.sources (images_none (bare s.cpus s.ram s.consoles s.root) s.images (bare_none s.cpus s.ram s.consoles s.root))
+    (pd_of (boot s) ec) ec
 
 pub reached_called : (s : Scenario) (turns : List ℕ) (ec : ℕ) (r : Revocation) → revoke_of (run (boot s) turns) ec ≡ Some r → WasCalled (boot s) turns ec r
 reached_called s turns ec r now = called (boot s) turns ec r (boot_sound s) (boot_none s ec) now

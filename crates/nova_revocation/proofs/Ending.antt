@@ -1,4 +1,5 @@
 -- The turns in which a revoke begins and ends, and how many its caller takes from the one to the other.
+use Rattle.nova_forest.specs.Turns.{is_passing}
 use Rattle.std.proofs.Common.{◌≡◌, ℕ, ◌+◌, ◌≤◌, List, [], ◌∷◌, ◌++◌, ap, sym, ◌∙◌, subst, refl, arith}
 use Rattle.std.specs.Prelude.{◌==◌, Bool, true, false, if◌then◌else◌, Contains, length, Option, Some, None}
 use Rattle.std.proofs.lemmas.Bool.{eq-eqb}
@@ -8,7 +9,7 @@ use Rattle.nova_range.specs.Statuses.{status_code}
 use Rattle.nova_range.specs.declared.range.Range.{Range}
 use Rattle.nova_range.specs.declared.status.Status.TheVariants.{Success}
 use Rattle.nova_model.specs.Boot.{Scenario, boot}
-use Rattle.nova_model.specs.Choice.{Candidate, choice}
+use Rattle.nova_model.specs.Choice.{Candidate, next_to_act}
 use Rattle.nova_model.specs.Deeds.{deed}
 use Rattle.nova_model.specs.Delegations.{Delegations}
 use Rattle.nova_model.specs.Revokes.{Revocation, scope}
@@ -84,7 +85,7 @@ pub answered : (k : KernelState) (cpu ec : ℕ) (r : Revocation) → IsSound k �
 answered k cpu ec r sound h = by_own acts (goes_on k cpu ec r sound h.runs acts)
   where
     acts : Acts k cpu ec
-    acts = event_acts k cpu ec h.event.event h.event.answers h.event.ec
+    acts = event_acts k cpu ec h.event.event (ap is_passing h.event.kind) h.event.answers h.event.ec
 
     by_own : Acts k cpu ec → GoesOn k cpu ec r → HasReturned k cpu ec r
     by_own acts (Takes t) =
@@ -98,7 +99,7 @@ answered k cpu ec r sound h = by_own acts (goes_on k cpu ec r sound h.runs acts)
 -- and there is no other such event
 pub told : (k : KernelState) (cpu ec : ℕ) → IsSound k → HasEvent k cpu ec Answer REVOKE (status_code Success) → HasEnded k cpu ec
 told k cpu ec sound h =
-    let acts = event_acts k cpu ec h.event h.answers h.ec in
+    let acts = event_acts k cpu ec h.event (ap is_passing h.kind) h.answers h.ec in
     let its = turn_event k cpu ec (deed k ec) acts refl in
     let same : its.event ≡ h.event = one_event k cpu its.event h.event its.answers h.answers in
     let does : deed k ec ≡ Returns = answer_returns k ec (sym its.kind ∙ (ap (λ (e : Event). e.kind) same ∙ h.kind))
@@ -123,7 +124,7 @@ at_most_once ec (Some c) = by_test (c.actor == ec)
     by_test false = omega arith
 
 one_more : (k : KernelState) (ec : ℕ) (turns : List ℕ) (last : ℕ) → acts_in k ec (turns ++ last ∷ []) ≤ acts_in k ec turns + 1
-one_more k ec [] last = let once = at_most_once ec (choice k last) in omega arith
+one_more k ec [] last = let once = at_most_once ec (next_to_act k last) in omega arith
 one_more k ec (cpu ∷ turns) last = let rest = one_more (after k cpu) ec turns last in omega (arith, rest)
 
 pub whole : (k : KernelState) (first : ℕ) (turns : List ℕ) (last ec : ℕ) (r : Revocation) → IsSound k → Begins k first ec r → Runs (after k first) ec r turns →
@@ -132,7 +133,7 @@ whole k first turns last ec r sound begins runs ends =
     let same = (begun k first ec r sound begins).delegations in
     let size : length (left r (after k first)) ≡ length (left r k) = ap (λ (f : Delegations). length (scope r f.list)) same in
     let fewer = (shrunk (after k first) turns ec r (turn_sound k first sound) runs).fewer in
-    let once = at_most_once ec (choice k first) in
+    let once = at_most_once ec (next_to_act k first) in
     let more = one_more (after k first) ec turns last in
     omega (arith, size, fewer, once, more)
 

@@ -14,7 +14,7 @@ use Rattle.nova_range.specs.declared.range.Kind.TheVariants.{Obj}
 use Rattle.nova_range.specs.declared.status.Status.{Status}
 use Rattle.nova_range.specs.declared.status.Status.TheVariants.{BadCap, BadCpu, Busy}
 use Rattle.nova_model.specs.Capabilities.{bind_portal_right, bind_scheduling_right, is_local, is_schedulable, named}
-use Rattle.nova_model.specs.Choice.{Candidate, choice}
+use Rattle.nova_model.specs.Choice.{Candidate, next_to_act}
 use Rattle.nova_model.specs.Deeds.{deed, deed_in, ready, signalled, stepping}
 use Rattle.nova_model.specs.Delegations.{Delegations, is_held_in, is_same_kind, range_of}
 use Rattle.nova_model.specs.Deliveries.{delegated, delivered, delivers, delivery, part_deed, parted}
@@ -58,7 +58,7 @@ joined (y ∷ ys) d x (inr i) = by_rest (joined ys d x i)
 
 pub joins_idle : (k : KernelState) (cpu ec : ℕ) (r : Revocation) (x : Derivation) → IsForest k.delegations → revoke_of k ec ≡ Some r →
     Contains (after k cpu).delegations.list x → (Contains k.delegations.list x → ⊥) → busy r k.delegations.list x ≡ false
-joins_idle k cpu ec r x forest runs now before = by_choice (choice k cpu) (turn_under k cpu ec r forest runs)
+joins_idle k cpu ec r x forest runs now before = by_choice (next_to_act k cpu) (turn_under k cpu ec r forest runs)
   where
     there : (g : Delegations) → (after k cpu).delegations ≡ g → IsIn g.list x
     there g is = subst (λ (h : Delegations). IsIn h.list x) is (in_from_contains (after k cpu).delegations.list x now)

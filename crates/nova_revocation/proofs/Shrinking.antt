@@ -2,7 +2,7 @@
 use Rattle.std.proofs.Common.{◌≡◌, ℕ, ◌+◌, ◌≤◌, List, [], ◌∷◌, ap, sym, ◌∙◌, subst, refl, arith}
 use Rattle.std.specs.Prelude.{Contains, length, Option, Some, None}
 use Rattle.nova_model.specs.Boot.{Scenario, boot}
-use Rattle.nova_model.specs.Choice.{Candidate, choice}
+use Rattle.nova_model.specs.Choice.{Candidate, next_to_act}
 use Rattle.nova_model.specs.Delegations.{Delegations}
 use Rattle.nova_model.specs.Forest.{IsForest}
 use Rattle.nova_model.specs.Revokes.{Revocation, taken_away}
@@ -30,10 +30,10 @@ course_leads r f g leaves forest c =
 -- one turn
 record Shrinks (k : KernelState) (cpu ec : ℕ) (r : Revocation) : Type 0 where
   among : (d : Derivation) → Contains (left r (after k cpu)) d → Contains (left r k) d
-  fewer : acts_once ec (choice k cpu) + length (left r (after k cpu)) ≤ length (left r k)
+  fewer : acts_once ec (next_to_act k cpu) + length (left r (after k cpu)) ≤ length (left r k)
 
-others_turn : (k : KernelState) (cpu ec : ℕ) (r : Revocation) → IsSound k → revoke_of k ec ≡ Some r → acts_once ec (choice k cpu) ≡ 0 → Shrinks k cpu ec r
-others_turn k cpu ec r sound runs none = by_choice (choice k cpu) (turn_under k cpu ec r sound.forest runs)
+others_turn : (k : KernelState) (cpu ec : ℕ) (r : Revocation) → IsSound k → revoke_of k ec ≡ Some r → acts_once ec (next_to_act k cpu) ≡ 0 → Shrinks k cpu ec r
+others_turn k cpu ec r sound runs none = by_choice (next_to_act k cpu) (turn_under k cpu ec r sound.forest runs)
   where
     by_kept : (leaves : ℕ) → courses.IsKept r k.delegations (after k cpu).delegations leaves → Shrinks k cpu ec r
     by_kept leaves kept = record { among = kept.among; fewer = omega (arith, none, kept.fewer) }
@@ -45,7 +45,7 @@ others_turn k cpu ec r sound runs none = by_choice (choice k cpu) (turn_under k 
         by_kept (leaves_in change) (course_leads r k.delegations (after k cpu).delegations (leaves_in change) sound.forest
         (under_course r ec c.actor k.delegations (after k cpu).delegations change))
 
-own_turn : (k : KernelState) (cpu ec : ℕ) (r : Revocation) → IsSound k → acts_once ec (choice k cpu) ≡ 1 → HasTaken k cpu ec r → Shrinks k cpu ec r
+own_turn : (k : KernelState) (cpu ec : ℕ) (r : Revocation) → IsSound k → acts_once ec (next_to_act k cpu) ≡ 1 → HasTaken k cpu ec r → Shrinks k cpu ec r
 own_turn k cpu ec r sound one t =
     let kept = course_leads r k.delegations (after k cpu).delegations 1 sound.forest
     (under_course r ec ec k.delegations (after k cpu).delegations
@@ -55,7 +55,7 @@ own_turn k cpu ec r sound one t =
 one_turn : (k : KernelState) (cpu ec : ℕ) (r : Revocation) → IsSound k → revoke_of k ec ≡ Some r → revoke_of (after k cpu) ec ≡ Some r → Shrinks k cpu ec r
 one_turn k cpu ec r sound now then_too = by_part (part_of k cpu ec)
   where
-    by_own : acts_once ec (choice k cpu) ≡ 1 → GoesOn k cpu ec r → Shrinks k cpu ec r
+    by_own : acts_once ec (next_to_act k cpu) ≡ 1 → GoesOn k cpu ec r → Shrinks k cpu ec r
     by_own one (Takes t) = own_turn k cpu ec r sound one t
     by_own one (IsOver h) = let over = h.over in absurd (cc)
 

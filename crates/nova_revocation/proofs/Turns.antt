@@ -1,9 +1,10 @@
 -- The turn of the one who acts, and what it is for a revoke.
+use Rattle.nova_forest.specs.Turns.{is_passing}
 use Rattle.std.proofs.Common.{◌≡◌, ℕ, ap, sym, ◌∙◌, subst, refl}
 use Rattle.std.specs.Prelude.{◌==◌, Bool, true, false, Option, Some, None, option_map}
 use Rattle.std.proofs.lemmas.Bool.{eqb-true, eqb-false, eq-eqb, ne_eqb}
 use Rattle.std.proofs.lemmas.Option.{same_Some}
-use Rattle.nova_model.specs.Choice.{Candidate, choice}
+use Rattle.nova_model.specs.Choice.{Candidate, next_to_act}
 use Rattle.nova_model.specs.Deeds.{deed, deed_in, done, removes, sign_of}
 use Rattle.nova_model.specs.Delegations.{Delegations, without}
 use Rattle.nova_model.specs.Revokes.{Revocation, next_leaf, scope}
@@ -35,13 +36,13 @@ use Rattle.nova_revocation.proofs.Taking.{cleared}
 
 -- an execution context acts in the turn, or it doesn't
 pub data HasPart (k : KernelState) (cpu ec : ℕ) : Type 0 where
-  Itself : Acts k cpu ec → acts_once ec (choice k cpu) ≡ 1 → HasPart k cpu ec
-  Another : ((c : Candidate) → choice k cpu ≡ Some c → ec ≡ c.actor → ⊥) → acts_once ec (choice k cpu) ≡ 0 → HasPart k cpu ec
+  Itself : Acts k cpu ec → acts_once ec (next_to_act k cpu) ≡ 1 → HasPart k cpu ec
+  Another : ((c : Candidate) → next_to_act k cpu ≡ Some c → ec ≡ c.actor → ⊥) → acts_once ec (next_to_act k cpu) ≡ 0 → HasPart k cpu ec
 
 pub part_of : (k : KernelState) (cpu ec : ℕ) → HasPart k cpu ec
-part_of k cpu ec = by_choice (choice k cpu) refl
+part_of k cpu ec = by_choice (next_to_act k cpu) refl
   where
-    by_test : (c : Candidate) → choice k cpu ≡ Some c → (t : Bool) → (c.actor == ec) ≡ t → HasPart k cpu ec
+    by_test : (c : Candidate) → next_to_act k cpu ≡ Some c → (t : Bool) → (c.actor == ec) ≡ t → HasPart k cpu ec
     by_test c chosen true is =
         let same : c.actor ≡ ec = eqb-true c.actor ec is in
         let once : acts_once ec (Some c) ≡ 1 = rw is refl in
@@ -51,7 +52,7 @@ part_of k cpu ec = by_choice (choice k cpu) refl
         Another (λ other at same. eqb-false c.actor ec is (ap (λ (x : Candidate). x.actor) (same_Some c other (sym chosen ∙ at)) ∙ sym same))
         (ap (acts_once ec) chosen ∙ once)
 
-    by_choice : (o : Option Candidate) → choice k cpu ≡ o → HasPart k cpu ec
+    by_choice : (o : Option Candidate) → next_to_act k cpu ≡ o → HasPart k cpu ec
     by_choice None idle = Another (λ c at same. absurd (cc)) (ap (acts_once ec) idle)
     by_choice (Some c) chosen = by_test c chosen (c.actor == ec) refl
 
@@ -60,7 +61,7 @@ part_of k cpu ec = by_choice (choice k cpu) refl
 pub turn_same : (k : KernelState) (cpu ec : ℕ) (d : Deed) → Acts k cpu ec → deed k ec ≡ d → IsSame (done k ec d) (after k cpu)
 turn_same k cpu ec d acts is = who_acts (λ n. deed k n ≡ d → IsSame (done k n d) (after k cpu)) k cpu ec acts of_chosen is
   where
-    of_chosen : (c : Candidate) → choice k cpu ≡ Some c → deed k c.actor ≡ d → IsSame (done k c.actor d) (after k cpu)
+    of_chosen : (c : Candidate) → next_to_act k cpu ≡ Some c → deed k c.actor ≡ d → IsSame (done k c.actor d) (after k cpu)
     of_chosen c chosen its =
         let turns = chosen_turn k cpu c chosen in
         let does = sym (done_is k c.actor (deed k c.actor)) ∙ ap (λ (e : Deed). done k c.actor e) its in
@@ -72,7 +73,7 @@ turn_same k cpu ec d acts is = who_acts (λ n. deed k n ≡ d → IsSame (done k
 pub turn_event : (k : KernelState) (cpu ec : ℕ) (d : Deed) → Acts k cpu ec → deed k ec ≡ d → HasEvent k cpu ec (sign_of d).0 (sign_of d).1 (sign_of d).2
 turn_event k cpu ec d acts is = who_acts (λ n. deed k n ≡ d → HasEvent k cpu n (sign_of d).0 (sign_of d).1 (sign_of d).2) k cpu ec acts of_chosen is
   where
-    of_chosen : (c : Candidate) → choice k cpu ≡ Some c → deed k c.actor ≡ d → HasEvent k cpu c.actor (sign_of d).0 (sign_of d).1 (sign_of d).2
+    of_chosen : (c : Candidate) → next_to_act k cpu ≡ Some c → deed k c.actor ≡ d → HasEvent k cpu c.actor (sign_of d).0 (sign_of d).1 (sign_of d).2
     of_chosen c chosen its = record {
       event = event_of cpu c (deed k c.actor);
       answers = chosen_answers k cpu c chosen;
@@ -83,9 +84,9 @@ turn_event k cpu ec d acts is = who_acts (λ n. deed k n ≡ d → HasEvent k cp
     }
 
 -- whom an event names acts
-pub event_acts : (k : KernelState) (cpu ec : ℕ) (e : Event) → answer_of (turn k cpu) ≡ Stepped e → e.ec ≡ ec → Acts k cpu ec
-event_acts k cpu ec e answers its =
-    of_event (λ (f : Event). f.ec ≡ ec → Acts k cpu ec) k cpu e answers
+pub event_acts : (k : KernelState) (cpu ec : ℕ) (e : Event) → is_passing e.kind ≡ false → answer_of (turn k cpu) ≡ Stepped e → e.ec ≡ ec → Acts k cpu ec
+event_acts k cpu ec e other answers its =
+    of_event (λ (f : Event). f.ec ≡ ec → Acts k cpu ec) k cpu e other answers
     (λ c chosen state is. ap (option_map (λ (x : Candidate). x.actor)) chosen ∙ ap (λ (n : ℕ). Some n) is) its
 
 -- WHICH REVOKE RUNS AFTER IT
@@ -93,7 +94,7 @@ event_acts k cpu ec e answers its =
 pub its_revoke : (k : KernelState) (cpu ec : ℕ) (d : Deed) → IsKept k → Acts k cpu ec → deed k ec ≡ d → revoke_of (after k cpu) ec ≡ revoke_after k ec d ec
 its_revoke k cpu ec d kept acts is = who_acts (λ n. deed k n ≡ d → revoke_of (after k cpu) n ≡ revoke_after k n d n) k cpu ec acts of_chosen is
   where
-    of_chosen : (c : Candidate) → choice k cpu ≡ Some c → deed k c.actor ≡ d → revoke_of (after k cpu) c.actor ≡ revoke_after k c.actor d c.actor
+    of_chosen : (c : Candidate) → next_to_act k cpu ≡ Some c → deed k c.actor ≡ d → revoke_of (after k cpu) c.actor ≡ revoke_after k c.actor d c.actor
     of_chosen c chosen its =
         turns_leave k cpu kept c.actor ∙ ap (λ (o : Option Candidate). revoke_in_turn k o c.actor) chosen ∙ ap (λ (e : Deed). revoke_after k c.actor e c.actor) its
 
@@ -102,11 +103,11 @@ others_stay k actor ec (Revokes range own) other = rw (ne_eqb ec actor other) re
 others_stay k actor ec Returns other = rw (ne_eqb ec actor other) refl
 others_stay k actor ec d other = refl
 
-pub stays_apart : (k : KernelState) (cpu ec : ℕ) → IsKept k → ((c : Candidate) → choice k cpu ≡ Some c → ec ≡ c.actor → ⊥) →
+pub stays_apart : (k : KernelState) (cpu ec : ℕ) → IsKept k → ((c : Candidate) → next_to_act k cpu ≡ Some c → ec ≡ c.actor → ⊥) →
     revoke_of (after k cpu) ec ≡ revoke_of k ec
-stays_apart k cpu ec kept another = turns_leave k cpu kept ec ∙ by_choice (choice k cpu) refl
+stays_apart k cpu ec kept another = turns_leave k cpu kept ec ∙ by_choice (next_to_act k cpu) refl
   where
-    by_choice : (o : Option Candidate) → choice k cpu ≡ o → revoke_in_turn k o ec ≡ revoke_of k ec
+    by_choice : (o : Option Candidate) → next_to_act k cpu ≡ o → revoke_in_turn k o ec ≡ revoke_of k ec
     by_choice None idle = refl
     by_choice (Some c) chosen = others_stay k c.actor ec (deed k c.actor) (another c chosen)
 

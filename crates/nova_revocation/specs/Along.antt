@@ -1,6 +1,6 @@
 -- A revoke along turns: who acts in them, what their events tell, and what runs meanwhile.
 use Rattle.std.specs.Prelude.{◌≡◌, ℕ, ◌+◌, ◌==◌, if◌then◌else◌, List, [], ◌∷◌, Option, Some, None, option_map}
-use Rattle.nova_model.specs.Choice.{Candidate, choice}
+use Rattle.nova_model.specs.Choice.{Candidate, next_to_act}
 use Rattle.nova_model.specs.Revokes.{Revocation}
 use Rattle.nova_model.specs.Running.{revoke_of}
 use Rattle.nova_model.specs.Runs.{after}
@@ -12,7 +12,7 @@ use Rattle.nova_model.specs.declared.event.Turn.TheVariants.{Stepped}
 
 -- the execution context acts in the turn of the processor
 abbrev pub Acts : KernelState → ℕ → ℕ → Type 0
-Acts k cpu ec = option_map (λ c. c.actor) (choice k cpu) ≡ Some ec
+Acts k cpu ec = option_map (λ c. c.actor) (next_to_act k cpu) ≡ Some ec
 
 -- 1 where it does, and 0 where another one acts or the processor is idle
 abbrev pub acts_once : ℕ → Option Candidate → ℕ
@@ -22,7 +22,7 @@ acts_once ec (Some c) = if c.actor == ec then 1 else 0
 -- in how many of these turns it acts
 abbrev pub acts_in : KernelState → ℕ → List ℕ → ℕ
 acts_in k ec [] = 0
-acts_in k ec (cpu ∷ turns) = acts_once ec (choice k cpu) + acts_in (after k cpu) ec turns
+acts_in k ec (cpu ∷ turns) = acts_once ec (next_to_act k cpu) + acts_in (after k cpu) ec turns
 
 -- it runs this revoke from now on to the end of these turns
 abbrev pub Runs : KernelState → ℕ → Revocation → List ℕ → Type 0

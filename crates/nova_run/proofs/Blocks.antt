@@ -95,6 +95,10 @@ begun_here k most f begun ready = record {
   ready = ready;
 }
 
+pub along_here : (k : KernelState) (most : ℕ) (f new : Finished) (blocks : List Block) → IsFinished k [] most f → IsAlong f.kernel.state f.limit new blocks → IsAlong k most new blocks
+along_here k most f new blocks begun along =
+    subst (λ (m : ℕ). IsAlong k m new blocks) begun.limit (subst (λ (s : KernelState). IsAlong s f.limit new blocks) begun.kernel along)
+
 pub idle_here : (k : KernelState) (most : ℕ) (f : Finished) (blocks : List Block) (line : ℕ) → IsFinished k [] most f → IsIdleLine f.kernel.state blocks line → IsIdleLine k blocks line
 idle_here k most f blocks line begun idle = subst (λ (s : KernelState). IsIdleLine s blocks line) begun.kernel idle
 

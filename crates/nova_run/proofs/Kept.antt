@@ -13,6 +13,11 @@ kept_runs run P (Ok f) (Ok x) same is holds leads = subst P (sym same) (leads ho
 kept_runs run P (Ok f) (Err e) same is holds leads = absurd (none_is is)
 kept_runs run P (Err e) went same is holds leads = tt
 
+pub kept_holds : {A R Q : Type 0} (kept : Result Finished RunFault) (went : Result A RunFault) → OnOk kept (IsOk went) → OnOk went R → (R → Q) → OnOk kept Q
+kept_holds (Ok f) (Ok x) is holds leads = leads holds
+kept_holds (Ok f) (Err e) is holds leads = absurd (none_is is)
+kept_holds (Err e) went is holds leads = tt
+
 pub kept_fails : {A : Type 0} (P : RunFault → Type 0) (kept : Result Finished RunFault) (went : Result A RunFault) →
     IfErr kept (λ fault. went ≡ Err fault) → IfErr went P → IfErr kept P
 kept_fails P (Ok f) went is holds = tt

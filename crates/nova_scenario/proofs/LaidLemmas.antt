@@ -1,15 +1,19 @@
 -- The segments of each executable are among the images.
-use Rattle.std.proofs.Common.{◌≡◌, ℕ, ◌+◌, Bool, true, false, List, [], ◌∷◌, ◌++◌, map, Option, Some, None, Ok, Err, refl, ap, sym, ◌∙◌, subst, inl, inr, append_assoc, append-nil}
+use Rattle.std.proofs.Common.{◌≡◌, ℕ, ◌+◌, Bool, true, false, List, [], ◌∷◌, ◌++◌, map, Option, Some, None, Ok, Err, refl, ap, sym, ◌∙◌, subst, inl, inr, append_assoc, append-nil, Result}
 use Rattle.std.specs.Prelude.{nat_lt}
 use Rattle.std.specs.List.{AllByRecursion, list_any}
 use Rattle.nova_elf.specs.Executable.{program}
 use Rattle.nova_elf.specs.declared.program.Program.{Program}
 use Rattle.nova_elf.specs.declared.program.Segment.{Segment}
 use Rattle.nova_text.specs.Line.{lines}
+use Rattle.nova_scenario.specs.Sources.{closing, row_in, with_row, with_source}
+use Rattle.nova_scenario.specs.declared.fault.Why.{Why}
+use Rattle.nova_scenario.specs.declared.source.SourceRow.{SourceRow}
+use Rattle.nova_scenario.specs.declared.statement.SourceHead.{SourceHead}
 use Rattle.nova_scenario.specs.Executables.{IsAmong, AreLaidIn, IsLaidBlock, IsLaidItem}
 use Rattle.nova_scenario.specs.Fault.{on_line, and_then}
 use Rattle.nova_scenario.specs.Images.{Draft, empty, end_of, shares, is_word_address, address_in, begun, with_apart, with_image}
-use Rattle.nova_scenario.specs.Items.{Block, Item, FaultyLine, SettingLine, ImageBlock, items}
+use Rattle.nova_scenario.specs.Items.{Block, Item, FaultyLine, SettingLine, SourceLine, ImageBlock, items}
 use Rattle.nova_scenario.specs.Scenario.{block_bytes, with_bytes, ended, with_block, with_item, with_pc, whole, finished, read_items, scenario}
 use Rattle.nova_scenario.specs.Segments.{with_images, with_segments, with_settings, with_program, executable, with_executable, segment_image, reaches_past}
 use Rattle.nova_scenario.specs.Settings.{entered, with_setting, is_whole, ram_size}
@@ -128,17 +132,26 @@ block_laid bytes d e head block is =
       bytes_grow d e head.form a.0 b.0 laid,
     )
 
+-- a source leaves the images
+pub source-images : (d e : Draft) (head : SourceHead) → with_source d head ≡ Ok e → e.images ≡ d.images
+source-images d e head is = go (row_in d head) is where
+  go : (r : Result SourceRow Why) → with_row d r ≡ Ok e → e.images ≡ d.images
+  go (Ok row) there = let e_is : e ≡ record d { sources = d.sources ++ row ∷ [] } = cc in ap (λ (x : Draft). x.images) e_is
+  go (Err why) there = cc
+
 item_laid : (bytes : List ℕ) (d e : Draft) (item : Item) → with_item bytes d item ≡ Ok e → IsLaidItem e.images item × Grows d.images e.images
 item_laid bytes d e (FaultyLine line why) is = cc
 item_laid bytes d e (SettingLine line setting) is =
     let p = settings-ok d e (with_setting d.settings setting) (on_line-ok line (with_settings d (with_setting d.settings setting)) e is) in
     (tt, subst (λ (x : Draft). Grows d.images x.images) (sym p.2) (same_grows d.images))
-item_laid bytes d e (ImageBlock head block) is = block_laid bytes d e head block is
+item_laid bytes d e (SourceLine line head) is = (tt, subst (λ (xs : List Image). Grows d.images xs) (sym (source-images d e head (on_line-ok line (with_source d head) e is))) (same_grows d.images))
+item_laid bytes d e (ImageBlock head block) is = block_laid bytes (closing d) e head block is
 
 -- what is laid stays so
 item_stays : (old new : List Image) (item : Item) → Grows old new → IsLaidItem old item → IsLaidItem new item
 item_stays old new (FaultyLine line why) grows laid = tt
 item_stays old new (SettingLine line setting) grows laid = tt
+item_stays old new (SourceLine line head) grows laid = tt
 item_stays old new (ImageBlock head block) grows laid = λ of_form.
     let h = laid of_form in (
       h.0,
@@ -152,19 +165,19 @@ item_stays old new (ImageBlock head block) grows laid = λ of_form.
       },
     )
 
-pub whole-images : (cpus ram consoles : Option ℕ) (root : Option Root) (images : List Image) (s : Scenario) → whole cpus ram consoles root images ≡ Some s → s.images ≡ images
-whole-images (Some cpus) (Some ram) (Some consoles) (Some root) images s is = go root.pc is where
-  go : (pc : Option ℕ) → with_pc cpus ram consoles root pc images ≡ Some s → s.images ≡ images
+pub whole-images : (cpus ram consoles : Option ℕ) (root : Option Root) (images : List Image) (sources : List SourceRow) (s : Scenario) → whole cpus ram consoles root images sources ≡ Some s → s.images ≡ images
+whole-images (Some cpus) (Some ram) (Some consoles) (Some root) images sources s is = go root.pc is where
+  go : (pc : Option ℕ) → with_pc cpus ram consoles root pc images sources ≡ Some s → s.images ≡ images
   go None there = cc
-  go (Some pc) there = let s_is : s ≡ record { cpus = cpus; ram = ram; consoles = consoles; pc = pc; sp = root.sp; priority = root.priority; quantum = root.quantum; images = images } = cc in ap (λ (x : Scenario). x.images) s_is
-whole-images None _ _ _ images s is = cc
-whole-images (Some cpus) None _ _ images s is = cc
-whole-images (Some cpus) (Some ram) None _ images s is = cc
-whole-images (Some cpus) (Some ram) (Some consoles) None images s is = cc
+  go (Some pc) there = let s_is : s ≡ record { cpus = cpus; ram = ram; consoles = consoles; pc = pc; sp = root.sp; priority = root.priority; quantum = root.quantum; images = images; sources = sources } = cc in ap (λ (x : Scenario). x.images) s_is
+whole-images None _ _ _ images sources s is = cc
+whole-images (Some cpus) None _ _ images sources s is = cc
+whole-images (Some cpus) (Some ram) None _ images sources s is = cc
+whole-images (Some cpus) (Some ram) (Some consoles) None images sources s is = cc
 
 read_laid : (bytes : List ℕ) (d : Draft) (its : List Item) (s : Scenario) → read_items bytes d its ≡ Ok s → AllByRecursion (IsLaidItem s.images) its × Grows d.images s.images
 read_laid bytes d [] s is =
-    let same = whole-images d.settings.cpus d.settings.ram d.settings.consoles d.settings.root d.images s (or_missing-ok bytes (finished d) s is) in
+    let same = whole-images d.settings.cpus d.settings.ram d.settings.consoles d.settings.root d.images d.sources s (or_missing-ok bytes (finished d) s is) in
     (tt, subst (Grows d.images) (sym same) (same_grows d.images))
 read_laid bytes d (item ∷ its) s is =
     let a = and_then-ok (with_item bytes d item) (λ e. read_items bytes e its) s is in

@@ -1,5 +1,5 @@
 -- No fault of a text is the want of memory of the assembler.
-use Rattle.std.proofs.Common.{ℕ, ◌+◌, ◌^◌, ◌%◌, ◌==◌, Bool, true, false, not, ◌&&◌, List, [], ◌∷◌, ◌++◌, map, Option, Some, None, Result, Ok, Err, ap, subst}
+use Rattle.std.proofs.Common.{ℕ, ◌+◌, ◌^◌, ◌%◌, ◌==◌, Bool, true, false, not, ◌&&◌, List, [], ◌∷◌, ◌++◌, map, Option, Some, None, Result, Ok, Err, ap, subst, length, nat_lt}
 use Rattle.std.specs.Prelude.{◌≢◌, nat_le, nat_lt, find, if◌then◌else◌}
 use Rattle.std.specs.List.{AllByRecursion, list_any}
 use Rattle.std.specs.Option.{option_and_then}
@@ -11,9 +11,12 @@ use Rattle.rv_asm.specs.Program.{assembled}
 use Rattle.rv_asm.specs.declared.fault.AsmFault.{AsmFault}
 use Rattle.rv_asm.specs.declared.fault.AsmFault.TheVariants.{Memory as AsmMemory}
 use Rattle.rv_asm.proofs.TextFaults.{no_memory}
+use Rattle.nova_scenario.specs.Sources.{closing, if_room, row_in, source_of, with_row, with_source}
+use Rattle.nova_scenario.specs.declared.source.SourceRow.{SourceRow}
+use Rattle.nova_scenario.specs.declared.statement.SourceHead.{SourceHead}
 use Rattle.nova_scenario.specs.Fault.{At, at, and_then, on_line}
 use Rattle.nova_scenario.specs.Images.{Draft, empty, end_of, shares, is_word_address, address_in, begun, with_apart, with_image}
-use Rattle.nova_scenario.specs.Items.{Block, Item, FaultyLine, SettingLine, ImageBlock, is_end, item_before, items}
+use Rattle.nova_scenario.specs.Items.{Block, Item, FaultyLine, SettingLine, SourceLine, ImageBlock, is_end, item_before, items}
 use Rattle.nova_scenario.specs.Read.{IsFault, KeepsMemoryApart}
 use Rattle.nova_scenario.specs.Segments.{with_images, with_segments, with_settings, with_program, executable, with_executable, segment_image, reaches_past}
 use Rattle.nova_scenario.specs.Digits.{has_bytes, elf_by, elf_bytes}
@@ -41,7 +44,7 @@ use Rattle.nova_scenario.specs.declared.statement.Head.{Head}
 use Rattle.nova_scenario.specs.declared.statement.Setting.{Setting}
 use Rattle.nova_scenario.specs.declared.statement.Setting.TheVariants.{Cpus, Ram, Consoles, Root as RootLine}
 use Rattle.nova_scenario.specs.declared.statement.Statement.{Statement}
-use Rattle.nova_scenario.specs.declared.statement.Statement.TheVariants.{Sets, Begins}
+use Rattle.nova_scenario.specs.declared.statement.Statement.TheVariants.{Sets, Adds, Begins}
 
 -- what is wrong with a line, without the assembler's want of memory
 abbrev IsOfText : Why → Type 0
@@ -202,12 +205,33 @@ setting_text s (RootLine start sp priority quantum) =
 abbrev ItemIsOfText : Item → Type 0
 ItemIsOfText (FaultyLine line why) = IsOfText why
 ItemIsOfText (SettingLine line setting) = Unit {0}
+ItemIsOfText (SourceLine line head) = Unit {0}
 ItemIsOfText (ImageBlock head b) = Unit {0}
+
+-- a source
+source_text : (d : Draft) (head : SourceHead) → NamesText (with_source d head)
+source_text d head = by_row (row_in d head) (by_place d.closed (is_whole d.settings)) where
+  by_row : (r : Result SourceRow Why) → NamesText r → NamesText (with_row d r)
+  by_row (Ok row) names = tt
+  by_row (Err why) names = names
+
+  by_room : (o : Option SourceRow) → NamesText (if_room (length d.sources) o)
+  by_room None = (λ e. cc, λ e. cc)
+  by_room (Some row) = go (nat_lt (length d.sources) 32) where
+    go : (b : Bool) → NamesText {A = SourceRow} (if b then Ok row else Err Range)
+    go true = tt
+    go false = (λ e. cc, λ e. cc)
+
+  by_place : (closed whole : Bool) → NamesText {A = SourceRow} (if closed then Err Syntax else (if whole then if_room (length d.sources) (source_of d.settings.cpus head) else Err Missing))
+  by_place true whole = (λ e. cc, λ e. cc)
+  by_place false true = by_room (source_of d.settings.cpus head)
+  by_place false false = (λ e. cc, λ e. cc)
 
 item_text : (bytes : List ℕ) (d : Draft) (item : Item) → ItemIsOfText item → AnswersText (with_item bytes d item)
 item_text bytes d (FaultyLine line why) h = h
 item_text bytes d (SettingLine line setting) h = line_text line _ (settings_text d (with_setting d.settings setting) (setting_text d.settings setting))
-item_text bytes d (ImageBlock head b) h = block_text bytes d head b
+item_text bytes d (SourceLine line head) h = line_text line (with_source d head) (source_text d head)
+item_text bytes d (ImageBlock head b) h = block_text bytes (closing d) head b
 
 read_text : (bytes : List ℕ) (d : Draft) (its : List Item) → AllByRecursion ItemIsOfText its → AnswersText (read_items bytes d its)
 read_text bytes d [] all = go (finished d) where
@@ -235,6 +259,7 @@ before_text : (row : Row) (r : Result (Option Statement) Why) (rows : List Row) 
 before_text row (Err why) rows more names rest = (names, rest false)
 before_text row (Ok None) rows more names rest = rest false
 before_text row (Ok (Some (Sets setting))) rows more names rest = (tt, rest false)
+before_text row (Ok (Some (Adds head))) rows more names rest = (tt, rest false)
 before_text row (Ok (Some (Begins head))) rows more names rest = (tt, rest true)
 
 items_text : (rows : List Row) (in_block : Bool) → AllByRecursion ItemIsOfText (items in_block rows)

@@ -3,10 +3,11 @@ use Rattle.std.proofs.Common.{◌≡◌, ℕ, ◌%◌, Bool, true, false, ◌||�
 use Rattle.std.specs.List.{AllByRecursion, list_any}
 use Rattle.std.proofs.lemmas.Bool.Decides.{nat_tests}
 use Rattle.nova_text.specs.Line.{lines}
+use Rattle.nova_scenario.specs.Sources.{closing, with_source}
 use Rattle.nova_scenario.specs.Executables.{IsAmong}
 use Rattle.nova_scenario.specs.Fault.{on_line, and_then}
 use Rattle.nova_scenario.specs.Images.{Draft, empty, is_word_address, address_in, begun}
-use Rattle.nova_scenario.specs.Items.{Block, Item, FaultyLine, SettingLine, ImageBlock, items}
+use Rattle.nova_scenario.specs.Items.{Block, Item, FaultyLine, SettingLine, SourceLine, ImageBlock, items}
 use Rattle.nova_scenario.specs.Origins.{IsOfExecutable, IsOfBlock, IsOfItem, IsOfSome, is_executable, has_executable, HaveWordsAlone}
 use Rattle.nova_scenario.specs.Scenario.{block_bytes, with_bytes, ended, with_block, with_item, finished, read_items, scenario}
 use Rattle.nova_scenario.specs.Segments.{with_settings, segment_image}
@@ -20,7 +21,7 @@ use Rattle.nova_scenario.specs.declared.statement.Form.{Form}
 use Rattle.nova_scenario.specs.declared.statement.Form.TheVariants as form
 use Rattle.nova_scenario.specs.declared.statement.Head.{Head}
 use Rattle.nova_scenario.proofs.SoundLemmas.{and_then-ok, on_line-ok, settings-ok, ended-ok, or_missing-ok}
-use Rattle.nova_scenario.proofs.LaidLemmas.{among_last, image_adds, executable_adds, address-is, whole-images}
+use Rattle.nova_scenario.proofs.LaidLemmas.{source-images, among_last, image_adds, executable_adds, address-is, whole-images}
 
 -- what holds of each of a list
 all_on : {A : Type 0} (P Q : A → Type 0) (xs : List A) → ((x : A) → P x → Q x) → AllByRecursion P xs → AllByRecursion Q xs
@@ -81,8 +82,10 @@ item_adds bytes d e (FaultyLine line why) P each all is = cc
 item_adds bytes d e (SettingLine line setting) P each all is =
     let p = settings-ok d e (with_setting d.settings setting) (on_line-ok line (with_settings d (with_setting d.settings setting)) e is) in
     subst (λ (x : Draft). AllByRecursion P x.images) (sym p.2) all
+item_adds bytes d e (SourceLine line head) P each all is =
+    subst (AllByRecursion P) (sym (source-images d e head (on_line-ok line (with_source d head) e is))) all
 item_adds bytes d e (ImageBlock head block) P each all is =
-    let a = block_adds bytes d e head block is in
+    let a = block_adds bytes (closing d) e head block is in
     subst (AllByRecursion P) (sym a.1) (all_joined P d.images a.0 all (all_on (IsOfItem bytes (ImageBlock head block)) P a.0 each a.2))
 
 abbrev EachGives : List ℕ → (Image → Type 0) → List Item → Type 0
@@ -90,7 +93,7 @@ EachGives bytes P its = AllByRecursion (λ item. (image : Image) → IsOfItem by
 
 read_adds : (bytes : List ℕ) (d : Draft) (its : List Item) (s : Scenario) (P : Image → Type 0) → EachGives bytes P its → AllByRecursion P d.images → read_items bytes d its ≡ Ok s → AllByRecursion P s.images
 read_adds bytes d [] s P each all is =
-    subst (AllByRecursion P) (sym (whole-images d.settings.cpus d.settings.ram d.settings.consoles d.settings.root d.images s (or_missing-ok bytes (finished d) s is))) all
+    subst (AllByRecursion P) (sym (whole-images d.settings.cpus d.settings.ram d.settings.consoles d.settings.root d.images d.sources s (or_missing-ok bytes (finished d) s is))) all
 read_adds bytes d (item ∷ its) s P each all is =
     let a = and_then-ok (with_item bytes d item) (λ e. read_items bytes e its) s is in
     read_adds bytes a.0 its s P each.1 (item_adds bytes d a.0 item P each.0 all a.1) a.2
@@ -117,6 +120,7 @@ words_aligned bytes form.Elf head block image alone is = cc
 item_aligned : (bytes : List ℕ) (item : Item) → has_executable item ≡ false → (image : Image) → IsOfItem bytes item image → IsAligned image
 item_aligned bytes (FaultyLine line why) alone image is = absurd is
 item_aligned bytes (SettingLine line setting) alone image is = absurd is
+item_aligned bytes (SourceLine line head) alone image is = absurd is
 item_aligned bytes (ImageBlock head block) alone image is = words_aligned bytes head.form head block image alone is
 
 or_false : (a b : Bool) → (a || b) ≡ false → (a ≡ false) × (b ≡ false)

@@ -1,5 +1,5 @@
 -- What is set is sound: each definition keeps it.
-use Rattle.std.proofs.Common.{◌≡◌, ℕ, ◌^◌, ◌%◌, ◌<◌, ◌≤◌, ◌==◌, Bool, true, false, ◌&&◌, Option, Some, None, Result, Ok, Err, refl, ap, subst, arith}
+use Rattle.std.proofs.Common.{◌≡◌, ℕ, ◌^◌, ◌%◌, ◌<◌, ◌≤◌, ◌==◌, Bool, true, false, ◌&&◌, Option, Some, None, Result, Ok, Err, refl, ap, subst, arith, sym, ◌∙◌}
 use Rattle.std.specs.Prelude.{nat_le, nat_lt, IfSome, option_map}
 use Rattle.std.proofs.lemmas.Bool.Decides.{nat_tests}
 use Rattle.nova_text.specs.Number.{u32_of}
@@ -148,3 +148,16 @@ entered_kept s t (Some root) entry at sound is =
     let there = subst (λ o. IfSome o IsSoundRoot) at sound.root in
     let new : AreSound (record s { root = Some p.0 }) = record { cpus = sound.cpus; ram = sound.ram; consoles = sound.consoles; root = entered_root root p.0 root.pc entry refl there p.1 } in
     rw p.2 (new, refl)
+
+-- how many processors there are stays, where it is set
+pub setting_cpus : (s t : Settings) (setting : Setting) (n : ℕ) → with_setting s setting ≡ Ok t → s.cpus ≡ Some n → t.cpus ≡ Some n
+setting_cpus s t (Cpus m) n is set =
+    let p = put-new _ _ t is in
+    let q = once-new s.cpus (within 1 8 m) p.0 p.1 in absurd (let both : None ≡ Some n = sym q.0 ∙ set in cc)
+setting_cpus s t (Ram m) n is set = let p = put-new _ _ t is in ap (λ (x : Settings). x.cpus) p.2 ∙ set
+setting_cpus s t (Consoles c) n is set = let p = put-new _ _ t is in ap (λ (x : Settings). x.cpus) p.2 ∙ set
+setting_cpus s t (RootLine start sp priority quantum) n is set = let p = put-new _ _ t is in ap (λ (x : Settings). x.cpus) p.2 ∙ set
+
+pub entered_cpus : (s t : Settings) (root : Option Root) (entry n : ℕ) → entered s root entry ≡ Ok t → s.cpus ≡ Some n → t.cpus ≡ Some n
+entered_cpus s t None entry n is set = let t_is : t ≡ s = cc in ap (λ (x : Settings). x.cpus) t_is ∙ set
+entered_cpus s t (Some root) entry n is set = let p = put-new _ (entered_at root root.pc entry) t is in ap (λ (x : Settings). x.cpus) p.2 ∙ set

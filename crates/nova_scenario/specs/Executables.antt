@@ -5,7 +5,7 @@ use Rattle.nova_elf.specs.Executable.{program}
 use Rattle.nova_elf.specs.declared.program.Program.{Program}
 use Rattle.nova_elf.specs.declared.program.Segment.{Segment}
 use Rattle.nova_scenario.specs.Digits.{elf_bytes}
-use Rattle.nova_scenario.specs.Items.{Item, FaultyLine, SettingLine, ImageBlock}
+use Rattle.nova_scenario.specs.Items.{Item, FaultyLine, SettingLine, SourceLine, ImageBlock}
 use Rattle.nova_scenario.specs.Segments.{segment_image}
 use Rattle.nova_scenario.specs.declared.image.Image.{Image}
 use Rattle.nova_scenario.specs.declared.statement.Form.TheVariants as form
@@ -27,5 +27,6 @@ pub record IsLaidBlock (images : List Image) (address : ℕ) (file : List ℕ) (
 abbrev pub IsLaidItem : List Image → Item → Type 0
 IsLaidItem images (FaultyLine line why) = Unit {0}
 IsLaidItem images (SettingLine line setting) = Unit {0}
+IsLaidItem images (SourceLine line head) = Unit {0}
 IsLaidItem images (ImageBlock head block) = head.form ≡ form.Elf →
     (address : ℕ) × (file : List ℕ) × (p : Program) × (head.address ≡ Some address) × (elf_bytes block.lines ≡ Ok file) × IsLaidBlock images address file p

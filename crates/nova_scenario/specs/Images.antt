@@ -1,19 +1,22 @@
 -- The images so far, and where a further one may lie.
-use Rattle.std.specs.Prelude.{ℕ, ◌+◌, ◌==◌, ◌%◌, Bool, ◌&&◌, min, max, nat_le, nat_lt, List, [], ◌∷◌, ◌++◌, length, Option, Some, None, Result, Ok, Err, if◌then◌else◌}
+use Rattle.std.specs.Prelude.{ℕ, ◌+◌, ◌==◌, ◌%◌, Bool, false, ◌&&◌, min, max, nat_le, nat_lt, List, [], ◌∷◌, ◌++◌, length, Option, Some, None, Result, Ok, Err, if◌then◌else◌}
 use Rattle.std.specs.List.{list_any}
 use Rattle.nova_scenario.specs.Settings.{is_whole, ram_size, unset}
 use Rattle.nova_scenario.specs.declared.fault.Why.{Why}
 use Rattle.nova_scenario.specs.declared.fault.Why.TheVariants.{Missing, Range, Overlap}
 use Rattle.nova_scenario.specs.declared.image.Image.{Image}
+use Rattle.nova_scenario.specs.declared.source.SourceRow.{SourceRow}
 use Rattle.nova_scenario.specs.declared.settings.Settings.{Settings}
 
--- what was read so far
+-- what was read so far, and whether an image was among it
 pub record Draft : Type 0 where
   pub settings : Settings
   pub images : List Image
+  pub sources : List SourceRow
+  pub closed : Bool
 
 abbrev pub empty : Draft
-empty = record { settings = unset; images = [] }
+empty = record { settings = unset; images = []; sources = []; closed = false }
 
 -- the address after an image
 abbrev pub end_of : Image → ℕ

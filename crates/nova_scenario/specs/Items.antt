@@ -8,9 +8,10 @@ use Rattle.nova_text.specs.Token.{tokens}
 use Rattle.nova_scenario.specs.Statement.{said}
 use Rattle.nova_scenario.specs.declared.fault.Why.{Why}
 use Rattle.nova_scenario.specs.declared.statement.Head.{Head}
+use Rattle.nova_scenario.specs.declared.statement.SourceHead.{SourceHead}
 use Rattle.nova_scenario.specs.declared.statement.Setting.{Setting}
 use Rattle.nova_scenario.specs.declared.statement.Statement.{Statement}
-use Rattle.nova_scenario.specs.declared.statement.Statement.TheVariants.{Sets, Begins}
+use Rattle.nova_scenario.specs.declared.statement.Statement.TheVariants.{Sets, Adds, Begins}
 
 -- a line `end`: that is its only token
 abbrev pub is_end_in : List Piece → Bool
@@ -29,10 +30,11 @@ pub record Block : Type 0 where
 abbrev pub block : Row → List Row → Block
 block first rows = record { first = first; lines = before_first is_end rows; end = find is_end rows }
 
--- a line at fault and one that sets something, by their numbers; an image
+-- a line at fault, one that sets something and one of a source, by their numbers; an image
 pub data Item : Type 0 where
   FaultyLine : ℕ → Why → Item
   SettingLine : ℕ → Setting → Item
+  SourceLine : ℕ → SourceHead → Item
   ImageBlock : Head → Block → Item
 
 -- the item that a line begins, before those of the lines after it; a blank line is none
@@ -40,6 +42,7 @@ abbrev pub item_before : Row → Result (Option Statement) Why → List Row → 
 item_before row (Err why) rows items = FaultyLine row.number why ∷ items false
 item_before row (Ok None) rows items = items false
 item_before row (Ok (Some (Sets setting))) rows items = SettingLine row.number setting ∷ items false
+item_before row (Ok (Some (Adds head))) rows items = SourceLine row.number head ∷ items false
 item_before row (Ok (Some (Begins head))) rows items = ImageBlock head (block row rows) ∷ items true
 
 -- the items of lines, of which the first still belong to a block where the lines before them are in one

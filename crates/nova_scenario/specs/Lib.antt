@@ -5,6 +5,7 @@ pub mod Items
 pub mod Words
 pub mod Digits
 pub mod Images
+pub mod Sources
 pub mod Segments
 pub mod Occupied
 pub mod Kept

@@ -6,7 +6,7 @@ use Rattle.nova_elf.specs.declared.program.Program.{Program}
 use Rattle.nova_scenario.specs.Digits.{elf_bytes}
 use Rattle.nova_scenario.specs.Executables.{IsAmong}
 use Rattle.nova_scenario.specs.Fault.{At}
-use Rattle.nova_scenario.specs.Items.{Block, Item, FaultyLine, SettingLine, ImageBlock}
+use Rattle.nova_scenario.specs.Items.{Block, Item, FaultyLine, SettingLine, SourceLine, ImageBlock}
 use Rattle.nova_scenario.specs.Segments.{segment_image}
 use Rattle.nova_scenario.specs.Sound.{IsAligned}
 use Rattle.nova_scenario.specs.Words.{hex_words, asm_words, in_bytes}
@@ -34,6 +34,7 @@ IsOfBlock bytes form.Elf head block image = IsOfExecutable head block image
 abbrev pub IsOfItem : List ℕ → Item → Image → Type 0
 IsOfItem bytes (FaultyLine line why) image = ⊥
 IsOfItem bytes (SettingLine line setting) image = ⊥
+IsOfItem bytes (SourceLine line head) image = ⊥
 IsOfItem bytes (ImageBlock head block) image = IsOfBlock bytes head.form head block image
 
 -- the image is of one of some items
@@ -50,6 +51,7 @@ is_executable form.Elf = true
 abbrev pub has_executable : Item → Bool
 has_executable (FaultyLine line why) = false
 has_executable (SettingLine line setting) = false
+has_executable (SourceLine line head) = false
 has_executable (ImageBlock head block) = is_executable head.form
 
 abbrev pub HaveWordsAlone : List Item → Type 0

@@ -4,9 +4,11 @@ use Rattle.nova_text.specs.Line.{Row, lines}
 use Rattle.nova_scenario.specs.Fault.{At, at, and_then, on_line}
 use Rattle.nova_scenario.specs.Digits.{elf_bytes}
 use Rattle.nova_scenario.specs.Images.{Draft, empty, begun, with_image}
-use Rattle.nova_scenario.specs.Items.{Block, Item, FaultyLine, SettingLine, ImageBlock, items}
+use Rattle.nova_scenario.specs.Items.{Block, Item, FaultyLine, SettingLine, SourceLine, ImageBlock, items}
 use Rattle.nova_scenario.specs.Segments.{with_executable, with_settings}
 use Rattle.nova_scenario.specs.Settings.{with_setting}
+use Rattle.nova_scenario.specs.Sources.{closing, with_source}
+use Rattle.nova_scenario.specs.declared.source.SourceRow.{SourceRow}
 use Rattle.nova_scenario.specs.Words.{hex_words, asm_words, in_bytes}
 use Rattle.nova_scenario.specs.declared.fault.Why.{Why}
 use Rattle.nova_scenario.specs.declared.fault.Why.TheVariants.{Missing}
@@ -49,12 +51,13 @@ with_block bytes draft head block =
 abbrev pub with_item : List ℕ → Draft → Item → Result Draft At
 with_item bytes draft (FaultyLine line why) = at line why
 with_item bytes draft (SettingLine line setting) = on_line line (with_settings draft (with_setting draft.settings setting))
-with_item bytes draft (ImageBlock head block) = with_block bytes draft head block
+with_item bytes draft (SourceLine line head) = on_line line (with_source draft head)
+with_item bytes draft (ImageBlock head block) = with_block bytes (closing draft) head block
 
 -- what was read, where all settings stand, and where the first thread starts is known
-abbrev pub with_pc : ℕ → ℕ → ℕ → Root → Option ℕ → List Image → Option Scenario
-with_pc cpus ram consoles root None images = None
-with_pc cpus ram consoles root (Some pc) images = Some (record {
+abbrev pub with_pc : ℕ → ℕ → ℕ → Root → Option ℕ → List Image → List SourceRow → Option Scenario
+with_pc cpus ram consoles root None images sources = None
+with_pc cpus ram consoles root (Some pc) images sources = Some (record {
   cpus = cpus;
   ram = ram;
   consoles = consoles;
@@ -63,14 +66,15 @@ with_pc cpus ram consoles root (Some pc) images = Some (record {
   priority = root.priority;
   quantum = root.quantum;
   images = images;
+  sources = sources;
 })
 
-abbrev pub whole : Option ℕ → Option ℕ → Option ℕ → Option Root → List Image → Option Scenario
-whole (Some cpus) (Some ram) (Some consoles) (Some root) images = with_pc cpus ram consoles root root.pc images
-whole _ _ _ _ images = None
+abbrev pub whole : Option ℕ → Option ℕ → Option ℕ → Option Root → List Image → List SourceRow → Option Scenario
+whole (Some cpus) (Some ram) (Some consoles) (Some root) images sources = with_pc cpus ram consoles root root.pc images sources
+whole _ _ _ _ images sources = None
 
 abbrev pub finished : Draft → Option Scenario
-finished d = whole d.settings.cpus d.settings.ram d.settings.consoles d.settings.root d.images
+finished d = whole d.settings.cpus d.settings.ram d.settings.consoles d.settings.root d.images d.sources
 
 abbrev pub or_missing : List ℕ → Option Scenario → Result Scenario At
 or_missing bytes None = missing bytes
@@ -81,7 +85,7 @@ abbrev pub read_items : List ℕ → Draft → List Item → Result Scenario At
 read_items bytes draft [] = or_missing bytes (finished draft)
 read_items bytes draft (item ∷ more) = and_then (with_item bytes draft item) (λ d. read_items bytes d more)
 
--- whether an image begins before any line at fault
+-- whether an image begins, or a source stands, before any line at fault
 abbrev pub if_ok : {A : Type 0} → Result A Why → (A → Bool) → Bool
 if_ok (Ok x) next = next x
 if_ok (Err why) next = false
@@ -90,9 +94,10 @@ abbrev pub begins_image : Draft → List Item → Bool
 begins_image draft [] = false
 begins_image draft (FaultyLine line why ∷ more) = false
 begins_image draft (SettingLine line setting ∷ more) = if_ok (with_settings draft (with_setting draft.settings setting)) (λ d. begins_image d more)
+begins_image draft (SourceLine line head ∷ more) = is_ok (with_source draft head)
 begins_image draft (ImageBlock head block ∷ more) = is_ok (begun draft.settings head.address)
 
--- only the images of a text take memory
+-- only the images and sources of a text take memory
 unfoldable pub takes_memory : List ℕ → Bool
 takes_memory bytes = begins_image empty (items false (lines bytes))
 

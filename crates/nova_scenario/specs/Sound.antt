@@ -1,8 +1,9 @@
 -- What every scenario keeps.
-use Rattle.std.specs.Prelude.{◌≡◌, ℕ, ◌*◌, ◌^◌, ◌%◌, ◌<◌, ◌≤◌, List, [], ◌∷◌}
+use Rattle.std.specs.Prelude.{◌≡◌, ℕ, ◌*◌, ◌^◌, ◌%◌, ◌<◌, ◌≤◌, List, [], ◌∷◌, length}
 use Rattle.std.specs.List.{AllByRecursion}
 use Rattle.nova_scenario.specs.Images.{end_of}
 use Rattle.nova_scenario.specs.declared.image.Image.{Image}
+use Rattle.nova_scenario.specs.declared.source.SourceRow.{SourceRow}
 use Rattle.nova_scenario.specs.declared.scenario.Scenario.{Scenario}
 
 -- an image lies in RAM
@@ -25,6 +26,15 @@ abbrev pub AreApart : List Image → Type 0
 AreApart [] = Unit {0}
 AreApart (image ∷ images) = AllByRecursion (ShareNone image) images × AreApart images
 
+-- a source is of a processor that is there, and its numbers are in their ranges
+pub record IsSourceOf (cpus : ℕ) (row : SourceRow) : Type 0 where
+  pub cpu : row.cpu < cpus
+  pub first : row.first ≤ 10000000
+  pub some_turn : 1 ≤ row.period
+  pub period : row.period ≤ 10000000
+  pub some_time : 1 ≤ row.count
+  pub count : row.count ≤ 10000000
+
 pub record IsSound (s : Scenario) : Type 0 where
   pub some_cpu : 1 ≤ s.cpus
   pub cpus : s.cpus ≤ 8
@@ -38,3 +48,5 @@ pub record IsSound (s : Scenario) : Type 0 where
   pub quantum : s.quantum < 2 ^ 24
   pub images : AllByRecursion (IsIn (4096 * 2 ^ s.ram)) s.images
   pub apart : AreApart s.images
+  pub sources : AllByRecursion (IsSourceOf s.cpus) s.sources
+  pub few : length s.sources ≤ 32

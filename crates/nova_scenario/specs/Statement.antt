@@ -17,22 +17,24 @@ use Rattle.nova_scenario.specs.declared.statement.Keyword.TheVariants as keyword
 use Rattle.nova_scenario.specs.declared.statement.Form.{Form}
 use Rattle.nova_scenario.specs.declared.statement.Form.TheVariants.{Hex, Asm, Elf}
 use Rattle.nova_scenario.specs.declared.statement.Head.{Head}
+use Rattle.nova_scenario.specs.declared.statement.SourceHead.{SourceHead}
 use Rattle.nova_scenario.specs.declared.statement.Setting.{Setting}
 use Rattle.nova_scenario.specs.declared.statement.Start.{Start}
 use Rattle.nova_scenario.specs.declared.statement.Start.TheVariants.{Address, Entry}
 use Rattle.nova_scenario.specs.declared.statement.Setting.TheVariants.{Cpus, Ram, Consoles, Root}
 use Rattle.nova_scenario.specs.declared.statement.Statement.{Statement}
-use Rattle.nova_scenario.specs.declared.statement.Statement.TheVariants.{Sets, Begins}
+use Rattle.nova_scenario.specs.declared.statement.Statement.TheVariants.{Sets, Adds, Begins}
 
 -- the keywords
 abbrev pub keywords : List Keyword
-keywords = keyword.Cpus ∷ keyword.Ram ∷ keyword.Consoles ∷ keyword.Root ∷ keyword.Image ∷ []
+keywords = keyword.Cpus ∷ keyword.Ram ∷ keyword.Consoles ∷ keyword.Root ∷ keyword.Source ∷ keyword.Image ∷ []
 
 abbrev pub keyword_text : Keyword → List ℕ
 keyword_text keyword.Cpus = codes "cpus"
 keyword_text keyword.Ram = codes "ram"
 keyword_text keyword.Consoles = codes "consoles"
 keyword_text keyword.Root = codes "root"
+keyword_text keyword.Source = codes "source"
 keyword_text keyword.Image = codes "image"
 
 abbrev pub keyword_named : List ℕ → Option Keyword
@@ -73,6 +75,15 @@ abbrev pub start_and_numbers : List Piece → Option Setting
 start_and_numbers (start ∷ sp ∷ priority ∷ quantum ∷ []) = root_of (start_of start.text) (number_of sp.text) (number_of priority.text) (number_of quantum.text)
 start_and_numbers _ = None
 
+-- CPU FIRST PERIOD COUNT
+abbrev pub source_head : Option (Option ℕ) → Option (Option ℕ) → Option (Option ℕ) → Option (Option ℕ) → Option SourceHead
+source_head (Some cpu) (Some first) (Some period) (Some count) = Some (record { cpu = cpu; first = first; period = period; count = count })
+source_head _ _ _ _ = None
+
+abbrev pub four_numbers : List Piece → Option SourceHead
+four_numbers (cpu ∷ first ∷ period ∷ count ∷ []) = source_head (number_of cpu.text) (number_of first.text) (number_of period.text) (number_of count.text)
+four_numbers _ = None
+
 -- ADDRESS hex, ADDRESS asm, or ADDRESS elf
 abbrev pub head_of : Option (Option ℕ) → Option Form → Option Head
 head_of (Some address) (Some form) = Some (record { address = address; form = form })
@@ -88,6 +99,7 @@ statement_of operands keyword.Cpus = option_map (λ n. Sets (Cpus n)) (one_numbe
 statement_of operands keyword.Ram = option_map (λ n. Sets (Ram n)) (one_number operands)
 statement_of operands keyword.Consoles = option_map (λ n. Sets (Consoles n)) (one_number operands)
 statement_of operands keyword.Root = option_map Sets (start_and_numbers operands)
+statement_of operands keyword.Source = option_map Adds (four_numbers operands)
 statement_of operands keyword.Image = option_map Begins (address_and_form operands)
 
 -- what a line says, or nothing where it is blank; Syntax where it is not of the form

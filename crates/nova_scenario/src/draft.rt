@@ -1,7 +1,8 @@
-ghost use Rattle.std.specs.Prelude.{◌≡◌, ◌≤◌, ◌^◌, [], ◌∷◌, ◌++◌, false, OnOk, OnErr};
+ghost use Rattle.std.specs.Prelude.{◌≡◌, ◌≤◌, ◌^◌, [], ◌∷◌, ◌++◌, false, is_ok, OnOk, OnErr};
 ghost use Rattle.std.specs.List.{list_any};
 ghost use Rattle.nova_scenario.specs.Images.{empty, begun, end_of, shares, with_apart, with_image, is_word_address};
-ghost use Rattle.nova_scenario.specs.Read.{Becomes, BecomesAt};
+ghost use Rattle.nova_scenario.specs.Read.{Becomes, BecomesAt, TakesIf};
+ghost use Rattle.nova_scenario.specs.Sources.{closing, row_in, with_source};
 ghost use Rattle.nova_scenario.specs.Fault.{on_line};
 ghost use Rattle.nova_scenario.specs.Scenario.{finished};
 ghost use Rattle.nova_scenario.specs.Segments.{with_settings};
@@ -12,7 +13,8 @@ use crate::image::{Image, Images};
 use crate::occupied::Occupied;
 use crate::scenario::Scenario;
 use crate::settings::{Root, Settings};
-use crate::statement::Setting;
+use crate::source::SourceRow;
+use crate::statement::{Setting, SourceHead};
 use std::alloc::{AllocError, Global};
 use std::marker::Model;
 
@@ -22,6 +24,8 @@ pub struct Draft {
     settings: Settings,
     images: Vec<Image>,
     occupied: Occupied,
+    sources: Vec<SourceRow>,
+    closed: bool,
 }
 
 impl Model for Draft {
@@ -31,7 +35,7 @@ impl Model for Draft {
 
     ghost use Rattle.nova_scenario.specs.Kept.{IsKept};
 
-    ghost view = { λ d. record { settings = d.settings; images = d.images.items } };
+    ghost view = { λ d. record { settings = d.settings; images = d.images.items; sources = d.sources.items; closed = d.closed } };
 
     ghost invariant = { λ d. IsKept d.settings d.images.items d.occupied };
 }
@@ -45,6 +49,8 @@ impl Draft {
             settings: Settings::new(),
             images: Vec::new(alloc),
             occupied: Occupied::new(alloc),
+            sources: Vec::new(alloc),
+            closed: false,
         }
     }
 
@@ -54,6 +60,40 @@ impl Draft {
     {
         self.settings = self.settings.with(setting)?;
         Ok(())
+    }
+
+    /// The source of a line, where it may stand.
+    fn source_of(&self, head: SourceHead) -> Result<SourceRow, Why>
+        ensures { result ≡ row_in self.now head }
+    {
+        if self.closed {
+            return Err(Why::Syntax);
+        }
+        if !self.settings.is_whole() {
+            return Err(Why::Missing);
+        }
+        match self.settings.source_of(head) {
+            Some(row) if self.sources.len() < 32 => Ok(row),
+            _ => Err(Why::Range),
+        }
+    }
+
+    /// Adds the source of a line.
+    pub fn add_source(&mut self, head: SourceHead, line: u64) -> Result<(), ScenarioFault>
+        ensures draft { BecomesAt (on_line line (with_source self.old head)) self.new result }
+        ensures memory { TakesIf (is_ok (with_source self.old head)) result }
+    {
+        let row = self.source_of(head).map_err(|why| why.at(line))?;
+        self.sources.reserve(1)?;
+        self.sources.push_reserved(row);
+        Ok(())
+    }
+
+    /// No source may follow.
+    pub fn close(&mut self)
+        ensures { self.new ≡ closing self.old }
+    {
+        self.closed = true;
     }
 
     /// The address of an image that begins.
@@ -155,6 +195,7 @@ impl Draft {
                 priority,
                 quantum,
                 images: self.images.into(),
+                sources: self.sources.into(),
             }),
             _ => None,
         }

@@ -1,7 +1,7 @@
 //! Scenario texts: what a machine has, how its first thread starts, and the images that lie in its memory.
 //!
-//! A text has one line each of `cpus N`, `ram M`, `consoles C` and `root PC SP PRIORITY QUANTUM`, in any order, and then any number of
-//! images. An image is a line `image ADDRESS hex`, `image ADDRESS asm` or `image ADDRESS elf`, lines of words, of the assembler or of the
+//! A text has one line each of `cpus N`, `ram M`, `consoles C` and `root PC SP PRIORITY QUANTUM`, in any order, then up to 32 lines
+//! `source CPU FIRST PERIOD COUNT`, and then any number of images. An image is a line `image ADDRESS hex`, `image ADDRESS asm` or `image ADDRESS elf`, lines of words, of the assembler or of the
 //! bytes of an executable, and a line `end`. Where `entry` stands in place of PC, the first thread starts at the first executable's entry.
 #![tactic(auto)]
 
@@ -18,6 +18,7 @@ mod reader;
 mod scenario;
 mod settings;
 mod slices;
+mod source;
 mod statement;
 mod words;
 
@@ -26,3 +27,4 @@ pub use fault::{ScenarioFault, Why};
 pub use image::{Image, Images};
 pub use reader::read;
 pub use scenario::Scenario;
+pub use source::{SourceRow, Sources};

@@ -96,7 +96,11 @@ fn read_item(
     match said(line) {
         Ok(None) => Ok(()),
         Ok(Some(Statement::Sets(setting))) => draft.set(setting).map_err(|why| why.at(line.number)),
-        Ok(Some(Statement::Begins(head))) => read_image(alloc, bytes, draft, line, head, lines),
+        Ok(Some(Statement::Adds(head))) => draft.add_source(head, line.number),
+        Ok(Some(Statement::Begins(head))) => {
+            draft.close();
+            read_image(alloc, bytes, draft, line, head, lines)
+        }
         Err(why) => Err(why.at(line.number)),
     }
 }
@@ -104,8 +108,8 @@ fn read_item(
 /// Reads a scenario.
 ///
 /// `At` comes exactly where the text is none, and names the first line at fault with its first fault. What is missing at the end is
-/// missing on the line after the last. `Memory` comes where memory is refused, and only where an image begins before any line at
-/// fault; it never stands within `At`.
+/// missing on the line after the last. `Memory` comes where memory is refused, and only where an image or a source stands before any
+/// line at fault; it never stands within `At`.
 #[tactic(auto, unfolding(crate::specs::Scenario::scenario, crate::specs::Scenario::takes_memory))]
 pub fn read(alloc: Global, bytes: &[u8]) -> Result<Scenario, ScenarioFault>
     ensures exact { IsRead (scenario bytes.now) result }

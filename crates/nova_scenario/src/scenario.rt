@@ -1,4 +1,5 @@
 use crate::image::Images;
+use crate::source::Sources;
 
 /// A machine, its first thread, and what lies in its memory at the start.
 #[derive(Debug, Drop)]
@@ -26,4 +27,7 @@ pub struct Scenario {
 
     /// The images. Each lies in RAM, and no two share a byte.
     pub images: Images,
+
+    /// The sources, at most 32.
+    pub sources: Sources,
 }

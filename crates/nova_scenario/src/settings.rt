@@ -1,8 +1,10 @@
 ghost use Rattle.std.specs.Prelude.{◌≡◌, ◌≤◌, ◌^◌, IfSome, IfOk};
+ghost use Rattle.nova_scenario.specs.Sources.{cpu_below, source_of};
 ghost use Rattle.nova_scenario.specs.Settings.{within, aligned, pc_of, root_of, entered_at, entered, set_once, with_setting, is_whole, ram_size, unset, HasSmallRam};
 
 use crate::fault::Why;
-use crate::statement::{Setting, Start};
+use crate::source::SourceRow;
+use crate::statement::{Setting, SourceHead, Start};
 
 /// How the first thread starts, and its scheduling context.
 #[derive(Clone, Copy)]
@@ -67,6 +69,16 @@ fn set_once<T: Copy>(old: Option<T>, new: Option<T>) -> Result<T, Why>
         (Some(_), _) => Err(Why::Repeated),
         (None, None) => Err(Why::Range),
         (None, Some(new)) => Ok(new),
+    }
+}
+
+/// The number of a processor that is there.
+fn cpu_below(cpus: Option<u32>, number: Option<u32>) -> Option<u32>
+    ensures { result ≡ cpu_below cpus number }
+{
+    match (cpus, number) {
+        (Some(cpus), Some(n)) if n < cpus => Some(n),
+        _ => None,
     }
 }
 
@@ -156,6 +168,18 @@ impl Settings {
             settings.root = Some(root.entered(entry)?);
         }
         Ok(settings)
+    }
+
+    /// The source of a line, where each number is in its range.
+    pub fn source_of(self, head: SourceHead) -> Option<SourceRow>
+        ensures { result ≡ source_of self.cpus head }
+    {
+        Some(SourceRow {
+            cpu: cpu_below(self.cpus, head.cpu)?,
+            first: u64::from(within(0, 10_000_000, head.first)?),
+            period: u64::from(within(1, 10_000_000, head.period)?),
+            count: u64::from(within(1, 10_000_000, head.count)?),
+        })
     }
 
     /// Whether all are set.

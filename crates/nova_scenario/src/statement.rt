@@ -2,7 +2,7 @@ ghost use Rattle.std.specs.Prelude.{◌≡◌};
 ghost use Rattle.nova_text.specs.Line.{row_of};
 ghost use Rattle.nova_text.specs.Token.{tokens_left};
 ghost use Rattle.nova_scenario.specs.Items.{is_end, is_end_in};
-ghost use Rattle.nova_scenario.specs.Statement.{keyword_text, keyword_named, number_of, form_of, one_number, start_of, start_and_numbers, address_and_form, statement_of, said_in, said};
+ghost use Rattle.nova_scenario.specs.Statement.{keyword_text, keyword_named, number_of, form_of, one_number, start_of, start_and_numbers, four_numbers, address_and_form, statement_of, said_in, said};
 
 use crate::fault::Why;
 use nova_text::{Line, NumberError, has_forbidden, parse_number};
@@ -14,6 +14,7 @@ pub enum Keyword {
     Ram,
     Consoles,
     Root,
+    Source,
     Image,
 }
 
@@ -61,18 +62,29 @@ pub struct Head {
     pub form: Form,
 }
 
+/// The line of a source. A number of 2^32 or more is `None`.
+#[derive(Clone, Copy)]
+pub struct SourceHead {
+    pub cpu: Option<u32>,
+    pub first: Option<u32>,
+    pub period: Option<u32>,
+    pub count: Option<u32>,
+}
+
 /// What a line outside of the blocks says.
 #[derive(Clone, Copy)]
 pub enum Statement {
     Sets(Setting),
+    Adds(SourceHead),
     Begins(Head),
 }
 
-const KEYWORDS: [Keyword; 5] = [
+const KEYWORDS: [Keyword; 6] = [
     Keyword::Cpus,
     Keyword::Ram,
     Keyword::Consoles,
     Keyword::Root,
+    Keyword::Source,
     Keyword::Image,
 ];
 
@@ -85,6 +97,7 @@ impl Keyword {
             Keyword::Ram => "ram",
             Keyword::Consoles => "consoles",
             Keyword::Root => "root",
+            Keyword::Source => "source",
             Keyword::Image => "image",
         }
     }
@@ -166,6 +179,25 @@ fn start_and_numbers(mut line: Line) -> Option<Setting>
     }
 }
 
+/// The four numbers that are all that is left of a line, as those of a source.
+fn four_numbers(mut line: Line) -> Option<SourceHead>
+    ensures { result ≡ four_numbers (tokens_left line.entry) }
+{
+    let cpu = line.next_token()?;
+    let first = line.next_token()?;
+    let period = line.next_token()?;
+    let count = line.next_token()?;
+    match line.next_token() {
+        Some(_) => None,
+        None => Some(SourceHead {
+            cpu: number_of(cpu.text)?,
+            first: number_of(first.text)?,
+            period: number_of(period.text)?,
+            count: number_of(count.text)?,
+        }),
+    }
+}
+
 /// The number and the form that are all that is left of a line.
 fn address_and_form(mut line: Line) -> Option<Head>
     ensures { result ≡ address_and_form (tokens_left line.entry) }
@@ -190,6 +222,7 @@ fn statement_of(keyword: Keyword, line: Line) -> Option<Statement>
         Keyword::Ram => Some(Statement::Sets(Setting::Ram(one_number(line)?))),
         Keyword::Consoles => Some(Statement::Sets(Setting::Consoles(one_number(line)?))),
         Keyword::Root => Some(Statement::Sets(start_and_numbers(line)?)),
+        Keyword::Source => Some(Statement::Adds(four_numbers(line)?)),
         Keyword::Image => Some(Statement::Begins(address_and_form(line)?)),
     }
 }

@@ -7,3 +7,5 @@ pub mod Chains
 pub mod Steps
 pub mod Calls
 pub mod Rooms
+pub mod Expiring
+pub mod Leaving

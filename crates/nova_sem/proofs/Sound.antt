@@ -75,12 +75,12 @@ sound_at all new sm are at = record {
     by_places ec a b at_a at_b false place_a false place_b = are.alone ec a b (before a ec place_a at_a) (before b ec place_b at_b)
 
 -- what one semaphore becomes
-record IsSoundOne (all : Semaphores) (sm : ℕ) (s : Semaphore) : Type 0 where
-  once : AreOnce s.waiting
-  from : (ec : ℕ) → has s.waiting ec ≡ true → (waits all sm ec ≡ true) ⊎ IsFree all ec
-  idle : (ec : ℕ) → has s.waiting ec ≡ true → s.count ≡ 0
+pub record IsSoundOne (all : Semaphores) (sm : ℕ) (s : Semaphore) : Type 0 where
+  pub once : AreOnce s.waiting
+  pub from : (ec : ℕ) → has s.waiting ec ≡ true → (waits all sm ec ≡ true) ⊎ IsFree all ec
+  pub idle : (ec : ℕ) → has s.waiting ec ≡ true → s.count ≡ 0
 
-changed_sound : (change : Semaphore → Semaphore) (all : Semaphores) (sm : ℕ) → AreSound all → IsSoundOne all sm (change (semaphore all sm)) → AreSound (changed change all sm)
+pub changed_sound : (change : Semaphore → Semaphore) (all : Semaphores) (sm : ℕ) → AreSound all → IsSoundOne all sm (change (semaphore all sm)) → AreSound (changed change all sm)
 changed_sound change all sm are one = by_entry (semaphore_at all sm) refl
   where
     by_entry : (o : Option Semaphore) → semaphore_at all sm ≡ o → AreSound (changed_by change all sm o)

@@ -14,7 +14,7 @@ use Rattle.nova_sem.proofs.Changes.{changed_other}
 use Rattle.nova_sem.proofs.Sound.{has_append, nobody_at}
 
 -- one that the change leaves where it was
-changed_waits : (change : Semaphore → Semaphore) (all : Semaphores) (sm ec : ℕ) → has (change (semaphore all sm)).waiting ec ≡ has (semaphore all sm).waiting ec →
+pub changed_waits : (change : Semaphore → Semaphore) (all : Semaphores) (sm ec : ℕ) → has (change (semaphore all sm)).waiting ec ≡ has (semaphore all sm).waiting ec →
     (a : ℕ) → waits (changed change all sm) a ec ≡ waits all a ec
 changed_waits change all sm ec same a = by_place (a == sm) refl
   where

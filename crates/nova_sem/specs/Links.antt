@@ -1,5 +1,5 @@
 -- How a queue is kept: the first and the last that wait, how many they are, and by number of an execution context who waits after it.
-use Rattle.std.specs.Prelude.{◌≡◌, ◌<◌, ◌≤◌, ◌-◌, ◌^◌, ℕ, zero, suc, true, List, [], ◌∷◌, map, length, slice_get, slice_index, Option, Some, None}
+use Rattle.std.specs.Prelude.{◌≡◌, ◌<◌, ◌≤◌, ◌-◌, ◌^◌, ◌==◌, if◌then◌else◌, ℕ, zero, suc, true, List, [], ◌∷◌, map, length, slice_get, slice_index, Option, Some, None}
 use Rattle.nova_model.specs.State.{Semaphore, entry}
 use Rattle.nova_model.specs.Semaphores.{Semaphores, waits}
 use Rattle.nova_sem.specs.Sound.{AreSound}
@@ -14,6 +14,11 @@ linked links ec (suc n) = ec ∷ linked links (slice_index links ec) n
 abbrev pub led_to : List ℕ → ℕ → ℕ → ℕ
 led_to links ec zero = ec
 led_to links ec (suc n) = led_to links (slice_index links ec) n
+
+-- of so many after one, the last before an execution context
+abbrev pub before : List ℕ → ℕ → ℕ → ℕ → ℕ
+before links at ec zero = at
+before links at ec (suc n) = if slice_index links at == ec then at else before links (slice_index links at) ec n
 
 -- a semaphore of a counter: with the queue to which the links lead
 abbrev pub with_queue : List ℕ → Counter → Semaphore

@@ -1,5 +1,5 @@
 ghost use Rattle.nova_sem.specs.Sound.{EachWaitsAlone, ChangesAreOfOne, FirstInFirstOut};
-ghost use Rattle.nova_sem.specs.Waiting.{OnlyTheWokenGoes, OnlyTheBlockedComes};
+ghost use Rattle.nova_sem.specs.Waiting.{OnlyTheWokenGoes, OnlyTheLateGoes, OnlyTheBlockedComes};
 
 /// Who waits at a semaphore is woken in the order in which it came.
 pub fn first_in_first_out()
@@ -16,8 +16,10 @@ pub fn changes_are_of_one()
     ensures { ChangesAreOfOne }
 {}
 
-/// Who is woken waits nowhere from then on, and who blocks waits there. Everyone else waits where it did.
+/// Who is woken waits nowhere from then on, nor does who leaves a queue, and who blocks waits there. Everyone
+/// else waits where it did.
 pub fn one_comes_or_goes()
     ensures goes { OnlyTheWokenGoes }
     ensures comes { OnlyTheBlockedComes }
+    ensures late { OnlyTheLateGoes }
 {}

@@ -1,8 +1,8 @@
-ghost use Rattle.std.specs.Prelude.{◌≡◌, ◌+◌, ◌-◌, ◌^◌, ◌<◌, ◌≤◌, [], ◌∷◌, ◌++◌, length, max, is_some, option_map, slice_index, slice_set, IfOk, IfSome, IsOk, OnOk, OnErr, if◌then◌else◌, ◌==◌};
+ghost use Rattle.std.specs.Prelude.{◌≡◌, ◌+◌, ◌-◌, ◌^◌, ◌<◌, ◌≤◌, ℕ, true, [], ◌∷◌, ◌++◌, length, max, is_some, option_map, slice_index, slice_set, IfOk, IfSome, IsOk, OnOk, OnErr, if◌then◌else◌, ◌==◌};
 ghost use Rattle.nova_model.specs.Creation.{idle_semaphore};
-ghost use Rattle.nova_model.specs.Semaphores.{semaphore_at, semaphore, woken, upped, answer_of, downed};
+ghost use Rattle.nova_model.specs.Semaphores.{semaphore_at, semaphore, has, waits, woken, upped, answer_of, downed, left};
 ghost use Rattle.nova_sem.specs.Sound.{IsFree};
-ghost use Rattle.nova_sem.specs.Links.{counter_at, new_counter};
+ghost use Rattle.nova_sem.specs.Links.{before, counter_at, linked, new_counter};
 
 use crate::counter::Counter;
 use nova_model::{Down, Overflow};
@@ -91,6 +91,48 @@ fn link(links: &mut Vec<u32>, counter: Counter, ec: u32)
 {
     if counter.waiting > 0 {
         links[counter.last as usize] = ec;
+    }
+}
+
+/// Who waits before an execution context: of so many from the first on, of whom it is one, but not the first.
+fn before(links: &[u32], first: u32, waiting: u32, ec: u32) -> u32
+    requires some { 0 < waiting }
+    requires within { (x : ℕ) → has (linked links.now first waiting) x ≡ true → x < length links.now }
+    ensures { result ≡ before links.now first ec (waiting - 1) }
+{
+    let mut at = first;
+    for _ in 1..waiting {
+        let next = links[at as usize];
+        if next == ec {
+            return at;
+        }
+        at = next;
+    }
+    at
+}
+
+/// Who waited before one that leaves is linked to who waits after it.
+fn unlink(links: &mut Vec<u32>, before: u32, ec: u32)
+    requires before { before < length links.old.items }
+    requires leaves { ec < length links.old.items }
+    ensures { links.new.items ≡ slice_set links.old.items before (slice_index links.old.items ec) }
+{
+    links[before as usize] = links[ec as usize];
+}
+
+/// One leaves that is not the first, where another waits before it.
+fn without_later(counter: Counter, before: u32, ec: u32) -> Counter
+    requires { 0 < counter.waiting }
+    ensures { result ≡ record counter { waiting = counter.waiting - 1; last = if counter.last == ec then before else counter.last } }
+{
+    Counter {
+        waiting: counter.waiting - 1,
+        last: if counter.last == ec {
+            before
+        } else {
+            counter.last
+        },
+        ..counter
     }
 }
 
@@ -252,6 +294,25 @@ impl Sems {
         link(&mut self.links, counter, ec);
         self.counters[sm as usize] = Some(with_last(counter, ec));
         Down::Blocked
+    }
+
+    /// An execution context that waits at a semaphore leaves the queue; the others keep their order. It takes no memory.
+    pub fn leave(&mut self, sm: u32, ec: u32)
+        requires { waits self.old.all sm ec ≡ true }
+        ensures left { self.new.all ≡ left self.old.all sm ec }
+        ensures spare { self.new.spare ≡ self.old.spare }
+        ensures contexts { self.new.contexts ≡ self.old.contexts }
+    {
+        let Some(counter) = counter_at(&self.counters, sm) else {
+            return;
+        };
+        if counter.first == ec {
+            self.counters[sm as usize] = Some(without_first(counter, &self.links));
+            return;
+        }
+        let before = before(&self.links, counter.first, counter.waiting, ec);
+        unlink(&mut self.links, before, ec);
+        self.counters[sm as usize] = Some(without_later(counter, before, ec));
     }
 
     /// The same entries in memory of their own, with the same room to wait and no spare room. It refuses for want of memory alone.

@@ -7,9 +7,11 @@ use Rattle.nova_leases.specs.Advances.{step_of}
 use Rattle.nova_model.specs.Choice.{Candidate, choice, in_front}
 use Rattle.nova_model.specs.Runs.{IsFreeOfIdle, after, run, trace}
 use Rattle.nova_model.specs.State.{KernelState}
-use Rattle.nova_model.specs.Turn.{Step, turn, turn_by}
+use Rattle.nova_model.specs.Turn.{Step, answer_of, turn}
 use Rattle.nova_model.specs.declared.event.Event.{Event}
-use Rattle.nova_laws.proofs.Paying.{turn_is}
+use Rattle.nova_model.specs.declared.event.Turn.TheVariants.{Idle, Stepped}
+use Rattle.nova_forest.specs.Turns.{Idles, Takes}
+use Rattle.nova_forest.proofs.Turning.{comes}
 use Rattle.nova_laws.proofs.Processors.{run_cpus}
 use Rattle.nova_order.specs.Blocks.{turns, total}
 use Rattle.nova_shared.specs.Steps.{ArePlainSteps, repeated}
@@ -33,23 +35,21 @@ all_taken k (x ∷ xs) same = (there (turn k x) same, all_taken (after k x) xs (
     there None h = let few = trace_few (after k x) xs in absurd (omega arith)
     there (Some s) h = refl
 
-chosen : (k : KernelState) (cpu : ℕ) → is_some (turn k cpu) ≡ true → is_some (choice k cpu) ≡ true
-unfolding turn
-chosen k cpu there = by_choice (choice k cpu) there
-  where
-    by_choice : (o : Option Candidate) → is_some (turn_by k cpu o) ≡ true → is_some o ≡ true
-    by_choice None h = h
-    by_choice (Some c) h = refl
+no_idle : (o : Option Step) → answer_of o ≡ Idle → is_some o ≡ true → ⊥
+no_idle None answer there = cc
+no_idle (Some s) answer there = cc
 
-after_turns : (k : KernelState) (cpu : ℕ) (o : Option Candidate) → choice k cpu ≡ o → is_some o ≡ true → (after k cpu).turns ≡ k.turns + 1
-after_turns k cpu None is there = absurd (cc)
-after_turns k cpu (Some c) is there = (turn_is k cpu c is).turns
+after_turns : (k : KernelState) (cpu : ℕ) → is_some (turn k cpu) ≡ true → (after k cpu).turns ≡ k.turns + 1
+after_turns k cpu there = elim (comes k cpu) [
+  | Idles chosen ahead same answer ↦ absurd (no_idle (turn k cpu) answer there)
+  | Takes t e takes state answer ↦ ap (λ (s : KernelState). s.turns) state
+]
 
 -- turns that are not idle are counted
 pub run_turns : (k : KernelState) (xs : List ℕ) → IsFreeOfIdle k xs → (run k xs).turns ≡ k.turns + length xs
 run_turns k [] free = omega arith
 run_turns k (x ∷ xs) free =
-    let first = after_turns k x (choice k x) refl (chosen k x free.0) in
+    let first = after_turns k x free.0 in
     let rest = run_turns (after k x) xs free.1 in omega arith
 
 -- without a chosen one there are no turns

@@ -53,13 +53,12 @@ fn tell(done: CommitDone) -> Told {
     }
 }
 
-/// The machine whose root makes the guest on the second processor and then goes on with `rest`, as it boots.
-fn booted(rt: &impl Abort, alloc: Global, rest: &str) -> Kernel
+/// The machine of a text in which the root makes the guest on the second processor, as it boots.
+fn booted(rt: &impl Abort, alloc: Global, text: &str) -> Kernel
     ensures cpus { result.state.cpus ≡ 2 }
     ensures room { result.room ≡ 200 }
     ensures turns { result.state.turns ≡ 0 }
 {
-    let text = apart(alloc, rest).expect(rt, "ample memory");
     let scenario = read(alloc, text.as_bytes()).expect(rt, "a scenario");
     let kernel = boot(alloc, &scenario, 200).expect(rt, "ample memory");
     assert!(rt; kernel.turns() == 0 && kernel.cpus() == 2);
@@ -67,15 +66,25 @@ fn booted(rt: &impl Abort, alloc: Global, rest: &str) -> Kernel
 }
 
 /// That machine after the 38 turns in which the root makes the guest, and 19 of the guest and its monitor, in which it gets its page.
+pub(crate) fn prepared_from(rt: &impl Abort, alloc: Global, text: &str) -> Kernel
+    ensures cpus { result.state.cpus ≡ 2 }
+    ensures room { 100 ≤ result.room }
+    ensures turns { result.state.turns ≤ 100 }
+{
+    let mut kernel = booted(rt, alloc, text);
+    take(&mut kernel, 0, 38).expect(rt, "ample memory");
+    take(&mut kernel, 1, 19).expect(rt, "ample memory");
+    kernel
+}
+
+/// The machine whose root then goes on with `rest`, after those turns.
 fn prepared(rt: &impl Abort, alloc: Global, rest: &str) -> Kernel
     ensures cpus { result.state.cpus ≡ 2 }
     ensures room { 100 ≤ result.room }
     ensures turns { result.state.turns ≤ 100 }
 {
-    let mut kernel = booted(rt, alloc, rest);
-    take(&mut kernel, 0, 38).expect(rt, "ample memory");
-    take(&mut kernel, 1, 19).expect(rt, "ample memory");
-    kernel
+    let text = apart(alloc, rest).expect(rt, "ample memory");
+    prepared_from(rt, alloc, text.as_str())
 }
 
 /// Whether the guest is Ready without recall flag, with all registers 0 and the page of frame 1 alone.

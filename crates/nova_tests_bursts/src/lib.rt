@@ -3,5 +3,7 @@
 
 #[cfg(test)]
 mod commits;
+#[cfg(test)]
+mod due;
 pub mod scenarios;
 pub mod turns;

@@ -1,6 +1,6 @@
 // The kernel that a scenario begins with.
 use nova_boot::boot;
-use nova_scenario::{Bytes, Image, Images, Scenario};
+use nova_scenario::{Bytes, Image, Images, Scenario, Sources};
 
 #[test]
 fn a_scenario_boots(rt: HostRuntime) {
@@ -20,6 +20,7 @@ fn a_scenario_boots(rt: HostRuntime) {
         priority: 1,
         quantum: 10,
         images: Images::from(images),
+        sources: Sources::from(Vec::new(alloc)),
     };
     let kernel = boot(alloc, &scenario, 5).expect(&rt, "ample memory");
     let sizes = [kernel.cpus(), kernel.ram(), kernel.consoles()];

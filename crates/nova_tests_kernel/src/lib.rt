@@ -24,4 +24,6 @@ mod runs;
 #[cfg(test)]
 mod scenarios;
 #[cfg(test)]
+mod sources;
+#[cfg(test)]
 mod workers;

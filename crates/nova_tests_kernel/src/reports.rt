@@ -4,8 +4,9 @@ use nova_report::{report, summary};
 use std::alloc::Global;
 use std::process::Abort;
 
-/// The events of four turns: a step, which has no line, two children that are made, and one that is removed.
-static TRACE: [Event; 4] = [
+/// The events of five turns: a step, which has no line, two children that are made, one that is removed, and a source at whose semaphore
+/// the counter is the greatest.
+static TRACE: [Event; 5] = [
     Event {
         cpu: 0,
         sc: 2,
@@ -38,6 +39,14 @@ static TRACE: [Event; 4] = [
         a: 6,
         b: 7,
     },
+    Event {
+        cpu: 1,
+        sc: 0,
+        ec: 0,
+        kind: EventKind::Irq,
+        a: 2,
+        b: 3,
+    },
 ];
 
 /// The report of those events and of a machine at its boot.
@@ -46,6 +55,7 @@ run open 0
 at 2 0 1 made 5 0
 at 3 0 1 made 6 5
 at 4 1 3 gone 6 7
+at 5 1 0 irq 2 3
 ec 1 global ready 00000000 x2=0000abcd
 sc 2 0 0
 console 0 -

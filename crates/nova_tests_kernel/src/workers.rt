@@ -107,8 +107,9 @@ fn workers_run_beside_each_other(rt: HostRuntime) {
         missed: AtomicU64::new(0),
     };
     let run = work(&rt, rt.alloc(), 20_000, &gate);
+    let called = gate.first.load(Ordering::SeqCst) + gate.second.load(Ordering::SeqCst);
     let missed = gate.missed.load(Ordering::SeqCst);
-    assert_eq!(rt; (missed, run.turns, run.is_quiet), (0, 20_000, false));
+    assert!(rt; (called, missed, run.turns, run.is_quiet) == (2, 0, 20_000, false));
 }
 
 #[test]

@@ -1,4 +1,4 @@
-use nova_calls::{Call, read_call};
+use nova_calls::{Call, SmAction, read_call};
 use nova_range::{Flags, Kind, Range, Rights};
 use rv_model::Regs;
 
@@ -26,6 +26,15 @@ fn first_range(first: Option<(Range, Rights)>) -> [u32; 4] {
     [kind, base, order, u32::from(rights.bits())]
 }
 
+/// What is done to a semaphore in numbers: its own, and the ticks of a deadline, 0 for none.
+fn action_numbers(action: SmAction) -> [u32; 2] {
+    match action {
+        SmAction::Up => [0, 0],
+        SmAction::Down => [1, 0],
+        SmAction::DownWithin(ticks) => [2, ticks],
+    }
+}
+
 /// A call in numbers: its own, and its arguments in order.
 fn numbers(call: Call) -> [u32; 7] {
     match call {
@@ -42,7 +51,10 @@ fn numbers(call: Call) -> [u32; 7] {
         Call::EcCtrl { ec } => [9, ec, 0, 0, 0, 0, 0],
         Call::ScCtrl { sc } => [10, sc, 0, 0, 0, 0, 0],
         Call::PtCtrl { pt, identifier } => [11, pt, identifier, 0, 0, 0, 0],
-        Call::SmCtrl { sm, action } => [12, sm, action as u32, 0, 0, 0, 0],
+        Call::SmCtrl { sm, action } => {
+            let [code, ticks] = action_numbers(action);
+            [12, sm, code, ticks, 0, 0, 0]
+        }
         creation => creation_numbers(creation),
     }
 }
@@ -98,7 +110,7 @@ fn reading(number: u32, arguments: [u32; 5]) -> Result<[u32; 7], u32> {
 }
 
 /// Arguments in x10 to x14, and the call that they are read as.
-static READ: [([u32; 5], [u32; 7]); 22] = [
+static READ: [([u32; 5], [u32; 7]); 23] = [
     ([LAST, 0, 0, 0, 0], [0, LAST, 0, 0, 0, 0, 0]),
     ([0, 1, 0, 0, 0], [0, 0, 1, 0, 0, 0, 0]),
     ([BEYOND, BEYOND, BEYOND, 0, BEYOND], [1, 0, 0, 0, 0, 0, 0]),
@@ -136,6 +148,7 @@ static READ: [([u32; 5], [u32; 7]); 22] = [
     ),
     ([LAST, 0, 0, 0, 0], [12, LAST, 0, 0, 0, 0, 0]),
     ([32, 1, 0, 0, 0], [12, 32, 1, 0, 0, 0, 0]),
+    ([32, 2, 3, 0, 0], [12, 32, 2, 3, 0, 0, 0]),
 ];
 
 #[test]
@@ -180,7 +193,7 @@ static REFUSED: [(u32, [u32; 5]); 32] = [
     (10, [BEYOND, 0, 0, 0, 0]),
     (11, [BEYOND, 0, 0, 0, 0]),
     (12, [BEYOND, 0, 0, 0, 0]),
-    (12, [32, 2, 0, 0, 0]),
+    (12, [32, 3, 0, 0, 0]),
 ];
 
 #[test]

@@ -1,5 +1,6 @@
 mod executables;
 mod lines;
+mod sources;
 
 use nova_scenario::Why::{self, Asm, Missing, Overlap, Range, Repeated, Syntax};
 use nova_scenario::{Image, Scenario, ScenarioFault, read};

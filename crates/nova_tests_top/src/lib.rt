@@ -28,6 +28,10 @@ mod scheduling;
 #[cfg(test)]
 mod semaphores;
 #[cfg(test)]
+mod sources;
+#[cfg(test)]
+mod times;
+#[cfg(test)]
 mod twins;
 #[cfg(test)]
 mod virtual_cpus;

@@ -1,6 +1,7 @@
 pub mod Idle
 pub mod Reports
 pub mod Counts
+pub mod Sourced
 pub mod Made
 pub mod Complete
 pub mod Unread

@@ -1,5 +1,5 @@
 -- From what was read to what a command makes of it, or why it makes nothing.
-use Rattle.std.proofs.Common.{◌≡◌, ℕ, List, [], length, inr, refl, sym, subst}
+use Rattle.std.proofs.Common.{◌≡◌, ℕ, ◌≤◌, List, [], length, inr, refl, sym, subst, arith}
 use Rattle.std.specs.Prelude.{false, Some, None, Result, Ok, Err, IfOk, IfErr}
 use Rattle.nova_model.specs.State.{KernelState}
 use Rattle.nova_model.specs.Boot.{Scenario, boot}
@@ -18,6 +18,8 @@ use Rattle.nova_report.specs.Report.{report}
 use Rattle.nova_report.specs.Summary.{summary}
 use Rattle.nova_scenario.specs.Scenario.{scenario}
 use Rattle.nova_scenario.specs.declared.scenario.Scenario.{Scenario as ScenarioText}
+use Rattle.nova_scenario.proofs.SoundLemmas.{scenario_sound}
+use Rattle.nova_top.proofs.Sourced.{HasSourceLaws, told}
 use Rattle.nova_top.specs.Causes.{OrderRefused, TextRefused}
 use Rattle.nova_top.specs.Came.{ScenarioCame}
 use Rattle.nova_top.specs.Orders.{OrderCame}
@@ -35,10 +37,12 @@ use Rattle.nova_top.proofs.Counts.{rose_in_all}
 use Rattle.nova_top.proofs.Reports.{boot_cpus, out_reported, spent_of}
 
 -- the laws that a run is told by
-pub record HasLaws : Type 0 where
+pub record HasLaws (most : ℕ) : Type 0 where
+  pub few : most ≤ 10000000
   pub forests : (s : Scenario) (turns : List ℕ) → IsForest (run (boot s) turns).delegations
   pub revokes : (s : Scenario) (before : List ℕ) (cpu ec : ℕ) → IsReturned (run (boot s) before) cpu ec → HasEndedAsCalled (boot s) before cpu ec
   pub guests : (s : Scenario) (turns : List ℕ) → AreGuestsAlone (boot s) turns
+  pub sources : HasSourceLaws
 
 module _ {D : Type 0} (d : Depots D) where
   -- AN ORDER THAT WAS NOT READ, OR HAS AN IDLE TURN
@@ -110,7 +114,7 @@ module _ {D : Type 0} (d : Depots D) where
   made_rounds : (name : List ℕ) (most : ℕ) (old new : D) (from : ScenarioText) (made : Outcome) → ScenarioCame d name old from new →
       IsReportOf report (boot (scenario_of from)) (rounds (boot (scenario_of from)) most) most made →
       (made.is_complete ≡ false → length (rounds (boot (scenario_of from)) most) ≡ most) → made.order.items ≡ [] →
-      HasLaws → IsPrepared d (Solo name None most) old new (Ok made)
+      HasLaws most → IsPrepared d (Solo name None most) old new (Ok made)
   made_rounds name most old new from made came reported spent none laws = record {
     from = from;
     between = new;
@@ -127,12 +131,13 @@ module _ {D : Type 0} (d : Depots D) where
       forests = λ before after whole. laws.forests (scenario_of from) before;
       revokes = λ before after cpu ec whole. laws.revokes (scenario_of from) before cpu ec;
       guests = laws.guests (scenario_of from) (rounds (boot (scenario_of from)) most);
+      sources = told laws.sources from (scenario_sound came.bytes from came.valid) (rounds (boot (scenario_of from)) most) (let within = reported.within in let few = laws.few in omega (arith, within, few));
     };
   }
 
   made_by_order : (name order : List ℕ) (most : ℕ) (old between new : D) (from : ScenarioText) (list : BlockList) (made : Outcome) → ScenarioCame d name old from between →
       OrderCame d order from.cpus most between list.blocks new → IsReportOf report (boot (scenario_of from)) (turns list.blocks) most made →
-      made.order.items ≡ [] → HasLaws → IsPrepared d (Solo name (Some order) most) old new (Ok made)
+      made.order.items ≡ [] → HasLaws most → IsPrepared d (Solo name (Some order) most) old new (Ok made)
   made_by_order name order most old between new from list made came came_too reported none laws = record {
     from = from;
     between = between;
@@ -156,11 +161,12 @@ module _ {D : Type 0} (d : Depots D) where
       forests = λ before after whole. laws.forests (scenario_of from) before;
       revokes = λ before after cpu ec whole. laws.revokes (scenario_of from) before cpu ec;
       guests = laws.guests (scenario_of from) (turns list.blocks);
+      sources = told laws.sources from (scenario_sound came.bytes from came.valid) (turns list.blocks) (let within = reported.within in let few = laws.few in omega (arith, within, few));
     };
   }
 
   made_together : (name order : List ℕ) (most : ℕ) (old new : D) (from : ScenarioText) (made : Outcome) → ScenarioCame d name old from new →
-      IsTogether (boot (scenario_of from)) most made → HasLaws → IsPrepared d (Run name order most) old new (Ok made)
+      IsTogether (boot (scenario_of from)) most made → HasLaws most → IsPrepared d (Run name order most) old new (Ok made)
   made_together name order most old new from made came together laws = record {
     from = from;
     between = new;
@@ -177,13 +183,14 @@ module _ {D : Type 0} (d : Depots D) where
       forests = λ before after whole. laws.forests (scenario_of from) before;
       revokes = λ before after cpu ec whole. laws.revokes (scenario_of from) before cpu ec;
       guests = laws.guests (scenario_of from) (turns together.blocks);
+      sources = told laws.sources from (scenario_sound came.bytes from came.valid) (turns together.blocks) (let within = together.reported.within in let few = laws.few in omega (arith, within, few));
     };
   }
 
   pub made_bench : (number most : ℕ) (depot : D) (from : ScenarioText) (f : Finished) (made : Outcome) → scenario (generated number) ≡ Ok from →
       IsFinished (boot (scenario_of from)) (rounds (boot (scenario_of from)) most) most f →
       IsRunOut (boot (scenario_of from)) most (rounds (boot (scenario_of from)) most) →
-      made.text.items ≡ summary number f.kernel.state f.trace.items → made.is_complete ≡ is_quiet f.kernel.state → made.order.items ≡ [] → HasLaws →
+      made.text.items ≡ summary number f.kernel.state f.trace.items → made.is_complete ≡ is_quiet f.kernel.state → made.order.items ≡ [] → HasLaws most →
       IsPrepared d (Bench number most) depot depot (Ok made)
   made_bench number most depot from f made valid finished out text quiet none laws =
       let k : KernelState = boot (scenario_of from) in
@@ -203,6 +210,7 @@ module _ {D : Type 0} (d : Depots D) where
           forests = λ before after whole. laws.forests (scenario_of from) before;
           revokes = λ before after cpu ec whole. laws.revokes (scenario_of from) before cpu ec;
           guests = laws.guests (scenario_of from) (rounds k most);
+          sources = told laws.sources from (scenario_sound (generated number) from valid) (rounds k most) (let within = reported.within in let few = laws.few in omega (arith, within, few));
         };
       }
 
@@ -219,7 +227,7 @@ module _ {D : Type 0} (d : Depots D) where
   pub rounds_by : (name : List ℕ) (most : ℕ) (old new : D) (from : ScenarioText) (r : Result Outcome Exit) → ScenarioCame d name old from new →
       IfOk r (λ made. IsReportOf report (boot (scenario_of from)) (rounds (boot (scenario_of from)) most) most made) →
       IfOk r (λ made. made.is_complete ≡ false → length (rounds (boot (scenario_of from)) most) ≡ most) →
-      IfOk r (λ made. made.order.items ≡ []) → IfErr r (λ e. e ≡ exit.Memory) → HasLaws →
+      IfOk r (λ made. made.order.items ≡ []) → IfErr r (λ e. e ≡ exit.Memory) → HasLaws most →
       IsPrepared d (Solo name None most) old new r
   rounds_by name most old new from (Ok made) came reported spent none memory laws = made_rounds name most old new from made came reported spent none laws
   rounds_by name most old new from (Err e) came reported spent none memory laws =
@@ -228,14 +236,14 @@ module _ {D : Type 0} (d : Depots D) where
   pub order_by : (name order : List ℕ) (most : ℕ) (old between new : D) (from : ScenarioText) (list : BlockList) (r : Result Outcome Exit) →
       ScenarioCame d name old from between → OrderCame d order from.cpus most between list.blocks new →
       IfOk r (λ made. IsReportOf report (boot (scenario_of from)) (turns list.blocks) most made) → IfErr r (IsIdleFault (boot (scenario_of from)) list) →
-      IfOk r (λ made. made.order.items ≡ []) → HasLaws → IsPrepared d (Solo name (Some order) most) old new r
+      IfOk r (λ made. made.order.items ≡ []) → HasLaws most → IsPrepared d (Solo name (Some order) most) old new r
   order_by name order most old between new from list (Ok made) came came_too reported idle none laws =
       made_by_order name order most old between new from list made came came_too reported none laws
   order_by name order most old between new from list (Err e) came came_too reported idle none laws =
       idle_order name order from most old between new list e came came_too idle
 
   pub together_by : (name order : List ℕ) (most : ℕ) (old new : D) (from : ScenarioText) (r : Result Outcome Exit) → ScenarioCame d name old from new →
-      IfOk r (IsTogether (boot (scenario_of from)) most) → IfErr r (λ e. e ≡ exit.Memory) → HasLaws → IsPrepared d (Run name order most) old new r
+      IfOk r (IsTogether (boot (scenario_of from)) most) → IfErr r (λ e. e ≡ exit.Memory) → HasLaws most → IsPrepared d (Run name order most) old new r
   together_by name order most old new from (Ok made) came together memory laws = made_together name order most old new from made came together laws
   together_by name order most old new from (Err e) came together memory laws =
       subst (λ (x : Exit). IsPrepared d (Run name order most) old new (Err x)) (sym memory) tt

@@ -3,7 +3,8 @@ use Rattle.std.proofs.Common.{◌≡◌, ℕ, zero, suc, ◌<◌, ◌≤◌, Lis
 use Rattle.std.specs.Prelude.{◌⊎◌, true, ◌&&◌, Option, Some, None, IsSome, is_none}
 use Rattle.std.specs.List.{AllByRecursion, list_all, range_with_len}
 use Rattle.nova_model.specs.State.{KernelState}
-use Rattle.nova_model.specs.Choice.{Candidate, choice, is_quiet}
+use Rattle.nova_model.specs.Choice.{Candidate, choice, is_idle, is_quiet}
+use Rattle.nova_model.specs.Times.{next_moment}
 use Rattle.nova_model.specs.Turn.{turn}
 use Rattle.nova_forest.proofs.Turning.{none_taken}
 use Rattle.nova_model.specs.Runs.{after, run, rounds}
@@ -11,15 +12,16 @@ use Rattle.nova_laws.specs.Orders.{IsRunOut}
 use Rattle.nova_laws.proofs.Passes.{rounds_run_out}
 use Rattle.nova_laws.proofs.Processors.{run_cpus}
 
--- where the one processor has no choice, its turn is idle
-idle_by : (o : Option Candidate) → (is_none o && true) ≡ true → o ≡ None
-idle_by None h = refl
-idle_by (Some c) h = absurd (cc)
+-- where the one processor has no choice, and nothing is to come there, its turn is idle
+idle_by : (o : Option Candidate) (m : Option ℕ) → ((is_none o && is_none m) && true) ≡ true → (o ≡ None) × (m ≡ None)
+idle_by None None h = (refl, refl)
+idle_by None (Some moment) h = absurd (cc)
+idle_by (Some c) m h = absurd (cc)
 
 quiet_is_idle : (k : KernelState) → k.cpus ≡ 1 → is_quiet k ≡ true → IsSome (turn k 0) → ⊥
 quiet_is_idle k one quiet some =
-    let idle = idle_by (choice k 0) (subst (λ (n : ℕ). list_all (λ cpu. is_none (choice k cpu)) (range_with_len 0 n) ≡ true) one quiet) in
-    let none = none_taken k 0 idle in cc
+    let idle = idle_by (choice k 0) (next_moment k.times 0) (subst (λ (n : ℕ). list_all (is_idle k) (range_with_len 0 n) ≡ true) one quiet) in
+    let none = none_taken k 0 idle.0 idle.1 in cc
 
 zero_of : (x cpus : ℕ) → cpus ≡ 1 → x < cpus → x ≡ 0
 zero_of x cpus one less = omega arith

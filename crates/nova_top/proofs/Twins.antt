@@ -4,7 +4,8 @@ use Rattle.std.specs.Prelude.{◌⊎◌, Option, Some, None, unwrap_or, Result, 
 use Rattle.nova_model.specs.State.{KernelState}
 use Rattle.nova_model.specs.Boot.{Scenario, boot}
 use Rattle.nova_model.specs.Runs.{IsFreeOfIdle}
-use Rattle.nova_boot.specs.Boot.{scenario_of}
+use Rattle.std.proofs.lemmas.List.{length-map}
+use Rattle.nova_boot.specs.Boot.{scenario_of, source_of}
 use Rattle.nova_command.specs.declared.command.Command.TheVariants.{Solo, Twin}
 use Rattle.nova_io.specs.Faults.{NeverFalls}
 use Rattle.nova_order.specs.Blocks.{turns, BlockList}
@@ -47,7 +48,13 @@ side_at k order (Some guest) side found = found
 side_at k order None side found = absurd found
 
 pub begins_at : (from : ScenarioText) → IsSound from → IsBeginning (boot (scenario_of from))
-begins_at from sound = record { scenario = scenario_of from; ram = sound.ram; consoles = sound.consoles; is = refl }
+begins_at from sound = record {
+  scenario = scenario_of from;
+  ram = sound.ram;
+  consoles = sound.consoles;
+  few = let same = length-map from.sources source_of in let few = sound.few in omega (arith, same, few);
+  is = refl;
+}
 
 pub found_from : (s : Scenario) (k : KernelState) (order : List ℕ) (guest : ℕ) (found : Option Side) → k ≡ boot s → IsFound k order guest found → IsFound (boot s) order guest found
 found_from s k order guest found begun is = subst (λ (z : KernelState). IsFound z order guest found) begun is

@@ -3,6 +3,7 @@ pub mod Outside
 pub mod Subjects
 pub mod Names
 pub mod Orders
+pub mod Sourced
 pub mod Runs
 pub mod Came
 pub mod Compared

@@ -19,6 +19,7 @@ use Rattle.nova_report.specs.Report.{report}
 use Rattle.nova_report.specs.Summary.{summary}
 use Rattle.nova_top.specs.Orders.{IsOrderOf, IsSpent, most_turns}
 use Rattle.nova_top.specs.Outside.{Depots}
+use Rattle.nova_top.specs.Sourced.{AreSourcesTold}
 
 -- in the turn of the processor a revoke of this execution context is answered SUCCESS
 abbrev pub IsReturned : KernelState → ℕ → ℕ → Type 0
@@ -37,7 +38,8 @@ said_by (Bench number most) = summary number
 -- allows, and each is of a processor that is there. After each part of it, from the first turn on, delegations are a sound forest. And each of its turns
 -- whose event answers SUCCESS to a revoke ends the one that was called in an earlier turn, of the range and with the flag that the caller's registers had then,
 -- with nothing left of it: nobody reaches by what comes from the revoker what the range led to. And each virtual CPU that
--- was made at one of its turns is a guest alone from then on: its view at the end, its exits and its bytes are what the guest alone makes of its inputs.
+-- was made at one of its turns is a guest alone from then on: its view at the end, its exits and its bytes are what the guest alone makes of its inputs. And each source
+-- of the scenario fired at its moments, none lost or doubled, which its lines of the report tell.
 pub record IsRun {D : Type 0} (d : Depots D) (command : Command) (k : KernelState) (old new : D) (complete : Bool) (bytes text : List ℕ) : Type 0 where
   pub order : List ℕ
   pub of_command : IsOrderOf d command k old new order bytes
@@ -50,6 +52,7 @@ pub record IsRun {D : Type 0} (d : Depots D) (command : Command) (k : KernelStat
   pub forests : (before after : List ℕ) → before ++ after ≡ order → IsForest (run k before).delegations
   pub revokes : (before after : List ℕ) (cpu ec : ℕ) → before ++ cpu ∷ after ≡ order → IsReturned (run k before) cpu ec → HasEndedAsCalled k before cpu ec
   pub guests : AreGuestsAlone k order
+  pub sources : AreSourcesTold k order
 
 -- what a command of one scenario makes of the boot state: check says that the scenario is valid, and any other runs it
 abbrev pub IsDone : {D : Type 0} → Depots D → Command → KernelState → D → D → Bool → List ℕ → List ℕ → Type 0

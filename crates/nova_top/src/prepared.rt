@@ -15,6 +15,9 @@ use crate::outcome::{
 };
 use nova_command::{Command, Name};
 use nova_forest::delegations_stay_a_forest;
+use nova_gsi::{
+    alarms_have_room, counters_tell_what_ended, firings_are_of_their_moments, sources_are_alarms,
+};
 use nova_io::Depot;
 use nova_origins::virtual_cpus_are_guests_alone_from_their_birth;
 use nova_revocation::a_returned_revoke_left_nothing;
@@ -52,6 +55,10 @@ fn run<R: Threads + Wait + Sync, D: Depot, G: Gate + Sync>(
     delegations_stay_a_forest();
     a_returned_revoke_left_nothing();
     virtual_cpus_are_guests_alone_from_their_birth();
+    sources_are_alarms();
+    firings_are_of_their_moments();
+    counters_tell_what_ended();
+    alarms_have_room();
     let scenario = fetch_scenario(alloc, depot, name)?;
     run_together(rt, alloc, &scenario, limit, gate)
 }
@@ -67,6 +74,10 @@ fn solo<D: Depot>(alloc: Global, depot: &mut D, name: &Name, limit: u32) -> Resu
     delegations_stay_a_forest();
     a_returned_revoke_left_nothing();
     virtual_cpus_are_guests_alone_from_their_birth();
+    sources_are_alarms();
+    firings_are_of_their_moments();
+    counters_tell_what_ended();
+    alarms_have_room();
     let scenario = fetch_scenario(alloc, depot, name)?;
     run_rounds(alloc, &scenario, limit)
 }
@@ -88,6 +99,10 @@ fn solo_in_order<D: Depot>(
     delegations_stay_a_forest();
     a_returned_revoke_left_nothing();
     virtual_cpus_are_guests_alone_from_their_birth();
+    sources_are_alarms();
+    firings_are_of_their_moments();
+    counters_tell_what_ended();
+    alarms_have_room();
     let scenario = fetch_scenario(alloc, depot, scenario)?;
     let order = fetch_order(alloc, depot, order, scenario.cpus, u64::from(limit))?;
     run_in_order(alloc, &scenario, &order, limit)
@@ -109,6 +124,10 @@ fn bench<R: Threads + Wait + Sync, D: Depot, G: Gate + Sync>(
     delegations_stay_a_forest();
     a_returned_revoke_left_nothing();
     virtual_cpus_are_guests_alone_from_their_birth();
+    sources_are_alarms();
+    firings_are_of_their_moments();
+    counters_tell_what_ended();
+    alarms_have_room();
     let scenario = bench_scenario(alloc, number)?;
     let finished = run_alone(rt, alloc, &scenario, limit, gate)?;
     Ok(summed_up(alloc, finished, number)?)

@@ -40,7 +40,7 @@ pub record IsReached (k : KernelState) : Type 0 where
   pub ranges : AreRanges k
 
 begins_so : (k : KernelState) → IsBeginning k → IsReached k
-begins_so k b = subst IsReached (sym b.is) (record { sound = boot_sound b.scenario; ranges = boot_ranges b.scenario b.ram b.consoles })
+begins_so k b = subst IsReached (sym b.is) (record { sound = boot_sound b.scenario; ranges = boot_ranges b.scenario b.ram b.consoles b.few })
 
 turn_reached : (k : KernelState) (cpu : ℕ) → IsReached k → IsReached (after k cpu)
 turn_reached k cpu r = record { sound = turn_sound k cpu r.sound; ranges = turn_ranges k cpu r.sound r.ranges }
@@ -86,7 +86,7 @@ made_registers os cs number (Some made) g many none is = last_registers os cs nu
 
 pub born_registers : (k : KernelState) (cpu g : ℕ) → IsSound k → slice_get k.objects g ≡ None → IsVirtual (after k cpu) g → AreRegisters (context (after k cpu) g).regs
 born_registers k cpu g sound none is = elim (comes k cpu) [
-  | Idles chosen same answer ↦ absurd (let both : None ≡ Some true = ap (option_map is_vcpu) (sym none) ∙ (ap (λ (s : KernelState). option_map is_vcpu (slice_get s.objects g)) (sym same) ∙ is) in cc)
+  | Idles chosen ahead same answer ↦ absurd (let both : None ≡ Some true = ap (option_map is_vcpu) (sym none) ∙ (ap (λ (s : KernelState). option_map is_vcpu (slice_get s.objects g)) (sym same) ∙ is) in cc)
   | Takes t e takes state answer ↦
       subst (λ (s : KernelState). AreRegisters (context s g).regs) (sym state)
       (made_registers k.objects (all_edited k.contexts t.effect.edits) (length k.objects) t.effect.made g

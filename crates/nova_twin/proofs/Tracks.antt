@@ -15,7 +15,7 @@ use Rattle.nova_isolation.specs.Sound.{IsVirtual}
 use Rattle.nova_isolation.proofs.Admitted.{inputs_admitted}
 use Rattle.nova_isolation.proofs.Ranges.{view_guest}
 use Rattle.nova_isolation.proofs.Runs.{turn_virtual}
-use Rattle.nova_model.specs.Boot.{Image, bare, with_image, with_images}
+use Rattle.nova_origins.proofs.Births.{none_at_boot}
 use Rattle.nova_model.specs.Capabilities.{is_vcpu}
 use Rattle.nova_model.specs.Choice.{in_front}
 use Rattle.nova_model.specs.Creation.{object_of}
@@ -53,7 +53,7 @@ get_joined (z ∷ xs) (Some y) (suc n) x is = get_joined xs (Some y) n x is
 
 object_stays : (k : KernelState) (cpu n : ℕ) (x : Object) → slice_get k.objects n ≡ Some x → slice_get (after k cpu).objects n ≡ Some x
 object_stays k cpu n x is = elim (comes k cpu) [
-  | Idles chosen same answer ↦ ap (λ (s : KernelState). slice_get s.objects n) same ∙ is
+  | Idles chosen ahead same answer ↦ ap (λ (s : KernelState). slice_get s.objects n) same ∙ is
   | Takes t e takes state answer ↦ ap (λ (s : KernelState). slice_get s.objects n) state ∙ get_joined k.objects (option_map object_of t.effect.made) n x is
 ]
 
@@ -136,20 +136,8 @@ trails k (cpu ∷ turns) g was = by_test (is_virtual (after k cpu) g) refl (trai
         subst (IsTrail k (cpu ∷ turns) g) (sym same) (turn_before k cpu turns g (followed g (after k cpu) turns nothing).inputs (followed g (after k cpu) turns nothing).start rest)
 
 -- FROM A BEGINNING
-images_objects : (k : KernelState) (images : List Image) → (with_images k images).objects ≡ k.objects
-images_objects k [] = refl
-images_objects k (image ∷ images) = images_objects (with_image k image) images
-
 none_at_root : (k : KernelState) (g : ℕ) → IsBeginning k → IsVirtual k g → ⊥
-none_at_root k g b is =
-    let s = b.scenario in
-    none g (ap (λ (os : List Object). option_map is_vcpu (slice_get os g)) (sym (ap (λ (t : KernelState). t.objects) b.is ∙ images_objects (bare s.cpus s.ram s.consoles s.root) s.images)) ∙ is)
-  where
-    none : (n : ℕ) → option_map is_vcpu (slice_get (bare b.scenario.cpus b.scenario.ram b.scenario.consoles b.scenario.root).objects n) ≡ Some true → ⊥
-    none zero h = absurd (cc)
-    none (suc zero) h = absurd (cc)
-    none (suc (suc zero)) h = absurd (cc)
-    none (suc (suc (suc n))) h = absurd (cc)
+none_at_root k g b is = none_at_boot b.scenario g (subst (λ (t : KernelState). IsVirtual t g) b.is is)
 
 module _ (k : KernelState) (b : IsBeginning k) (turns : List ℕ) (g : ℕ) where
   pub tracked : IsTrail k turns g (followed g k turns nothing)

@@ -1,5 +1,5 @@
 -- One side of a comparison: a virtual CPU of a run, followed from its birth.
-use Rattle.std.specs.Prelude.{◌≡◌, ℕ, ◌+◌, ◌≤◌, List, [], ◌∷◌, ◌++◌, length, Option, Some, None}
+use Rattle.std.specs.Prelude.{◌≡◌, ℕ, ◌+◌, ◌-◌, ◌^◌, ◌≤◌, List, [], ◌∷◌, ◌++◌, length, Option, Some, None}
 use Rattle.nova_guest.specs.Alone.{alone, outputs}
 use Rattle.nova_isolation.specs.Shown.{shown}
 use Rattle.nova_isolation.specs.Sound.{IsVirtual}
@@ -13,11 +13,12 @@ use Rattle.nova_order.specs.declared.block.Block.{Block}
 use Rattle.nova_origins.specs.Lives.{IsMade, born}
 use Rattle.nova_twin.specs.declared.side.Side.{Side}
 
--- what a kernel begins with: the boot state of a scenario of at most 2^14 RAM frames and 16 consoles
+-- what a kernel begins with: the boot state of a scenario of at most 2^14 RAM frames, 16 consoles, and sources of which the root can have as many selectors
 pub record IsBeginning (k : KernelState) : Type 0 where
   pub scenario : Scenario
   pub ram : scenario.ram ≤ 14
   pub consoles : scenario.consoles ≤ 16
+  pub few : length scenario.sources ≤ 2 ^ 20 - 3
   pub is : k ≡ boot scenario
 
 -- the side of a virtual CPU that one of these turns makes: its view right after that turn, its inputs over the rest of the turns, its view at the end, and all that

@@ -13,7 +13,7 @@ use Rattle.nova_isolation.proofs.Outputs.{IsOwn, guest_no_thread}
 use Rattle.nova_isolation.proofs.OwnTurns.{not_thread, own_deed, own_is}
 use Rattle.nova_isolation.proofs.Premises.{IsGuest, guest as guest_there}
 use Rattle.nova_isolation.proofs.Turns.{other_is}
-use Rattle.nova_model.specs.Choice.{choice}
+use Rattle.nova_model.specs.Choice.{next_to_act}
 use Rattle.nova_model.specs.Deeds.{deed, deed_in, instruction, ready, signalled, stepping}
 use Rattle.nova_model.specs.Guests.{input}
 use Rattle.nova_model.specs.Inputs.{contents_of, foreign_at, foreign_by, given_of, in_ram, only_if, others_input, own_input, reply_groups, reply_of, reply_words, store_of}
@@ -32,7 +32,7 @@ use Rattle.nova_views.proofs.Said.{input_is, of_memory, tells, view_covers}
 
 -- NOBODY ACTS
 
-pub nobody_told : (k : KernelState) (cpu g : ℕ) → choice k cpu ≡ None → input k cpu g ≡ None
+pub nobody_told : (k : KernelState) (cpu g : ℕ) → next_to_act k cpu ≡ None → input k cpu g ≡ None
 nobody_told k cpu g none = of_input (λ o. o ≡ None) k cpu g refl (λ c chosen. absurd (let both : None ≡ Some c = sym none ∙ chosen in cc))
 
 -- ITS OWN

@@ -1,5 +1,5 @@
 -- What a view has of a state.
-use Rattle.std.proofs.Common.{◌≡◌, ◌≢◌, ◌<◌, ◌⊎◌, ℕ, ◌+◌, List, [], ◌∷◌, ap, sym, ◌∙◌, subst, refl, inl, inr, arith}
+use Rattle.std.proofs.Common.{◌≡◌, ◌≢◌, ◌<◌, ◌⊎◌, ℕ, List, [], ◌∷◌, ap, sym, ◌∙◌, subst, refl, inl, inr, arith}
 use Rattle.std.specs.Prelude.{Bool, true, false, ◌==◌, nat_lt, Option, Some, None, slice_get, if◌then◌else◌}
 use Rattle.std.specs.List.{AllByRecursion, AllPairs, filter_map}
 use Rattle.std.proofs.lemmas.Bool.{and_parts, cases_Bool, eqb-true}

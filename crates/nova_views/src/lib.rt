@@ -11,7 +11,7 @@ ghost use Rattle.nova_guest.specs.declared.input.Input.{Input};
 ghost use Rattle.nova_guest.specs.declared.input.Input.TheVariants.{Died, Foreign, Given, Own, Recall, Reply, Sent, Taken};
 ghost use Rattle.nova_guest.specs.declared.map.Map.{Map};
 ghost use Rattle.nova_isolation.specs.Sound.{IsSound, IsVirtual};
-ghost use Rattle.nova_model.specs.Choice.{choice, in_front};
+ghost use Rattle.nova_model.specs.Choice.{in_front, next_to_act};
 ghost use Rattle.nova_model.specs.Deeds.{deed};
 ghost use Rattle.nova_model.specs.Guests.{input, inputs};
 ghost use Rattle.nova_model.specs.Runs.{run};
@@ -88,7 +88,7 @@ pub fn what_is_done_is_told()
         → input k cpu g ≡ Some (Given base order rights frame contents) }
     ensures taken { (k : KernelState) (cpu ec g base order : ℕ) → IsSound k → IsVirtual k g → Acts k cpu ec
         → TakesAway k ec g base order → input k cpu g ≡ Some (Taken base order) }
-    ensures nobody { (k : KernelState) (cpu g : ℕ) → choice k cpu ≡ None → input k cpu g ≡ None }
+    ensures nobody { (k : KernelState) (cpu g : ℕ) → next_to_act k cpu ≡ None → input k cpu g ≡ None }
 {}
 
 /// The inputs of turns are those of the first of them, and then those of the others from the state that

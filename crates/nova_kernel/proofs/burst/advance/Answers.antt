@@ -11,6 +11,8 @@ use Rattle.nova_model.specs.State.{KernelState, entry}
 use Rattle.nova_parts.specs.Parts.{state_of}
 use Rattle.nova_parts.specs.declared.parts.Parts.{Parts}
 use Rattle.nova_kernel.proofs.Advancing.{IsLaid, counted_after, counts_fit, few_stores, lays, paid_times, queued_after, running_after, still_acts, still_frames, to_be_charged}
+use Rattle.nova_kernel.specs.Begun.{IsBegun}
+use Rattle.nova_kernel.proofs.Begun.{run_begun}
 use Rattle.nova_kernel.proofs.burst.advance.Goals as goal
 
 pub unreachable-requires : goal.unreachable-requires
@@ -63,7 +65,7 @@ returns-clause-state c =
       rest = c.count_stores.ensures.rest;
     } in
     lays k c.args.cpu c.args.steps.now c.in-Some.chosen c.charge_times.new.parts c.set_regs.new.self c.deref.result.now c.write_pages.new.reach c.deref-2.result.now c.count_stores.new.parts may laid
-    ∙ sym (laid_advance k c.args.cpu may.chosen may.budget c.args.steps.now c.requires.reached.sound may.may may.left may.runs)
+    ∙ sym (laid_advance k c.args.cpu may.chosen may.budget c.args.steps.now c.requires.reached.sound may.may may.left may.early may.runs)
 
 pub returns-clause-counted : goal.returns-clause-counted
 returns-clause-counted c =
@@ -96,9 +98,28 @@ returns-clause-reached c =
       rest = c.count_stores.ensures.rest;
     } in
     subst IsReached
-    (laid_advance k c.args.cpu may.chosen may.budget c.args.steps.now c.requires.reached.sound may.may may.left may.runs
+    (laid_advance k c.args.cpu may.chosen may.budget c.args.steps.now c.requires.reached.sound may.may may.left may.early may.runs
     ∙ sym (lays k c.args.cpu c.args.steps.now c.in-Some.chosen c.charge_times.new.parts c.set_regs.new.self c.deref.result.now c.write_pages.new.reach c.deref-2.result.now c.count_stores.new.parts may laid))
     (run_reached k (replicate c.args.steps.now.count c.args.cpu) c.requires.reached)
+
+pub returns-clause-begun : goal.returns-clause-begun
+returns-clause-begun c =
+    let k : KernelState = state_of c.args.parts.now in
+    let may = c.requires.may in
+    let laid : IsLaid k c.args.cpu c.args.steps.now c.in-Some.chosen c.charge_times.new.parts c.set_regs.new.self c.deref.result.now c.write_pages.new.reach c.deref-2.result.now c.count_stores.new.parts = record {
+      told = sym c.in-Some.is ∙ c.choice.ensures.choice;
+      paid = c.charge_times.ensures.charged;
+      regs = c.set_regs.ensures;
+      frames = c.write_pages.ensures;
+      counts = c.count_stores.ensures.counts;
+      first = search rules;
+      second = search rules;
+      rest = c.count_stores.ensures.rest;
+    } in
+    subst IsBegun
+    (laid_advance k c.args.cpu may.chosen may.budget c.args.steps.now c.requires.reached.sound may.may may.left may.early may.runs
+    ∙ sym (lays k c.args.cpu c.args.steps.now c.in-Some.chosen c.charge_times.new.parts c.set_regs.new.self c.deref.result.now c.write_pages.new.reach c.deref-2.result.now c.count_stores.new.parts may laid))
+    (run_begun k (replicate c.args.steps.now.count c.args.cpu) c.requires.begun)
 
 pub returns-clause-queued : goal.returns-clause-queued
 returns-clause-queued c =

@@ -1,4 +1,4 @@
-use Rattle.nova_laws.proofs.Naming.{event_names, none_chosen}
+use Rattle.nova_laws.proofs.Naming.{event_names, none_chosen, passing_names}
 use Rattle.nova_laws.proofs.events.an_event_names_the_chosen.Goals as goal
 
 pub returns-clause-names : goal.returns-clause-names
@@ -6,3 +6,6 @@ returns-clause-names c = event_names
 
 pub returns-clause-idle : goal.returns-clause-idle
 returns-clause-idle c = none_chosen
+
+pub returns-clause-nobody : goal.returns-clause-nobody
+returns-clause-nobody c = passing_names

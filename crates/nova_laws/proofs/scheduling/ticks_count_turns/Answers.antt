@@ -1,5 +1,5 @@
 use Rattle.nova_laws.proofs.Paid.{each_paid}
-use Rattle.nova_laws.proofs.Ticks.{ticks_are_turns, ticks_are_counted, turns_are_counted}
+use Rattle.nova_laws.proofs.Ticks.{clocks_are_turns, ticks_are_turns, turns_are_counts, turns_are_counted}
 use Rattle.nova_laws.proofs.scheduling.ticks_count_turns.Goals as goal
 
 pub returns-clause-each : goal.returns-clause-each
@@ -9,7 +9,10 @@ pub returns-clause-sum : goal.returns-clause-sum
 returns-clause-sum c = ticks_are_turns
 
 pub returns-clause-counts : goal.returns-clause-counts
-returns-clause-counts c = ticks_are_counted
+returns-clause-counts c = turns_are_counts
+
+pub returns-clause-clocks : goal.returns-clause-clocks
+returns-clause-clocks c = clocks_are_turns
 
 pub returns-clause-all : goal.returns-clause-all
 returns-clause-all c = turns_are_counted

@@ -22,4 +22,17 @@ returns-clause-prepared g c =
     (subst (λ (n : ℕ). OrderCame (depots g.D.Depot.files g.D.Depot.gave g.D.Depot.fetch_failed g.D.Depot.fetch_faults g.D.Depot.took g.D.Depot.append_failed g.D.Depot.append_faults) c.args.order.now c.in_ok-scenario.scenario.cpus n c.fetch_scenario.new.depot c.in_ok-order.order.blocks c.fetch_order.new.depot)
     same c.in_ok-order.ensures.read)
     c.run_in_order.ensures.report c.run_in_order.ensures.idle c.run_in_order.ensures.order
-    (record { forests = c.delegations_stay_a_forest.ensures; revokes = c.a_returned_revoke_left_nothing.ensures.called; guests = c.virtual_cpus_are_guests_alone_from_their_birth.ensures })
+    (record {
+      few = c.requires.limit.1;
+      forests = c.delegations_stay_a_forest.ensures;
+      revokes = c.a_returned_revoke_left_nothing.ensures.called;
+      guests = c.virtual_cpus_are_guests_alone_from_their_birth.ensures;
+      sources = record {
+        alarms = c.sources_are_alarms.ensures;
+        moments = c.firings_are_of_their_moments.ensures.moments;
+        until = c.firings_are_of_their_moments.ensures.until;
+        quiet = c.firings_are_of_their_moments.ensures.quiet;
+        statuses = c.alarms_have_room.ensures;
+        counters = c.counters_tell_what_ended.ensures.counts;
+      };
+    })

@@ -8,12 +8,14 @@ use Rattle.nova_choice.specs.Schedules.{root_schedule}
 use Rattle.nova_parts.proofs.Booted.{IsCounted_bare}
 use Rattle.nova_parts.proofs.Moves.{queued_same}
 use Rattle.nova_kernel.proofs.Known.{none_known}
+use Rattle.nova_kernel.specs.Begun.{IsBegun}
+use Rattle.nova_kernel.proofs.Begun.{bare_begun}
 use Rattle.nova_kernel.proofs.Booted.{bare_runs}
 use Rattle.nova_choice.proofs.Started.{queued_bare}
 use Rattle.nova_kernel.proofs.kernel.Kernel.new.Goals as goal
 
 abbrev bare_scenario : ℕ → ℕ → ℕ → Root → Scenario
-bare_scenario cpus ram consoles root = record { cpus = cpus; ram = ram; consoles = consoles; root = root; images = [] }
+bare_scenario cpus ram consoles root = record { cpus = cpus; ram = ram; consoles = consoles; root = root; images = []; sources = [] }
 
 pub invariant_of-result : goal.invariant_of-result
 invariant_of-result c = (
@@ -27,7 +29,10 @@ invariant_of-result c = (
           c.in_ok-parts.ensures.revokes,
       (
         subst IsReached (sym c.in_ok-parts.ensures.shown) (c.what_bursts_stand_on_is_kept.ensures.begins (bare_scenario c.args.cpus c.args.ram c.args.consoles c.args.root)),
-        none_known (state_of c.in_ok-parts.parts) 8,
+        (
+          none_known (state_of c.in_ok-parts.parts) 8,
+          subst IsBegun (sym c.in_ok-parts.ensures.shown) (bare_begun c.args.cpus c.args.ram c.args.consoles c.args.root c.requires.consoles),
+        ),
       ),
     ),
   ),

@@ -22,7 +22,7 @@ act-requires-clause-acts c = told_acts (state_of c.args.self.now) c.args.cpu c.a
 
 pub returns-in_err-deed-clause-making : goal.returns-in_err-deed-clause-making
 returns-in_err-deed-clause-making c =
-    making-wants (state_of c.args.self.now) c.args.cpu c.args.chosen c.from_residual.result c.requires.told
+    making-wants (state_of c.args.self.now) c.args.cpu c.args.chosen c.from_residual.result c.requires.none_due c.requires.told
     c.in_err-deed.ensures.making
 
 pub note-sign-requires-clause-charged : goal.note-sign-requires-clause-charged
@@ -57,6 +57,7 @@ pub returns-clause-state : goal.returns-clause-state
 returns-clause-state c =
     let k : KernelState = state_of c.args.self.now in
     let settled : IsSettled k (state_of c.act.new.self) (state_of c.charge.new.self) c.args.cpu c.args.chosen c.in_ok-deed.deed c.act.new.self.reach.written = record {
+      none_due = c.requires.none_due;
       told = c.requires.told;
       decided = c.in_ok-deed.ensures.deed;
       does = c.in_ok-deed.ensures.done;
@@ -69,6 +70,7 @@ pub returns-clause-counted : goal.returns-clause-counted
 returns-clause-counted c =
     let k : KernelState = state_of c.args.self.now in
     let settled : IsSettled k (state_of c.act.new.self) (state_of c.charge.new.self) c.args.cpu c.args.chosen c.in_ok-deed.deed c.act.new.self.reach.written = record {
+      none_due = c.requires.none_due;
       told = c.requires.told;
       decided = c.in_ok-deed.ensures.deed;
       does = c.in_ok-deed.ensures.done;

@@ -1,5 +1,5 @@
 use Rattle.std.proofs.Common.{◌≡◌, length, rules, ap, subst, sym, ◌∙◌}
-use Rattle.std.specs.Prelude.{Some, IfOk, OnOk, OnErr, IsSome, option_map}
+use Rattle.std.specs.Prelude.{None, Some, IfOk, OnOk, OnErr, IsSome, option_map}
 use Rattle.nova_model.specs.State.{KernelState, context_at}
 use Rattle.nova_model.specs.Turn.{answer_of, charged, state_after, turn}
 use Rattle.nova_parts.specs.Parts.{state_of}
@@ -16,6 +16,8 @@ use Rattle.nova_deeds.proofs.Charges.{queued_risen}
 use Rattle.nova_deeds.proofs.Counts.{IsCharged-kept, IsCharged-risen}
 use Rattle.nova_parts.specs.Going.{HasRaised, Stays, WentOn}
 use Rattle.nova_model.specs.declared.deed.Deed.TheVariants.{Steps}
+use Rattle.nova_model.specs.Times.{due_on}
+use Rattle.nova_parts.proofs.Dues.{none_due_at}
 use Rattle.nova_parts.proofs.Homes.{still_counted}
 use Rattle.nova_parts.proofs.Ongoing.{settled_runs}
 use Rattle.nova_deeds.proofs.Taken.{IsSettled, settled_counts, settled_state, told_acts}
@@ -64,6 +66,7 @@ returns-in-Next-clause-state c =
     let went : WentOn c.args.self.now c.go_on.new.self c.in-Some.chosen.actor = c.go_on.ensures.went c.in-Next.is in
     let k : KernelState = state_of c.args.self.now in
     let settled : IsSettled k (state_of c.go_on.new.self) (state_of c.charge.new.self) c.args.cpu c.in-Some.chosen Steps c.go_on.new.self.reach.written = record {
+      none_due = none_due_at (due_on k.times c.args.cpu) (sym c.is_due.ensures ∙ c.if-is_due.false);
       told = sym c.in-Some.is ∙ c.choice.ensures.choice;
       decided = went.decided;
       does = went.does;
@@ -77,6 +80,7 @@ returns-in-Next-clause-counted c =
     let went : WentOn c.args.self.now c.go_on.new.self c.in-Some.chosen.actor = c.go_on.ensures.went c.in-Next.is in
     let k : KernelState = state_of c.args.self.now in
     let settled : IsSettled k (state_of c.go_on.new.self) (state_of c.charge.new.self) c.args.cpu c.in-Some.chosen Steps c.go_on.new.self.reach.written = record {
+      none_due = none_due_at (due_on k.times c.args.cpu) (sym c.is_due.ensures ∙ c.if-is_due.false);
       told = sym c.in-Some.is ∙ c.choice.ensures.choice;
       decided = went.decided;
       does = went.does;
@@ -112,6 +116,12 @@ settle-requires-clause-running c =
     let stays : Stays c.args.self.now c.go_on.new.self c.in-Some.chosen.actor c.in-Raise.reason c.in-Raise.q0 c.in-Raise.q1 = c.go_on.ensures.raised c.in-Raise.reason c.in-Raise.q0 c.in-Raise.q1 c.in-Raise.is in
     let same = stays.state in
     subst (λ (s : KernelState). AreRunning s c.go_on.new.self.revokes) (sym same) (subst (AreRunning (state_of c.args.self.now)) (sym c.go_on.ensures.revokes) c.requires.running)
+
+pub settle-requires-clause-none_due : goal.settle-requires-clause-none_due
+settle-requires-clause-none_due c =
+    let stays : Stays c.args.self.now c.go_on.new.self c.in-Some.chosen.actor c.in-Raise.reason c.in-Raise.q0 c.in-Raise.q1 = c.go_on.ensures.raised c.in-Raise.reason c.in-Raise.q0 c.in-Raise.q1 c.in-Raise.is in
+    let same = stays.state in
+    subst (λ (s : KernelState). due_on s.times c.args.cpu ≡ None) (sym same) (none_due_at (due_on (state_of c.args.self.now).times c.args.cpu) (sym c.is_due.ensures ∙ c.if-is_due.false))
 
 pub settle-requires-clause-told : goal.settle-requires-clause-told
 settle-requires-clause-told c =

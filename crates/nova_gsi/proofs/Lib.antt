@@ -1,0 +1,15 @@
+pub mod Walks
+pub mod Places
+pub mod Lists
+pub mod Boots
+pub mod Told
+pub mod Counters
+pub mod Statuses
+pub mod Rows
+pub mod Leaving
+pub mod Counted
+pub mod Standing
+pub mod Homes
+pub mod Setters
+pub mod InTime
+pub mod Since

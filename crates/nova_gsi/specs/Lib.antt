@@ -1,0 +1,5 @@
+pub use Rattle.nova_model.specs.State
+pub mod Firings
+pub mod Laws
+pub mod Counters
+pub mod Deadlines

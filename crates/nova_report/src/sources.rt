@@ -1,0 +1,38 @@
+ghost use Rattle.std.specs.Prelude.{◌≡◌, ◌++◌, OnOk, string_bytes};
+ghost use Rattle.std.specs.List.{AllByRecursion};
+ghost use Rattle.nova_gsi.specs.Firings.{IsSource};
+ghost use Rattle.nova_report.specs.Report.{source_line, source_lines};
+
+use nova_gsi::{Source, SourceLine, table};
+use nova_model::Event;
+use std::alloc::{AllocError, Global};
+
+fn write_source(
+    out: &mut String,
+    number: usize,
+    source: Source,
+    line: SourceLine,
+) -> Result<(), AllocError>
+    ensures { OnOk result (string_bytes out.new ≡ string_bytes out.old ++ source_line (number, (source, line))) }
+{
+    let Source { cpu, sm, .. } = source;
+    let SourceLine { fired, worst } = line;
+    writeln!(out, "source {number} {cpu} {sm} {fired} {worst}")
+}
+
+/// A line for each source, by number.
+pub fn write_sources(
+    alloc: Global,
+    out: &mut String,
+    sources: &[Source],
+    trace: &[Event],
+) -> Result<(), AllocError>
+    requires numbers { AllByRecursion IsSource sources.now }
+    ensures { OnOk result (string_bytes out.new ≡ string_bytes out.old ++ source_lines sources.now trace.now) }
+{
+    let lines = table(alloc, sources, trace)?;
+    for i in 0..sources.len() {
+        write_source(out, i, sources[i], lines[i])?;
+    }
+    Ok(())
+}

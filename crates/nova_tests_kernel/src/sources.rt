@@ -1,0 +1,131 @@
+// Sources that are added by calls, and what is told of them.
+ghost use Rattle.std.specs.Prelude.{◌≡◌, ◌+◌, ◌*◌, ◌^◌, ◌<◌};
+
+use crate::machines::{ROOT, lay};
+use nova_kernel::{Alarm, Kernel};
+use nova_report::report;
+use nova_run::{Order, run_order};
+use std::alloc::Global;
+use std::process::Abort;
+
+/// A machine of two processors, whose root dies in its second turn.
+fn bare(rt: &impl Abort, alloc: Global) -> Kernel
+    ensures cpus { result.state.cpus ≡ 2 }
+    ensures room { result.room ≡ 8 }
+    ensures turns { result.state.turns ≡ 0 }
+{
+    let mut kernel = Kernel::new(alloc, 2, 0, 0, ROOT, 8).expect(rt, "ample memory");
+    lay(&mut kernel, 0, &[0x0010_0073]); // ebreak
+    kernel
+}
+
+/// Adds a source, and answers its number.
+fn add(rt: &impl Abort, kernel: &mut Kernel, cpu: u32, first: u64, period: u64, count: u64) -> u32
+    requires cpus { kernel.old.state.cpus ≡ 2 }
+    requires turns { kernel.old.state.turns ≡ 0 }
+    requires cpu { cpu < 2 }
+    requires period { 0 < period }
+    requires count { 0 < count }
+    requires last { first + count * period < 2 ^ 64 }
+    ensures cpus { kernel.new.state.cpus ≡ 2 }
+    ensures room { kernel.new.room ≡ kernel.old.room }
+    ensures turns { kernel.new.state.turns ≡ 0 }
+{
+    assert!(rt; kernel.objects().len() < 100);
+    kernel
+        .add_source(cpu, first, period, count)
+        .expect(rt, "ample memory")
+}
+
+/// Adds a source that fires in both turns of the second processor, and two of the first, of which one ends beyond 2^60; and answers
+/// their numbers.
+fn add_all(rt: &impl Abort, kernel: &mut Kernel) -> [u32; 3]
+    requires cpus { kernel.old.state.cpus ≡ 2 }
+    requires turns { kernel.old.state.turns ≡ 0 }
+    ensures cpus { kernel.new.state.cpus ≡ 2 }
+    ensures room { kernel.new.room ≡ kernel.old.room }
+    ensures turns { kernel.new.state.turns ≡ 0 }
+{
+    [
+        add(rt, kernel, 1, 0, 1, 2),
+        add(rt, kernel, 0, 5, 1, 1),
+        add(rt, kernel, 0, 7, 1 << 40, 1 << 20),
+    ]
+}
+
+/// A source as its numbers.
+fn numbers(alarm: &Alarm) -> (u32, u32, u64, u64, u64) {
+    (alarm.cpu, alarm.sm, alarm.first, alarm.period, alarm.count)
+}
+
+/// The sources of a machine that has three.
+fn sources(rt: &impl Abort, kernel: &Kernel) -> [(u32, u32, u64, u64, u64); 3] {
+    let [first, second, third] = kernel.sources() else {
+        panic!(rt; "three sources");
+    };
+    [numbers(first), numbers(second), numbers(third)]
+}
+
+/// How many turns are left on both processors until something is due.
+fn until(kernel: &Kernel) -> [Option<u64>; 2] {
+    [kernel.until_due(0), kernel.until_due(1)]
+}
+
+/// How many turns are left at the end of a run along an order of at most 8 turns, and its report.
+fn end(rt: &impl Abort, alloc: Global, kernel: Kernel, order: &str) -> ([Option<u64>; 2], Vec<u8>)
+    requires cpus { kernel.state.cpus ≡ 2 }
+    requires room { kernel.room ≡ 8 }
+    requires turns { kernel.state.turns ≡ 0 }
+{
+    let order = Order::read(alloc, order.as_bytes(), 2, 8).expect(rt, "an order");
+    let run = run_order(alloc, kernel, &order, 8).expect(rt, "no turn is idle");
+    let text = report(alloc, &run.kernel, &run.trace).expect(rt, "ample memory");
+    (until(&run.kernel), text)
+}
+
+/// The report after both turns of the second processor and six of the first.
+static REPORT: &str = "\
+run open 8
+at 1 1 0 irq 0 0
+at 2 1 0 irq 0 0
+at 3 0 1 raise 7 0
+at 4 0 1 died 7 0
+at 8 0 0 irq 1 0
+ec 1 global dead 00000000
+sc 2 0 2
+sm 3 2 0
+sm 4 1 0
+sm 5 0 0
+source 0 1 3 2 0
+source 1 0 4 1 0
+source 2 0 5 0 0
+cap 0 - 0 mem 0 0 7 0
+cap 1 - 0 obj 0 0 1 0
+cap 2 - 0 obj 1 0 7 1
+cap 3 - 0 obj 2 0 1 2
+cap 4 - 0 obj 3 0 3 3
+cap 5 - 0 obj 4 0 3 4
+cap 6 - 0 obj 5 0 3 5
+";
+
+#[test]
+fn added_sources_are_told(rt: HostRuntime) {
+    let mut kernel = bare(&rt, rt.alloc());
+    let added = add_all(&rt, &mut kernel);
+    let told = (added, sources(&rt, &kernel), until(&kernel));
+    let rows = [
+        (1, 3, 0, 1, 2),
+        (0, 4, 5, 1, 1),
+        (0, 5, 7, 1 << 40, 1 << 20),
+    ];
+    assert!(&rt; told == ([3, 4, 5], rows, [Some(5), Some(0)]));
+}
+
+#[test]
+fn added_sources_fire(rt: HostRuntime) {
+    let mut kernel = bare(&rt, rt.alloc());
+    let _ = add_all(&rt, &mut kernel);
+    let (until, text) = end(&rt, rt.alloc(), kernel, "1 2\n0 6\n");
+    let is_so = until == [Some(1), None] && text.as_slice() == REPORT.as_bytes();
+    assert!(&rt; is_so);
+}

@@ -1,0 +1,6 @@
+pub mod Placing
+pub mod Firsts
+pub mod Lines
+pub mod Keeping
+pub mod Nexts
+pub mod Changes

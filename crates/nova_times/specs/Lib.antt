@@ -1,0 +1,4 @@
+pub mod Entries
+pub mod Row
+pub mod Line
+pub mod Kept
