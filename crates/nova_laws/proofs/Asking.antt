@@ -96,7 +96,7 @@ schedulable_is pd cpu event Local other = absurd (other refl)
 schedulable_is pd cpu event Global other = refl
 schedulable_is pd cpu event Vcpu other = refl
 
-domain_there : (o : Option Object) → option_map is_pd o ≡ Some true → o ≡ Some Pd
+pub domain_there : (o : Option Object) → option_map is_pd o ≡ Some true → o ≡ Some Pd
 domain_there None h = absurd (cc)
 domain_there (Some Pd) h = refl
 domain_there (Some (Ec pd cpu kind event)) h = absurd (cc)
@@ -142,7 +142,7 @@ row_read r target pd its quantum priority number is =
         }
     by_test false fits same = absurd (cc)
 
-read_some : (o : Option Call) (c : Call) → read_row (Some o) ≡ Ok c → o ≡ Some c
+pub read_some : (o : Option Call) (c : Call) → read_row (Some o) ≡ Ok c → o ≡ Some c
 read_some (Some x) c is = cc
 read_some None c is = absurd (cc)
 
@@ -173,7 +173,7 @@ AsAsked k domain r (Makes number target (new.Sc ec cpu priority quantum)) = (num
 AsAsked k domain r other = Unit {0}
 
 -- what holds of each object that a row makes
-makes_each : (P : Deed → Type 0) (k : KernelState) (domain number target pd : ℕ) (made : ℕ → Result NewObject Status) →
+pub makes_each : (P : Deed → Type 0) (k : KernelState) (domain number target pd : ℕ) (made : ℕ → Result NewObject Status) →
     ((owner : ℕ) → maker k domain target pd ≡ Ok owner → is_revoked k domain target ≡ false → IfDone (λ m. P (Makes number target m)) (made owner)) →
     IfDone P (makes k domain number target pd made)
 makes_each P k domain number target pd made h = by_owner (maker k domain target pd) refl
@@ -191,11 +191,11 @@ makes_each P k domain number target pd made h = by_owner (maker k domain target 
     by_owner (Err status) is = tt
 
 -- the maker's rules
-record IsMaker (k : KernelState) (domain target pd owner : ℕ) : Type 0 where
-  named : named k domain is_pd create_right pd ≡ Ok owner
-  free : is_held k domain target ≡ false
+pub record IsMaker (k : KernelState) (domain target pd owner : ℕ) : Type 0 where
+  pub named : named k domain is_pd create_right pd ≡ Ok owner
+  pub free : is_held k domain target ≡ false
 
-maker_is : (k : KernelState) (domain target pd owner : ℕ) → maker k domain target pd ≡ Ok owner → IsMaker k domain target pd owner
+pub maker_is : (k : KernelState) (domain target pd owner : ℕ) → maker k domain target pd ≡ Ok owner → IsMaker k domain target pd owner
 maker_is k domain target pd owner is = by_named (named k domain is_pd create_right pd) refl (is_held k domain target) refl is
   where
     by_named : (o : Result ℕ Status) → named k domain is_pd create_right pd ≡ o → (t : Bool) → is_held k domain target ≡ t →
@@ -327,7 +327,7 @@ created k domain target pd its quantum priority owner ec creator free binder alo
         subst (λ (x : ℕ). and_then (unless (is_scheduled k x) BadCap (Ok (new.Sc x (processor_of k x) priority quantum))) (λ m. unless_busy k domain target (Makes CREATE_SC target m))
         ≡ Ok (Makes CREATE_SC target (new.Sc ec (processor_of k ec) priority quantum))) (sym same) (by_alone (is_scheduled k ec) (is_revoked k domain target) alone idle)
 
-asked_is : (k : KernelState) (caller domain : ℕ) (r : Registers) (c : Call) (d : Deed) → call_of r ≡ Ok c → row k caller domain c ≡ Ok d →
+pub asked_is : (k : KernelState) (caller domain : ℕ) (r : Registers) (c : Call) (d : Deed) → call_of r ≡ Ok c → row k caller domain c ≡ Ok d →
     hypercall k caller domain r ≡ d
 asked_is k caller domain r c d read gives = ap (or_refuses (reg r 17)) (ap (λ (o : Result Call Status). and_then o (row k caller domain)) read ∙ gives)
 

@@ -1,11 +1,11 @@
-mod Coming
-mod Reasons
-mod Warrants
-mod Bases
-mod Lists
-mod Actors
-mod Origins
-mod Rights
+pub mod Coming
+pub mod Reasons
+pub mod Warrants
+pub mod Bases
+pub mod Lists
+pub mod Actors
+pub mod Origins
+pub mod Rights
 pub mod Births
-mod Lives
-mod Once
+pub mod Lives
+pub mod Once

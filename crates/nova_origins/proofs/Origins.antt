@@ -141,7 +141,7 @@ root_plain s (suc zero) p = p
 root_plain s (suc (suc zero)) p = p
 root_plain s (suc (suc (suc n))) p = p
 
-boot_plain : (s : Scenario) (n : ℕ) (t : State) → IsSpecial t → (context (boot s) n).state ≡ t → ⊥
+pub boot_plain : (s : Scenario) (n : ℕ) (t : State) → IsSpecial t → (context (boot s) n).state ≡ t → ⊥
 boot_plain s n t special is =
     sources_keep (λ (k : KernelState). (m : ℕ) → IsSpecial (context k m).state → ⊥)
     (λ k source none m p. more_at (λ (o : Option EcState). IsSpecial (context_in o).state → ⊥) k.contexts None m (none m) (λ old. old) p)

@@ -10,7 +10,7 @@ use Rattle.nova_forest.specs.Made.{IsGivenChild, IsNextLeaf, MayUse}
 use Rattle.nova_forest.proofs.Allowed.{IsAllowed, deed_allowed}
 use Rattle.nova_forest.proofs.Extremes.{any_in}
 use Rattle.nova_forest.proofs.Lines.{line_none, parent_facts}
-use Rattle.nova_forest.proofs.Members.{IsIn, contains_from_in, in_from_contains}
+use Rattle.nova_forest.proofs.Members.{IsIn, contains_from_in, in_filtered, in_from_contains}
 use Rattle.nova_guest.specs.Frames.{frame_with}
 use Rattle.nova_guest.specs.declared.input.Input.{Input}
 use Rattle.nova_guest.specs.declared.input.Input.TheVariants as input_as
@@ -30,7 +30,7 @@ use Rattle.nova_model.specs.Edges.{state_in}
 use Rattle.nova_model.specs.Forest.{IsForest}
 use Rattle.nova_model.specs.Inputs.{foreign_at, foreign_by, given_of, in_ram, input_of, is_covered_for, only_if, others_input, own_input, reply_of, store_of}
 use Rattle.nova_model.specs.Lines.{line, line_by}
-use Rattle.nova_model.specs.Revokes.{Revocation, in_scope, is_made_of, is_met, is_own, is_top}
+use Rattle.nova_model.specs.Revokes.{Revocation, in_scope, is_made_of, is_met, is_own, is_top, scope}
 use Rattle.nova_model.specs.Running.{revoke_by, revoke_of}
 use Rattle.nova_model.specs.Runs.{after, run}
 use Rattle.nova_model.specs.State.{KernelState, context, context_at, context_in, message, own_words, pd_of, transfer}
@@ -241,7 +241,7 @@ line_up f forest (suc n) d t p i less (inr there) up = inr (by_parent (λ q j k 
         let older = up.within.older in
         rest q up.there (omega (arith, older, less)) there
 
-met_pd : (r : Revocation) (d : Derivation) → is_met r d ≡ true → d.pd ≡ r.pd
+pub met_pd : (r : Revocation) (d : Derivation) → is_met r d ≡ true → d.pd ≡ r.pd
 met_pd r d h = eqb-true d.pd r.pd (and_parts (d.pd == r.pd) _ (and_parts _ (d.pd == r.pd && _) h).1).0
 
 -- the line of what is in a scope has one of the revoker
@@ -250,7 +250,7 @@ pub record IsUnder (f : Delegations) (leaf : Derivation) (pd : ℕ) : Type 0 whe
   pub above : Contains (line f.list leaf) ancestor
   pub held : ancestor.pd ≡ pd
 
-under : (f : Delegations) (r : Revocation) (leaf : Derivation) → IsForest f → IsIn f.list leaf → in_scope r f.list leaf ≡ true → IsUnder f leaf r.pd
+pub under : (f : Delegations) (r : Revocation) (leaf : Derivation) → IsForest f → IsIn f.list leaf → in_scope r f.list leaf ≡ true → IsUnder f leaf r.pd
 under f r leaf forest i h = by_top (any_in (is_top r f.list) (line f.list leaf) h)
   where
     by_made : (t : Derivation) → IsIn (line f.list leaf) t → (o : Option Derivation) → parent_of f.list t ≡ o → is_made_of r t o ≡ true → IsUnder f leaf r.pd
@@ -276,12 +276,13 @@ pub record IsRevoking (k : KernelState) (ec : ℕ) (r : Revocation) : Type 0 whe
   pub own : Bool
   pub state : (context k ec).state ≡ Revoking range own
   pub domain : r.pd ≡ pd_of k ec
+  pub is : r ≡ record { pd = pd_of k ec; range = range; own = own }
 
 revoking : (k : KernelState) (ec : ℕ) (r : Revocation) → revoke_of k ec ≡ Some r → IsRevoking k ec r
 revoking k ec r runs = by_entry (context_at k ec) refl runs
   where
     by_state : (s : State) → (context k ec).state ≡ s → revoke_by (pd_of k ec) s ≡ Some r → IsRevoking k ec r
-    by_state (Revoking range own) is h = record { range = range; own = own; state = is; domain = sym (ap (λ (r : Revocation). r.pd) (same_Some (record { pd = pd_of k ec; range = range; own = own }) r h)) }
+    by_state (Revoking range own) is h = record { range = range; own = own; state = is; domain = sym (ap (λ (r : Revocation). r.pd) (same_Some (record { pd = pd_of k ec; range = range; own = own }) r h)); is = sym (same_Some (record { pd = pd_of k ec; range = range; own = own }) r h) }
     by_state other is h = absurd (cc)
 
     by_entry : (o : Option EcState) → context_at k ec ≡ o → option_and_then (λ x. revoke_by (pd_of k ec) x.state) o ≡ Some r → IsRevoking k ec r
@@ -313,6 +314,9 @@ taken_right k turns cpu ec g leaf forest goes next =
           range = runs.range;
           own = runs.own;
           revokes = runs.state;
+          taken = subst (λ (r : Revocation). Contains (scope r now.delegations.list) leaf) runs.is
+              (contains_from_in (scope next.revoke now.delegations.list) leaf (in_filtered (in_scope next.revoke now.delegations.list) now.delegations.list leaf
+              (in_from_contains now.delegations.list leaf facts.there) facts.taken));
           ancestor = line_.ancestor;
           above = line_.above;
           held = line_.held ∙ runs.domain;

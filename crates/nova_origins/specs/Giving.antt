@@ -4,6 +4,7 @@ use Rattle.nova_model.specs.Choice.{next_to_act}
 use Rattle.nova_model.specs.Delegations.{added, reach, without}
 use Rattle.nova_model.specs.Inputs.{contents_of}
 use Rattle.nova_model.specs.Lines.{line}
+use Rattle.nova_model.specs.Revokes.{scope}
 use Rattle.nova_model.specs.Runs.{after, run}
 use Rattle.nova_model.specs.State.{KernelState, context, pd_of}
 use Rattle.nova_model.specs.declared.context.Mark.{Mark}
@@ -64,7 +65,7 @@ pub record IsGiven (k : KernelState) (turns : List ℕ) (cpu ec g base order : �
   pub bytes : contents ≡ contents_of (run k turns).memory.ram frame order
   pub giver : IsGiver k turns ec (pd_of (run k turns) g) parent.pd
 
--- A memory derivation of the protection domain of the virtual CPU goes, with this range. Who acts revokes, and its protection domain holds an ancestor
+-- A memory derivation of the protection domain of the virtual CPU goes, with this range. Who acts revokes, the derivation is in the scope of that revoke, and its protection domain holds an ancestor
 -- of the derivation, or that itself.
 pub record IsTaken (k : KernelState) (cpu ec g base order : ℕ) : Type 0 where
   pub leaf : Derivation
@@ -77,6 +78,7 @@ pub record IsTaken (k : KernelState) (cpu ec g base order : ℕ) : Type 0 where
   pub range : Range
   pub own : Bool
   pub revokes : (context k ec).state ≡ Revoking range own
+  pub taken : Contains (scope (record { pd = pd_of k ec; range = range; own = own }) k.delegations.list) leaf
   pub ancestor : Derivation
   pub above : Contains (line k.delegations.list leaf) ancestor
   pub held : ancestor.pd ≡ pd_of k ec

@@ -19,7 +19,7 @@ ghost use Rattle.nova_origins.specs.Events.{AreSelectors, HasEvents};
 ghost use Rattle.nova_origins.specs.Giving.{Acts, HasMade, IsGiven, IsTaken, Reaches};
 ghost use Rattle.nova_origins.specs.Lives.{AreGuestsAlone};
 ghost use Rattle.nova_origins.specs.Sending.{HandlesLast, LastSent};
-ghost use Rattle.nova_origins.specs.Whose.{IsInputBy};
+ghost use Rattle.nova_origins.specs.Whose.{HasRight, IsInputBy};
 
 /// Whatever list of turns is taken from whatever boot state, no event base is above 2^20 - 9 and no exit
 /// that is raised and not sent has a reason above 8, so that event base + reason is a selector.
@@ -52,6 +52,8 @@ pub fn the_last_sent_is_one()
 pub fn inputs_are_by_right()
     ensures someone { (scenario : Scenario) (turns : List ℕ) (cpu g : ℕ) (i : Input)
         → input (run (boot scenario) turns) cpu g ≡ Some i → (ec : ℕ) × Acts (run (boot scenario) turns) cpu ec }
+    ensures right { (scenario : Scenario) (turns : List ℕ) (cpu ec g : ℕ) (i : Input)
+        → IsInputBy scenario turns cpu ec g i → HasRight (boot scenario) turns cpu ec g i }
     ensures own { (scenario : Scenario) (turns : List ℕ) (cpu ec g : ℕ) → IsInputBy scenario turns cpu ec g Own → ec ≡ g }
     ensures sent { (scenario : Scenario) (turns : List ℕ) (cpu ec g : ℕ) → IsInputBy scenario turns cpu ec g Sent → ec ≡ g }
     ensures died { (scenario : Scenario) (turns : List ℕ) (cpu ec g : ℕ) → IsInputBy scenario turns cpu ec g Died → ec ≡ g }

@@ -8,7 +8,7 @@ use Rattle.nova_laws.specs.Orders.{IsRunOut}
 use Rattle.nova_run.specs.Finished.{IsFinished}
 use Rattle.nova_shared.specs.declared.finished.Finished.{Finished}
 use Rattle.nova_model.specs.Forest.{IsForest}
-use Rattle.nova_model.specs.Runs.{run, rounds}
+use Rattle.nova_model.specs.Runs.{after, run, rounds}
 use Rattle.nova_boot.specs.Boot.{scenario_of}
 use Rattle.nova_command.specs.declared.command.Command.TheVariants.{Run, Solo, Bench}
 use Rattle.nova_io.specs.Faults.{NeverFalls}
@@ -24,7 +24,10 @@ use Rattle.nova_top.specs.Causes.{OrderRefused, TextRefused}
 use Rattle.nova_top.specs.Came.{ScenarioCame}
 use Rattle.nova_top.specs.Orders.{OrderCame}
 use Rattle.nova_top.specs.Outside.{Depots}
+use Rattle.nova_guest.specs.declared.input.Input.{Input}
+use Rattle.nova_integrity.specs.Integrity.{IsAuthorised}
 use Rattle.nova_origins.specs.Lives.{AreGuestsAlone}
+use Rattle.nova_origins.specs.Whose.{HasRight, IsInputBy}
 use Rattle.nova_revocation.specs.Called.{HasEndedAsCalled}
 use Rattle.nova_top.specs.Runs.{IsReturned}
 use Rattle.nova_top.specs.Prepared.{IsOrderReadBy, IsReportOf, IsTogether, IsIdleFault, IsPrepared}
@@ -42,6 +45,8 @@ pub record HasLaws (most : ℕ) : Type 0 where
   pub forests : (s : Scenario) (turns : List ℕ) → IsForest (run (boot s) turns).delegations
   pub revokes : (s : Scenario) (before : List ℕ) (cpu ec : ℕ) → IsReturned (run (boot s) before) cpu ec → HasEndedAsCalled (boot s) before cpu ec
   pub guests : (s : Scenario) (turns : List ℕ) → AreGuestsAlone (boot s) turns
+  pub rights : (s : Scenario) (turns : List ℕ) (cpu : ℕ) → IsAuthorised (run (boot s) turns) (after (run (boot s) turns) cpu) cpu
+  pub inputs : (s : Scenario) (turns : List ℕ) (cpu ec g : ℕ) (i : Input) → IsInputBy s turns cpu ec g i → HasRight (boot s) turns cpu ec g i
   pub sources : HasSourceLaws
 
 module _ {D : Type 0} (d : Depots D) where
@@ -131,6 +136,8 @@ module _ {D : Type 0} (d : Depots D) where
       forests = λ before after whole. laws.forests (scenario_of from) before;
       revokes = λ before after cpu ec whole. laws.revokes (scenario_of from) before cpu ec;
       guests = laws.guests (scenario_of from) (rounds (boot (scenario_of from)) most);
+      rights = λ before later cpu whole. laws.rights (scenario_of from) before cpu;
+      inputs = λ before later cpu ec g i whole virtual acts is. laws.inputs (scenario_of from) before cpu ec g i (record { virtual = virtual; acts = acts; is = is });
       sources = told laws.sources from (scenario_sound came.bytes from came.valid) (rounds (boot (scenario_of from)) most) (let within = reported.within in let few = laws.few in omega (arith, within, few));
     };
   }
@@ -161,6 +168,8 @@ module _ {D : Type 0} (d : Depots D) where
       forests = λ before after whole. laws.forests (scenario_of from) before;
       revokes = λ before after cpu ec whole. laws.revokes (scenario_of from) before cpu ec;
       guests = laws.guests (scenario_of from) (turns list.blocks);
+      rights = λ before later cpu whole. laws.rights (scenario_of from) before cpu;
+      inputs = λ before later cpu ec g i whole virtual acts is. laws.inputs (scenario_of from) before cpu ec g i (record { virtual = virtual; acts = acts; is = is });
       sources = told laws.sources from (scenario_sound came.bytes from came.valid) (turns list.blocks) (let within = reported.within in let few = laws.few in omega (arith, within, few));
     };
   }
@@ -183,6 +192,8 @@ module _ {D : Type 0} (d : Depots D) where
       forests = λ before after whole. laws.forests (scenario_of from) before;
       revokes = λ before after cpu ec whole. laws.revokes (scenario_of from) before cpu ec;
       guests = laws.guests (scenario_of from) (turns together.blocks);
+      rights = λ before later cpu whole. laws.rights (scenario_of from) before cpu;
+      inputs = λ before later cpu ec g i whole virtual acts is. laws.inputs (scenario_of from) before cpu ec g i (record { virtual = virtual; acts = acts; is = is });
       sources = told laws.sources from (scenario_sound came.bytes from came.valid) (turns together.blocks) (let within = together.reported.within in let few = laws.few in omega (arith, within, few));
     };
   }
@@ -210,6 +221,8 @@ module _ {D : Type 0} (d : Depots D) where
           forests = λ before after whole. laws.forests (scenario_of from) before;
           revokes = λ before after cpu ec whole. laws.revokes (scenario_of from) before cpu ec;
           guests = laws.guests (scenario_of from) (rounds k most);
+          rights = λ before later cpu whole. laws.rights (scenario_of from) before cpu;
+          inputs = λ before later cpu ec g i whole virtual acts is. laws.inputs (scenario_of from) before cpu ec g i (record { virtual = virtual; acts = acts; is = is });
           sources = told laws.sources from (scenario_sound (generated number) from valid) (rounds k most) (let within = reported.within in let few = laws.few in omega (arith, within, few));
         };
       }

@@ -1,10 +1,16 @@
 -- What a command makes of a scenario: a text, and whether the command is complete.
-use Rattle.std.specs.Prelude.{◌≡◌, ℕ, ◌<◌, ◌≤◌, Bool, true, false, List, [], ◌∷◌, ◌++◌, length, codes}
+use Rattle.std.specs.Prelude.{◌≡◌, ℕ, ◌<◌, ◌≤◌, Bool, true, false, List, [], ◌∷◌, ◌++◌, Some, length, codes}
 use Rattle.std.specs.List.{AllByRecursion}
 use Rattle.nova_model.specs.State.{KernelState}
 use Rattle.nova_model.specs.Choice.{is_quiet}
 use Rattle.nova_model.specs.Forest.{IsForest}
-use Rattle.nova_model.specs.Runs.{IsFreeOfIdle, run, trace}
+use Rattle.nova_model.specs.Guests.{input}
+use Rattle.nova_model.specs.Runs.{IsFreeOfIdle, after, run, trace}
+use Rattle.nova_guest.specs.declared.input.Input.{Input}
+use Rattle.nova_isolation.specs.Sound.{IsVirtual}
+use Rattle.nova_integrity.specs.Integrity.{IsAuthorised}
+use Rattle.nova_origins.specs.Giving.{Acts}
+use Rattle.nova_origins.specs.Whose.{HasRight}
 use Rattle.nova_model.specs.declared.event.EventKind.TheVariants.{Answer}
 use Rattle.nova_calls.specs.declared.numbers.TheConstants.{REVOKE}
 use Rattle.nova_range.specs.Statuses.{status_code}
@@ -38,8 +44,9 @@ said_by (Bench number most) = summary number
 -- allows, and each is of a processor that is there. After each part of it, from the first turn on, delegations are a sound forest. And each of its turns
 -- whose event answers SUCCESS to a revoke ends the one that was called in an earlier turn, of the range and with the flag that the caller's registers had then,
 -- with nothing left of it: nobody reaches by what comes from the revoker what the range led to. And each virtual CPU that
--- was made at one of its turns is a guest alone from then on: its view at the end, its exits and its bytes are what the guest alone makes of its inputs. And each source
--- of the scenario fired at its moments, none lost or doubled, which its lines of the report tell.
+-- was made at one of its turns is a guest alone from then on: its view at the end, its exits and its bytes are what the guest alone makes of its inputs.
+-- Whatever one of its turns changes, the one whose turn it is had the authority for it, or it came by itself: an alarm, a deadline or the clock. Each input of
+-- a virtual CPU comes from who has the right to it. And each source of the scenario fired at its moments, none lost or doubled, which its lines of the report tell.
 pub record IsRun {D : Type 0} (d : Depots D) (command : Command) (k : KernelState) (old new : D) (complete : Bool) (bytes text : List ℕ) : Type 0 where
   pub order : List ℕ
   pub of_command : IsOrderOf d command k old new order bytes
@@ -52,6 +59,9 @@ pub record IsRun {D : Type 0} (d : Depots D) (command : Command) (k : KernelStat
   pub forests : (before after : List ℕ) → before ++ after ≡ order → IsForest (run k before).delegations
   pub revokes : (before after : List ℕ) (cpu ec : ℕ) → before ++ cpu ∷ after ≡ order → IsReturned (run k before) cpu ec → HasEndedAsCalled k before cpu ec
   pub guests : AreGuestsAlone k order
+  pub rights : (before later : List ℕ) (cpu : ℕ) → before ++ cpu ∷ later ≡ order → IsAuthorised (run k before) (after (run k before) cpu) cpu
+  pub inputs : (before later : List ℕ) (cpu ec g : ℕ) (i : Input) → before ++ cpu ∷ later ≡ order → IsVirtual (run k before) g → Acts (run k before) cpu ec →
+      input (run k before) cpu g ≡ Some i → HasRight k before cpu ec g i
   pub sources : AreSourcesTold k order
 
 -- what a command of one scenario makes of the boot state: check says that the scenario is valid, and any other runs it

@@ -18,8 +18,9 @@ use nova_forest::delegations_stay_a_forest;
 use nova_gsi::{
     alarms_have_room, counters_tell_what_ended, firings_are_of_their_moments, sources_are_alarms,
 };
+use nova_integrity::turns_change_by_right;
 use nova_io::Depot;
-use nova_origins::virtual_cpus_are_guests_alone_from_their_birth;
+use nova_origins::{inputs_are_by_right, virtual_cpus_are_guests_alone_from_their_birth};
 use nova_revocation::a_returned_revoke_left_nothing;
 use nova_run::Gate;
 use std::alloc::Global;
@@ -59,6 +60,8 @@ fn run<R: Threads + Wait + Sync, D: Depot, G: Gate + Sync>(
     firings_are_of_their_moments();
     counters_tell_what_ended();
     alarms_have_room();
+    turns_change_by_right();
+    inputs_are_by_right();
     let scenario = fetch_scenario(alloc, depot, name)?;
     run_together(rt, alloc, &scenario, limit, gate)
 }
@@ -78,6 +81,8 @@ fn solo<D: Depot>(alloc: Global, depot: &mut D, name: &Name, limit: u32) -> Resu
     firings_are_of_their_moments();
     counters_tell_what_ended();
     alarms_have_room();
+    turns_change_by_right();
+    inputs_are_by_right();
     let scenario = fetch_scenario(alloc, depot, name)?;
     run_rounds(alloc, &scenario, limit)
 }
@@ -103,6 +108,8 @@ fn solo_in_order<D: Depot>(
     firings_are_of_their_moments();
     counters_tell_what_ended();
     alarms_have_room();
+    turns_change_by_right();
+    inputs_are_by_right();
     let scenario = fetch_scenario(alloc, depot, scenario)?;
     let order = fetch_order(alloc, depot, order, scenario.cpus, u64::from(limit))?;
     run_in_order(alloc, &scenario, &order, limit)
@@ -128,6 +135,8 @@ fn bench<R: Threads + Wait + Sync, D: Depot, G: Gate + Sync>(
     firings_are_of_their_moments();
     counters_tell_what_ended();
     alarms_have_room();
+    turns_change_by_right();
+    inputs_are_by_right();
     let scenario = bench_scenario(alloc, number)?;
     let finished = run_alone(rt, alloc, &scenario, limit, gate)?;
     Ok(summed_up(alloc, finished, number)?)

@@ -8,6 +8,9 @@ use Rattle.nova_origins.proofs.inputs_are_by_right.Goals as goal
 pub returns-clause-someone : goal.returns-clause-someone
 returns-clause-someone c = λ s turns cpu g i is. some_acts (run (boot s) turns) cpu g i is
 
+pub returns-clause-right : goal.returns-clause-right
+returns-clause-right c = input_right
+
 pub returns-clause-own : goal.returns-clause-own
 returns-clause-own c = λ s turns cpu ec g by. input_right s turns cpu ec g Own by
 

@@ -1,0 +1,10 @@
+pub mod Rights
+pub mod Rightful
+pub mod Integrity
+pub mod Runnable
+pub mod Spaces
+pub mod Births
+pub mod Waits
+pub mod Unwritten
+pub mod Secrecy
+pub mod Confined
