@@ -20,9 +20,9 @@ from choice import Choice, Wanted
 from longest import Scout
 from outcome import Outcome, outcome_of
 from pool import Pool
-from program import DONE, End, Program, Stopped, Trouble, find_program, processors_of
+from program import DONE, End, Program, Stopped, Trouble, find_program
 from sample import Habits
-from shared import Fault, counted, read_order, read_report
+from shared import Fault, counted, read_order, read_report, read_settings
 from shrinking import Shrinker, search_simpler
 from tally import Tally
 from telling import Progress, outcome_texts, size_of, write_orders
@@ -38,7 +38,7 @@ class Work:
         path = find_program(ask.program, ask.scenario)
         self.ask = ask
         self.program = Program(path, ask.scenario, folder, ask.jobs)
-        self.scout = Scout(self.program, processors_of(ask.scenario.read_text(errors="replace")))
+        self.scout = Scout(self.program, read_settings(ask.scenario.read_text(errors="replace")))
         self.pool = Pool(ask.jobs)
         self.progress = Progress(sys.stderr, ask.progress)
 

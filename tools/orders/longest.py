@@ -8,27 +8,33 @@ from dataclasses import dataclass
 from enum import Enum
 
 from program import End, Program, Run
-from shared import CREATE_SC, ROOT, SM_CTRL, Kind, Report, read_report
+from shared import CREATE_SC, ROOT, SM_CTRL, Kind, Report, Settings, read_report
 from turns import Block, Blocks, turns_of, turns_on
 
+# What a line `ec` has of a thread that waits at a semaphore with a deadline: the arguments of its call stay in its registers.
+WITH_DEADLINE = " x11=00000002"
 # Where nothing is known of a processor, it is tried with so many turns first.
 FIRST_GUESS = 16
 
 
-def sure_to_be_idle(report: Report, cpus: int) -> frozenset[int]:
-    """Processors of which the report shows that they are idle at its end: no scheduling context is there, or nobody there can act.
+def sure_to_be_idle(report: Report, settings: Settings) -> frozenset[int]:
+    """Processors of which the report shows that they are idle at its end: nothing is to come there, and no scheduling context is there, or nobody
+    there can act.
 
-    Who is dead, blocked or parked does not act. Of an execution context without an event it is not known where it runs.
+    Who is dead, blocked or parked does not act. Of an execution context without an event it is not known where it runs. To come are the
+    firings of a source that has not fired as often as it will, and deadlines.
     """
     if report.quiet:
-        return frozenset(range(cpus))
-    homes = {ROOT: 0} | {event.context: event.cpu for event in report.events}
+        return frozenset(range(settings.cpus))
+    homes = {ROOT: 0} | {event.context: event.cpu for event in report.events if event.kind is not Kind.IRQ}
     paid = {payer.cpu for payer in report.payers}
+    ticking = {source.cpu for source, line in zip(settings.sources, report.sources) if line.fired < source.count}
+    ticking |= {homes[one.number] for one in report.contexts if one.state == "blocked" and WITH_DEADLINE in one.line}
+    quiet = frozenset(range(settings.cpus)) - ticking
     active = [context.number for context in report.contexts if context.state not in ("dead", "blocked", "parked")]
     if any(number not in homes for number in active):
-        return frozenset(cpu for cpu in range(cpus) if cpu not in paid)
-    busy = {homes[number] for number in active}
-    return frozenset(cpu for cpu in range(cpus) if cpu not in paid or cpu not in busy)
+        return quiet - paid
+    return quiet - (paid & {homes[number] for number in active})
 
 
 @dataclass(frozen=True, slots=True)
@@ -85,9 +91,10 @@ class Bracket:
 class Scout:
     """Finds reaches. What it learns of some makes the next ones cheaper, and never other."""
 
-    def __init__(self, program: Program, cpus: int) -> None:
+    def __init__(self, program: Program, settings: Settings) -> None:
         self.program = program
-        self.cpus = cpus
+        self.settings = settings
+        self.cpus = settings.cpus
         self._ends: dict[int, list[int]] = defaultdict(list)
 
     def stops(self) -> dict[int, tuple[int, ...]]:
@@ -96,7 +103,7 @@ class Scout:
 
     def idle_of(self, report: Report) -> frozenset[int]:
         """Processors that are sure to be idle at the end of a report."""
-        return sure_to_be_idle(report, self.cpus)
+        return sure_to_be_idle(report, self.settings)
 
     def idle_after(self, run: Run) -> frozenset[int]:
         """Processors that are sure to be idle after the run."""
@@ -127,7 +134,8 @@ class Scout:
         return Reach(search.low, best)
 
     def _last_turn(self, run: Run, cpu: int) -> Last:
-        """What the last turn of the run leaves to do for the processor that had it. A turn without an event leaves work to do."""
+        """What the last turn of the run leaves to do for the processor that had it. A turn without an event, be it an instruction or a tick,
+        leaves something to do."""
         if run.end is End.QUIET:
             return Last.STOP
         start = run.report.rfind("\nat ")
@@ -159,9 +167,11 @@ def waits_at(report: Report, place: int) -> bool:
 
 
 def may_wake(report: Report, after: int) -> int | None:
-    """The first turn after that one in which something may have come to do for a processor that was idle: an up, or a new scheduling
-    context."""
+    """The first turn after that one in which something may have come to do for a processor that was idle: an up, of a source as well, or a new
+    scheduling context."""
     for event in report.events:
-        if event.place > after and event.kind is Kind.ANSWER and event.a in (CREATE_SC, SM_CTRL) and event.b == 0:
+        if event.place <= after:
+            continue
+        if event.kind is Kind.IRQ or (event.kind is Kind.ANSWER and event.a in (CREATE_SC, SM_CTRL) and event.b == 0):
             return event.place
     return None

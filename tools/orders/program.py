@@ -113,12 +113,3 @@ def find_program(named: Path | None, scenario: Path) -> Path:
     if checked.returncode != DONE:
         raise Trouble(f"{scenario} was not run")
     return named or TOP / "crates" / "nova" / "out" / "nova"
-
-
-def processors_of(scenario: str) -> int:
-    """How many processors a scenario without a fault has."""
-    for line in scenario.splitlines():
-        tokens = line.split("#")[0].split()
-        if tokens[:1] == ["cpus"]:
-            return int(tokens[1], 16 if tokens[1].startswith("0x") else 10)
-    raise Trouble("the scenario has no line `cpus`")

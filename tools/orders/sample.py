@@ -63,8 +63,9 @@ class Sampler:
         self.habits = habits
         self.turns = turns
         self.seed = seed
-        # At first processor 0 alone has something to do, so all orders begin the same.
-        self._opening = self._reach(Stand((), frozenset(range(1, scout.cpus))), (Block(0, turns),))
+        # At first processor 0 has something to do, and those with sources. Where it is alone, all orders begin the same.
+        start = Stand((), frozenset(range(1, scout.cpus)) - {source.cpu for source in scout.settings.sources})
+        self._opening = self._reach(start, (Block(0, turns),)) if len(start.idle) == scout.cpus - 1 else (start, None)
 
     def draw(self, number: int, stops: Stops) -> Run:
         """Order `number` of this seed, and its run. It depends on what is known of where processors are idle."""

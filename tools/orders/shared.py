@@ -1,4 +1,4 @@
-"""What is shared with tools/picture: the readers of reports and orders."""
+"""What is shared with tools/picture: the readers of reports, of orders and of a scenario's settings."""
 
 from __future__ import annotations
 
@@ -9,9 +9,13 @@ sys.path.append(str(Path(__file__).resolve().parent.parent / "picture"))
 
 from order import read_order  # noqa: E402
 from report import FORMS, Event, Fault, Kind, Report, read_report  # noqa: E402
+from scenario import Moments, Settings, read_settings  # noqa: E402
 from words import CREATE_SC, SM_CTRL, counted  # noqa: E402
 
 # The number of the root, which is on processor 0.
 ROOT = 1
 
-__all__ = ["CREATE_SC", "FORMS", "ROOT", "SM_CTRL", "Event", "Fault", "Kind", "Report", "counted", "read_order", "read_report"]
+__all__ = [
+    *("CREATE_SC", "FORMS", "ROOT", "SM_CTRL", "Event", "Fault", "Kind", "Moments", "Report", "Settings"),
+    *("counted", "read_order", "read_report", "read_settings"),
+]

@@ -1,6 +1,6 @@
 """Draws pictures of a run from its report.
 
-python3 tools/picture run REPORT [--order FILE] [--from TURN] [--to TURN] [--all] [--fold N] [--page] [--output FILE]
+python3 tools/picture run REPORT [--order FILE] [--scenario FILE] [--from TURN] [--to TURN] [--all] [--fold N] [--page] [--output FILE]
 python3 tools/picture delegations REPORT [--from TURN] [--to TURN] [--all] [--fold N] [--page] [--output FILE]
 """
 
@@ -13,10 +13,12 @@ from collections.abc import Callable
 from pathlib import Path
 from typing import TypeVar
 
+from clocks import Firing, find_firings, misfit, mistimed
 from drawing import page, svg
-from order import read_order
+from order import Order, read_order
 from report import Fault, Report, read_report
 from run_picture import draw_run
+from scenario import read_settings
 from skim import LARGE, Events, find_events, shorten, turns_of
 from timeline import Window
 from tree_picture import draw_delegations
@@ -40,10 +42,11 @@ def parser() -> argparse.ArgumentParser:
     pictures = top.add_subparsers(dest="picture", required=True, metavar="PICTURE")
     run = pictures.add_parser("run", help="what happened in each turn, with a lane for each execution context")
     run.add_argument("--order", type=Path, metavar="FILE", help="the order of turns of the run: the turns of each processor are shown")
+    run.add_argument("--scenario", type=Path, metavar="FILE", help="the scenario of the run: how late its sources fire is shown")
     run.add_argument("--fold", type=int, default=TURNS, metavar="N", help=f"draw more than N turns without an event short ({TURNS})")
     trees = pictures.add_parser("delegations", help="which capability range was given from which")
     trees.add_argument("--fold", type=int, default=RANGES, metavar="N", help=f"cut lists of more than N ranges ({RANGES})")
-    trees.set_defaults(order=None)
+    trees.set_defaults(order=None, scenario=None)
     for picture in (run, trees):
         picture.add_argument("report", type=Path, metavar="REPORT", help="the report of the run")
         picture.add_argument("--from", dest="first", type=int, metavar="TURN", help="the first turn to draw (1)")
@@ -107,8 +110,19 @@ def draw_window(words: argparse.Namespace, text: str, events: Events, window: Wi
         order = None
         if words.order is not None:
             order = faultless(words.order, lambda: read_order(read_text(words.order), report.turns, events.turns, events.cpus()))
-        scene = draw_run(words.report.stem, report, order, window, words.fold)
+        firings = firings_of(words.scenario, report, events, order) if words.scenario is not None else {}
+        scene = draw_run(words.report.stem, report, order, window, words.fold, firings)
     return (page(scene) if words.page else svg(scene)).encode("utf-8", "replace")
+
+
+def firings_of(scenario: Path, report: Report, events: Events, order: Order | None) -> dict[int, Firing]:
+    """When the sources of the run were due, by the scenario."""
+    settings = faultless(scenario, lambda: read_settings(read_text(scenario)))
+    if not misfit(settings, report.sources):
+        found = find_firings(settings, report.sources, events.firings(), order)
+        if not found or not mistimed(found, report.sources, events.firings()):
+            return found
+    raise Refused(f"{scenario}: its sources are not those of the report")
 
 
 def faultless(path: Path, read: Callable[[], Read]) -> Read:

@@ -31,7 +31,7 @@ PALETTE = (
     ("#cf222e", "#ff7b72"),
 )
 # Marks with a hole, in which nothing else is seen.
-HOLLOW = frozenset({Shape.RING, Shape.SLASHED, Shape.MINUS, Shape.STRUCK})
+HOLLOW = frozenset({Shape.RING, Shape.SLASHED, Shape.MINUS, Shape.STRUCK, Shape.CLOCK})
 # Rules without colours.
 SHAPES = f"""\
 text{{font:{FONT}px ui-monospace,"DejaVu Sans Mono",Menlo,Consolas,monospace;fill:currentColor;white-space:pre}}

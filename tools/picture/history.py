@@ -8,7 +8,7 @@ from dataclasses import dataclass, field
 from enum import Enum
 
 from objects import Objects, find_objects, find_owners, find_processors
-from report import PARTS, Event, Kind, Report
+from report import PARTS, UNPAID, Event, Kind, Report
 from words import CALL, CREATE_EC, REPLY, SM_CTRL
 
 
@@ -34,6 +34,7 @@ class Lead(Enum):
     HELP = "help for a busy handler"
     ABORT = "an abort: the handler died"
     WAKE = "a wake-up"
+    INTERRUPT = "an interrupt wakes who waits"
     MAKE = "an execution context is made"
 
 
@@ -49,7 +50,8 @@ class Span:
 
 @dataclass(frozen=True, slots=True)
 class Arrow:
-    """What leads from one context to another in a turn. One that is not sure is the first of several that the report allows."""
+    """What leads from one context to another in a turn. One that is not sure is the first of several that the report allows. An interrupt leads
+    from a source."""
 
     place: int
     source: int
@@ -60,7 +62,7 @@ class Arrow:
 
 @dataclass(slots=True)
 class History:
-    """All that a picture of a run shows beside the events themselves. `payers` has a set for each event, empty where unknown."""
+    """All that a picture of a run shows beside the events themselves. `payers` has a set for each event, empty where unknown or nobody."""
 
     objects: Objects
     processors: dict[int, int]
@@ -128,6 +130,8 @@ def find_wakes(report: Report) -> dict[int, list[tuple[int, bool]]]:
         following[event.context] = at
         if event.kind is not Kind.BEGIN or event.a != SM_CTRL or (after is None and states[event.context] == "blocked"):
             continue
+        if after is not None and report.events[after].kind in (Kind.LATE, Kind.IRQ):
+            continue  # That event ends the wait, whatever ups there are before it.
         first, end = bisect_right(ups, at), len(ups) if after is None else bisect_left(ups, after)
         if first < end:
             wakes[ups[first]].append((event.context, end - first == 1))
@@ -167,7 +171,7 @@ class Replay:
     def follow(self) -> None:
         """All events, one after another."""
         for at, event in enumerate(self.report.events):
-            self.history.payers.append(self.payers_of(event.context))
+            self.history.payers.append(frozenset() if event.kind in UNPAID else self.payers_of(event.context))
             self.apply(at, event)
 
     def close(self) -> History:
@@ -210,6 +214,10 @@ class Replay:
                 self.send(at, event, Lead.EXIT)
             case Kind.DIED:
                 self.turn_to(event.context, Doing.DEAD, event.place)
+            case Kind.LATE:
+                self.turn_to(event.context, Doing.RUNS, event.place)
+            case Kind.IRQ:
+                self.interrupt(event)
             case Kind.ABORT:
                 self.turn_to(event.context, Doing.DEAD if event.b else Doing.RUNS, event.place)
                 self.lead(event, event.a, event.context, Lead.ABORT)
@@ -228,6 +236,12 @@ class Replay:
         for waiter, sure in self.wakes.get(at, ()):
             self.turn_to(waiter, Doing.RUNS, event.place)
             self.lead(event, event.context, waiter, Lead.WAKE, sure)
+
+    def interrupt(self, event: Event) -> None:
+        """A source fired, and woke who waits at its semaphore, if anybody does."""
+        if event.context:
+            self.turn_to(event.context, Doing.RUNS, event.place)
+            self.history.arrows.append(Arrow(event.place, event.a, event.context, Lead.INTERRUPT))
 
     def begin(self, at: int, event: Event) -> None:
         """A hypercall that goes on."""

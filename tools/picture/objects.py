@@ -18,7 +18,7 @@ CREATES = {
     CREATE_PT: Sort.PORTAL,
     CREATE_SM: Sort.SEMAPHORE,
 }
-# The objects that are there from the start: the root's domain, the root, and what pays for it.
+# The objects that are there from the start: the root's domain, the root, and what pays for it. Behind them come the semaphores of the sources.
 BOOT = {0: Sort.DOMAIN, 1: Sort.CONTEXT, 2: Sort.PAYER}
 ROOT, ROOT_PAYER = 1, 2
 # Where more execution contexts than this may have a scheduling context, none is looked for.
@@ -43,7 +43,8 @@ def creates(event: Event) -> Sort | None:
 
 def find_objects(report: Report) -> Objects:
     """The objects of the run. Where the lines do not fit the numbers, only the kinds that the lines say."""
-    found = Objects(dict(BOOT), dict.fromkeys(BOOT, 0))
+    start = BOOT | {len(BOOT) + source.number: Sort.SEMAPHORE for source in report.sources}
+    found = Objects(start, dict.fromkeys(start, 0))
     for event in report.events:
         sort = creates(event)
         if sort is not None:
@@ -72,6 +73,8 @@ def find_processors(report: Report) -> dict[int, int]:
     """The processor of each execution context that acted, or that one who acted called or sent an exit to."""
     processors: dict[int, int] = {}
     for event in report.events:
+        if event.kind is Kind.IRQ:
+            continue
         processors[event.context] = event.cpu
         other = partner(event)
         if other is not None:
@@ -87,7 +90,8 @@ def find_owners(report: Report, objects: Objects, processors: dict[int, int]) ->
     """
     first: dict[int, int] = {}
     for event in report.events:
-        first.setdefault(event.context, event.place)
+        if event.kind is not Kind.IRQ:
+            first.setdefault(event.context, event.place)
     free = deque(context.number for context in report.contexts if context.sort != "local" and context.number != ROOT)
     owners = {ROOT_PAYER: ROOT}
     doubts: list[tuple[int, list[int]]] = []
@@ -150,7 +154,7 @@ def find_lives(report: Report, objects: Objects) -> dict[int, Life]:
 def _roots(report: Report) -> dict[int, int]:
     """The turn in which each capability range without a parent was made, by its number; empty where the numbers do not fit."""
     numbers: dict[int, int] = {}
-    following = len(report.consoles) + 1 + len(BOOT)
+    following = len(report.consoles) + 1 + len(BOOT) + len(report.sources)
     for event in report.events:
         if event.kind is Kind.MADE:
             if event.a != following:

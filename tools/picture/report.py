@@ -32,10 +32,14 @@ class Kind(Enum):
     XLAT = "xlat"
     ENDED = "ended"
     GONE = "gone"
+    LATE = "late"
+    IRQ = "irq"
 
 
 # Parts of a transfer of items, each a turn of who gives.
 PARTS = frozenset({Kind.MADE, Kind.SKIP, Kind.XLAT, Kind.ENDED})
+# What no scheduling context is charged for.
+UNPAID = frozenset({Kind.LATE, Kind.IRQ})
 
 
 class Space(Enum):
@@ -47,7 +51,8 @@ class Space(Enum):
 
 @dataclass(frozen=True, slots=True)
 class Event:
-    """What happened in turn `place`, counted from 1; `line` is the line of the report, `number` its number."""
+    """What happened in turn `place`, counted from 1; `line` is the line of the report, `number` its number. Of an interrupt `context` is who was
+    woken, on whatever processor, or 0."""
 
     place: int
     cpu: int
@@ -79,6 +84,18 @@ class Payer:
 
 
 @dataclass(frozen=True, slots=True)
+class Source:
+    """A source of interrupts at the end of the run: its semaphore, how often it fired, and by how many turns the latest firing was late."""
+
+    number: int
+    cpu: int
+    semaphore: int
+    fired: int
+    worst: int
+    line: str
+
+
+@dataclass(frozen=True, slots=True)
 class CapRange:
     """A capability range that is there at the end of the run."""
 
@@ -103,6 +120,7 @@ class Report:
     contexts: list[Context] = field(default_factory=list)
     payers: list[Payer] = field(default_factory=list)
     semaphores: list[int] = field(default_factory=list)
+    sources: list[Source] = field(default_factory=list)
     consoles: list[int] = field(default_factory=list)
     ranges: list[CapRange] = field(default_factory=list)
 
@@ -118,6 +136,7 @@ FORMS: dict[str, re.Pattern[str]] = {
     "ec": re.compile(rf"ec {NUMBER} (global|local|vcpu) ({STATES}) [0-9a-f]{{8}}((?: x[1-9][0-9]?=[0-9a-f]{{8}})*)"),
     "sc": re.compile(rf"sc {NUMBER} {NUMBER} {NUMBER}"),
     "sm": re.compile(rf"sm {NUMBER} {NUMBER} {NUMBER}"),
+    "source": re.compile(rf"source {NUMBER} {NUMBER} {NUMBER} {NUMBER} {NUMBER}"),
     "console": re.compile(rf"console {NUMBER} (-|(?:[0-9a-f]{{2}})+)"),
     "cap": re.compile(rf"cap {NUMBER} (-|{NUMBER}) {NUMBER} (mem|obj) {NUMBER} {NUMBER} {NUMBER} {NUMBER}"),
 }
@@ -153,6 +172,7 @@ def read_report(text: str) -> Report:
         section = SECTIONS[word]
         _ADD[word](report, found, line, number)
     _check_contexts(report)
+    _check_sources(report)
     return report
 
 
@@ -198,6 +218,15 @@ def _add_semaphore(report: Report, found: re.Match[str], line: str, number: int)
     report.semaphores.append(_rising(last, int(found[1]), number))
 
 
+def _add_source(report: Report, found: re.Match[str], line: str, number: int) -> None:
+    mine, cpu, semaphore, fired, worst = (int(found[place]) for place in range(1, 6))
+    if mine != len(report.sources):
+        raise Fault(number, f"source {len(report.sources)} is wanted")
+    if semaphore not in report.semaphores:
+        raise Fault(number, f"its semaphore, {semaphore}, has no line `sm`")
+    report.sources.append(Source(mine, cpu, semaphore, fired, worst, line))
+
+
 def _add_console(report: Report, found: re.Match[str], line: str, number: int) -> None:
     last = report.consoles[-1] if report.consoles else -1
     report.consoles.append(_rising(last, int(found[1]), number))
@@ -232,6 +261,7 @@ _ADD = {
     "ec": _add_context,
     "sc": _add_payer,
     "sm": _add_semaphore,
+    "source": _add_source,
     "console": _add_console,
     "cap": _add_range,
 }
@@ -245,12 +275,23 @@ def partner(event: Event) -> int | None:
 
 
 def _check_contexts(report: Report) -> None:
-    """Each execution context that an event names has its line, and acts on one processor."""
+    """Each execution context that an event names has its line, and acts on one processor. An interrupt may wake one of another, or none."""
     there = {context.number for context in report.contexts}
     processors: dict[int, int] = {}
     for event in report.events:
-        for context in (event.context, partner(event)):
+        for context in (event.context or None if event.kind is Kind.IRQ else event.context, partner(event)):
             if context is not None and context not in there:
                 raise Fault(event.number, f"execution context {context} has no line `ec`")
-        if processors.setdefault(event.context, event.cpu) != event.cpu:
+        if event.kind is not Kind.IRQ and processors.setdefault(event.context, event.cpu) != event.cpu:
             raise Fault(event.number, f"execution context {event.context} was on processor {processors[event.context]} before")
+
+
+def _check_sources(report: Report) -> None:
+    """Each source that an event names has its line, and fires on its processor."""
+    for event in report.events:
+        if event.kind is not Kind.IRQ:
+            continue
+        if event.a >= len(report.sources):
+            raise Fault(event.number, f"source {event.a} has no line `source`")
+        if report.sources[event.a].cpu != event.cpu:
+            raise Fault(event.number, f"source {event.a} is of processor {report.sources[event.a].cpu}")

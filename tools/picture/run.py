@@ -5,9 +5,10 @@ from __future__ import annotations
 from collections import defaultdict
 from dataclasses import dataclass
 
+from clocks import Firing, Ticks
 from history import Arrow, Doing, History, Lead, Span, find_history
 from order import Order
-from report import CapRange, Event, Kind, Report, Space
+from report import UNPAID, CapRange, Event, Kind, Report, Space
 from signs import ranks_of
 from timeline import Window
 from words import counted, hypercall, places, sentence
@@ -18,7 +19,8 @@ class Run:
     """All that the picture is laid out from.
 
     Events stand with who may have paid, arrows by their turn, and both and the spans are of the window. `held` are the capability ranges
-    at the end by number, `ranks` the scheduling contexts' places among the colours.
+    at the end by number, `ranks` the scheduling contexts' places among the colours, `firings` those of the sources by their turns, where it is
+    told when they were due.
     """
 
     report: Report
@@ -30,6 +32,8 @@ class Run:
     spans: list[Span]
     held: dict[int, CapRange]
     ranks: dict[int, int]
+    ticks: Ticks
+    firings: dict[int, Firing]
 
     @property
     def is_whole(self) -> bool:
@@ -37,7 +41,7 @@ class Run:
         return self.window == Window(1, self.report.turns)
 
 
-def gather(report: Report, order: Order | None, window: Window) -> Run:
+def gather(report: Report, order: Order | None, window: Window, firings: dict[int, Firing]) -> Run:
     """The window of the run."""
     history = find_history(report)
     events = [(event, paid) for event, paid in zip(report.events, history.payers) if window.has(event.place)]
@@ -48,7 +52,9 @@ def gather(report: Report, order: Order | None, window: Window) -> Run:
     spans = [span for span in history.spans if span.end >= window.first and span.start < window.last]
     spans.sort(key=lambda span: (span.context, span.doing is Doing.HELPED) if span.end > window.last else (-1, False))
     held = {cap.number: cap for cap in report.ranges}
-    return Run(report, order, window, history, events, arrows, spans, held, ranks_of(report))
+    ticks = Ticks(report, history, order)
+    seen = {place: firing for place, firing in firings.items() if window.has(place)}
+    return Run(report, order, window, history, events, arrows, spans, held, ranks_of(report), ticks, seen)
 
 
 def title_of(run: Run) -> str:
@@ -62,6 +68,10 @@ def title_of(run: Run) -> str:
 def row_text(event: Event, run: Run) -> str:
     """The sentence of an event, with what the other events tell of it."""
     who = f"EC {event.context}"
+    if event.kind is Kind.IRQ:
+        firing = run.firings.get(event.place)
+        late = f" ({counted(firing.delay, 'turn', 'turns')} late)" if firing is not None and firing.delay else ""
+        return f"{sentence(event)}{late}"
     leads = {arrow.lead: arrow for arrow in run.arrows.get(event.place, ())}
     objects = run.history.objects
     made = objects.made_in.get(event.place)
@@ -91,6 +101,8 @@ def _given(event: Event, cap: CapRange, run: Run) -> str:
     return f"EC {event.context} gives {what} to PD {cap.domain}: range {event.a}, from range {event.b}"
 
 
-def paid_by(payers: frozenset[int]) -> str:
-    """Who paid for a turn, as far as the report tells."""
+def paid_by(event: Event, payers: frozenset[int]) -> str:
+    """Who paid for the turn of an event, as far as the report tells."""
+    if event.kind in UNPAID:
+        return "nobody pays"
     return f"paid by {' or '.join(f'SC {payer}' for payer in sorted(payers))}" if payers else "who paid is not told"

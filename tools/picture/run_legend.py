@@ -7,9 +7,10 @@ from functools import partial
 
 from history import Doing, Lead
 from legend import Entry
+from report import UNPAID
 from run import Run
 from scene import Arrow, Box, Item, Line, Mark, Shape
-from signs import BARS, LEADS, LINES, MEANINGS, OPEN_HEADS, bar_half, colours_of, shape_of
+from signs import BARS, DUE, LEADS, LINES, MEANINGS, NOBODY, OPEN_HEADS, bar_half, colours_of, shape_of
 from words import counted
 
 # More scheduling contexts than this are not listed.
@@ -30,6 +31,8 @@ def run_entries(run: Run) -> Iterator[Entry]:
     doings = {span.doing for span in run.spans}
     for doing in (doing for doing in Doing if doing in doings):
         yield Entry(partial(_doing, doing), doing.value)
+    if any(firing.delay for firing in run.firings.values()):
+        yield Entry(_due, "a source is due, and fires at the end")
     yield from _payer_entries(run)
 
 
@@ -41,7 +44,9 @@ def _payer_entries(run: Run) -> Iterator[Entry]:
         whose = f" of EC {owner}" if owner is not None else ""
         colours = colours_of(frozenset({payer.number}), run.ranks)
         yield Entry(partial(_mark, Shape.SQUARE, colours), f"SC {payer.number}{whose} pays: {counted(payer.ticks, 'turn', 'turns')}")
-    if any(not payers for _, payers in run.events):
+    if any(event.kind in UNPAID for event, _ in run.events):
+        yield Entry(partial(_mark, Shape.SQUARE, NOBODY), "nobody pays")
+    if any(not payers and event.kind not in UNPAID for event, payers in run.events):
         yield Entry(partial(_mark, Shape.SQUARE, ("unknown",)), "who pays is not told")
     several = next((payers for _, payers in run.events if len(payers) > 1), None)
     if several is not None:
@@ -54,6 +59,10 @@ def _mark(shape: Shape, colours: tuple[str, ...], x: float, y: float) -> tuple[I
 
 def _arrow(style: str, open_head: bool, x: float, y: float) -> tuple[Item, ...]:
     return (Arrow(x - 15, x + 15, y, style, open_head),)
+
+
+def _due(x: float, y: float) -> tuple[Item, ...]:
+    return (Box(x - 8, y - 7, 16, 14, DUE, 3),)
 
 
 def _doing(doing: Doing, x: float, y: float) -> tuple[Item, ...]:

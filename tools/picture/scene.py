@@ -36,6 +36,8 @@ class Shape(Enum):
     MINUS = "M-6 0a6 6 0 1 0 12 0a6 6 0 1 0 -12 0zM-4 0a4 4 0 1 0 8 0a4 4 0 1 0 -8 0zM-2.7 -1H2.7V1H-2.7z"
     SLANTED = "M-3 -5H7L3 5H-7z"
     BAR = "M-6.5 -2H6.5V2H-6.5z"
+    CLOCK = "M-6 0a6 6 0 1 0 12 0a6 6 0 1 0 -12 0zM-4.2 0a4.2 4.2 0 1 0 8.4 0a4.2 4.2 0 1 0 -8.4 0zM-0.8 -3.5H0.8V-0.3L2.7 1.6L1.6 2.7L-0.8 0.4z"
+    BOLT = "M1.5 -7L-5 1H-1L-1.5 7L5 -1H1z"
 
 
 @dataclass(frozen=True, slots=True)

@@ -4,7 +4,7 @@ from __future__ import annotations
 
 from drawing import colour
 from history import Doing, Lead
-from report import Event, Kind, Report
+from report import UNPAID, Event, Kind, Report
 from scene import Shape
 
 SHAPES = {
@@ -20,6 +20,8 @@ SHAPES = {
     Kind.XLAT: Shape.SLANTED,
     Kind.ENDED: Shape.BAR,
     Kind.GONE: Shape.MINUS,
+    Kind.LATE: Shape.CLOCK,
+    Kind.IRQ: Shape.BOLT,
 }
 MEANINGS = {
     Shape.DIAMOND: "raise",
@@ -35,6 +37,8 @@ MEANINGS = {
     Shape.SLANTED: "item translated",
     Shape.BAR: "item ended",
     Shape.MINUS: "capability range removed",
+    Shape.CLOCK: "deadline: who waits gives up",
+    Shape.BOLT: "interrupt of a source",
 }
 LEADS = {
     Lead.CALL: "call",
@@ -43,11 +47,14 @@ LEADS = {
     Lead.HELP: "help",
     Lead.ABORT: "abort",
     Lead.WAKE: "wake",
+    Lead.INTERRUPT: "wake",
     Lead.MAKE: "make",
 }
 # What is told from a call by an open head.
 OPEN_HEADS = frozenset({Lead.EXIT, Lead.ABORT, Lead.MAKE})
 LINES = {Doing.RUNS: "runs", Doing.PARKED: "parked", Doing.WAITS: "waits", Doing.HELPS: "helps"}
+# The colour of a mark that nobody pays for, and the bar of a firing that is due and has not come yet.
+NOBODY, DUE = ("head-full",), "bar unknown"
 BARS = {Doing.GIVES: "gives", Doing.REVOKES: "revokes", Doing.HELPED: "helped"}
 
 
@@ -64,6 +71,11 @@ def ranks_of(report: Report) -> dict[int, int]:
 def colours_of(payers: frozenset[int], ranks: dict[int, int]) -> tuple[str, ...]:
     """The colours of those that may have paid."""
     return tuple(dict.fromkeys(colour(ranks[payer]) for payer in sorted(payers) if payer in ranks)) or ("unknown",)
+
+
+def mark_of(event: Event, payers: frozenset[int], ranks: dict[int, int]) -> tuple[Shape, tuple[str, ...]]:
+    """The outline of an event's mark, and its colours: those of who may have paid, or that of nobody."""
+    return shape_of(event), NOBODY if event.kind in UNPAID else colours_of(payers, ranks)
 
 
 def bar_half(doing: Doing) -> float:

@@ -9,6 +9,7 @@ from __future__ import annotations
 
 import re
 from bisect import bisect_left, bisect_right
+from collections.abc import Iterator
 from dataclasses import dataclass
 from itertools import compress
 from operator import itemgetter, lt
@@ -23,11 +24,12 @@ MOST = 1000
 
 _NUMBER = r"(?:0|[1-9][0-9]{0,19}+)"
 # Events whose last two numbers change nothing of what execution contexts do: all of one context say the same.
-_ALIKE = "|".join(kind.value for kind in Kind if kind not in {Kind.ANSWER, Kind.BEGIN, Kind.HELP, Kind.SENT, Kind.ABORT})
+_TOLD = (Kind.ANSWER, Kind.BEGIN, Kind.HELP, Kind.SENT, Kind.ABORT, Kind.IRQ)
+_ALIKE = "|".join(kind.value for kind in Kind if kind not in _TOLD)
 # A line `at`: its turn, and what it says.
 _LINE = re.compile(
     rf"^at ({_NUMBER}) ({_NUMBER} {_NUMBER} "
-    rf"(?:(?:answer|begin|help|sent|abort) {_NUMBER} {_NUMBER}$|(?:{_ALIKE})(?= {_NUMBER} {_NUMBER}$)))",
+    rf"(?:(?:{'|'.join(kind.value for kind in _TOLD)}) {_NUMBER} {_NUMBER}$|(?:{_ALIKE})(?= {_NUMBER} {_NUMBER}$)))",
     re.MULTILINE,
 )
 _CREATES = re.compile(r" (?:answer [2-6] 0|begin 2 [0-9]+)$")
@@ -47,6 +49,13 @@ class Events:
         """The processor of each event."""
         known = {said: int(said.split(" ", 1)[0]) for said in set(self.says)}
         return list(map(known.__getitem__, self.says))
+
+    def firings(self) -> Iterator[tuple[int, int]]:
+        """The turn and the source of each interrupt."""
+        for turn, said in zip(self.turns, self.says):
+            _, _, kind, *numbers = said.split(" ")
+            if kind == Kind.IRQ.value:
+                yield turn, int(numbers[0])
 
     def within(self, window: Window) -> range:
         """The places of the events of the window."""

@@ -8,7 +8,7 @@ from dataclasses import dataclass
 
 from order import Order
 from scene import Box, Item, Label
-from timeline import Stretch, Timeline
+from timeline import Timeline
 
 STRIP = 40.0
 # The least height in which a number is written.
@@ -47,7 +47,7 @@ def _sections(timeline: Timeline) -> Iterator[Section]:
     """The folded stretches, and what lies between them."""
     first: int | None = None
     for part in timeline.parts:
-        if part.stretch is not Stretch.FOLD:
+        if not part.is_short:
             first = part.first if first is None else first
             continue
         if first is not None:

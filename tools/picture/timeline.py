@@ -3,7 +3,7 @@
 from __future__ import annotations
 
 from bisect import bisect_left
-from collections.abc import Iterable, Iterator
+from collections.abc import Callable, Iterable, Iterator
 from dataclasses import dataclass
 from enum import Enum
 
@@ -14,6 +14,7 @@ class Stretch(Enum):
     EVENT = "one turn with an event"
     PLAIN = "turns without an event, drawn to scale"
     FOLD = "turns without an event, drawn short"
+    TICKS = "ticks alone, drawn short"
 
 
 ROW = 20.0
@@ -34,6 +35,11 @@ class Part:
     @property
     def turns(self) -> int:
         return self.last - self.first + 1
+
+    @property
+    def is_short(self) -> bool:
+        """Whether its turns have no places of their own."""
+        return self.stretch in (Stretch.FOLD, Stretch.TICKS)
 
     @property
     def middle(self) -> float:
@@ -64,11 +70,13 @@ class Window:
 
 
 class Timeline:
-    """The parts of a window, one after another."""
+    """The parts of a window, one after another. `ticks` tells how many of some turns without an event are ticks, if that is told."""
 
-    def __init__(self, places: Iterable[int], window: Window, fold: int, top: float) -> None:
+    def __init__(
+        self, places: Iterable[int], window: Window, fold: int, top: float, ticks: Callable[[int, int], int | None] = lambda *_: None
+    ) -> None:
         self.window = window
-        self.parts = list(_parts(places, window, fold, top))
+        self.parts = list(_parts(places, window, fold, top, ticks))
         self.lasts = [part.last for part in self.parts]
         self.top = top
         self.bottom = self.parts[-1].bottom if self.parts else top
@@ -94,14 +102,16 @@ class Timeline:
         return self.end_of(turn)
 
 
-def _parts(places: Iterable[int], window: Window, fold: int, top: float) -> Iterator[Part]:
+def _parts(
+    places: Iterable[int], window: Window, fold: int, top: float, ticks: Callable[[int, int], int | None]
+) -> Iterator[Part]:
     at = window.first
     for place in (*(place for place in places if window.has(place)), window.last + 1):
         if at < place:
             gap = place - at
-            short = gap > fold
-            bottom = top + (FOLD if short else gap * TURN)
-            yield Part(Stretch.FOLD if short else Stretch.PLAIN, at, place - 1, top, bottom)
+            stretch = Stretch.TICKS if ticks(at, place - 1) == gap else Stretch.FOLD if gap > fold else Stretch.PLAIN
+            bottom = top + (gap * TURN if stretch is Stretch.PLAIN else FOLD)
+            yield Part(stretch, at, place - 1, top, bottom)
             top = bottom
         if place <= window.last:
             yield Part(Stretch.EVENT, place, place, top, top + ROW)

@@ -121,6 +121,10 @@ def sentence(event: Event) -> str:
             return f"{who} ends item {event.a}: {counted(event.b, 'range', 'ranges')} given"
         case Kind.GONE:
             return f"{who} removes range {event.a} of PD {event.b}"
+        case Kind.LATE:
+            return f"{who} gives up waiting at SM {event.a}: {status(event.b)}"
+        case Kind.IRQ:
+            return f"source {event.a} fires{f': {status(event.b)}' if event.b else f', and wakes {who}' if event.context else ''}"
 
 
 def _begun(event: Event) -> str:

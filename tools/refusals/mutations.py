@@ -10,14 +10,14 @@ NUMBERS = tuple(
     str(number).encode()
     for number in (
         *(0, 1, 2, 7, 8, 9, 13, 14, 15, 16, 17, 31, 32, 255, 256, 2047, 2048, 4095, 4096, 4097, 65535, 65536, 1048575, 1048576),
-        *(16777215, 16777216, 67108863, 67108864, 2**31 - 1, 2**31, 2**32 - 1, 2**32, 2**63, 2**64 - 1, 2**64, 10**30),
+        *(33, 10_000_000, 10_000_001, 16777215, 16777216, 67108863, 67108864, 2**31 - 1, 2**31, 2**32 - 1, 2**32, 2**63, 2**64 - 1, 2**64, 10**30),
         *(-1, -2048, -2049, -(2**20), -(2**31), -(2**31) - 1, -(2**63)),
     )
 ) + (b"0x0", b"0x7ff", b"0x1000", b"0XFFF", b"0xffffffff", b"0x100000000", b"0x", b"0xg", b"00", b"007", b"+1", b"1.5", b"1e3", b"-", b"ffffffff")
 
 # The words of scenarios, of the assembler and of orders.
 WORDS = (
-    *(b"cpus", b"ram", b"consoles", b"root", b"entry", b"image", b"hex", b"asm", b"elf", b"end", b"#", b":", b",", b"(", b")", b"next:", b"next"),
+    *(b"cpus", b"ram", b"consoles", b"root", b"source", b"entry", b"image", b"hex", b"asm", b"elf", b"end", b"#", b":", b",", b"(", b")", b"next:", b"next"),
     *(b"addi", b"lui", b"auipc", b"jal", b"jalr", b"beq", b"lw", b"lb", b"sw", b"sb", b"slli", b"srai", b"add", b"sub", b"ecall", b"ebreak", b"fence"),
     *(b"nop", b"li", b"la", b"mv", b"j", b"ret", b"call", b".word", b"x0", b"x5", b"x10", b"x17", b"x31", b"x32", b"sp", b"ra", b"0(x5)", b"-4(sp)"),
     *(b"00100073", b"0000006f", b"7f454c46", b"\x80", b"\t", b"\r", b"\x00", b"\xc3\xa9"),

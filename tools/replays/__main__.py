@@ -15,7 +15,7 @@ from collections.abc import Iterator
 from concurrent.futures import ThreadPoolExecutor
 from pathlib import Path
 
-from replay import Replay, Verdict, replay
+from replay import Replay, Verdict, not_by_threads, processors_of, replay
 from scenarios import random_scenario
 
 TOP = Path(__file__).resolve().parents[2]
@@ -49,7 +49,7 @@ def scenarios(words: argparse.Namespace, work: Path) -> Iterator[Path]:
 
 
 def told(seen: list[tuple[Path, Replay]]) -> bool:
-    """Writes the differences and one line of counts, and tells whether all is the same."""
+    """Writes the differences, one line of counts and, where the runs can't have been by threads, why; and tells whether all is well."""
     for path, one in seen:
         if one.verdict is Verdict.DIFFERENT:
             print(f"different: {path.stem}: {one.said}", file=sys.stderr)
@@ -58,11 +58,14 @@ def told(seen: list[tuple[Path, Replay]]) -> bool:
     most = max((one.blocks for _, one in seen), default=0)
     print(", ".join(f"{verdicts[verdict]} {verdict.value}" for verdict in Verdict), end="; ")
     print(f"{several} orders of several blocks, at most {most}; {sum(one.turns for _, one in seen)} turns")
-    return bool(seen) and not verdicts[Verdict.DIFFERENT]
+    amiss = not_by_threads((processors_of(path.read_text("ascii", "replace")), one) for path, one in seen)
+    if amiss:
+        print(f"not by threads: {amiss}", file=sys.stderr)
+    return bool(seen) and not verdicts[Verdict.DIFFERENT] and not amiss
 
 
 def main(words: argparse.Namespace) -> int:
-    """Does what the words say; the status is 1 where something differs, or nothing was run."""
+    """Does what the words say; the status is 1 where something differs, nothing was run, or nothing by threads."""
     if words.show is not None:
         print(random_scenario(words.show), end="")
         return 0

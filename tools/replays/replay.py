@@ -2,7 +2,9 @@
 
 from __future__ import annotations
 
+import re
 import subprocess
+from collections.abc import Iterable
 from dataclasses import dataclass
 from enum import Enum
 from pathlib import Path
@@ -33,11 +35,13 @@ class Verdict(Enum):
 
 @dataclass(frozen=True, slots=True)
 class Replay:
-    """A scenario that was run: what came of it, of how many blocks and turns its order is, and what is said of a difference."""
+    """A scenario that was run: what came of it, of how many blocks and turns its order is, whether these are what rounds give, and what is said of a
+    difference."""
 
     verdict: Verdict
     blocks: int = 0
     turns: int = 0
+    is_by_rounds: bool = False
     said: str = ""
 
 
@@ -69,4 +73,22 @@ def replay(program: str, scenario: Path, order: Path, limit: int) -> Replay:
         return Replay(Verdict.DIFFERENT if said or first.status is None else Verdict.REFUSED, said=said or first.line.decode())
     blocks = [line.split() for line in order.read_text("ascii").splitlines()] if order.exists() else []
     said = difference(first, ending([program, "solo", str(scenario), str(order), *bound]))
-    return Replay(Verdict.DIFFERENT if said else Verdict.SAME, len(blocks), sum(int(count) for _, count in blocks), said)
+    by_rounds = len(blocks) > 1 and not difference(first, ending([program, "solo", str(scenario), *bound]))
+    return Replay(Verdict.DIFFERENT if said else Verdict.SAME, len(blocks), sum(int(count) for _, count in blocks), by_rounds, said)
+
+
+def processors_of(scenario: str) -> int:
+    """How many processors a scenario has, by its line `cpus`; 0 where it has none."""
+    found = re.search(r"^[ \t\r]*cpus[ \t\r]+(0x[0-9a-fA-F]+|[0-9]+)", scenario, re.MULTILINE)
+    return 0 if found is None else int(found[1], 16) if found[1].startswith("0x") else int(found[1])
+
+
+def not_by_threads(seen: Iterable[tuple[int, Replay]]) -> str:
+    """Why runs with these numbers of processors can't have been by threads; nothing where they may, or where none has several processors."""
+    several = [one for cpus, one in seen if cpus > 1 and one.verdict is not Verdict.REFUSED]
+    mixed = [one for one in several if one.blocks > 1]
+    if several and not mixed:
+        return f"scenarios with several processors: {len(several)}, orders of several blocks: 0"
+    if mixed and all(one.is_by_rounds for one in mixed):
+        return f"orders of several blocks: {len(mixed)}, and each is that of rounds"
+    return ""

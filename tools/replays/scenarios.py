@@ -18,7 +18,8 @@ WORDS = range(PAGE, PAGE + 16, 4)
 PROGRAMS = range(2 * PAGE, 8 * PAGE, 0x100)
 GUEST_PAGES = range(8, 1 << RAM_ORDER)
 
-# Selectors: semaphores that are there from the start, those that threads make and take away, and what the root makes.
+# Selectors: the semaphores of sources, those that the root makes at the start, those that threads make and take away, and what the root makes.
+FIRST_SOURCE, MOST_SOURCES = 3, 6
 SEMAPHORES = range(32, 36)
 CONTESTED = range(64, 68)
 CONTESTED_RANGE = (64 << 12) | (2 << 7) | (1 << 2) | 3
@@ -39,6 +40,7 @@ class Scenario:
 
     chance: random.Random
     cpus: int
+    sources: list[str] = field(default_factory=list)
     root: list[str] = field(default_factory=list)
     images: list[tuple[int, list[str]]] = field(default_factory=list)
     programs: list[int] = field(default_factory=lambda: list(PROGRAMS))
@@ -50,6 +52,10 @@ class Scenario:
         first = -(-self.selector // 16) * 16
         self.selector = first + count
         return first
+
+    def semaphore(self) -> int:
+        """The selector of a semaphore that several threads use, or a source."""
+        return self.chance.choice([*SEMAPHORES, *range(FIRST_SOURCE, FIRST_SOURCE + len(self.sources))])
 
     def program(self, lines: list[str]) -> int:
         """Places a program, and tells where it is."""
@@ -76,6 +82,7 @@ class Scenario:
         """The scenario."""
         chance = self.chance
         lines = [f"cpus {self.cpus}", f"ram {RAM_ORDER}", "consoles 1", f"root 0 0 1 {chance.choice((1, 3, 50))}"]
+        lines += self.sources
         for address, program in [(0, self.root), *self.images]:
             lines += [f"image {address} asm", *program, "end"]
         return "\n".join(lines) + "\n"
@@ -98,16 +105,19 @@ def show_byte() -> list[str]:
     return lines + ["sw x6, 28(x5)", "addi x6, x0, 2", "sw x6, 16(x5)", "addi x17, x0, 1", "ecall"]
 
 
-def deed(chance: random.Random, threads: list[int], schedules: list[int]) -> list[str]:
+def deed(scenario: Scenario, threads: list[int], schedules: list[int]) -> list[str]:
     """A few instructions of a thread: it counts, races for a word, or calls the hypervisor about what others use too."""
-    word, semaphore = chance.choice(WORDS), chance.choice(SEMAPHORES)
-    match chance.choice(("count", "race", "race", "down", "up", "up", "make", "revoke", "ticks", "show", "recall")):
+    chance = scenario.chance
+    word, semaphore = chance.choice(WORDS), scenario.semaphore()
+    match chance.choice(("count", "race", "race", "down", "wait", "wait", "up", "up", "make", "revoke", "ticks", "show", "recall")):
         case "count":
             return ["addi x21, x21, 1"] * chance.randint(1, 6)
         case "race":
             return ["lui x5, 1", f"lw x6, {word - PAGE}(x5)", "addi x6, x6, 1", f"sw x6, {word - PAGE}(x5)"]
         case "down":
             return call(SEMAPHORE, semaphore, 1)
+        case "wait":
+            return [*call(SEMAPHORE, semaphore, 2, chance.choice((0, 1, 2, 5, 30, 200))), "add x23, x23, x10"]
         case "up":
             return call(SEMAPHORE, semaphore, 0)
         case "make":
@@ -132,7 +142,7 @@ def looped(chance: random.Random, body: list[str]) -> list[str]:
 def add_thread(scenario: Scenario, cpu: int, threads: list[int], schedules: list[int]) -> None:
     """A thread, with a handler of its startup and perhaps of its recalls."""
     chance = scenario.chance
-    body = [line for _ in range(chance.randint(1, 4)) for line in deed(chance, threads, schedules)]
+    body = [line for _ in range(chance.randint(1, 4)) for line in deed(scenario, threads, schedules)]
     begin = scenario.program(begin_at(scenario.program(looped(chance, body))))
     entries = {0: (begin, 0)}
     if chance.random() < 0.5:
@@ -156,10 +166,19 @@ def add_guest(scenario: Scenario, cpu: int, threads: list[int], schedules: list[
     threads.append(guest)
 
 
+def add_sources(scenario: Scenario) -> None:
+    """Some sources, or none: of any processor, and some of them so often that they are late."""
+    chance = scenario.chance
+    for _ in range(chance.choice((0, 0, 1, 2, MOST_SOURCES))):
+        first, period, count = chance.choice((0, 20, 300)), chance.choice((1, 2, 7, 50, 400)), chance.choice((1, 3, 10, 40))
+        scenario.sources.append(f"source {chance.randrange(scenario.cpus)} {first} {period} {count}")
+
+
 def random_scenario(seed: int) -> str:
     """The scenario of a seed."""
     chance = random.Random(seed)
     scenario = Scenario(chance, chance.choice(PROCESSORS))
+    add_sources(scenario)
     for semaphore in SEMAPHORES:
         scenario.root += call(CREATE_SM, semaphore, 0, chance.randint(0, 2))
     threads: list[int] = []
@@ -168,5 +187,5 @@ def random_scenario(seed: int) -> str:
         for _ in range(chance.randint(1, 2)):
             add = add_guest if chance.random() < 0.3 and len(scenario.pages) > 1 else add_thread
             add(scenario, cpu, threads, schedules)
-    scenario.root += looped(chance, deed(chance, threads, schedules))
+    scenario.root += looped(chance, deed(scenario, threads, schedules))
     return scenario.text()

@@ -16,6 +16,7 @@ from contextlib import contextmanager, redirect_stderr
 from dataclasses import dataclass
 from io import StringIO
 from pathlib import Path
+from random import Random
 
 HERE = Path(__file__).resolve().parent
 TOOL = HERE.parent
@@ -27,8 +28,9 @@ from asking import parser  # noqa: E402
 from longest import Scout  # noqa: E402
 from outcome import aspects_of, outcome_of  # noqa: E402
 from pool import Pool  # noqa: E402
-from program import End, Program, find_program, processors_of  # noqa: E402
+from program import End, Program, find_program  # noqa: E402
 from search import Search  # noqa: E402
+from shared import Settings, read_settings  # noqa: E402
 from turns import Block, Blocks, Parting, first_turns, last_turn, merged, parting, plainness, text_of, turns_of  # noqa: E402
 
 # The words of `--program`, for each start of the tool.
@@ -91,33 +93,12 @@ CASES = (
         "consoles",
         {("console 0 30",): "0 22\n1 14\n0 56\n", ("console 0 31",): "0 68\n1 14\n0 9\n"},
     ),
+    Case(
+        EXAMPLES / "clocks.nova",
+        "consoles,semaphores",
+        {("console 0 30", "sm 3 0 0"): "0 89\n1 19\n", ("console 0 31", "sm 3 1 0"): "0 22\n1 40\n0 67\n"},
+    ),
 )
-
-
-# Threads on processors 1 and 2, which have two turns each. The root waits for none of them.
-THREE = """cpus 3
-ram 0
-consoles 0
-root 0 0 1 10
-image 0 asm
-addi x17, x0, 3
-addi x10, x0, 32
-addi x12, x0, 0x101
-ecall
-addi x10, x0, 33
-addi x12, x0, 0x102
-ecall
-addi x17, x0, 4
-addi x10, x0, 34
-addi x12, x0, 32
-addi x13, x0, 0x101
-ecall
-addi x10, x0, 35
-addi x12, x0, 33
-ecall
-ebreak
-end
-"""
 
 
 def orders(*words: str) -> subprocess.CompletedProcess[str]:
@@ -175,11 +156,11 @@ class Examples(unittest.TestCase):
 
 
 @contextmanager
-def opened(scenario: Path) -> Iterator[tuple[Program, int]]:
-    """The program with a scenario, and how many processors that has."""
+def opened(scenario: Path) -> Iterator[tuple[Program, Settings]]:
+    """The program with a scenario, and the settings of that."""
     with tempfile.TemporaryDirectory() as folder:
         path = find_program(Path(MEANS[1]) if MEANS else None, scenario)
-        yield Program(path, scenario, Path(folder), 2), processors_of(scenario.read_text())
+        yield Program(path, scenario, Path(folder), 2), read_settings(scenario.read_text())
 
 
 def by_hand(program: Program, cpus: int, changes: int, turns: int, before: Blocks = ()) -> Iterator[Blocks]:
@@ -199,32 +180,56 @@ def by_hand(program: Program, cpus: int, changes: int, turns: int, before: Block
                 yield from by_hand(program, cpus, changes - 1, turns, order)
 
 
+def claims(program: Program, settings: Settings, dice: Random) -> Iterator[tuple[Blocks, int, bool]]:
+    """One turn after another at random to the end of the run: after which of them a processor is said to be idle, and whether it is."""
+    scout = Scout(program, settings)
+    run = program.run(())
+    while run.end is End.OPEN:
+        ways = [program.run(merged((*run.blocks, Block(cpu, 1)))) for cpu in range(settings.cpus)]
+        for cpu in scout.idle_after(run) if run.blocks else ():
+            yield run.blocks, cpu, ways[cpu].end is End.IDLE
+        run = dice.choice([way for way in ways if way.end is not End.IDLE])
+
+
 class All(unittest.TestCase):
     """What `--switches` covers."""
 
     def test_all_orders_to_rest_are_found_once_and_in_order(self) -> None:
         for turns, changes in ((100, 2), (17, 3)):
-            with self.subTest(turns=turns), opened(EXAMPLES / "processors.nova") as (program, cpus):
+            with self.subTest(turns=turns), opened(EXAMPLES / "processors.nova") as (program, settings):
                 pool = Pool(2)
-                search = Search(Scout(program, cpus), pool, turns, changes, len)
+                search = Search(Scout(program, settings), pool, turns, changes, len)
                 found = [tried for tried in search.orders() if tried.is_quiet]
                 pool.close()
-                self.assertEqual(sorted(tried.blocks for tried in found), sorted(by_hand(program, cpus, changes, turns)))
+                self.assertEqual(sorted(tried.blocks for tried in found), sorted(by_hand(program, settings.cpus, changes, turns)))
                 self.assertEqual([len(tried.blocks) for tried in found], sorted(len(tried.blocks) for tried in found))
                 self.assertEqual(sum(search.coverage.at_rest), len(found))
                 self.assertTrue(search.coverage.is_all)
 
-    def test_all_orders_of_three_processors(self) -> None:
-        with tempfile.TemporaryDirectory() as folder:
-            scenario = Path(folder, "three.nova")
-            scenario.write_text(THREE)
-            with opened(scenario) as (program, cpus):
+    def test_all_orders_of_small_scenarios(self) -> None:
+        for name in ("three", "waits", "fires"):
+            with self.subTest(name), opened(HERE / f"{name}.nova") as (program, settings):
                 pool = Pool(2)
-                search = Search(Scout(program, cpus), pool, 100, 3, len)
+                search = Search(Scout(program, settings), pool, 100, 3, len)
                 found = sorted(tried.blocks for tried in search.orders())
                 pool.close()
-                self.assertEqual(found, sorted(by_hand(program, cpus, 3, 100)))
+                self.assertEqual(found, sorted(by_hand(program, settings.cpus, 3, 100)))
                 self.assertGreater(len(found), 10)
+
+    def test_idle_is_said_of_idle_processors_alone(self) -> None:
+        for name in ("three", "waits", "fires"):
+            with self.subTest(name), opened(HERE / f"{name}.nova") as (program, settings):
+                said = [claim for walk in range(8) for claim in claims(program, settings, Random(walk))]
+                self.assertEqual([claim for claim in said if not claim[2]], [])
+                self.assertGreater(len(said), 10)
+
+    def test_orders_at_random_come_to_the_outcomes_of_all(self) -> None:
+        for name, outcomes in (("waits", 1), ("fires", 2)):
+            with self.subTest(name):
+                words = (str(HERE / f"{name}.nova"), "--by", "match:^(?:ec 1|source) .*")
+                every, some = explored(*words, "--switches", "4"), explored(*words, "--random", "30")
+                self.assertEqual(len(every.outcomes), outcomes)
+                self.assertEqual((some.answer.returncode, set(some.outcomes)), (0, set(every.outcomes)))
 
     def test_an_endless_run_is_cut_off_and_not_said_to_be_one_of_all(self) -> None:
         with tempfile.TemporaryDirectory() as folder:

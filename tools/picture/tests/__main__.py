@@ -20,10 +20,12 @@ sys.path.insert(0, str(TOP))
 
 import history  # noqa: E402
 import objects  # noqa: E402
+from clocks import Clock, Ticks, find_firings, misfit  # noqa: E402
 from drawing import svg  # noqa: E402
 from order import Order, read_order  # noqa: E402
-from report import Fault, Kind, read_report  # noqa: E402
+from report import UNPAID, Fault, Kind, read_report  # noqa: E402
 from run_picture import draw_run  # noqa: E402
+from scenario import Moments, Settings, read_settings  # noqa: E402
 from skim import find_events, shorten  # noqa: E402
 from timeline import Stretch, Timeline, Window  # noqa: E402
 from tree_picture import draw_delegations  # noqa: E402
@@ -52,6 +54,8 @@ CASES = (
     Case("turns-window", "run {}/turns.report --order {}/turns.order --from 7 --to 30 --fold 100"),
     Case("guest", "run {}/guest.report --order {}/guest.order"),
     Case("wide", "run {}/wide.report"),
+    Case("time", "run {}/time.report --order {}/time.order --scenario {}/time.nova"),
+    Case("time-window", "run {}/time.report --from 20 --to 41"),
     Case("nothing", "run {}/nothing.report"),
     Case("nothing-delegations", "delegations {}/nothing.report"),
 )
@@ -60,6 +64,7 @@ CASES = (
 HEAD = "run quiet 9\n"
 EVENT = "at 4 0 1 answer 3 0\n"
 END = "ec 1 global dead 00000000\nsc 2 0 9\ncap 0 - 0 mem 0 0 7 0\n"
+SOURCE = "ec 1 global dead 00000000\nsc 2 0 8\nsm 3 1 0\nsource 0 0 3 1 0\n"
 FAULTS = (
     ("", "line 1: `run quiet N` or `run open N` is wanted"),
     ("run quiet 09\n", "line 1: `run quiet N` or `run open N` is wanted"),
@@ -86,6 +91,13 @@ FAULTS = (
     (HEAD + "ec 1 global dead 00000000 x32=00000001\n", "line 2: no register is written as x32=00000001"),
     (HEAD + "ec 1 global dead 00000000 x6=00000001 x5=00000001\n", "line 2: number 5 does not come after 6"),
     (HEAD + END + "\u00e9\n", "line 5: no line of a report begins so"),
+    (HEAD + "at 4 0 0 late 3 1\n" + END, "line 2: execution context 0 has no line `ec`"),
+    (HEAD + "at 4 0 0 irq 0 0\n" + END, "line 2: source 0 has no line `source`"),
+    (HEAD + "at 4 1 0 irq 0 0\n" + SOURCE, "line 2: source 0 is of processor 0"),
+    (HEAD + "at 4 0 7 irq 0 0\n" + SOURCE, "line 2: execution context 7 has no line `ec`"),
+    (HEAD + "sc 2 0 9\nsource 0 0 3 1 0\n", "line 3: its semaphore, 3, has no line `sm`"),
+    (HEAD + "sm 3 0 0\nsource 1 0 3 1 0\n", "line 3: source 0 is wanted"),
+    (HEAD + "sm 3 0 0\nsource 0 0 3 1\n", "line 3: not of the form of a line `source`"),
 )
 ORDER_FAULTS = (
     ("0 8\n", "line 1: the order has 8 turns, the report 9"),
@@ -101,9 +113,25 @@ ORDER_FAULTS = (
     ("0 3\n1 6\n", "line 2: turn 4 is of processor 0 in the report"),
 )
 GOOD = HEAD + EVENT + END
+SCENARIO_FAULTS = (
+    ("ram 0\nimage 0 asm\ncpus 1\n", "line 1: a scenario has a line `cpus` before its images"),
+    ("cpus x\n", "line 1: 1 number is wanted"),
+    ("cpus 1\nsource 0 1 1\n", "line 2: 4 numbers are wanted"),
+)
 
 
-REPORTS = (*sorted(HERE.glob("*.report")), *sorted(TOP.parents[1].glob("examples/*.report")))
+# Reports of whole runs, whose orders, and scenarios where they have sources, stand beside them; and with those that were written by hand, all.
+EXAMPLES = (HERE / "time.report", *sorted(TOP.parents[1].glob("examples/*.report")))
+REPORTS = (*sorted(set(HERE.glob("*.report")) - {EXAMPLES[0]}), *EXAMPLES)
+
+
+def order_of(report: Path) -> Order | None:
+    """The order that stands beside a report, if one does."""
+    path, text = report.with_suffix(".order"), report.read_text()
+    events = find_events(text)
+    if events is None or not path.exists():
+        return None
+    return read_order(path.read_text(), read_report(text).turns, events.turns, events.cpus())
 
 
 def calls(count: int) -> str:
@@ -121,7 +149,7 @@ def picture(*words: str) -> subprocess.CompletedProcess[str]:
 
 def drawn(case: Case) -> str:
     """The picture of a case."""
-    answer = picture(*case.words.format(*[HERE] * 2).split())
+    answer = picture(*case.words.format(*[HERE] * 3).split())
     if answer.returncode or answer.stderr:
         raise AssertionError(answer.stderr)
     return answer.stdout
@@ -157,6 +185,13 @@ class Pictures(unittest.TestCase):
                 self.assertEqual((answer.returncode, answer.stderr), (1, f"picture: {file}: {line}\n"))
                 self.assertFalse(output.exists())
 
+    def test_sources_of_another_scenario_are_refused(self) -> None:
+        with tempfile.TemporaryDirectory() as folder:
+            scenario = Path(folder, "other.nova")
+            scenario.write_text((HERE / "time.nova").read_text().replace("source 1 9 1 4", "source 1 8 1 4"))
+            answer = picture("run", f"{HERE}/time.report", "--order", f"{HERE}/time.order", "--scenario", str(scenario))
+            self.assertEqual((answer.returncode, answer.stderr), (1, f"picture: {scenario}: its sources are not those of the report\n"))
+
     def test_the_name_of_the_lane_stands_beside_each_mark_from_20_lanes_on(self) -> None:
         for name, names in (("wide", True), ("calls", False)):
             text = drawn(Case(name, f"run {{}}/{name}.report"))
@@ -185,6 +220,11 @@ class Pictures(unittest.TestCase):
             (["run", "missing"], "picture: missing: No such file or directory\n"),
             (["run", f"{HERE}/calls.report", "--from", "33"], "picture: there are no turns from 33 to 32\n"),
             (["delegations", f"{HERE}/calls.report", "--to", "0"], "picture: there are no turns from 1 to 0\n"),
+            (["run", f"{HERE}/calls.report", "--scenario", "missing"], "picture: missing: No such file or directory\n"),
+            (
+                ["run", f"{HERE}/calls.report", "--scenario", f"{HERE}/time.nova"],
+                f"picture: {HERE}/time.nova: its sources are not those of the report\n",
+            ),
         ):
             with self.subTest(words):
                 answer = picture(*words)
@@ -200,6 +240,14 @@ class Readers(unittest.TestCase):
         for text, wanted in FAULTS:
             with self.subTest(wanted), self.assertRaises(Fault) as raised:
                 read_report(text)
+            self.assertEqual(str(raised.exception), wanted)
+
+    def test_scenarios(self) -> None:
+        text = "cpus 0x2 # two\n\n source 1 0x10 007 3\nimage 0 asm\nsource 0 1 1 1\n"
+        self.assertEqual(read_settings(text), Settings(2, [Moments(1, 16, 7, 3)]))
+        for text, wanted in SCENARIO_FAULTS:
+            with self.subTest(wanted), self.assertRaises(Fault) as raised:
+                read_settings(text)
             self.assertEqual(str(raised.exception), wanted)
 
     def test_faults_of_orders(self) -> None:
@@ -292,11 +340,52 @@ class Meaning(unittest.TestCase):
             found = objects.find_owners(report, objects.find_objects(report), objects.find_processors(report))
             self.assertEqual(found, wanted)
 
+    def test_ticks_are_the_turns_that_nobody_pays_for(self) -> None:
+        for path in EXAMPLES:
+            report, order = read_report(path.read_text()), order_of(path)
+            ticks = Ticks(report, history.find_history(report), order)
+            places = [event.place for event in report.events]
+            if order is None and len(ticks.cpus) > 1:
+                continue
+            gaps = [(before + 1, after - 1) for before, after in zip([0, *places], [*places, report.turns + 1]) if before + 1 < after]
+            with self.subTest(path.stem):
+                unpaid = sum(event.kind in UNPAID for event in report.events)
+                paid = sum(payer.ticks for payer in report.payers)
+                self.assertEqual(sum(ticks.within(*gap) or 0 for gap in gaps), report.turns - paid - unpaid)
+
+    def test_clocks(self) -> None:
+        order = Order([0, 1, 0, 1], [5, 8, 15, 16])
+        for cpu, places in ((0, [*range(1, 6), *range(9, 16)]), (1, [6, 7, 8, 16])):
+            clock = Clock(order, cpu)
+            self.assertEqual([clock.at(place) for place in places], list(range(len(places))))
+            self.assertEqual([clock.place(at) for at in range(len(places))], places)
+            self.assertEqual([clock.at(place) for place in range(1, 17)], [sum(own < place for own in places) for place in range(1, 17)])
+        alone = Clock(None, 0)
+        self.assertEqual((alone.at(7), alone.place(6)), (6, 7))
+
+    def test_the_latest_firing_is_as_late_as_the_report_says(self) -> None:
+        for path in EXAMPLES:
+            text = path.read_text()
+            report, events, order = read_report(text), find_events(text), order_of(path)
+            scenario = path.with_name(path.name.split(".")[0] + ".nova")
+            if not report.sources or events is None:
+                continue
+            settings = read_settings(scenario.read_text())
+            firings = find_firings(settings, report.sources, events.firings(), order)
+            with self.subTest(path.stem):
+                for source in report.sources:
+                    delays = [firings[place].delay for place, number in events.firings() if number == source.number]
+                    self.assertEqual((len(delays), max(delays, default=0)), (source.fired, source.worst))
+                self.assertFalse(misfit(settings, report.sources))
+                self.assertEqual(find_firings(Settings(2, settings.sources), report.sources, events.firings(), None), {})
+
     def test_stretches(self) -> None:
         timeline = Timeline([2, 9], Window(1, 30), 10, 0)
         parts = [(part.stretch, part.first, part.last) for part in timeline.parts]
         event, plain, fold = Stretch.EVENT, Stretch.PLAIN, Stretch.FOLD
         self.assertEqual(parts, [(plain, 1, 1), (event, 2, 2), (plain, 3, 8), (event, 9, 9), (fold, 10, 30)])
+        idle = Timeline([2, 9], Window(1, 30), 10, 0, lambda first, last: last - first + 1 if first == 3 else 0)
+        self.assertEqual([part.stretch for part in idle.parts], [plain, event, Stretch.TICKS, event, fold])
         for before, after in zip(timeline.parts, timeline.parts[1:]):
             self.assertEqual(before.bottom, after.top)
             self.assertEqual(timeline.end_of(before.last), before.bottom)

@@ -5,6 +5,7 @@ python3 tools/replays/tests
 
 from __future__ import annotations
 
+import subprocess
 import sys
 import tempfile
 import unittest
@@ -13,7 +14,7 @@ from pathlib import Path
 TOP = Path(__file__).resolve().parents[1]
 sys.path.insert(0, str(TOP))
 
-from replay import Replay, Verdict, replay  # noqa: E402
+from replay import Replay, Verdict, not_by_threads, processors_of, replay  # noqa: E402
 from scenarios import random_scenario  # noqa: E402
 
 # A program that reports the order that it takes: the host's, `0 2`, `1 1`, or the one of the file that is named, or else round robin. The first word
@@ -72,12 +73,52 @@ class Replays(unittest.TestCase):
         self.assertEqual((appended.verdict, appended.said), (Verdict.DIFFERENT, "an order of no run"))
 
 
+    def test_runs_that_are_not_by_threads_are_found(self) -> None:
+        one, mixed, rounds = (Replay(Verdict.SAME, blocks, 9, by_rounds) for blocks, by_rounds in ((1, False), (4, False), (9, True)))
+        refused = Replay(Verdict.REFUSED)
+        for seen, said in (
+            ([(1, one), (2, mixed)], ""),
+            ([(2, one), (2, rounds), (2, mixed)], ""),
+            ([(1, one), (1, one), (8, refused)], ""),
+            ([(1, one), (2, one), (8, one)], "scenarios with several processors: 2, orders of several blocks: 0"),
+            ([(2, rounds), (4, rounds), (2, one)], "orders of several blocks: 2, and each is that of rounds"),
+        ):
+            with self.subTest(said):
+                self.assertEqual(not_by_threads(seen), said)
+
+    def test_an_order_of_rounds_is_told(self) -> None:
+        rounds = "printf '0 1\\n1 1\\n0 1\\n' >\"$3\"; cat \"$3\""
+        self.assertTrue(self.replayed(PROGRAM.replace("{run}", rounds)).is_by_rounds)
+        self.assertFalse(self.replayed(PROGRAM.replace("{run}", 'cat "$3"')).is_by_rounds)
+
+    def test_processors_are_counted(self) -> None:
+        for text, cpus in (("ram 0\n cpus 0x4 # four\n", 4), ("cpus 008\n", 8), ("# cpus 2\nram 1\n", 0)):
+            self.assertEqual(processors_of(text), cpus)
+
+    def test_the_status_is_1_where_nothing_was_by_threads(self) -> None:
+        for cpus, status in ((1, 0), (2, 1)):
+            with tempfile.TemporaryDirectory() as folder:
+                program = Path(folder, "program")
+                program.write_text("#!/bin/sh\n[ $1 = solo ] || echo 0 7 >>$3\necho run quiet 7\n", "ascii")
+                program.chmod(0o755)
+                Path(folder, "small.nova").write_text(f"cpus {cpus}\n", "ascii")
+                words = [sys.executable, str(TOP), "--program", str(program), "--keep", f"{folder}/kept", folder]
+                answer = subprocess.run(words, capture_output=True, text=True, check=False)
+                said = "not by threads: scenarios with several processors: 1, orders of several blocks: 0\n" if status else ""
+                self.assertEqual((answer.returncode, answer.stderr), (status, said))
+
+
 class Scenarios(unittest.TestCase):
     """The random scenarios."""
 
     def test_a_seed_gives_one_scenario(self) -> None:
         self.assertEqual(random_scenario(7), random_scenario(7))
         self.assertNotEqual(random_scenario(7), random_scenario(8))
+
+    def test_sources_and_deadlines_are_among_them(self) -> None:
+        texts = [random_scenario(seed) for seed in range(1, 101)]
+        self.assertGreater(sum("\nsource " in text for text in texts), 30)
+        self.assertGreater(sum("li x11, 2\nli x12, 30\necall" in text for text in texts), 10)
 
 
 if __name__ == "__main__":

@@ -1,0 +1,57 @@
+"""Compares the table of definitions in docs/THEOREMS.md with the definitions of the model and the laws of the crates.
+
+python3 tools/definitions [FOLDER]
+
+Fails where a definition of the model is missing from the table, where the table has a name that no definition has, and where it credits a
+law or a clause that isn't there, or a law of another crate.
+"""
+
+from __future__ import annotations
+
+import argparse
+import sys
+from pathlib import Path
+
+from names import defined, laws_of
+from table import Row, read, wrong
+
+TOP = Path(__file__).resolve().parents[2]
+
+
+def parser() -> argparse.ArgumentParser:
+    """The words that the program takes."""
+    words = argparse.ArgumentParser(prog="definitions", description="Compares the table of definitions with definitions and laws.")
+    words.add_argument("top", nargs="?", type=Path, default=TOP, metavar="FOLDER", help="the repository (this one)")
+    return words
+
+
+def named_wrong(rows: list[Row], top: Path) -> list[str]:
+    """The definitions of the model that no row names, and the names that no definition has, a line each."""
+    named = {name for row in rows for name in row.definitions}
+    model = defined(top / "crates/nova_model/specs")
+    known = model.union(*(defined(folder) for folder in top.glob("crates/*/specs") if folder.parent.name != "nova_model"))
+    missing = [f"missing from the table: {name}" for name in sorted(model - named)]
+    return missing + [f"no definition: {name}" for name in sorted(named - known)]
+
+
+def credited_wrong(rows: list[Row], top: Path) -> list[str]:
+    """The rows that say nothing, and what they credit that isn't there, a line each."""
+    laws, crates = laws_of(top), {folder.name for folder in top.glob("crates/*")}
+    silent = [f"row of {row.definitions[0]}: nothing is said" for row in rows if not row.right]
+    credits = [(row, credit) for row in rows for credit in row.credits(crates)]
+    return silent + [f"row of {row.definitions[0]}: {fault}" for row, credit in credits for fault in wrong(credit, laws)]
+
+
+def main(words: argparse.Namespace) -> int:
+    """Writes the faults and a line of counts; the status is 1 where there is a fault."""
+    rows = read((words.top / "docs/THEOREMS.md").read_text("utf-8"))
+    faults = named_wrong(rows, words.top) + credited_wrong(rows, words.top)
+    for fault in faults:
+        print(fault, file=sys.stderr)
+    named = {name for row in rows for name in row.definitions}
+    print(f"{len(named)} definitions in {len(rows)} rows, {sum(row.says_none() for row in rows)} with none; {len(faults)} faults")
+    return 1 if faults else 0
+
+
+if __name__ == "__main__":
+    sys.exit(main(parser().parse_args()))

@@ -1,0 +1,45 @@
+"""The names that sources have: definitions of a folder, and laws of crates with their clauses."""
+
+from __future__ import annotations
+
+import re
+from collections import Counter
+from dataclasses import dataclass
+from pathlib import Path
+
+# A public definition begins at the start of its line: `abbrev pub x : T`, `pub record X (..) : T where`.
+DEFINITION = re.compile(r"^(?:[a-z]+ )?pub (?:record |data )?(\S+)", re.MULTILINE)
+# A law is a public function that takes nothing and gives nothing; its contract ends where its body begins.
+LAW = re.compile(r"^pub fn (\w+)\(\)\n(.*?)^\{", re.MULTILINE | re.DOTALL)
+CLAUSE = re.compile(r"^ +ensures (\w+) \{", re.MULTILINE)
+
+
+@dataclass(frozen=True)
+class Law:
+    """A law of a crate, with the names of its clauses; one without names has none."""
+
+    crate: str
+    name: str
+    clauses: frozenset[str]
+
+
+def defined(folder: Path) -> set[str]:
+    """The public definitions of a folder of specs. One whose name two files have has its file before it: `Turn.answer_of`."""
+    files = {file.stem: names_in(file.read_text("utf-8")) for file in folder.glob("*.antt")}
+    often = Counter(name for names in files.values() for name in names)
+    return {name if often[name] == 1 else f"{file}.{name}" for file, names in files.items() for name in names}
+
+
+def names_in(text: str) -> set[str]:
+    """The public definitions of one file."""
+    return set(DEFINITION.findall(re.sub(r"^(?:pub )?(?:mod|use) .*", "", text, flags=re.MULTILINE)))
+
+
+def laws_of(top: Path) -> list[Law]:
+    """The laws of all crates of a repository."""
+    found = []
+    for file in sorted(top.glob("crates/*/src/**/*.rt")):
+        crate = file.relative_to(top).parts[1]
+        for name, contract in LAW.findall(file.read_text("utf-8")):
+            found.append(Law(crate, name, frozenset(CLAUSE.findall(contract))))
+    return found
