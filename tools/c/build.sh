@@ -1,18 +1,23 @@
 #!/bin/sh
-# build.sh [--elf] SOURCE.c SCENARIO.nova [RAM_ORDER]
-# build.sh [--elf] --guest SOURCE.c SCENARIO.nova
+# build.sh [--debug] [--elf] SOURCE.c SCENARIO.nova [RAM_ORDER]
+# build.sh [--debug] [--elf] --guest SOURCE.c SCENARIO.nova
 #
 # Compiles a C program for RV32I and writes a scenario that runs it: its code and its data as two images of words, or with --elf the
 # executable itself as one image. RAM has 2^RAM_ORDER pages of 4,096 bytes, 4 pages where no order is given. With --guest the program
 # runs as a guest with 4 pages, under the monitor of monitor.nova. With --elf and COMPILER=clang in the environment, clang compiles and
-# lld links. See README.md beside this script.
+# lld links. With --debug the program is compiled for a debugger, and the executable with its symbols is written beside the scenario, as
+# SCENARIO.elf. See README.md beside this script.
 set -eu
 export LC_ALL=C
 usage() {
-    echo "usage: build.sh [--elf] SOURCE.c SCENARIO.nova [RAM_ORDER] | build.sh [--elf] --guest SOURCE.c SCENARIO.nova" >&2
+    echo "usage: build.sh [--debug] [--elf] SOURCE.c SCENARIO.nova [RAM_ORDER] | build.sh [--debug] [--elf] --guest SOURCE.c SCENARIO.nova" >&2
     exit 2
 }
-elf=no guest=no
+elf=no guest=no debug=no level=-O2
+if [ "${1-}" = --debug ]; then
+    debug=yes level="-Og -g"
+    shift
+fi
 if [ "${1-}" = --elf ]; then
     elf=yes
     shift
@@ -34,7 +39,10 @@ if [ $guest = yes ]; then
 fi
 # An executable without symbols, and without gaps up to multiples of a page.
 if [ $elf = yes ]; then
-    options="$options -Wl,-z,max-page-size=16 -Wl,--strip-all"
+    options="$options -Wl,-z,max-page-size=16"
+    if [ $debug = no ]; then
+        options="$options -Wl,--strip-all"
+    fi
 fi
 here=$(cd "$(dirname "$0")" && pwd)
 tool=riscv64-unknown-elf
@@ -54,7 +62,7 @@ fi
 
 compile() {
     # shellcheck disable=SC2086 # the compiler, the options and the library are several words, or none
-    $compile -O2 -ffreestanding -nostdlib -Wall -Wextra -I"$here" -isystem /usr/include/stb $options \
+    $compile $level -ffreestanding -nostdlib -Wall -Wextra -I"$here" -isystem /usr/include/stb $options \
         -Wl,-T,"$here/program.ld" -Wl,--defsym=ram_bytes="$ram_bytes" -o "$program" "$here/start.s" "$source" $library
 }
 
@@ -109,5 +117,11 @@ write() {
 }
 
 compile
+if [ $debug = yes ]; then
+    cp "$program" "${scenario%.nova}.elf"
+    if [ $elf = yes ]; then
+        $tool-objcopy --strip-all "$program"
+    fi
+fi
 write >"$program.nova"
 cp "$program.nova" "$scenario"

@@ -2,12 +2,14 @@
 
 python3 tools/picture run REPORT [--order FILE] [--scenario FILE] [--from TURN] [--to TURN] [--all] [--fold N] [--page] [--output FILE]
 python3 tools/picture delegations REPORT [--from TURN] [--to TURN] [--all] [--fold N] [--page] [--output FILE]
+python3 tools/picture trace REPORT [--from TURN] [--to TURN] [--output FILE.json.gz]
 """
 
 from __future__ import annotations
 
 import argparse
 import gc
+import gzip
 import sys
 from collections.abc import Callable
 from pathlib import Path
@@ -21,6 +23,7 @@ from run_picture import draw_run
 from scenario import read_settings
 from skim import LARGE, Events, find_events, shorten, turns_of
 from timeline import Window
+from trace_events import text_of, trace_events, within
 from tree_picture import draw_delegations
 
 # The greatest picture that is drawn without being asked for, in bytes. With more events than SURE none is within it.
@@ -47,13 +50,15 @@ def parser() -> argparse.ArgumentParser:
     trees = pictures.add_parser("delegations", help="which capability range was given from which")
     trees.add_argument("--fold", type=int, default=RANGES, metavar="N", help=f"cut lists of more than N ranges ({RANGES})")
     trees.set_defaults(order=None, scenario=None)
-    for picture in (run, trees):
+    trace = pictures.add_parser("trace", help="the run as trace events, for Perfetto and the viewers of Chrome; with gzip where the name ends so")
+    for picture in (run, trees, trace):
         picture.add_argument("report", type=Path, metavar="REPORT", help="the report of the run")
         picture.add_argument("--from", dest="first", type=int, metavar="TURN", help="the first turn to draw (1)")
         picture.add_argument("--to", dest="last", type=int, metavar="TURN", help="the last turn to draw (that of the run)")
+        picture.add_argument("--output", type=Path, metavar="FILE", help="where to write (standard output)")
+    for picture in (run, trees):
         picture.add_argument("--all", action="store_true", help="draw all turns that are asked for, also where the picture passes 5 MB")
         picture.add_argument("--page", action="store_true", help="write a page of HTML that shows a mark's line, not an SVG")
-        picture.add_argument("--output", type=Path, metavar="FILE", help="where to write (standard output)")
     return top
 
 
@@ -133,11 +138,20 @@ def faultless(path: Path, read: Callable[[], Read]) -> Read:
         raise Refused(f"{path}: {fault}") from fault
 
 
+def trace(words: argparse.Namespace) -> bytes:
+    """The trace events that the words ask for, as the text of a file."""
+    report = faultless(words.report, lambda: read_report(read_text(words.report)))
+    window = window_of(report.turns, words)
+    text = "".join(text_of(event for event in trace_events(report) if within(event, window.first, window.last)))
+    compress = words.output is not None and words.output.suffix == ".gz"
+    return gzip.compress(text.encode("ascii")) if compress else text.encode("ascii")
+
+
 def main(arguments: list[str]) -> int:
-    """Draws one picture. The status is 1, and nothing is written, where a file can't be read or is not of its form."""
+    """Draws one picture, or writes one trace. The status is 1, and nothing is written, where a file can't be read or is not of its form."""
     words = parser().parse_args(arguments)
     try:
-        picture = draw(words)
+        picture = trace(words) if words.picture == "trace" else draw(words)
         if words.output is None:
             sys.stdout.buffer.write(picture)
         else:

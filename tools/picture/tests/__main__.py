@@ -28,6 +28,7 @@ from run_picture import draw_run  # noqa: E402
 from scenario import Moments, Settings, read_settings  # noqa: E402
 from skim import find_events, shorten  # noqa: E402
 from timeline import Stretch, Timeline, Window  # noqa: E402
+from traces import Traces  # noqa: E402, F401
 from tree_picture import draw_delegations  # noqa: E402
 
 
