@@ -1,6 +1,17 @@
 // The kernel that a scenario begins with.
 use nova_boot::boot;
+use nova_kernel::Kernel;
 use nova_scenario::{Bytes, Image, Images, Scenario, Sources};
+
+/// How many processors, pages and consoles there are, and whether a derivation has the number 6 or more, and 7 or more.
+fn told(kernel: &Kernel) -> ([u32; 3], [bool; 2]) {
+    let sizes = [kernel.cpus(), kernel.ram(), kernel.consoles()];
+    let derivations = [
+        kernel.derivation_from(6).is_some(),
+        kernel.derivation_from(7).is_some(),
+    ];
+    (sizes, derivations)
+}
 
 #[test]
 fn a_scenario_boots(rt: HostRuntime) {
@@ -23,11 +34,6 @@ fn a_scenario_boots(rt: HostRuntime) {
         sources: Sources::from(Vec::new(alloc)),
     };
     let kernel = boot(alloc, &scenario, 5).expect(&rt, "ample memory");
-    let sizes = [kernel.cpus(), kernel.ram(), kernel.consoles()];
-    let derivations = [
-        kernel.derivation_from(6).is_some(),
-        kernel.derivation_from(7).is_some(),
-    ];
-    assert_eq!(rt; sizes, [2, 2, 3]);
-    assert_eq!(rt; derivations, [true, false]);
+    let told = told(&kernel);
+    assert!(&rt; told == ([2, 2, 3], [true, false]));
 }

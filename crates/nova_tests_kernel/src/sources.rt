@@ -3,8 +3,6 @@ ghost use Rattle.std.specs.Prelude.{◌≡◌, ◌+◌, ◌*◌, ◌^◌, ◌<�
 
 use crate::machines::{ROOT, lay};
 use nova_kernel::{Alarm, Kernel};
-use nova_report::report;
-use nova_run::{Order, run_order};
 use std::alloc::Global;
 use std::process::Abort;
 
@@ -71,43 +69,6 @@ fn until(kernel: &Kernel) -> [Option<u64>; 2] {
     [kernel.until_due(0), kernel.until_due(1)]
 }
 
-/// How many turns are left at the end of a run along an order of at most 8 turns, and its report.
-fn end(rt: &impl Abort, alloc: Global, kernel: Kernel, order: &str) -> ([Option<u64>; 2], Vec<u8>)
-    requires cpus { kernel.state.cpus ≡ 2 }
-    requires room { kernel.room ≡ 8 }
-    requires turns { kernel.state.turns ≡ 0 }
-{
-    let order = Order::read(alloc, order.as_bytes(), 2, 8).expect(rt, "an order");
-    let run = run_order(alloc, kernel, &order, 8).expect(rt, "no turn is idle");
-    let text = report(alloc, &run.kernel, &run.trace).expect(rt, "ample memory");
-    (until(&run.kernel), text)
-}
-
-/// The report after both turns of the second processor and six of the first.
-static REPORT: &str = "\
-run open 8
-at 1 1 0 irq 0 0
-at 2 1 0 irq 0 0
-at 3 0 1 raise 7 0
-at 4 0 1 died 7 0
-at 8 0 0 irq 1 0
-ec 1 global dead 00000000
-sc 2 0 2
-sm 3 2 0
-sm 4 1 0
-sm 5 0 0
-source 0 1 3 2 0
-source 1 0 4 1 0
-source 2 0 5 0 0
-cap 0 - 0 mem 0 0 7 0
-cap 1 - 0 obj 0 0 1 0
-cap 2 - 0 obj 1 0 7 1
-cap 3 - 0 obj 2 0 1 2
-cap 4 - 0 obj 3 0 3 3
-cap 5 - 0 obj 4 0 3 4
-cap 6 - 0 obj 5 0 3 5
-";
-
 #[test]
 fn added_sources_are_told(rt: HostRuntime) {
     let mut kernel = bare(&rt, rt.alloc());
@@ -119,13 +80,4 @@ fn added_sources_are_told(rt: HostRuntime) {
         (0, 5, 7, 1 << 40, 1 << 20),
     ];
     assert!(&rt; told == ([3, 4, 5], rows, [Some(5), Some(0)]));
-}
-
-#[test]
-fn added_sources_fire(rt: HostRuntime) {
-    let mut kernel = bare(&rt, rt.alloc());
-    let _ = add_all(&rt, &mut kernel);
-    let (until, text) = end(&rt, rt.alloc(), kernel, "1 2\n0 6\n");
-    let is_so = until == [Some(1), None] && text.as_slice() == REPORT.as_bytes();
-    assert!(&rt; is_so);
 }
