@@ -107,9 +107,11 @@ fn workers_run_beside_each_other(rt: HostRuntime) {
         missed: AtomicU64::new(0),
     };
     let run = work(&rt, rt.alloc(), 20_000, &gate);
-    let called = gate.first.load(Ordering::SeqCst) + gate.second.load(Ordering::SeqCst);
+    let first = gate.first.load(Ordering::SeqCst);
+    let second = gate.second.load(Ordering::SeqCst);
     let missed = gate.missed.load(Ordering::SeqCst);
-    assert!(rt; (called, missed, run.turns, run.is_quiet) == (2, 0, 20_000, false));
+    let told = (first, second, missed, run.turns, run.is_quiet);
+    assert!(rt; told == (1, 1, 0, 20_000, false));
 }
 
 #[test]
