@@ -7,9 +7,12 @@ crate that is proved, how many there are, and how long that took. What `rt` kept
 
 Crates are proved side by side, each as soon as those below it are proved. A proof holds its crate and all below it, so each worker has a
 tree of links of its own, and libraries are linked from one tree to the others; `rt` never writes into a file that is there.
+
+How long it takes yet is reckoned from costs.txt, which has each crate's seconds on four idle cores, and from how fast this machine was so far.
 """
 
 import concurrent.futures
+import math
 import os
 import pathlib
 import shutil
@@ -21,6 +24,10 @@ import time
 TOP = pathlib.Path(__file__).resolve().parents[2]
 # More workers than this are no quicker: the longest chain of crates is the clock.
 WORKERS = min(3, os.cpu_count() or 1)
+# The seconds of a crate that costs.txt doesn't know.
+UNKNOWN = 30
+# A crate that takes no more seconds was kept.
+KEPT = 4
 
 
 def dependencies():
@@ -31,6 +38,22 @@ def dependencies():
         if colon:
             named[name.split()[0]] = others.split()
     return {crate: [other for other in others if other in named] for crate, others in named.items()}
+
+
+def costs():
+    """The seconds of each crate's proof on four idle cores."""
+    lines = (pathlib.Path(__file__).parent / "costs.txt").read_text().splitlines()
+    return {crate: int(seconds) for crate, seconds in map(str.split, lines)}
+
+
+def minutes_left(wanted, proved, named, cost, pace):
+    """How many minutes the crates take that are not proved yet: those of all workers, or of the longest chain, on a machine of that pace."""
+    ends = {}
+    for crate in wanted:
+        own = 0 if crate in proved else cost.get(crate, UNKNOWN)
+        ends[crate] = own + max((ends[other] for other in named[crate]), default=0)
+    work = sum(cost.get(crate, UNKNOWN) for crate in wanted if crate not in proved)
+    return math.ceil(pace * max(work / WORKERS, *ends.values()) / 60)
 
 
 def in_order(crate, named, found):
@@ -90,7 +113,7 @@ def prove(trees, crate, below):
 def prove_all(wanted, named, folder):
     """Proves crates, each once those below it are proved, in trees of their own in a folder. The answer is the status of one that failed, or 0."""
     below = {crate: in_order(crate, named, []) for crate in wanted}
-    left, running, proved = list(wanted), {}, set()
+    left, running, proved, cost, anew = list(wanted), {}, set(), costs(), {}
     with concurrent.futures.ThreadPoolExecutor(WORKERS) as pool:
         trees = [copy_of_sources(folder) for _ in range(WORKERS)]
         while left or running:
@@ -104,7 +127,11 @@ def prove_all(wanted, named, folder):
                     print(f"{said}nova: {crate} was not built", file=sys.stderr)
                     return status
                 proved.add(crate)
-                print(f"nova: {len(proved)} of {len(wanted) + 1}: {crate}, {seconds:.0f} s", file=sys.stderr, flush=True)
+                if seconds > KEPT:
+                    anew[crate] = seconds
+                pace = sum(anew.values()) / sum(cost.get(each, UNKNOWN) for each in anew) if anew else 1
+                minutes = minutes_left(wanted, proved, named, cost, pace)
+                print(f"nova: {len(proved)} of {len(wanted) + 1}: {crate}, {seconds:.0f} s; some {minutes} minutes left", file=sys.stderr, flush=True)
     return 0
 
 

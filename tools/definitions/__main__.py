@@ -1,9 +1,10 @@
-"""Compares the table of definitions in docs/THEOREMS.md with the definitions of the model and the laws of the crates.
+"""Compares docs/PINS.md with the definitions of the model and the laws of the crates, and docs/THEOREMS.md with the crates' contracts.
 
 python3 tools/definitions [FOLDER]
 
-Fails where a definition of the model is missing from the table, where the table has a name that no definition has, and where it credits a
-law or a clause that isn't there, or a law of another crate.
+Fails where a definition of the model is missing from the table of docs/PINS.md, where the table has a name that no definition has, where it
+credits a law or a clause that isn't there, or a law of another crate; and where a row of docs/THEOREMS.md links to a function that isn't in
+the file, or names a clause that the function's contract hasn't, or an edit that no crate has, or where no row has a law.
 """
 
 from __future__ import annotations
@@ -13,6 +14,7 @@ import sys
 from pathlib import Path
 
 from names import defined, laws_of
+from rows import edits_gone, left_out, links, missing
 from table import Row, read, wrong
 
 TOP = Path(__file__).resolve().parents[2]
@@ -20,7 +22,7 @@ TOP = Path(__file__).resolve().parents[2]
 
 def parser() -> argparse.ArgumentParser:
     """The words that the program takes."""
-    words = argparse.ArgumentParser(prog="definitions", description="Compares the table of definitions with definitions and laws.")
+    words = argparse.ArgumentParser(prog="definitions", description="Compares pages on what is proved with definitions and contracts.")
     words.add_argument("top", nargs="?", type=Path, default=TOP, metavar="FOLDER", help="the repository (this one)")
     return words
 
@@ -44,12 +46,17 @@ def credited_wrong(rows: list[Row], top: Path) -> list[str]:
 
 def main(words: argparse.Namespace) -> int:
     """Writes the faults and a line of counts; the status is 1 where there is a fault."""
-    rows = read((words.top / "docs/THEOREMS.md").read_text("utf-8"))
+    rows = read((words.top / "docs/PINS.md").read_text("utf-8"))
+    theorems = (words.top / "docs/THEOREMS.md").read_text("utf-8")
+    told = links(theorems)
     faults = named_wrong(rows, words.top) + credited_wrong(rows, words.top)
+    not_there = [fault for link in told for fault in missing(link, words.top)]
+    faults += [f"docs/THEOREMS.md: {fault}" for fault in not_there + left_out(told, laws_of(words.top)) + edits_gone(theorems, words.top)]
     for fault in faults:
         print(fault, file=sys.stderr)
     named = {name for row in rows for name in row.definitions}
-    print(f"{len(named)} definitions in {len(rows)} rows, {sum(row.says_none() for row in rows)} with none; {len(faults)} faults")
+    none = sum(row.says_none() for row in rows)
+    print(f"{len(named)} definitions in {len(rows)} rows, {none} with none; {len(told)} links of theorems; {len(faults)} faults")
     return 1 if faults else 0
 
 

@@ -12,7 +12,7 @@ from dataclasses import dataclass
 
 from names import Law
 
-SECTION = "## Definitions that code copies"
+SECTION = "# Definitions that code copies"
 NAME = re.compile(r"`([^`]+)`")
 # A name on the right side, and the clauses in brackets behind it.
 CREDIT = re.compile(r"`([^`/]+)`(?: \((`[^`]+`(?:, `[^`]+`)*)\))?")
@@ -50,7 +50,7 @@ class Row:
 
 
 def read(text: str) -> list[Row]:
-    """The rows of the table in a text of theorems."""
+    """The rows of the table in a page."""
     section = text.partition(SECTION)[2].partition("\n## ")[0]
     rows = [line.split("|") for line in section.splitlines()]
     return [Row(tuple(NAME.findall(cells[1])), cells[2].strip()) for cells in rows if len(cells) == 4 and NAME.search(cells[1])]

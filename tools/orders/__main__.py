@@ -2,10 +2,10 @@
 
 python3 tools/orders explore SCENARIO [--by WHAT].. [--output FOLDER]
 python3 tools/orders expect SCENARIO --never PATTERN | --always PATTERN ..
-python3 tools/orders shrink SCENARIO ORDER --keep PATTERN [--search N] [--output FILE]
+python3 tools/orders shrink SCENARIO ORDER --keep PATTERN [--open] [--search N] [--output FILE]
 
 Which orders the first two try: [--switches K] [--random N] [--seed S] [--weights W,..] [--lengths A-B]
-All take [--turns N] [--jobs N] [--program FILE] [--progress].
+All take [--turns N] [--jobs N] [--program FILE] [--stays FILE] [--progress].
 """
 
 from __future__ import annotations
@@ -20,7 +20,7 @@ from choice import Choice, Wanted
 from longest import Scout
 from outcome import Outcome, outcome_of
 from pool import Pool
-from program import DONE, End, Program, Stopped, Trouble, find_program
+from program import DONE, End, Program, Stopped, Trouble, find_program, find_staying
 from sample import Habits
 from shared import Fault, counted, read_order, read_report, read_settings
 from shrinking import Shrinker, search_simpler
@@ -29,6 +29,7 @@ from telling import Progress, outcome_texts, size_of, write_orders
 from turns import Block, Blocks, text_of, turns_of
 
 BROKEN, REFUSED, INTERRUPTED = 1, 3, 130
+RESTS = "run quiet"
 
 
 class Work:
@@ -37,10 +38,11 @@ class Work:
     def __init__(self, ask: Ask, folder: Path) -> None:
         path = find_program(ask.program, ask.scenario)
         self.ask = ask
-        self.program = Program(path, ask.scenario, folder, ask.jobs)
+        self.program = Program(path, ask.scenario, folder, ask.jobs, find_staying(ask.stays, ask.program))
         self.scout = Scout(self.program, read_settings(ask.scenario.read_text(errors="replace")))
         self.pool = Pool(ask.jobs)
         self.progress = Progress(sys.stderr, ask.progress)
+        self.rests = False
 
     def do(self) -> int:
         """Does what was asked for, and gives the status."""
@@ -75,7 +77,7 @@ class Work:
             for tried in choice.orders():
                 if tried is not None:
                     tally.add(tried.blocks, tried.verdict)
-                self.tell(f"{counted(tally.orders, 'order', 'orders')}, {counted(tally.outcomes, 'outcome', 'outcomes')}")
+                self.tell(f"{counted(tally.orders, 'order', 'orders')}, {counted(tally.outcomes, 'outcome', 'outcomes')}{choice.left()}")
         except KeyboardInterrupt:
             status = self.interrupted()
         self.progress.end()
@@ -100,7 +102,7 @@ class Work:
                     print(f"orders: {tried.verdict}, by this order of {size}, number {number:,} of those tried:", file=sys.stderr)
                     sys.stdout.write(text_of(tried.blocks))
                     return BROKEN
-                self.tell(counted(number, "order", "orders"))
+                self.tell(f"{counted(number, 'order', 'orders')}{choice.left()}")
         except KeyboardInterrupt:
             status = self.interrupted()
         self.progress.end()
@@ -121,7 +123,7 @@ class Work:
         """Writes the simpler order. At an interrupt that is the simplest so far."""
         order = self.read_order()
         turns = max(self.ask.turns, turns_of(order))
-        shrinker = Shrinker(self.scout, turns, self.keeps, lambda best: self.tell(size_of(best)))
+        shrinker = Shrinker(self.scout, turns, self.keeps_rest, lambda best: self.tell(size_of(best)))
         status = DONE
         is_least = False
         try:
@@ -141,6 +143,10 @@ class Work:
         """Whether a report has what is to be kept."""
         return self.ask.keep.search(report) is not None
 
+    def keeps_rest(self, report: str) -> bool:
+        """Whether it does, and comes to rest where the order to begin with does, unless it need not."""
+        return self.keeps(report) and (not self.rests or report.startswith(RESTS))
+
     def read_order(self) -> Blocks:
         """The order that is to be made simpler. The program says what is wrong with one that it doesn't take."""
         try:
@@ -152,6 +158,7 @@ class Work:
             raise Trouble(f"{self.ask.order}: in line {run.line} the processor is idle")
         if not self.keeps(run.report):
             raise Trouble(f"{self.ask.order}: the report has nothing that matches {self.ask.keep.pattern!r}")
+        self.rests = run.end is End.QUIET and not self.ask.open
         report = read_report(run.report)
         order = read_order(text, report.turns, [event.place for event in report.events], [event.cpu for event in report.events])
         lasts = [0, *order.lasts]
@@ -166,7 +173,7 @@ class Work:
 
     def tell(self, text: str) -> None:
         """Tells how far the work is."""
-        self.progress.tell(f"orders: {text}, {self.program.starts:,} starts of the program")
+        self.progress.tell(f"orders: {text}, {self.program.starts:,} runs")
 
     def interrupted(self) -> int:
         """Ends all that is under way. A second interrupt changes nothing."""

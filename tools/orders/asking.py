@@ -37,6 +37,8 @@ class Ask:
     order: Path = Path()
     keep: re.Pattern[str] = re.compile("")
     search: int = SEARCH
+    stays: Path | None = None
+    open: bool = False
 
     @staticmethod
     def of(words: argparse.Namespace) -> Ask:
@@ -119,7 +121,9 @@ def parser() -> argparse.ArgumentParser:
     expect.add_argument("--never", action="append", **pattern, help="nothing in a report matches this regular expression")
     expect.add_argument("--always", action="append", **pattern, help="something in each report matches this regular expression")
     shrink.add_argument("--keep", required=True, **pattern, help="what the report is to match")
-    search = f"at last try all orders with fewer changes, with about N starts of the program at most ({SEARCH})"
+    rest = "the simpler order need not come to rest where the one to begin with does"
+    shrink.add_argument("--open", action="store_true", help=rest)
+    search = f"at last try all orders with fewer changes, with about N runs at most ({SEARCH})"
     shrink.add_argument("--search", type=number(0), default=SEARCH, metavar="N", help=search)
     shrink.add_argument("--output", type=Path, metavar="FILE", help="where to write the order (standard output)")
     for command in (explore, expect, shrink):
@@ -145,4 +149,6 @@ def add_means(command: argparse.ArgumentParser) -> None:
     jobs = "how many runs at a time (one for each processor)"
     command.add_argument("--jobs", type=number(1), default=len(os.sched_getaffinity(0)), metavar="N", help=jobs)
     command.add_argument("--program", type=Path, metavar="FILE", help="the program to start (that of the repository)")
+    stays = "a program that stays and is asked for one order after another (nova_debug of the repository, where it is built and --program isn't given)"
+    command.add_argument("--stays", type=Path, metavar="FILE", help=stays)
     command.add_argument("--progress", action="store_true", help="say how far the work is also where standard error is no terminal")

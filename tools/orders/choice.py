@@ -2,6 +2,7 @@
 
 from __future__ import annotations
 
+import time
 from collections.abc import Callable, Iterator
 from dataclasses import dataclass
 from typing import Generic, TypeVar
@@ -40,6 +41,7 @@ class Choice(Generic[Verdict]):
         self.judge = judge
         self.search = None if wanted.changes is None else Search(scout, pool, wanted.turns, wanted.changes, judge)
         self.drawn = 0
+        self._began = 0.0
 
     def orders(self) -> Iterator[Tried[Verdict] | None]:
         """All of them, one after another, and always in the same order. None now and then says that the work goes on."""
@@ -52,6 +54,7 @@ class Choice(Generic[Verdict]):
 
     def _drawn(self) -> Iterator[Tried[Verdict]]:
         """Orders at random. What the first ones show of where processors are idle makes the others cheaper."""
+        self._began = time.monotonic()
         sampler = Sampler(self.scout, self.wanted.habits, self.wanted.turns, self.wanted.seed)
         stops: Stops = {}
         for numbers in (range(min(FIRST, self.wanted.random)), range(FIRST, self.wanted.random)):
@@ -63,6 +66,13 @@ class Choice(Generic[Verdict]):
     def _draw(self, sampler: Sampler, number: int, stops: Stops) -> Tried[Verdict]:
         run = sampler.draw(number, stops)
         return Tried(run.blocks, run.end is End.QUIET, self.judge(run.report))
+
+    def left(self) -> str:
+        """How many orders at random were tried, of how many, and in about how long the others will be; nothing before the first."""
+        if not self.drawn:
+            return ""
+        seconds = (time.monotonic() - self._began) / self.drawn * (self.wanted.random - self.drawn)
+        return f", {self.drawn:,} of {self.wanted.random:,} at random, {seconds:,.0f} s left"
 
     def account(self) -> list[str]:
         """What was tried so far, in sentences."""

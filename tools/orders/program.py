@@ -9,6 +9,7 @@ from enum import Enum
 from pathlib import Path
 from queue import SimpleQueue
 
+from staying import Staying
 from turns import Blocks, text_of
 
 TOP = Path(__file__).resolve().parents[2]
@@ -45,10 +46,11 @@ class Run:
 class Program:
     """The program and a scenario. Several threads may run it at a time; each start has a file of the folder for its order."""
 
-    def __init__(self, path: Path, scenario: Path, folder: Path, at_a_time: int) -> None:
+    def __init__(self, path: Path, scenario: Path, folder: Path, at_a_time: int, stays: Path | None = None) -> None:
         self.path = path
         self.scenario = scenario
         self.starts = 0
+        self._staying = Staying(stays, scenario, at_a_time) if stays else None
         self._names: SimpleQueue[Path] = SimpleQueue()
         for number in range(at_a_time):
             self._names.put(folder / f"{number}.order")
@@ -58,7 +60,20 @@ class Program:
 
     def run(self, blocks: Blocks) -> Run:
         """The run over an order. Raises Trouble where the program ends otherwise than by rest, after all turns, or at an idle processor."""
-        return self.run_text(text_of(blocks), blocks)
+        return (self._staying and blocks and self._ask(self._staying, blocks)) or self.run_text(text_of(blocks), blocks)
+
+    def _ask(self, staying: Staying, blocks: Blocks) -> Run | None:
+        """The run over an order by a program that stays; none where it doesn't take it, so that one that is started says why."""
+        answer = staying.ask(blocks)
+        if self._stopped:
+            raise Stopped
+        if answer is None or answer[1].split()[0] in ("no", "memory"):
+            return None
+        self.starts += 1
+        report, said = answer
+        if said != "ok":
+            return Run(blocks, End.IDLE, line=int(said.split()[1]))
+        return Run(blocks, End.QUIET if report.startswith("run quiet") else End.OPEN, report)
 
     def run_text(self, order: str, blocks: Blocks = ()) -> Run:
         """The run over the text of an order, which need not be one; the blocks are kept with the run."""
@@ -81,6 +96,8 @@ class Program:
             self._stopped = True
             for child in self._children:
                 child.kill()
+        if self._staying:
+            self._staying.stop()
 
     def _start(self, *words: str) -> tuple[int, str, str]:
         """Status, output and line on standard error of one start. Children hear nothing of an interrupt from the keyboard."""
@@ -98,6 +115,14 @@ class Program:
             if self._stopped:
                 raise Stopped
         return child.returncode, report, said.strip()
+
+
+def find_staying(named: Path | None, program: Path | None) -> Path | None:
+    """The program that stays: the one that is named, or that of the repository where it is built and no other program is wanted."""
+    if named is not None or program is not None:
+        return named
+    built = TOP / "crates" / "nova_debug" / "out" / "nova_debug"
+    return built if built.exists() else None
 
 
 def find_program(named: Path | None, scenario: Path) -> Path:

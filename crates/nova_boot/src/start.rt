@@ -1,11 +1,12 @@
-ghost use Rattle.std.specs.Prelude.{◌≡◌, ◌≤◌, ◌*◌, ◌^◌, length, IfOk};
+ghost use Rattle.std.specs.Prelude.{◌≡◌, ◌≤◌, ◌+◌, ◌*◌, ◌^◌, length, map, IfOk, OnOk};
 ghost use Rattle.std.specs.List.{AllByRecursion};
 ghost use Rattle.nova_scenario.specs.Sound.{IsSourceOf};
-ghost use Rattle.nova_model.specs.Boot.{boot};
-ghost use Rattle.nova_boot.specs.Boot.{scenario_of, LieInRam};
+ghost use Rattle.nova_model.specs.Boot.{boot, with_images};
+ghost use Rattle.nova_model.specs.Sources.{with_sources};
+ghost use Rattle.nova_boot.specs.Boot.{scenario_of, image_of, source_of, LieInRam};
 
 use nova_kernel::{Kernel, Root};
-use nova_scenario::Scenario;
+use nova_scenario::{Image, Scenario, SourceRow};
 use std::alloc::{AllocError, Global};
 
 /// The root of a scenario.
@@ -19,6 +20,36 @@ fn root_of(scenario: &Scenario) -> Root
         quantum: scenario.quantum,
     }
 }
+
+/// Lays images into the RAM of a kernel that has taken no turn.
+fn lay(kernel: &mut Kernel, images: &[Image])
+    requires turns { kernel.old.state.turns ≡ 0 }
+    requires images { LieInRam (4096 * length kernel.old.state.memory.ram) images.now }
+    ensures laid { kernel.new ≡ record kernel.old { state = with_images kernel.old.state (map image_of images.now) } }
+    ensures turns { kernel.new.state.turns ≡ 0 }
+    ensures cpus { kernel.new.state.cpus ≡ kernel.old.state.cpus }
+    ensures objects { length kernel.new.state.objects ≡ length kernel.old.state.objects }
+{
+    for image in images {
+        kernel.put(image.address, image.bytes.as_slice());
+    }
+}
+
+/// Makes sources in a kernel that has taken no turn. It refuses for want of memory alone.
+fn make(kernel: &mut Kernel, sources: &[SourceRow]) -> Result<(), AllocError>
+    requires turns { kernel.old.state.turns ≡ 0 }
+    requires sources { AllByRecursion (IsSourceOf kernel.old.state.cpus) sources.now }
+    requires objects { length kernel.old.state.objects + length sources.now ≤ 2 ^ 20 }
+    ensures { OnOk result (kernel.new ≡ record kernel.old { state = with_sources kernel.old.state (map source_of sources.now) }) }
+{
+    for source in sources {
+        kernel.add_source(source.cpu, source.first, source.period, source.count)?;
+    }
+    Ok(())
+}
+
+/// Lets go of a value.
+fn let_go<T: Drop>(_value: T) {}
 
 /// The kernel that a scenario begins with: the machine boots with its root domain, and then the
 /// images are laid into RAM and the sources are made. The console log has room for `log_room` bytes.
@@ -42,11 +73,12 @@ pub fn boot(alloc: Global, scenario: &Scenario, log_room: u64) -> Result<Kernel,
         root,
         log_room,
     )?;
-    for image in scenario.images.as_slice() {
-        kernel.put(image.address, image.bytes.as_slice());
+    lay(&mut kernel, scenario.images.as_slice());
+    match make(&mut kernel, scenario.sources.as_slice()) {
+        Ok(()) => Ok(kernel),
+        Err(failed) => {
+            let_go(kernel);
+            Err(failed)
+        }
     }
-    for source in scenario.sources.as_slice() {
-        kernel.add_source(source.cpu, source.first, source.period, source.count)?;
-    }
-    Ok(kernel)
 }

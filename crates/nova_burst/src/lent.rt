@@ -8,7 +8,7 @@ ghost use Rattle.nova_burst.specs.Lending.{AreCounted, IsSameLease, MustStop, St
 use crate::copies::{Copies, Known};
 use crate::run::Burst;
 use nova_leases::{Page, Steps};
-use rv_core::Regs;
+use rv_core::{Readings, Regs};
 use std::marker::Model;
 use std::mem;
 
@@ -57,7 +57,8 @@ fn run_on(steps: &mut Steps, known: &mut Vec<Known>, most: u64) -> u64
         regs: steps.regs,
         copies,
     };
-    let ran = burst.run(most);
+    let mut readings = Readings::new(alloc);
+    let ran = burst.run(&mut readings, most);
     steps.count += ran;
     steps.regs = burst.regs;
     (*known, steps.pages) = burst.copies.into_parts();

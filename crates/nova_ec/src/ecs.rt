@@ -1,6 +1,6 @@
 ghost use Rattle.std.specs.Prelude.{false, true, ◌||◌, ◌≡◌, ◌+◌, ◌-◌, ◌<◌, ◌≤◌, [], ◌∷◌, ◌++◌, length, max, IsOk, IsSome, IfOk, IfSome, OnOk, OnErr, option_and_then, option_map, Some, None};
 ghost use Rattle.rv_model.specs.Step.{one};
-ghost use Rattle.rv_core.specs.Steps.{space_of};
+ghost use Rattle.rv_core.specs.Steps.{Follows, space_of};
 ghost use Rattle.nova_model.specs.State.{ec_in, ec_of, with_ec};
 ghost use Rattle.nova_model.specs.Calls.{is_same_cpu, is_parked};
 ghost use Rattle.nova_model.specs.Edges.{cpu_in, is_dead, state_in, edge_of, edge, acts, stays, met, chase, circle, MayWait, MayServe, AreEdges, AreCallers};
@@ -15,17 +15,18 @@ use nova_model::{EcState, Mark, State};
 use nova_range::Status;
 use rv_core::bus::Bus;
 use rv_core::outcome::Outcome;
-use rv_core::{Regs, hart};
+use rv_core::{Readings, Regs, step_read};
 use std::alloc::{AllocError, Global};
 use std::marker::Model;
 
 /// The table of execution contexts, by number: an entry holds the execution context of its number or
 /// nothing. Edges, from one that waits to the handler that it waits for, join execution contexts of one processor, and
-/// never form a circle. A caller is there, and of one processor with the one that serves it.
+/// never form a circle. A caller is there, and of one processor with the one that serves it. What words read as is remembered.
 #[derive(Drop)]
 pub struct Ecs {
     items: Vec<Option<EcState>>,
     spare: usize,
+    readings: Readings,
 }
 
 impl Model for Ecs {
@@ -41,12 +42,13 @@ impl Model for Ecs {
 }
 
 /// One instruction of an execution context over a bus.
-fn step_in<B: Bus>(context: &mut EcState, bus: &mut B) -> Outcome
+#[inline(always)]
+fn step_in<B: Bus>(context: &mut EcState, bus: &mut B, readings: &mut Readings) -> Outcome
     requires { B.room (B.state bus.old) }
     ensures { let space = space_of B.fetched B.loaded B.takes (B.state bus.old) in
         StepsIn B.stored (one context.old.regs space) context.old (B.state bus.old) result context.new (B.state bus.new) }
 {
-    hart::step(&mut context.regs, bus)
+    step_read(&mut context.regs, bus, readings)
 }
 
 impl Ecs {
@@ -57,6 +59,7 @@ impl Ecs {
         Ecs {
             items: Vec::new(alloc),
             spare: 0,
+            readings: Readings::new(alloc),
         }
     }
 
@@ -77,8 +80,13 @@ impl Ecs {
     pub fn copy(&self) -> Result<Ecs, AllocError>
         ensures { IfOk result (λ copy. copy ≡ record { items = self.now.items; spare = 0 }) }
     {
-        let items = Vec::from_slice(*self.items.allocator(), self.items.as_slice())?;
-        Ok(Ecs { items, spare: 0 })
+        let alloc = *self.items.allocator();
+        let items = Vec::from_slice(alloc, self.items.as_slice())?;
+        Ok(Ecs {
+            items,
+            spare: 0,
+            readings: Readings::new(alloc),
+        })
     }
 
     /// Adds the entry of the next number in reserved room: the execution context of that number, which
@@ -349,6 +357,17 @@ impl Ecs {
         let Some(context) = &mut self.items[ec as usize] else {
             unreachable!();
         };
-        step_in(context, bus)
+        step_in(context, bus, &mut self.readings)
+    }
+
+    /// One instruction over a bus, on registers that lie beside the table. No entry changes.
+    #[inline(always)]
+    pub fn step_beside<B: Bus>(&mut self, regs: &mut Regs, bus: &mut B) -> Outcome
+        requires { B.room (B.state bus.old) }
+        ensures follows { let space = space_of B.fetched B.loaded B.takes (B.state bus.old) in
+            Follows B.stored (one regs.old space) regs.old (B.state bus.old) result regs.new (B.state bus.new) }
+        ensures kept { self.new ≡ self.old }
+    {
+        step_read(regs, bus, &mut self.readings)
     }
 }

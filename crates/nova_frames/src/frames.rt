@@ -1,4 +1,4 @@
-ghost use Rattle.std.specs.Prelude.{◌≡◌, ◌+◌, ◌-◌, ◌*◌, ◌/◌, ◌%◌, ◌^◌, ◌<◌, ◌≤◌, [], ◌∷◌, ◌++◌, length, replicate, slice_get, slice_set, Some, IfOk};
+ghost use Rattle.std.specs.Prelude.{◌≡◌, ◌+◌, ◌-◌, ◌*◌, ◌/◌, ◌%◌, ◌^◌, ◌<◌, ◌≤◌, [], ◌∷◌, ◌++◌, length, max, replicate, slice_get, slice_set, Some, IfOk, OnOk, OnErr};
 ghost use Rattle.nova_model.specs.Memory.{read, written};
 ghost use Rattle.nova_model.specs.Boot.{laid};
 ghost use Rattle.nova_guest.specs.Conditions.{IsWidth};
@@ -13,7 +13,7 @@ use std::marker::Model;
 pub const FRAME_SIZE: usize = 4096;
 
 /// The frames of a machine, by number: RAM from 0 on, and after it a frame for each console. What
-/// is stored to the consoles goes to one log, whose room is set at the start.
+/// is stored to the consoles goes to one log, with room for so many bytes more.
 #[derive(Drop)]
 pub struct Frames {
     ram: Vec<[u8; FRAME_SIZE]>,
@@ -107,6 +107,17 @@ impl Frames {
         ensures { result ≡ self.now.room }
     {
         self.room as u64
+    }
+
+    /// Makes room for `bytes` more bytes in the log. Room that was made before stays. It refuses for want
+    /// of memory alone, and then nothing has changed.
+    pub fn reserve_log(&mut self, bytes: usize) -> Result<(), AllocError>
+        ensures ok { OnOk result (self.new ≡ record self.old { room = max self.old.room bytes }) }
+        ensures err { OnErr result (self.new ≡ self.old) }
+    {
+        self.log.reserve(bytes)?;
+        self.room = self.room.max(bytes);
+        Ok(())
     }
 
     /// What was stored to the consoles, in order.

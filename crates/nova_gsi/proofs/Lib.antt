@@ -1,4 +1,5 @@
 pub mod Walks
+pub mod Passing
 pub mod Places
 pub mod Lists
 pub mod Boots

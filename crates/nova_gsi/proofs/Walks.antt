@@ -5,13 +5,8 @@ use Rattle.nova_model.specs.Choice.{in_front}
 use Rattle.nova_model.specs.declared.event.Event.{Event}
 use Rattle.nova_model.specs.declared.times.Alarm.{Alarm}
 use Rattle.nova_gsi.specs.declared.source_line.SourceLine.{SourceLine}
-use Rattle.nova_gsi.specs.Firings.{clock_at, count_of, delay, delays_from, firings_from, greatest, is_firing, is_on, line, moment, worse}
-
-abbrev pub more_if : Bool → ℕ → ℕ
-more_if t n = if t then n + 1 else n
-
-abbrev pub worse_if : Bool → Alarm → ℕ → ℕ → ℕ → ℕ
-worse_if t s clock fired worst = if t then worse s clock fired worst else worst
+use Rattle.nova_gsi.specs.Passed.{more_if, worse_if}
+use Rattle.nova_gsi.specs.Firings.{clock_at, count_of, delay, delays_from, firings_from, greatest, is_firing, is_on, line, moment}
 
 abbrev pub walked : Alarm → ℕ → ℕ → ℕ → ℕ → List Event → SourceLine
 walked s n clock fired worst [] = record { fired = fired; worst = worst }

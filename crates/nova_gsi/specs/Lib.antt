@@ -3,3 +3,4 @@ pub mod Firings
 pub mod Laws
 pub mod Counters
 pub mod Deadlines
+pub mod Passed

@@ -4,8 +4,10 @@ ghost use Rattle.nova_io.specs.Faults.{Rose, raised};
 
 use crate::depots::Depot;
 use crate::faults::{Failed, raise};
+use crate::kept::{Kept, reach};
 use crate::streams::{ReadFrom, fetch_from, put_to};
-use std::fs::{self, OpenOptions};
+use std::alloc::AllocError;
+use std::fs::OpenOptions;
 use std::io::{self, Read, Seek, SeekFrom};
 use std::marker::Model;
 use std::rt::Files;
@@ -23,8 +25,7 @@ pub struct FileDepot<R: Files + Alloc> {
     rt: R,
     fetch_faults: u64,
     append_faults: u64,
-    stream: Option<Opened<R::File>>,
-    name: String<R::A>,
+    kept: Kept<R::File, R::A>,
 }
 
 impl<R: Files + Alloc> Model for FileDepot<R> {
@@ -40,45 +41,26 @@ impl<R: Files + Alloc> FileDepot<R> {
     pub fn new(rt: R) -> FileDepot<R>
         ensures { result ≡ record { fetches = 0; appends = 0 } }
     {
-        let name = String::new(rt.alloc());
+        let kept = Kept::new(rt.alloc());
         FileDepot {
             rt,
             fetch_faults: 0,
             append_faults: 0,
-            stream: None,
-            name,
-        }
-    }
-
-    /// The open file that a place of a name is read from: the one that stayed open, where it is this name's and stands
-    /// there, else one that is opened.
-    fn take(&mut self, name: &str, at: u64) -> io::Result<Opened<R::File>>
-        ensures { self.new ≡ self.old }
-    {
-        match self.stream.take() {
-            Some(stream) if stream.place == at && self.name.as_str() == name => Ok(stream),
-            _ => Ok(Opened {
-                file: fs::open(&self.rt, name)?,
-                place: 0,
-                is_stream: false,
-            }),
+            kept,
         }
     }
 
     /// Lets a file stay open for the next fetch of its name. Want of memory for the name is a fault.
     fn keep(&mut self, name: &str, stream: Opened<R::File>) -> Result<(), Failed>
+        requires { IsTrue stream.is_stream }
         ensures given { OnOk result (self.new ≡ self.old) }
         ensures refused { OnErr result (self.new ≡ record self.old { fetches = raised self.old.fetches }) }
         ensures failed { OnErr result (Rose self.old.fetches self.new.fetches) }
     {
-        if self.name.as_str() != name {
-            match String::from_str(self.rt.alloc(), name) {
-                Ok(text) => self.name = text,
-                Err(_) => return Err(raise(&mut self.fetch_faults)),
-            }
+        match self.kept.keep(self.rt.alloc(), name, stream) {
+            Ok(()) => Ok(()),
+            Err(AllocError) => Err(raise(&mut self.fetch_faults)),
         }
-        self.stream = Some(stream);
-        Ok(())
     }
 
     /// Fetches bytes of an open file from a place on. If it can't be moved and hasn't ended, it stays open.
@@ -107,10 +89,10 @@ impl<R: Files + Alloc> FileDepot<R> {
 /// An open file: the place of its next byte, and whether it can't be moved. Of its bytes it tells what the file does,
 /// but not which stand at which place.
 #[derive(Drop)]
-struct Opened<F> {
-    file: F,
-    place: u64,
-    is_stream: bool,
+pub(crate) struct Opened<F> {
+    pub(crate) file: F,
+    pub(crate) place: u64,
+    pub(crate) is_stream: bool,
 }
 
 impl<F: Read + Seek> Opened<F> {
@@ -181,7 +163,7 @@ impl<R: Files + Alloc> Depot for FileDepot<R> {
         ensures refused { OnErr result (self.new ≡ record self.old { fetches = raised self.old.fetches }) }
         ensures failed { OnErr result (Rose self.old.fetches self.new.fetches) }
     {
-        match self.take(name, at) {
+        match reach(&self.rt, &mut self.kept, name, at) {
             Ok(opened) => self.fetch_on(opened, name, at, buf),
             Err(_) => Err(raise(&mut self.fetch_faults)),
         }

@@ -6,6 +6,7 @@ mod depots;
 mod faults;
 mod file_depot;
 mod held;
+mod kept;
 mod mem_depot;
 mod mem_sink;
 mod sinks;

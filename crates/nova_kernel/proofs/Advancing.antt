@@ -167,7 +167,7 @@ queued_after k mid new q cpu s is may charges lays queued =
 
 -- THE REVOKES THAT RUN
 
-revoke_set : (pd g e : ℕ) (cs : Contexts) (regs : Registers) → IsSome (ec_in cs g) →
+pub revoke_set : (pd g e : ℕ) (cs : Contexts) (regs : Registers) → IsSome (ec_in cs g) →
     option_and_then (λ (x : EcState). revoke_by pd x.state) (ec_in (with_ec cs g (record (ec_of cs g) { regs = regs })) e) ≡ option_and_then (λ (x : EcState). revoke_by pd x.state) (ec_in cs e)
 revoke_set pd g e cs regs there = elim (cases_eq e g) [
   | inl here ↦

@@ -46,16 +46,16 @@ pub none_known : (k : KernelState) (n : ℕ) → AreKnown k (replicate n None)
 none_known k zero = tt
 none_known k (suc n) = (tt, none_known k n)
 
-known_along : (k new : KernelState) → ((o : Option Chosen) → IsKnown k o → IsKnown new o) → (known : List (Option Chosen)) → AreKnown k known → AreKnown new known
+pub known_along : (k new : KernelState) → ((o : Option Chosen) → IsKnown k o → IsKnown new o) → (known : List (Option Chosen)) → AreKnown k known → AreKnown new known
 known_along k new go [] all = tt
 known_along k new go (x ∷ xs) all = (go x all.0, known_along k new go xs all.1)
 
 -- AN INSTRUCTION THAT GOES ON
 
 -- the same ones act in all turns
-record AreLedOn (k new : KernelState) : Type 0 where
-  objects : new.objects ≡ k.objects
-  actors : (ec : ℕ) → actor_in new.contexts ec ≡ actor_in k.contexts ec
+pub record AreLedOn (k new : KernelState) : Type 0 where
+  pub objects : new.objects ≡ k.objects
+  pub actors : (ec : ℕ) → actor_in new.contexts ec ≡ actor_in k.contexts ec
 
 actor_same : (cs ds : Contexts) → ((ec : ℕ) → actor_in ds ec ≡ actor_in cs ec) → (o : Option Object) → actor_of ds o ≡ actor_of cs o
 actor_same cs ds same (Some (Sc ec cpu priority quantum)) = same ec
@@ -65,7 +65,7 @@ actor_same cs ds same (Some (Pt ec mtd ip)) = refl
 actor_same cs ds same (Some Sm) = refl
 actor_same cs ds same None = refl
 
-known_on : (k new : KernelState) → AreLedOn k new → (o : Option Chosen) → IsKnown k o → IsKnown new o
+pub known_on : (k new : KernelState) → AreLedOn k new → (o : Option Chosen) → IsKnown k o → IsKnown new o
 known_on k new on None is = tt
 known_on k new on (Some c) is =
     ap (λ (os : List Object). actor_of new.contexts (slice_get os c.sc)) on.objects ∙ (actor_same k.contexts new.contexts on.actors (slice_get k.objects c.sc) ∙ is)
@@ -78,14 +78,18 @@ stepped_on k ec (Went regs store) there =
       actors = λ e. same_actor k.contexts (with_ec k.contexts ec y) e (same_state_keeps_chases k.contexts ec e (context k ec) y (there_at k.contexts ec there) refl);
     }
 
--- what is stirred and who pays change nothing of it
-charged_on : (k s : KernelState) (ec cpu sc : ℕ) (d : Deed) → AreLedOn k s → AreLedOn k (charged (stirred k ec d s) cpu sc)
+-- who pays changes nothing of it
+pub paid_on : (k s : KernelState) (cpu sc : ℕ) → AreLedOn k s → AreLedOn k (charged s cpu sc)
 unfolding charged
-charged_on k s ec cpu sc d on = by_budget (stirred k ec d s) (budget_at s sc) (record { objects = on.objects; actors = on.actors })
+paid_on k s cpu sc on = by_budget (budget_at s sc)
   where
-    by_budget : (x : KernelState) (o : Option Budget) → AreLedOn k x → AreLedOn k (counted (paid_by x sc (quantum_in (slice_get x.objects sc)) o) cpu)
-    by_budget x None led = record { objects = led.objects; actors = led.actors }
-    by_budget x (Some b) led = record { objects = led.objects; actors = led.actors }
+    by_budget : (o : Option Budget) → AreLedOn k (counted (paid_by s sc (quantum_in (slice_get s.objects sc)) o) cpu)
+    by_budget None = record { objects = on.objects; actors = on.actors }
+    by_budget (Some b) = record { objects = on.objects; actors = on.actors }
+
+-- nor does what is stirred
+charged_on : (k s : KernelState) (ec cpu sc : ℕ) (d : Deed) → AreLedOn k s → AreLedOn k (charged (stirred k ec d s) cpu sc)
+charged_on k s ec cpu sc d on = paid_on k (stirred k ec d s) cpu sc (record { objects = on.objects; actors = on.actors })
 
 steps_known : (k s : KernelState) (cpu : ℕ) (c : Candidate) (d : Deed) (known : List (Option Chosen)) → AreLedOn k s → IsKnown k (Some (chosen_of c)) → AreKnown k known →
     AreKnown (charged (stirred k c.actor d s) cpu c.sc) (if nat_lt cpu 8 then slice_set known cpu (Some (chosen_of c)) else known)

@@ -6,5 +6,7 @@ pub mod Booted
 pub mod Below
 pub mod Stores
 pub mod Advancing
+pub mod Spending
+pub mod Rides
 pub mod Begun
 pub mod Sourced

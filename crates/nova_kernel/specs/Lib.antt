@@ -13,4 +13,5 @@ pub use Rattle.nova_parts.specs.Parts
 pub use Rattle.nova_parts.specs.Revoking
 pub mod Views
 pub mod Known
+pub mod Rides
 pub mod Begun

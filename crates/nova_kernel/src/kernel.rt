@@ -1,4 +1,4 @@
-ghost use Rattle.std.specs.Prelude.{◌≡◌, ◌+◌, ◌*◌, ◌^◌, ◌<◌, ◌≤◌, ◌-◌, length, map, replicate, slice_get, Some, IfSome, IfOk, OnOk, OnErr, option_map};
+ghost use Rattle.std.specs.Prelude.{◌≡◌, ◌+◌, ◌*◌, ◌^◌, ◌<◌, ◌≤◌, ◌-◌, length, map, replicate, slice_get, None, Some, IfSome, IfOk, OnOk, OnErr, option_map};
 ghost use Rattle.std.specs.Option.{option_copied};
 ghost use Rattle.nova_model.specs.State.{context_at};
 ghost use Rattle.nova_model.specs.Times.{until_due};
@@ -9,7 +9,7 @@ ghost use Rattle.nova_model.specs.declared.times.AlarmState.{AlarmState};
 ghost use Rattle.nova_model.specs.Choice.{choice, choose, is_quiet};
 ghost use Rattle.nova_model.specs.Delegations.{reach};
 ghost use Rattle.nova_model.specs.Turn.{turn, state_after, answer_of};
-ghost use Rattle.nova_model.specs.Runs.{run};
+ghost use Rattle.nova_model.specs.Runs.{run, trace};
 ghost use Rattle.nova_model.specs.Boot.{bare, laid};
 ghost use Rattle.nova_model.specs.Forest.{IsForest};
 ghost use Rattle.nova_laws.specs.Tables.{IsOf};
@@ -18,11 +18,13 @@ ghost use Rattle.nova_model.specs.Guests.{input};
 ghost use Rattle.nova_model.specs.Views.{view};
 ghost use Rattle.nova_parts.specs.Given.{BringsBytes};
 ghost use Rattle.nova_parts.specs.Stirs.{stir_of};
+ghost use Rattle.nova_leases.specs.Advances.{step_of};
 ghost use Rattle.nova_leases.specs.Commits.{IsReached, MayAdvance};
 ghost use Rattle.nova_kernel.specs.Views.{ticks_of, left_of, semaphore_at, derivation_from, turns_taken, IsMaking};
 
 use crate::burst::advance;
 use crate::choices::{keep, next_to_act};
+use crate::riding::{StepsTaken, plain_step, rides_alone, steps, turns_before};
 use crate::view::guest_of;
 use nova_choice::Chosen;
 use nova_guest::{Guest, Input};
@@ -38,7 +40,7 @@ use std::marker::Model;
 /// scheduling contexts, and memory. Time is counted in turns.
 #[derive(Drop)]
 pub struct Kernel {
-    parts: Parts,
+    pub(crate) parts: Parts,
     known: [Option<Chosen>; 8],
 }
 
@@ -87,7 +89,7 @@ impl Kernel {
     }
 
     /// The same state in memory of its own. The copy's console log has no room for more bytes, so that it
-    /// takes no turn. It refuses for want of memory alone.
+    /// takes no turn until `reserve_log` makes some. It refuses for want of memory alone.
     pub fn copy(&self) -> Result<Kernel, AllocError>
         ensures state { IfOk result (λ k. k.state ≡ self.now.state) }
         ensures room { IfOk result (λ k. k.room ≡ 0) }
@@ -150,6 +152,38 @@ impl Kernel {
     {
         advance(&mut self.parts, cpu, steps);
         self.known = [None; 8];
+    }
+
+    /// As many turns of a processor as instructions of the execution context that acts there go on one after another, at once: at most
+    /// so many, what is left of the chosen quantum, and what is left until something is due there. None is taken so where there is another
+    /// virtual CPU. Needs spare log for them all; with the turns taken before they are at most 2^31.
+    pub fn steps(&mut self, cpu: u32, most: u64) -> StepsTaken
+        requires cpu { cpu < self.old.state.cpus }
+        requires room { most ≤ self.old.room }
+        requires turns { self.old.state.turns + most ≤ 2 ^ 31 }
+        ensures most { result.count ≤ most }
+        ensures event { result.event ≡ option_map (step_of cpu) (choice self.old.state cpu) }
+        ensures none { result.event ≡ None → result.count ≡ 0 }
+        ensures state { self.new.state ≡ run self.old.state (replicate result.count cpu) }
+        ensures events { IfSome result.event (λ e. trace self.old.state (replicate result.count cpu) ≡ replicate result.count e) }
+        ensures room { self.old.room ≤ self.new.room + result.count }
+    {
+        let Some(chosen) = self.parts.choice(cpu, &self.known) else {
+            return StepsTaken {
+                event: None,
+                count: 0,
+            };
+        };
+        let event = Some(plain_step(cpu, chosen));
+        let Some(left) = self.parts.left(chosen.sc) else {
+            return StepsTaken { event, count: 0 };
+        };
+        if !rides_alone(&self.parts, chosen.actor) {
+            return StepsTaken { event, count: 0 };
+        }
+        let most = turns_before(most, left, self.parts.times.until_due(cpu));
+        let count = steps(&mut self.parts, cpu, chosen, most);
+        StepsTaken { event, count }
     }
 
     /// The scheduling context that the processor's next turn is charged to; none where it is idle.

@@ -22,3 +22,4 @@ pub mod Stored
 pub mod Laid
 pub mod Parts
 pub mod Nearing
+pub mod Riding

@@ -5,3 +5,4 @@ pub mod Paging
 pub mod Aims
 pub mod Commits
 pub mod Stops
+pub mod Rides

@@ -16,7 +16,8 @@ ghost use Rattle.nova_leases.specs.Advances.{IsLeasable, advanced, step_of};
 ghost use Rattle.nova_leases.specs.Commits.{IsCommitted, IsReached, LeaseRun, MayCommit, Stems, commit_done, same_counts, stirs_now};
 ghost use Rattle.nova_leases.specs.Counts.{IsAsBefore, IsOn, IsUnstirred};
 ghost use Rattle.nova_leases.specs.Leases.{IsOfGuest, LeaseState, lease_step, lease_steps, overlay};
-ghost use Rattle.nova_leases.specs.Paging.{AreFresh, IsRun, IsStepping, advanced_to};
+ghost use Rattle.nova_leases.specs.Paging.{AreFresh, IsRun, IsStepping, advanced_to, charged_times};
+ghost use Rattle.nova_leases.specs.Rides.{IsRideable, rides};
 ghost use Rattle.nova_leases.specs.Stops.{HoldsOfTouched, IsCopiedAt, IsRaise};
 ghost use Rattle.rv_model.specs.Step.{one};
 ghost use Rattle.nova_leases.specs.declared.commit.CommitDone.TheVariants.{Committed};
@@ -84,4 +85,14 @@ pub fn what_bursts_stand_on_is_kept()
     ensures memory { (k : KernelState) (address : ℕ) (bytes : List ℕ) → IsReached k → IsReached (record k { memory = laid k.memory address bytes }) }
     ensures turns { (k : KernelState) (cpu : ℕ) → IsReached k → IsReached (after k cpu) }
     ensures reached { (scenario : Scenario) (turns : List ℕ) → IsReached (run (boot scenario) turns) }
+{}
+
+/// So many instructions of whoever acts on a processor, each of which goes on, within what is left of the chosen quantum and before anything
+/// is due there, where there is no other virtual CPU that could see a store, and then as many turns charged, are as many turns of the
+/// processor. Each is a plain step of that one, paid by the chosen scheduling context.
+pub fn rides_are_turns()
+    ensures state { (n : ℕ) (k m : KernelState) (cpu : ℕ) (c : Candidate) (b : Budget) → IsRideable k cpu c b → n ≤ b.left → IsEarly k.times cpu n
+        → rides n k c.actor ≡ Some m → run k (replicate n cpu) ≡ charged_times n m cpu c.sc }
+    ensures events { (n : ℕ) (k m : KernelState) (cpu : ℕ) (c : Candidate) (b : Budget) → IsRideable k cpu c b → n ≤ b.left → IsEarly k.times cpu n
+        → rides n k c.actor ≡ Some m → trace k (replicate n cpu) ≡ replicate n (step_of cpu c) }
 {}

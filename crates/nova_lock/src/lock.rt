@@ -12,9 +12,13 @@ use crate::plays::{Draw, Leave, Look, Pass, Sit, Ticketed};
 use crate::view::View;
 use atomic_table::{Refused, Table};
 use std::alloc::{AllocError, AllocFailed, Global};
+use std::hint;
 use std::marker::Model;
 use std::snapshot::Snapshot;
 use std::sync::Wait;
+
+/// How often a seat looks whether it is served before it sleeps: a use is mostly over sooner than a sleeper wakes.
+const LOOKS: u32 = 4096;
 
 type Place<T> = atomic_table::Seat<T, View<T>>;
 
@@ -155,6 +159,16 @@ impl<T: Historied> HistoryLock<T> {
         self.table.shared.fetch_add::<Draw>(seat, 0, 1)
     }
 
+    /// Looks whether a ticket is served, until it is or `LOOKS` looks came to nothing.
+    fn look(&self, ticket: u64) {
+        for _look in 0..LOOKS {
+            if self.table.shared.peek(1) == ticket {
+                return;
+            }
+            hint::spin_loop();
+        }
+    }
+
     /// Waits until a ticket is served, and takes the value.
     fn wait(&self, rt: &impl Wait, seat: &mut Place<T>, ticket: u64)
         requires own { seat.old.table_id ≡ self.now.id }
@@ -162,6 +176,7 @@ impl<T: Historied> HistoryLock<T> {
         ensures same { seat.new.table_id ≡ seat.old.table_id }
         ensures took { Took T.opening T.history T.uses seat.old.me seat.new.me }
     {
+        self.look(ticket);
         for _ in rt.forever() {
             let found = self.table.shared.load::<Look>(seat, 1);
             if found == ticket {

@@ -3,3 +3,4 @@ pub mod Rooted
 pub mod Laid
 pub mod Views
 pub mod Seen
+pub mod Recents

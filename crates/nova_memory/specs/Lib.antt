@@ -5,3 +5,4 @@ pub mod Messages
 pub mod Previews
 pub mod Reach
 pub mod Sights
+pub mod Recents

@@ -7,6 +7,7 @@ ghost use Rattle.nova_memory.specs.Reach.{page_range, selector_range};
 
 use crate::messages::Messages;
 use crate::reach::Reach;
+use crate::recent::NONE;
 use crate::sights::Sights;
 use bitflags::Flags;
 use nova_frames::Frames;
@@ -146,6 +147,7 @@ impl Reach {
             pd: 0,
             is_thread: true,
             written: None,
+            recents: NONE,
         })
     }
 }

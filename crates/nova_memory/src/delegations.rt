@@ -11,6 +11,7 @@ ghost use Rattle.nova_memory.specs.Reach.{selector_range};
 ghost use Rattle.nova_running.specs.Runners.{busy_under};
 
 use crate::reach::Reach;
+use crate::recent::NONE;
 use nova_delegate::{PartDone, part, translate};
 use nova_model::{Derivation, Job, Kind, Rights};
 use nova_range::Range;
@@ -64,6 +65,7 @@ impl Reach {
             order: 0,
         };
         self.sights.forget();
+        self.recents = NONE;
         self.nodes.root(pd, place, rights, object);
     }
 
@@ -107,6 +109,7 @@ impl Reach {
         ensures log { self.new.room ≡ self.old.room }
     {
         self.sights.forget();
+        self.recents = NONE;
         part(&mut self.nodes, job, revokes)
     }
 

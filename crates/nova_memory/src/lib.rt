@@ -9,6 +9,8 @@ mod maps;
 pub mod messages;
 pub mod preview;
 pub mod reach;
+mod reading;
+mod recent;
 mod revoking;
 mod seeing;
 pub mod sights;

@@ -1,4 +1,4 @@
-ghost use Rattle.std.specs.Prelude.{◌≡◌, ◌-◌, ◌<◌, ◌≤◌, ◌%◌, ◌*◌, ◌^◌, [], ◌∷◌, ◌++◌, length, max, slice_set, slice_get, is_some, IsSome, false, Some, IfOk, IsOk, OnOk, OnErr};
+ghost use Rattle.std.specs.Prelude.{◌≡◌, ◌-◌, ◌<◌, ◌≤◌, ◌%◌, ◌*◌, ◌^◌, [], ◌∷◌, ◌++◌, length, max, slice_set, slice_get, is_some, IsSome, false, Some, IfOk, IsOk, OnOk, OnErr, option_map};
 ghost use Rattle.nova_utcb.specs.Messages.{loaded, stored};
 ghost use Rattle.nova_utcb.specs.Pages.{IsWidth};
 ghost use Rattle.nova_model.specs.State.{entry, message_in, no_words};
@@ -99,6 +99,13 @@ impl Messages {
             return *words;
         }
         Utcb::new()
+    }
+
+    /// The words of a number, where it has some.
+    pub fn words(&self, ec: u32) -> Option<&Utcb>
+        ensures { option_map (λ words. words.now) result ≡ entry (slice_get self.now.items ec) }
+    {
+        self.items.get(ec as usize)?.as_ref()
     }
 
     /// Puts words at a number that has an entry.

@@ -2,7 +2,7 @@ ghost use Rattle.std.specs.Prelude.{true, false, ℕ, ◌≡◌, ◌≤◌, ◌+
 ghost use Rattle.std.specs.List.{find};
 ghost use Rattle.std.specs.Bool.{OnTrue, OnFalse};
 ghost use Rattle.nova_utcb.specs.Pages.{IsWidth};
-ghost use Rattle.nova_range.specs.Rights.{read_right, write_right};
+ghost use Rattle.nova_range.specs.Rights.{execute_right, read_right, write_right};
 ghost use Rattle.nova_guest.specs.Frames.{frame_with};
 ghost use Rattle.nova_model.specs.AddressSpaces.{frame_for, words_at};
 ghost use Rattle.nova_model.specs.Delegations.{covers, page_in, reach};
@@ -10,6 +10,7 @@ ghost use Rattle.nova_memory.specs.Previews.{entered};
 ghost use Rattle.nova_memory.specs.Reach.{ReachState, loaded, reached, stored, takes};
 
 use crate::messages::Messages;
+use crate::recent::{NONE, Recent, Recents, frame_of};
 use crate::sights::Sights;
 use bitflags::Flags;
 use nova_frames::Frames;
@@ -27,8 +28,8 @@ pub(crate) const OWN_PAGE: u32 = 0xfffff;
 const MESSAGE_SIZE: u32 = 512;
 
 /// What an instruction reaches: the frames, through the derivations of the protection domain of the
-/// execution context that acts, and the message words of one that is a thread. The derivation of the last
-/// page that was looked up is looked at first, and who sees a frame that was stored to is remembered.
+/// execution context that acts, and the message words of one that is a thread. The last pages to fetch from, to load from and to store to
+/// are looked at first, then the derivation of the page that was looked up last, and who sees a frame that was stored to is remembered.
 #[derive(Drop)]
 pub struct Reach {
     pub(crate) frames: Frames,
@@ -41,12 +42,14 @@ pub struct Reach {
     pub(crate) is_thread: bool,
     /// The frame that the last store went to; none after one to message words.
     pub(crate) written: Option<u32>,
+    pub(crate) recents: Recents,
 }
 
 impl Model for Reach {
     ghost use Rattle.std.specs.Prelude.{◌+◌, length, IfSome};
     ghost use Rattle.nova_memory.specs.Reach.{ReachState, IsFound, LeadToFrames};
     ghost use Rattle.nova_memory.specs.Sights.{AreSeen};
+    ghost use Rattle.nova_memory.specs.Recents.{AreRecent};
 
     ghost Value = { ReachState };
 
@@ -62,7 +65,7 @@ impl Model for Reach {
       room = r.frames.room;
     } };
 
-    ghost invariant = { λ r. LeadToFrames (length r.frames.memory.ram + r.frames.consoles) r.nodes.delegations.list × (IfSome r.last (IsFound r.nodes.delegations.list) × AreSeen r.nodes.delegations.list r.sights) };
+    ghost invariant = { λ r. LeadToFrames (length r.frames.memory.ram + r.frames.consoles) r.nodes.delegations.list × (IfSome r.last (IsFound r.nodes.delegations.list) × (AreSeen r.nodes.delegations.list r.sights × AreRecent r.nodes.delegations.list r.recents)) };
 }
 
 /// Whether a derivation lies in the memory space of a protection domain and covers a page.
@@ -151,6 +154,7 @@ impl Reach {
             pd: self.pd,
             is_thread: self.is_thread,
             written: self.written,
+            recents: NONE,
         })
     }
 
@@ -224,6 +228,99 @@ impl Reach {
         frame_with(page, right)
     }
 
+    /// The frame of a page to fetch from that isn't the last such page, which it becomes. Few accesses leave their page.
+    #[inline(never)]
+    fn fetch_elsewhere(&mut self, address: u32) -> Option<u32>
+        ensures frame { result ≡ frame_for (reached self.old) execute_right address }
+        ensures there { IfSome result (λ frame. frame < length self.old.memory.ram + self.old.consoles) }
+        ensures kept { self.new ≡ self.old }
+    {
+        let frame = self.frame_for(Rights::EXECUTE, address)?;
+        if address / 4096 != OWN_PAGE {
+            self.recents.fetched = Recent {
+                pd: self.pd,
+                page: address / 4096,
+                frame,
+            };
+        }
+        Some(frame)
+    }
+
+    /// The frame to fetch from.
+    #[inline(always)]
+    fn frame_to_fetch(&mut self, address: u32) -> Option<u32>
+        ensures frame { result ≡ frame_for (reached self.old) execute_right address }
+        ensures there { IfSome result (λ frame. frame < length self.old.memory.ram + self.old.consoles) }
+        ensures kept { self.new ≡ self.old }
+    {
+        if let Some(frame) = frame_of(&self.recents.fetched, self.pd, address) {
+            return Some(frame);
+        }
+        self.fetch_elsewhere(address)
+    }
+
+    /// The frame of a page to load from that isn't the last such page, which it becomes. Few accesses leave their page.
+    #[inline(never)]
+    fn load_elsewhere(&mut self, address: u32) -> Option<u32>
+        ensures frame { result ≡ frame_for (reached self.old) read_right address }
+        ensures there { IfSome result (λ frame. frame < length self.old.memory.ram + self.old.consoles) }
+        ensures kept { self.new ≡ self.old }
+    {
+        let frame = self.frame_for(Rights::READ, address)?;
+        if address / 4096 != OWN_PAGE {
+            self.recents.loaded = Recent {
+                pd: self.pd,
+                page: address / 4096,
+                frame,
+            };
+        }
+        Some(frame)
+    }
+
+    /// The frame to load from.
+    #[inline(always)]
+    fn frame_to_load(&mut self, address: u32) -> Option<u32>
+        ensures frame { result ≡ frame_for (reached self.old) read_right address }
+        ensures there { IfSome result (λ frame. frame < length self.old.memory.ram + self.old.consoles) }
+        ensures kept { self.new ≡ self.old }
+    {
+        if let Some(frame) = frame_of(&self.recents.loaded, self.pd, address) {
+            return Some(frame);
+        }
+        self.load_elsewhere(address)
+    }
+
+    /// The frame of a page to store to that isn't the last such page, which it becomes. Few accesses leave their page.
+    #[inline(never)]
+    fn store_elsewhere(&mut self, address: u32) -> Option<u32>
+        ensures frame { result ≡ frame_for (reached self.old) write_right address }
+        ensures there { IfSome result (λ frame. frame < length self.old.memory.ram + self.old.consoles) }
+        ensures kept { self.new ≡ self.old }
+    {
+        let frame = self.frame_for(Rights::WRITE, address)?;
+        if address / 4096 != OWN_PAGE {
+            self.recents.stored = Recent {
+                pd: self.pd,
+                page: address / 4096,
+                frame,
+            };
+        }
+        Some(frame)
+    }
+
+    /// The frame to store to.
+    #[inline(always)]
+    fn frame_to_store(&mut self, address: u32) -> Option<u32>
+        ensures frame { result ≡ frame_for (reached self.old) write_right address }
+        ensures there { IfSome result (λ frame. frame < length self.old.memory.ram + self.old.consoles) }
+        ensures kept { self.new ≡ self.old }
+    {
+        if let Some(frame) = frame_of(&self.recents.stored, self.pd, address) {
+            return Some(frame);
+        }
+        self.store_elsewhere(address)
+    }
+
     /// A load of an execution context that finds no frame: message words, or nothing.
     #[inline(always)]
     pub(crate) fn load_own(&self, ec: u32, is_thread: bool, address: u32, width: u32) -> Option<u32>
@@ -274,20 +371,23 @@ impl Bus for Reach {
 
     ghost room = { λ s. 0 < s.room };
 
+    #[inline(always)]
     fn fetch(&mut self, addr: u32) -> Option<u32> {
-        let frame = self.frame_for(Rights::EXECUTE, addr)?;
+        let frame = self.frame_to_fetch(addr)?;
         Some(self.frames.load(frame, addr % 4096, 4))
     }
 
+    #[inline(always)]
     fn load(&mut self, addr: u32, width: u32) -> Option<u32> {
-        let Some(frame) = self.frame_for(Rights::READ, addr) else {
+        let Some(frame) = self.frame_to_load(addr) else {
             return self.load_own(self.ec, self.is_thread, addr, width);
         };
         Some(self.frames.load(frame, addr % 4096, width))
     }
 
+    #[inline(always)]
     fn store(&mut self, addr: u32, width: u32, value: u32) -> bool {
-        let Some(frame) = self.frame_for(Rights::WRITE, addr) else {
+        let Some(frame) = self.frame_to_store(addr) else {
             return self.store_own(addr, width, value);
         };
         self.frames.store(frame, addr % 4096, width, value);

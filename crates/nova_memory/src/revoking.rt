@@ -3,6 +3,7 @@ ghost use Rattle.nova_model.specs.Revokes.{next_leaf, revoked};
 ghost use Rattle.nova_revoke.specs.Done.{done_of};
 
 use crate::reach::Reach;
+use crate::recent::NONE;
 use nova_revoke::{Revoke, RevokeDone, part};
 
 impl Reach {
@@ -17,6 +18,7 @@ impl Reach {
     {
         self.last = None;
         self.sights.forget();
+        self.recents = NONE;
         part(&mut self.nodes, revoke)
     }
 }

@@ -1,4 +1,5 @@
 pub mod BlockLemmas
+pub mod LengthLemmas
 pub mod LineLemmas
 pub mod NumberLemmas
 pub mod OrderLemmas

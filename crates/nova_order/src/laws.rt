@@ -1,6 +1,6 @@
 //! Laws of the definitions that the contracts of this crate cite. The functions do nothing: their contracts are the laws.
 
-ghost use Rattle.std.specs.Prelude.{◌≡◌, ℕ, ◌^◌, ◌<◌, ◌≤◌, ◌&&◌, List, length, nat_lt, nat_le, IsTrue, Ok};
+ghost use Rattle.std.specs.Prelude.{◌≡◌, ℕ, ◌*◌, ◌^◌, ◌<◌, ◌≤◌, ◌&&◌, List, length, nat_lt, nat_le, IsTrue, Ok};
 ghost use Rattle.std.specs.List.{list_all};
 ghost use Rattle.nova_order.specs.declared.block.Block.{Block};
 ghost use Rattle.nova_order.specs.Blocks.{IsOrder, HasOrder, turns, is_within};
@@ -33,4 +33,11 @@ pub fn turns_have_one_order()
 pub fn bounds_are_of_turns()
     ensures { (cpus most : ℕ) (blocks : List Block) → IsOrder blocks
         → is_within cpus most blocks ≡ (list_all (λ cpu. nat_lt cpu cpus) (turns blocks) && nat_le (length (turns blocks)) most) }
+{}
+
+/// The text of an order of at most ten processors has at most four bytes for each turn that the order may have: a digit, a space, no more
+/// digits than turns, and a line feed.
+pub fn a_text_has_four_bytes_a_turn()
+    ensures { (cpus most : ℕ) (blocks : List Block) → cpus ≤ 10 → IsOrder blocks → IsTrue (is_within cpus most blocks)
+        → length (text_of blocks) ≤ 4 * most }
 {}

@@ -3,10 +3,13 @@ pub use Rattle.nova_running.proofs.GuestTables
 pub use Rattle.nova_memory.proofs.Laid
 pub use Rattle.nova_deeds.proofs.Booted
 pub use Rattle.nova_deeds.proofs.Bursts
+pub use Rattle.nova_deeds.proofs.Charges
 pub use Rattle.nova_deeds.proofs.Counts
+pub use Rattle.nova_deeds.proofs.Keeps
 pub use Rattle.nova_deeds.proofs.Moves
 pub use Rattle.nova_deeds.proofs.Taken
 pub mod Reached
+pub mod Beside
 pub mod Making
 pub mod Quiet
 pub mod Known

@@ -38,7 +38,7 @@ pub record IsReached (k : KernelState) (ec : ℕ) (reach : ReachState) : Type 0 
   pub pd : reach.pd ≡ pd_of k ec
   pub is_thread : reach.is_thread ≡ is_thread k ec
 
-space-reached : (k : KernelState) (ec : ℕ) (reach : ReachState) → IsReached k ec reach → reached reach ≡ address_space k ec
+pub space-reached : (k : KernelState) (ec : ℕ) (reach : ReachState) → IsReached k ec reach → reached reach ≡ address_space k ec
 space-reached k ec reach r = spaces (ap (λ (d : Delegations). d.list) r.delegations) r.memory r.pd r.is_thread r.messages r.number
   where
     spaces : {l l' : List Derivation} {m m' : Memory} {p p' : ℕ} {t t' : Bool} {w w' : List (Option (List ℕ))} {e e' : ℕ} →
@@ -61,12 +61,12 @@ words-ap : (s : Store) {a a' : AddressSpace} {e e' : ℕ} {w w' : List (Option (
     words_after_store a e s w ≡ words_after_store a' e' s w'
 words-ap s a e w = rw (a, e, w) refl
 
-reaching-contexts : (k : KernelState) (ec : ℕ) (reach : ReachState) (cs ds : Contexts) → IsReached k ec reach → cs ≡ ds →
+pub reaching-contexts : (k : KernelState) (ec : ℕ) (reach : ReachState) (cs ds : Contexts) → IsReached k ec reach → cs ≡ ds →
     reaching k reach cs ≡ record k { contexts = ds }
 unfolding framed
 reaching-contexts k ec reach cs ds r is = framed-ap k r.delegations r.memory r.messages r.consoles is
 
-reaching-stored : (k : KernelState) (ec : ℕ) (reach : ReachState) (s : Store) (cs ds : Contexts) → IsReached k ec reach → cs ≡ ds →
+pub reaching-stored : (k : KernelState) (ec : ℕ) (reach : ReachState) (s : Store) (cs ds : Contexts) → IsReached k ec reach → cs ≡ ds →
     reaching k (stored s reach) cs ≡ record k {
       memory = after_store (address_space k ec) s k.memory;
       messages = words_after_store (address_space k ec) ec s k.messages;

@@ -23,6 +23,7 @@ pub use Rattle.nova_inputs.specs.Given
 pub mod Views
 pub mod Known
 pub mod Parts
+pub mod Beside
 pub mod Homes
 pub mod ObjectTypes
 pub mod Revoking

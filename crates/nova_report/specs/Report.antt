@@ -36,6 +36,9 @@ abbrev pub event_line : ℕ × Event → List ℕ
 event_line (place, e) = codes "at " ++ (decimal place ++ (codes " " ++ (decimal e.cpu ++ (codes " " ++ (decimal e.ec ++ (codes " "
     ++ (event_word e.kind ++ (codes " " ++ (decimal e.a ++ (codes " " ++ (decimal e.b ++ line_feed)))))))))))
 
+abbrev pub lines_from : ℕ → List Event → List ℕ
+lines_from n events = flat_map event_line (filter is_told (enumerate_from n events))
+
 abbrev pub event_lines : List Event → List ℕ
 event_lines trace = flat_map event_line (filter is_told (enumerate_from 1 trace))
 

@@ -1,34 +1,53 @@
-ghost use Rattle.std.specs.Prelude.{◌≡◌, ◌≤◌, IfOk, length};
+ghost use Rattle.std.specs.Prelude.{◌≡◌, ◌≤◌, IfOk, length, replicate};
 ghost use Rattle.nova_report.specs.Summary.{count, is_made, is_gone, summary};
 
 use nova_kernel::Kernel;
-use nova_model::{Event, EventKind};
+use nova_model::EventKind;
+use nova_trace::{Repeated, Trace};
 use std::alloc::{AllocError, Global};
 
-/// How many events tell that a child was made.
-fn count_made(trace: &[Event]) -> usize
-    ensures count { result ≡ count is_made trace.now }
-    ensures few { result ≤ length trace.now }
+/// How many events of an entry tell that a child was made.
+fn made_in(entry: &Repeated) -> u64
+    ensures { result ≡ count is_made (replicate entry.now.count entry.now.event) }
 {
+    match entry.event.kind {
+        EventKind::Made => entry.count,
+        _ => 0,
+    }
+}
+
+/// How many events tell that a child was made.
+fn count_made(trace: &Trace) -> u64
+    ensures count { result ≡ count is_made trace.now.items }
+    ensures few { result ≤ length trace.now.items }
+{
+    let entries = trace.entries();
     let mut made = 0;
-    for event in trace {
-        if matches!(event.kind, EventKind::Made) {
-            made += 1;
-        }
+    for entry in entries {
+        made += made_in(entry);
     }
     made
 }
 
-/// How many events tell that a derivation was removed.
-fn count_gone(trace: &[Event]) -> usize
-    ensures count { result ≡ count is_gone trace.now }
-    ensures few { result ≤ length trace.now }
+/// How many events of an entry tell that a derivation was removed.
+fn gone_in(entry: &Repeated) -> u64
+    ensures { result ≡ count is_gone (replicate entry.now.count entry.now.event) }
 {
+    match entry.event.kind {
+        EventKind::Gone => entry.count,
+        _ => 0,
+    }
+}
+
+/// How many events tell that a derivation was removed.
+fn count_gone(trace: &Trace) -> u64
+    ensures count { result ≡ count is_gone trace.now.items }
+    ensures few { result ≤ length trace.now.items }
+{
+    let entries = trace.entries();
     let mut gone = 0;
-    for event in trace {
-        if matches!(event.kind, EventKind::Gone) {
-            gone += 1;
-        }
+    for entry in entries {
+        gone += gone_in(entry);
     }
     gone
 }
@@ -53,9 +72,9 @@ pub fn summary(
     alloc: Global,
     number: u32,
     kernel: &Kernel,
-    trace: &[Event],
+    trace: &Trace,
 ) -> Result<Vec<u8>, AllocError>
-    ensures { IfOk result (λ text. text.items ≡ summary number kernel.now.state trace.now) }
+    ensures { IfOk result (λ text. text.items ≡ summary number kernel.now.state trace.now.items) }
 {
     let mut out = String::new(alloc);
     let turns = kernel.turns();

@@ -1,4 +1,4 @@
-//! The report of a run: its turns, its events, and what the kernel holds at the end, as text.
+//! The report of a run: its turns, its events, and what the kernel holds at the end, as text; and its sections.
 #![tactic(auto)]
 
 mod bench;
@@ -11,4 +11,9 @@ mod run;
 mod sources;
 
 pub use bench::summary;
+pub use consoles::write_consoles;
+pub use derivations::write_derivations;
+pub use events::event_word;
+pub use hex::{write_byte, write_word};
+pub use objects::{write_contexts, write_semaphores};
 pub use run::report;

@@ -8,14 +8,14 @@ use crate::events::write_events;
 use crate::objects::{write_budgets, write_contexts, write_semaphores};
 use crate::sources::write_sources;
 use nova_kernel::Kernel;
-use nova_model::Event;
+use nova_trace::Trace;
 use std::alloc::{AllocError, Global};
 
 /// The report of a kernel and of the events of its turns, in order. The only error is that memory
 /// ran out.
 #[tactic(auto, using(crate::proofs::Sourced::are_sources), unfolding(crate::specs::Report::report))]
-pub fn report(alloc: Global, kernel: &Kernel, trace: &[Event]) -> Result<Vec<u8>, AllocError>
-    ensures { IfOk result (λ text. text.items ≡ report kernel.now.state trace.now) }
+pub fn report(alloc: Global, kernel: &Kernel, trace: &Trace) -> Result<Vec<u8>, AllocError>
+    ensures { IfOk result (λ text. text.items ≡ report kernel.now.state trace.now.items) }
 {
     let mut out = String::new(alloc);
     write_run(&mut out, kernel)?;

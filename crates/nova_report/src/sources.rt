@@ -4,7 +4,7 @@ ghost use Rattle.nova_gsi.specs.Firings.{IsSource};
 ghost use Rattle.nova_report.specs.Report.{source_line, source_lines};
 
 use nova_gsi::{Source, SourceLine, table};
-use nova_model::Event;
+use nova_trace::Trace;
 use std::alloc::{AllocError, Global};
 
 fn write_source(
@@ -25,10 +25,10 @@ pub fn write_sources(
     alloc: Global,
     out: &mut String,
     sources: &[Source],
-    trace: &[Event],
+    trace: &Trace,
 ) -> Result<(), AllocError>
     requires numbers { AllByRecursion IsSource sources.now }
-    ensures { OnOk result (string_bytes out.new ≡ string_bytes out.old ++ source_lines sources.now trace.now) }
+    ensures { OnOk result (string_bytes out.new ≡ string_bytes out.old ++ source_lines sources.now trace.now.items) }
 {
     let lines = table(alloc, sources, trace)?;
     for i in 0..sources.len() {

@@ -1,6 +1,6 @@
 -- Runs along an order, block by block.
 use Rattle.std.proofs.Common.{◌≡◌, ℕ, suc, ◌+◌, ◌-◌, ◌≤◌, ◌<◌, List, [], ◌∷◌, ◌++◌, length, take, drop, replicate, ap, sym, ◌∙◌, subst, arith, append_assoc, slice_index_or, refl}
-use Rattle.std.specs.Prelude.{Bool, true, false, is_some, IsSome, IsTrue, nat_lt, if◌then◌else◌}
+use Rattle.std.specs.Prelude.{Bool, true, false, is_some, IsTrue, nat_lt, if◌then◌else◌}
 use Rattle.std.proofs.lemmas.List.{append-nil, take_more, take-append-drop, length-take, replicate-append-replicate}
 use Rattle.std.proofs.lemmas.List.Folds.{list_all-append}
 use Rattle.std.proofs.lemmas.List.Sums.{sum_by-cons, sum_by-append}
@@ -25,22 +25,25 @@ pub free_after : (k : KernelState) (xs ys : List ℕ) → IsFreeOfIdle k (xs ++ 
 free_after k [] ys free = free
 free_after k (x ∷ xs) ys free = free_after (after k x) xs ys free.1
 
--- a turn of a processor more
-replicate_on : (n cpu : ℕ) → replicate (n + 1) cpu ≡ replicate n cpu ++ cpu ∷ []
-replicate_on n cpu = sym (replicate-append-replicate n 1 cpu)
+-- turns of one processor so far, and more of them, none of them idle
+pub turns_on : (a b c : Finished) (cpu n m : ℕ) → Passed a (replicate n cpu) b × IsFreeOfIdle a.kernel.state (replicate n cpu) →
+    Passed b (replicate m cpu) c → IsFreeOfIdle b.kernel.state (replicate m cpu) →
+    Passed a (replicate (n + m) cpu) c × IsFreeOfIdle a.kernel.state (replicate (n + m) cpu)
+turns_on a b c cpu n m was more there =
+    let passed = Passed-through a b c (replicate n cpu) (replicate m cpu) was.0 more in
+    let free = free_append a.kernel.state (replicate n cpu) (replicate m cpu) was.1 (subst (λ (k : KernelState). IsFreeOfIdle k (replicate m cpu)) was.0.kernel there) in
+    subst (λ (l : List ℕ). Passed a l c × IsFreeOfIdle a.kernel.state l) (replicate-append-replicate n m cpu) (passed, free)
 
--- turns of one processor so far, none of them idle
-pub turn_on : (a b c : Finished) (cpu n : ℕ) → Passed a (replicate n cpu) b × IsFreeOfIdle a.kernel.state (replicate n cpu) →
-    Passed b (taken b.kernel.state cpu) c → is_some (turn b.kernel.state cpu) ≡ true →
-    Passed a (replicate (n + 1) cpu) c × IsFreeOfIdle a.kernel.state (replicate (n + 1) cpu)
-turn_on a b c cpu n was turned there =
-    let one : taken b.kernel.state cpu ≡ cpu ∷ [] = ap (λ (t : Bool). if t then cpu ∷ [] else []) there in
-    let passed = Passed-through a b c (replicate n cpu) (cpu ∷ []) was.0 (subst (λ (l : List ℕ). Passed b l c) one turned) in
-    let free = free_append a.kernel.state (replicate n cpu) (cpu ∷ []) was.1 (is_at (run a.kernel.state (replicate n cpu)) (ap (λ (k : KernelState). is_some (turn k cpu)) (sym was.0.kernel) ∙ there), tt) in
-    subst (λ (l : List ℕ). Passed a l c × IsFreeOfIdle a.kernel.state l) (sym (replicate_on n cpu)) (passed, free)
-  where
-    is_at : (k : KernelState) → is_some (turn k cpu) ≡ true → IsSome (turn k cpu)
-    is_at k h = h
+-- one turn of a processor that isn't idle
+pub turn_one : (a b : Finished) (cpu : ℕ) → Passed a (taken a.kernel.state cpu) b → is_some (turn a.kernel.state cpu) ≡ true →
+    Passed a (replicate 1 cpu) b × IsFreeOfIdle a.kernel.state (replicate 1 cpu)
+turn_one a b cpu turned there =
+    let one : taken a.kernel.state cpu ≡ cpu ∷ [] = ap (λ (t : Bool). if t then cpu ∷ [] else []) there in
+    (subst (λ (l : List ℕ). Passed a l b) one turned, (there, tt))
+
+-- and one that is idle
+pub turn_none : (a b : Finished) (cpu : ℕ) → Passed a (taken a.kernel.state cpu) b → is_some (turn a.kernel.state cpu) ≡ false → Passed a [] b
+turn_none a b cpu turned idle = subst (λ (l : List ℕ). Passed a l b) (ap (λ (t : Bool). if t then cpu ∷ [] else []) idle) turned
 
 -- a turn that is idle
 pub turn_idle : (a b : Finished) (cpu n count : ℕ) → n < count → Passed a (replicate n cpu) b → is_some (turn b.kernel.state cpu) ≡ false →

@@ -1,5 +1,7 @@
 pub mod Kept
+pub mod Steps
 pub mod Passes
+pub mod Lone
 pub mod Blocks
 pub mod Seated
 pub mod Ends

@@ -1,6 +1,6 @@
 -- The passes of a round robin.
 use Rattle.std.proofs.Common.{◌≡◌, ℕ, zero, suc, ◌+◌, ◌-◌, ◌<◌, ◌≤◌, List, [], ◌∷◌, ◌++◌, length, refl, ap, ap₂, sym, ◌∙◌, subst, arith, append_assoc}
-use Rattle.std.specs.Prelude.{Bool, true, false, is_some, if◌then◌else◌, vec_capacity}
+use Rattle.std.specs.Prelude.{Bool, true, false, is_some, if◌then◌else◌}
 use Rattle.std.proofs.lemmas.List.{append-nil}
 use Rattle.nova_kernel.specs.Views.{KernelView}
 use Rattle.nova_model.specs.State.{KernelState}
@@ -13,12 +13,12 @@ use Rattle.nova_run.specs.UnderWay.{IsReady, Passed, IsUnderWay, left, taken}
 use Rattle.nova_shared.specs.declared.finished.Finished.{Finished}
 use Rattle.nova_shared.proofs.Passing.{Passed-through, Finished-on}
 
-pass-zero : (k : KernelState) (cpu count : ℕ) → pass k cpu count 0 ≡ []
+pub pass-zero : (k : KernelState) (cpu count : ℕ) → pass k cpu count 0 ≡ []
 pass-zero k cpu zero = refl
 pass-zero k cpu (suc count) = refl
 
 -- the turn of one processor
-pass-one : (k : KernelState) (cpu most : ℕ) → 0 < most → pass k cpu 1 most ≡ taken k cpu
+pub pass-one : (k : KernelState) (cpu most : ℕ) → 0 < most → pass k cpu 1 most ≡ taken k cpu
 pass-one k cpu zero some = absurd (omega arith)
 pass-one k cpu (suc most) some = refl
 
@@ -40,13 +40,13 @@ pass-first k cpu count (suc most) = by_test (is_some (turn k cpu))
     by_test false = ap (λ (n : ℕ). pass k (cpu + 1) count n) (sym same)
 
 -- what a part of a run leaves
-left_by : (b c : Finished) (list : List ℕ) → Passed b list c → left c ≡ left b - length list
+pub left_by : (b c : Finished) (list : List ℕ) → Passed b list c → left c ≡ left b - length list
 left_by b c list p = let e = p.count in let l = p.limit in omega arith
 
 -- a processor's turn on the way of a pass
 pub IsUnderWay-turn : (a b c : Finished) (cpu cpus : ℕ) (all : List ℕ) → cpu < cpus →
     IsUnderWay a b (pass b.kernel.state cpu (cpus - cpu) (left b)) all → Passed b (pass b.kernel.state cpu 1 (left b)) c →
-    vec_capacity c.trace ≡ vec_capacity b.trace →
+    c.trace.capacity ≡ b.trace.capacity →
     IsUnderWay a c (pass c.kernel.state (cpu + 1) (cpus - (cpu + 1)) (left c)) all
 IsUnderWay-turn a b c cpu cpus all h way turned places =
     let one = pass b.kernel.state cpu 1 (left b) in record {
@@ -106,7 +106,7 @@ passes_same (suc n) (suc m) k most h i =
         ap (λ (l : List ℕ). pass k 0 k.cpus most ++ l) (rest (omega arith))
 
 -- the first pass of a round robin that takes a turn, and then the others
-rounds_first : (k : KernelState) (most : ℕ) → 0 < length (pass k 0 k.cpus most) →
+pub rounds_first : (k : KernelState) (most : ℕ) → 0 < length (pass k 0 k.cpus most) →
     rounds k most ≡ pass k 0 k.cpus most ++ rounds (run k (pass k 0 k.cpus most)) (most - length (pass k 0 k.cpus most))
 unfolding rounds
 rounds_first k zero some = let none = ap length (pass-zero k 0 k.cpus) in absurd (omega arith)
@@ -130,7 +130,7 @@ module _ (a b c : Finished) (all : List ℕ) (turned : Passed b (pass b.kernel.s
 
   -- a pass on the way
   pub IsUnderWay-pass : IsUnderWay a b (rounds b.kernel.state (left b)) all → left c < left b →
-      vec_capacity c.trace ≡ vec_capacity b.trace →
+      c.trace.capacity ≡ b.trace.capacity →
       IsUnderWay a c (rounds c.kernel.state (left c)) all
   unfolding one
   IsUnderWay-pass way fewer places = record {

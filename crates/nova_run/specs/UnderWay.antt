@@ -1,5 +1,5 @@
 -- Runs on their way, and what turns add to them.
-use Rattle.std.specs.Prelude.{◌≡◌, ℕ, Bool, true, false, List, [], ◌++◌, vec_capacity}
+use Rattle.std.specs.Prelude.{◌≡◌, ℕ, Bool, true, false, List, [], ◌++◌}
 use Rattle.nova_model.specs.State.{KernelState}
 use Rattle.nova_order.specs.Blocks.{turns}
 use Rattle.nova_order.specs.declared.block.Block.{Block}
@@ -17,7 +17,7 @@ pub record IsUnderWay (old new : Finished) (rest all : List ℕ) : Type 0 where
   pub done : List ℕ
   pub passed : Passed old done new
   pub whole : done ++ rest ≡ all
-  pub places : vec_capacity new.trace ≡ vec_capacity old.trace
+  pub places : new.trace.capacity ≡ old.trace.capacity
 
 -- a run from a state along these blocks, with no idle turn
 pub record IsAlong (k : KernelState) (most : ℕ) (f : Finished) (blocks : List Block) : Type 0 where

@@ -9,9 +9,6 @@ use nova_shared::{Block, CpuSeat, Shared};
 use std::alloc::Global;
 use std::sync::Wait;
 
-/// How many instructions a burst has at most.
-const INSTRUCTIONS: u64 = 4096;
-
 /// How many pages are copied for a burst at most.
 const PAGES: usize = 16;
 
@@ -83,9 +80,15 @@ impl Block for Committing {
     }
 }
 
-/// A burst of the processor of a seat, and how many turns it was: it is leased in one use of the kernel, runs on its copies while others use the
+/// A burst of the processor of a seat, of at most so many instructions, and how many turns it was: it is leased in one use of the kernel, runs on its copies while others use the
 /// kernel, and is committed in another use. It was none where nothing could be leased, and where nothing was committed.
-pub(crate) fn burst<R: Wait>(rt: &R, alloc: Global, shared: &Shared, seat: &mut CpuSeat) -> u64
+pub(crate) fn burst<R: Wait>(
+    rt: &R,
+    alloc: Global,
+    shared: &Shared,
+    seat: &mut CpuSeat,
+    most: u64,
+) -> u64
     requires { IsCpuSeat shared.now seat.old }
     ensures { seat.new ≡ record seat.old { front = seat.new.front } }
 {
@@ -96,7 +99,7 @@ pub(crate) fn burst<R: Wait>(rt: &R, alloc: Global, shared: &Shared, seat: &mut 
     };
     shared.block(rt, seat, &mut leasing);
     // More than there was room for would be run in vain.
-    let most = INSTRUCTIONS.min(leasing.left);
+    let most = most.min(leasing.left);
     let Some(mut lease) = leasing.lease else {
         return 0;
     };

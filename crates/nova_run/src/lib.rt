@@ -2,6 +2,7 @@
 #![tactic(auto)]
 
 mod bursts;
+mod crew;
 mod fault;
 mod gate;
 mod orders;

@@ -5,7 +5,7 @@ ghost use Rattle.nova_run.specs.Finished.{IsFinished, IsIdleLine, IsFreeOfIdle};
 ghost use Rattle.nova_run.specs.UnderWay.{IsReady, Passed, IsAlong, IsBegun, IsBlockTaken};
 
 use crate::fault::RunFault;
-use crate::turns::{begin, kept, make_places, turn};
+use crate::turns::{begin, go, kept, make_places};
 use nova_kernel::Kernel;
 use nova_order::Order;
 use nova_shared::Finished;
@@ -19,10 +19,13 @@ fn take(run: &mut Finished, cpu: u32, count: u64) -> Result<bool, AllocError>
     ensures { IfOk result (λ all. IsBlockTaken run.old (replicate count cpu) all run.new) }
 {
     make_places(run, count)?;
-    for _turn in 0..count {
-        if !turn(run, cpu)? {
+    let mut left = count;
+    while left > 0 {
+        let taken = go(run, cpu, left)?;
+        if taken == 0 {
             return Ok(false);
         }
+        left -= taken;
     }
     Ok(true)
 }

@@ -1,11 +1,11 @@
-ghost use Rattle.std.specs.Prelude.{◌≡◌, ◌+◌, ◌^◌, ◌<◌, ◌≤◌, vec_capacity, IfOk, IfErr, OnOk};
+ghost use Rattle.std.specs.Prelude.{◌≡◌, ◌+◌, ◌^◌, ◌<◌, ◌≤◌, IfOk, IfErr, OnOk};
 ghost use Rattle.nova_model.specs.Runs.{rounds, pass};
 ghost use Rattle.nova_run.specs.declared.fault.RunFault.TheVariants.{Memory};
 ghost use Rattle.nova_run.specs.Finished.{IsFinished};
 ghost use Rattle.nova_run.specs.UnderWay.{IsReady, Passed, left};
 
 use crate::fault::RunFault;
-use crate::turns::{begin, kept, make_places, turn};
+use crate::turns::{begin, go, kept, make_places, turn};
 use nova_kernel::Kernel;
 use nova_shared::Finished;
 use std::alloc::{AllocError, Global};
@@ -15,12 +15,12 @@ use std::alloc::{AllocError, Global};
 #[inline(always)]
 fn turn_within(run: &mut Finished, cpu: u32, more: u64) -> Result<u64, AllocError>
     requires ready { IsReady run.old }
-    requires places { run.old.limit ≤ vec_capacity run.old.trace }
+    requires places { run.old.limit ≤ run.old.trace.capacity }
     requires cpu { cpu < run.old.kernel.state.cpus }
     requires more { more ≡ left run.old }
     ensures passed { OnOk result (Passed run.old (pass run.old.kernel.state cpu 1 (left run.old)) run.new) }
     ensures more { IfOk result (λ more. more ≡ left run.new) }
-    ensures places { vec_capacity run.new.trace ≡ vec_capacity run.old.trace }
+    ensures places { run.new.trace.capacity ≡ run.old.trace.capacity }
 {
     if more > 0 && turn(run, cpu)? {
         return Ok(more - 1);
@@ -33,12 +33,12 @@ fn turn_within(run: &mut Finished, cpu: u32, more: u64) -> Result<u64, AllocErro
 #[inline(always)]
 fn pass(run: &mut Finished, cpus: u32, more: u64) -> Result<u64, AllocError>
     requires ready { IsReady run.old }
-    requires places { run.old.limit ≤ vec_capacity run.old.trace }
+    requires places { run.old.limit ≤ run.old.trace.capacity }
     requires cpus { cpus ≡ run.old.kernel.state.cpus }
     requires more { more ≡ left run.old }
     ensures passed { OnOk result (Passed run.old (pass run.old.kernel.state 0 run.old.kernel.state.cpus (left run.old)) run.new) }
     ensures more { IfOk result (λ more. more ≡ left run.new) }
-    ensures places { OnOk result (vec_capacity run.new.trace ≡ vec_capacity run.old.trace) }
+    ensures places { OnOk result (run.new.trace.capacity ≡ run.old.trace.capacity) }
 {
     let mut more = more;
     for cpu in 0..cpus {
@@ -50,11 +50,11 @@ fn pass(run: &mut Finished, cpus: u32, more: u64) -> Result<u64, AllocError>
 /// Passes until one takes no turn or there are as many turns as there may be.
 fn run_out(run: &mut Finished) -> Result<(), AllocError>
     requires ready { IsReady run.old }
-    requires places { run.old.limit ≤ vec_capacity run.old.trace }
+    requires places { run.old.limit ≤ run.old.trace.capacity }
     ensures { OnOk result (Passed run.old (rounds run.old.kernel.state (left run.old)) run.new) }
 {
     let cpus = run.kernel.cpus();
-    let mut more = run.limit - run.trace.len() as u64;
+    let mut more = run.limit - run.trace.len();
     while more > 0 {
         let before = more;
         more = pass(run, cpus, before)?;
@@ -65,15 +65,46 @@ fn run_out(run: &mut Finished) -> Result<(), AllocError>
     Ok(())
 }
 
+/// The same over one processor: its turns, until it is idle or there are as many turns as there may be.
+fn run_lone(run: &mut Finished) -> Result<(), AllocError>
+    requires ready { IsReady run.old }
+    requires places { run.old.limit ≤ run.old.trace.capacity }
+    requires lone { run.old.kernel.state.cpus ≡ 1 }
+    ensures { OnOk result (Passed run.old (rounds run.old.kernel.state (left run.old)) run.new) }
+{
+    let mut more = run.limit - run.trace.len();
+    while more > 0 {
+        let taken = go(run, 0, more)?;
+        if taken == 0 {
+            return Ok(());
+        }
+        more -= taken;
+    }
+    Ok(())
+}
+
+/// Passes over the processors of a run, of which there may be one.
+fn run_over(run: &mut Finished) -> Result<(), AllocError>
+    requires ready { IsReady run.old }
+    requires places { run.old.limit ≤ run.old.trace.capacity }
+    ensures { OnOk result (Passed run.old (rounds run.old.kernel.state (left run.old)) run.new) }
+{
+    if run.kernel.cpus() == 1 {
+        run_lone(run)
+    } else {
+        run_out(run)
+    }
+}
+
 /// Passes until one takes no turn or there are as many turns as there may be. The only error is `Memory`.
 pub(crate) fn run_all(run: &mut Finished) -> Result<(), RunFault>
     requires ready { IsReady run.old }
     ensures passed { OnOk result (Passed run.old (rounds run.old.kernel.state (left run.old)) run.new) }
     ensures memory { IfErr result (λ fault. fault ≡ Memory) }
 {
-    let more = run.limit - run.trace.len() as u64;
+    let more = run.limit - run.trace.len();
     make_places(run, more)?;
-    Ok(run_out(run)?)
+    Ok(run_over(run)?)
 }
 
 /// Runs a kernel by passes over its processors in rising number, one turn each where it is not idle,

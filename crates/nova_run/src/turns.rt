@@ -1,18 +1,19 @@
-ghost use Rattle.std.specs.Prelude.{[], ◌≡◌, ◌+◌, ◌^◌, ◌<◌, ◌≤◌, length, is_some, vec_capacity, IsOk, IfOk, IfErr, OnOk, Err};
+ghost use Rattle.std.specs.Prelude.{[], ◌≡◌, ◌+◌, ◌^◌, ◌<◌, ◌≤◌, length, replicate, is_some, false, IsOk, IfOk, IfErr, OnOk, Err};
 ghost use Rattle.nova_model.specs.Turn.{turn};
-ghost use Rattle.nova_run.specs.Finished.{IsFinished};
+ghost use Rattle.nova_run.specs.Finished.{IsFinished, IsFreeOfIdle};
 ghost use Rattle.nova_run.specs.UnderWay.{IsReady, Passed, taken};
 
 use crate::fault::RunFault;
-use nova_kernel::{Event, Kernel, Turn};
+use nova_kernel::{Kernel, StepsTaken, Turn};
 use nova_order::Order;
 use nova_shared::Finished;
+use nova_trace::Trace;
 use std::alloc::{AllocError, Global};
 
 /// What a run begins with beside its kernel: the kernel once more, and room for events.
 struct Prepared {
     opening: Kernel,
-    trace: Vec<Event>,
+    trace: Trace,
 }
 
 /// A kernel once more, and room for the events of `room` turns. It refuses for want of memory alone.
@@ -20,7 +21,7 @@ fn prepare(alloc: Global, kernel: &Kernel, room: u64) -> Result<Prepared, AllocE
     ensures opening { IfOk result (λ made. made.opening.state ≡ kernel.now.state) }
     ensures trace { IfOk result (λ made. made.trace.items ≡ []) }
 {
-    let trace = Vec::with_capacity(alloc, room as usize)?;
+    let trace = Trace::with_capacity(alloc, room as usize)?;
     let opening = kernel.copy()?;
     Ok(Prepared { opening, trace })
 }
@@ -78,9 +79,9 @@ pub(crate) fn kept(run: Finished, went: Result<(), RunFault>) -> Result<Finished
 pub(crate) fn make_places(run: &mut Finished, turns: u64) -> Result<(), AllocError>
     requires ready { IsReady run.old }
     ensures none { OnOk result (Passed run.old [] run.new) }
-    ensures places { OnOk result (length run.new.trace.items + turns ≤ vec_capacity run.new.trace) }
+    ensures places { OnOk result (length run.new.trace.items + turns ≤ run.new.trace.capacity) }
 {
-    run.trace.reserve(turns as usize)?;
+    run.trace.reserve(turns)?;
     Ok(())
 }
 
@@ -89,18 +90,88 @@ pub(crate) fn make_places(run: &mut Finished, turns: u64) -> Result<(), AllocErr
 pub(crate) fn turn(run: &mut Finished, cpu: u32) -> Result<bool, AllocError>
     requires ready { IsReady run.old }
     requires more { length run.old.trace.items < run.old.limit }
-    requires place { length run.old.trace.items < vec_capacity run.old.trace }
+    requires place { length run.old.trace.items < run.old.trace.capacity }
     requires cpu { cpu < run.old.kernel.state.cpus }
     ensures took { IfOk result (λ took. took ≡ is_some (turn run.old.kernel.state cpu)) }
     ensures passed { OnOk result (Passed run.old (taken run.old.kernel.state cpu) run.new) }
-    ensures places { vec_capacity run.new.trace ≡ vec_capacity run.old.trace }
+    ensures places { run.new.trace.capacity ≡ run.old.trace.capacity }
 {
     match run.kernel.turn(cpu)? {
         Turn::Stepped(event) => {
-            run.trace.push_reserved(event);
+            run.trace.add(event, 1);
             run.order.extend(cpu, 1)?;
             Ok(true)
         }
         Turn::Idle => Ok(false),
     }
+}
+
+/// Plain steps of a processor, one after another: how many, at most so many. None is taken where who acts there is about to do something else.
+/// There are places for their events.
+fn steps(run: &mut Finished, cpu: u32, most: u64) -> Result<u64, AllocError>
+    requires ready { IsReady run.old }
+    requires more { length run.old.trace.items + most ≤ run.old.limit }
+    requires places { length run.old.trace.items + most ≤ run.old.trace.capacity }
+    requires cpu { cpu < run.old.kernel.state.cpus }
+    ensures most { IfOk result (λ n. n ≤ most) }
+    ensures passed { IfOk result (λ n. Passed run.old (replicate n cpu) run.new) }
+    ensures no_idle { IfOk result (λ n. IsFreeOfIdle run.old.kernel.state (replicate n cpu)) }
+    ensures places { run.new.trace.capacity ≡ run.old.trace.capacity }
+{
+    let StepsTaken { event, count } = run.kernel.steps(cpu, most);
+    let Some(event) = event else {
+        return Ok(0);
+    };
+    if count == 0 {
+        return Ok(0);
+    }
+    run.trace.add(event, count);
+    run.order.extend(cpu, count)?;
+    Ok(count)
+}
+
+/// The same on and on, until none is taken: a quantum may end on the way.
+fn ride_on(run: &mut Finished, cpu: u32, most: u64) -> Result<u64, AllocError>
+    requires ready { IsReady run.old }
+    requires more { length run.old.trace.items + most ≤ run.old.limit }
+    requires places { length run.old.trace.items + most ≤ run.old.trace.capacity }
+    requires cpu { cpu < run.old.kernel.state.cpus }
+    ensures most { IfOk result (λ n. n ≤ most) }
+    ensures passed { IfOk result (λ n. Passed run.old (replicate n cpu) run.new) }
+    ensures no_idle { IfOk result (λ n. IsFreeOfIdle run.old.kernel.state (replicate n cpu)) }
+    ensures places { run.new.trace.capacity ≡ run.old.trace.capacity }
+{
+    let mut left = most;
+    while left > 0 {
+        let taken = steps(run, cpu, left)?;
+        if taken == 0 {
+            return Ok(most - left);
+        }
+        left -= taken;
+    }
+    Ok(most)
+}
+
+/// A turn of a processor, and after a plain step those that come next: how many turns, at most so many; none where the processor is idle. There are
+/// places for their events.
+pub(crate) fn go(run: &mut Finished, cpu: u32, most: u64) -> Result<u64, AllocError>
+    requires ready { IsReady run.old }
+    requires some { 0 < most }
+    requires more { length run.old.trace.items + most ≤ run.old.limit }
+    requires places { length run.old.trace.items + most ≤ run.old.trace.capacity }
+    requires cpu { cpu < run.old.kernel.state.cpus }
+    ensures most { IfOk result (λ n. n ≤ most) }
+    ensures idle { IfOk result (λ n. n ≡ 0 → is_some (turn run.old.kernel.state cpu) ≡ false) }
+    ensures passed { IfOk result (λ n. Passed run.old (replicate n cpu) run.new) }
+    ensures no_idle { IfOk result (λ n. IsFreeOfIdle run.old.kernel.state (replicate n cpu)) }
+    ensures places { run.new.trace.capacity ≡ run.old.trace.capacity }
+{
+    if !turn(run, cpu)? {
+        return Ok(0);
+    }
+    if !run.trace.ends_with_step() {
+        return Ok(1);
+    }
+    let more = ride_on(run, cpu, most - 1)?;
+    Ok(more + 1)
 }

@@ -9,6 +9,7 @@ ghost use Rattle.nova_run.specs.UnderWay.{IsReady};
 ghost use Rattle.nova_shared.specs.Ran.{Ran, IsCpuSeat, AreCpuSeats};
 
 use crate::bursts::burst;
+use crate::crew::Crew;
 use crate::fault::RunFault;
 use crate::gate::Gate;
 use crate::rounds::run_all;
@@ -20,24 +21,42 @@ use std::sync::Wait;
 use std::thread;
 use std::thread::Threads;
 
-/// How many turns a worker takes in one round, before it ends with the step in which it took the last.
-const TURNS: u64 = 4096;
+/// How many turns a worker takes in the first round, before it ends with the step in which it took the last; in each later one it takes `GROWTH`
+/// times as many, up to `MOST_TURNS`. A burst has as many instructions at most, or `FIRST_TURNS` after a step of one turn.
+const FIRST_TURNS: u64 = 4096;
 
-/// One step of a worker: a burst, or a turn where a burst came to nothing. It tells how many turns were taken; none where the processor is idle,
-/// there are as many turns as there may be, or memory is refused.
+const GROWTH: u64 = 16;
+
+const MOST_TURNS: u64 = 1048576;
+
+/// How often a worker looks again at an idle processor in one round.
+const LOOKS: u64 = 1024;
+
+/// How long the pauses between the steps of a worker are in all in the first round, so that short runs come in many orders; and what each counts for
+/// beside its length.
+const PAUSES: u64 = 262144;
+
+const SHORTEST: u64 = 64;
+
+/// How much longer a pause between looks is at most with each of them.
+const LONGER: u64 = 8;
+
+/// One step of a worker: a burst of at most so many instructions, or a turn where a burst came to nothing. It tells how many turns were taken; none
+/// where the processor is idle, there are as many turns as there may be, or memory is refused.
 fn step<R: Wait, G: Gate>(
     rt: &R,
     alloc: Global,
     shared: &Shared,
     gate: &G,
     seat: &mut CpuSeat,
+    most: u64,
 ) -> Option<u64>
     requires { IsCpuSeat shared.now seat.old }
     ensures seat { seat.new ≡ record seat.old { front = seat.new.front } }
     ensures some { IfSome result (λ n. 0 < n) }
 {
     gate.at(seat.cpu(), seat.mine());
-    let taken = burst(rt, alloc, shared, seat);
+    let taken = burst(rt, alloc, shared, seat, most);
     if taken > 0 {
         return Some(taken);
     }
@@ -47,27 +66,127 @@ fn step<R: Wait, G: Gate>(
     }
 }
 
-/// One worker's steps in a round: until its processor is idle, there are as many turns as there may be, memory is refused, or it took
-/// `TURNS` turns.
-fn work<R: Wait, G: Gate>(rt: &R, alloc: Global, shared: &Shared, gate: &G, seat: &mut CpuSeat)
+/// Another look at a processor that was idle: whether it took a turn; or none where it is not to be looked at again.
+fn look<R: Wait, G: Gate>(rt: &R, shared: &Shared, gate: &G, seat: &mut CpuSeat) -> Option<bool>
     requires { IsCpuSeat shared.now seat.old }
     ensures { seat.new ≡ record seat.old { front = seat.new.front } }
 {
-    let mut left = TURNS;
-    while left > 0 {
-        let Some(taken) = step(rt, alloc, shared, gate, seat) else {
-            return;
-        };
-        left = left.saturating_sub(taken);
+    gate.at(seat.cpu(), seat.mine());
+    match shared.turn(rt, seat) {
+        Ok(SharedTurn::Stepped(_)) => Some(true),
+        Ok(SharedTurn::Idle(_)) => Some(false),
+        Ok(SharedTurn::AtLimit(_)) | Err(_) => None,
     }
 }
 
-/// A round: each processor has a worker, in a thread of its own.
+/// Looks again and again at an idle processor, with pauses that grow, while other workers of the round have something to do; and whether it took a
+/// turn at last.
+fn wake<R: Wait, G: Gate>(
+    rt: &R,
+    shared: &Shared,
+    gate: &G,
+    crew: &Crew,
+    pace: u64,
+    seat: &mut CpuSeat,
+) -> bool
+    requires { IsCpuSeat shared.now seat.old }
+    ensures { seat.new ≡ record seat.old { front = seat.new.front } }
+{
+    for looks in 0..LOOKS {
+        let last = crew.rests();
+        match look(rt, shared, gate, seat) {
+            Some(true) => return true,
+            Some(false) if !last => {
+                crew.pause(pace.saturating_add(looks * LONGER));
+            }
+            Some(false) | None => return false,
+        }
+    }
+    false
+}
+
+/// A step of a worker, or where its processor is idle the turn that wakes it at last. It tells how many turns were taken, none where the worker ends.
+fn go<R: Wait, G: Gate>(
+    rt: &R,
+    alloc: Global,
+    shared: &Shared,
+    gate: &G,
+    crew: &Crew,
+    pace: u64,
+    seat: &mut CpuSeat,
+    most: u64,
+) -> Option<u64>
+    requires { IsCpuSeat shared.now seat.old }
+    ensures seat { seat.new ≡ record seat.old { front = seat.new.front } }
+    ensures some { IfSome result (λ n. 0 < n) }
+{
+    let taken = step(rt, alloc, shared, gate, seat, most);
+    if taken.is_some() {
+        return taken;
+    }
+    crew.rest();
+    if !wake(rt, shared, gate, crew, pace, seat) {
+        return None;
+    }
+    crew.resume();
+    Some(1)
+}
+
+/// How many instructions the next burst has at most, after a step of so many turns: `GROWTH` times as many, up to the turns of the round, where that was a
+/// burst.
+fn longer(most: u64, taken: u64, turns: u64) -> u64 {
+    if taken > 1 {
+        most.saturating_mul(GROWTH).min(turns)
+    } else {
+        FIRST_TURNS
+    }
+}
+
+/// One worker's steps in a round, once all others have begun: until its processor is idle and no other worker has anything to do, there are as many
+/// turns as there may be, memory is refused, or it took so many turns.
+fn work<R: Wait, G: Gate>(
+    rt: &R,
+    alloc: Global,
+    shared: &Shared,
+    gate: &G,
+    crew: &Crew,
+    turns: u64,
+    seat: &mut CpuSeat,
+)
+    requires { IsCpuSeat shared.now seat.old }
+    ensures { seat.new ≡ record seat.old { front = seat.new.front } }
+{
+    crew.meet();
+    let pace = if turns > FIRST_TURNS {
+        SHORTEST
+    } else {
+        crew.pace()
+    };
+    let mut left = turns;
+    let mut most = turns;
+    let mut pauses = if turns > FIRST_TURNS { 0 } else { PAUSES };
+    while left > 0 {
+        if pauses > 0 {
+            pauses = pauses
+                .saturating_sub(SHORTEST)
+                .saturating_sub(crew.pause(pace));
+        }
+        let Some(taken) = go(rt, alloc, shared, gate, crew, pace, seat, most) else {
+            return;
+        };
+        left = left.saturating_sub(taken);
+        most = longer(most, taken, turns);
+    }
+    crew.rest();
+}
+
+/// A round: each processor has a worker, in a thread of its own, which takes at most so many turns, and those of its last step.
 fn round<R: Threads + Wait + Sync, G: Gate + Sync>(
     rt: &R,
     alloc: Global,
     shared: &Shared,
     gate: &G,
+    turns: u64,
     seats: &mut [CpuSeat],
 )
     requires own { All (λ s. IsCpuSeat shared.now s) seats.old }
@@ -76,11 +195,13 @@ fn round<R: Threads + Wait + Sync, G: Gate + Sync>(
     ensures each { (i : ℕ) (d : SeatView Ran) → i < length seats.old → slice_index_or seats.new i d ≡ record (slice_index_or seats.old i d) { front = (slice_index_or seats.new i d).front } }
 {
     let threads = seats.len();
+    let crew = Crew::new(threads as u64);
+    let crew = &crew;
     thread::for_each_mut(
         rt,
         seats,
         threads,
-        &|_, seat| { work(rt, alloc, shared, gate, seat) },
+        &|_, seat| { work(rt, alloc, shared, gate, crew, turns, seat) },
     );
 }
 
@@ -109,6 +230,7 @@ fn go_on<R: Threads + Wait + Sync, G: Gate + Sync>(
     alloc: Global,
     shared: &Shared,
     gate: &G,
+    turns: u64,
     seats: &mut [CpuSeat],
 ) -> bool
     requires seats { AreCpuSeats shared.now seats.old }
@@ -117,7 +239,7 @@ fn go_on<R: Threads + Wait + Sync, G: Gate + Sync>(
     if !sweep(rt, shared, seats) {
         return false;
     }
-    round(rt, alloc, shared, gate, seats);
+    round(rt, alloc, shared, gate, turns, seats);
     true
 }
 
@@ -134,10 +256,12 @@ fn work_together<R: Threads + Wait + Sync, G: Gate + Sync>(
     requires seats { AreCpuSeats shared.now seats.old }
     ensures seats { AreCpuSeats shared.now seats.new }
 {
+    let mut turns = FIRST_TURNS;
     for _sweep in 0..limit + 1 {
-        if !go_on(rt, alloc, shared, gate, seats) {
+        if !go_on(rt, alloc, shared, gate, turns, seats) {
             return;
         }
+        turns = turns.saturating_mul(GROWTH).min(MOST_TURNS);
     }
 }
 
@@ -170,11 +294,12 @@ fn share<R: Threads + Wait + Sync, G: Gate + Sync>(
 }
 
 /// Runs a kernel with a thread for each of its processors, of which there is one or more, for at most `limit` turns; the kernel has room in its
-/// log for as many. In turn come sweeps, in which each processor has a turn that is not idle, and rounds, in which each takes steps until it took
-/// 4,096 turns or is idle, until a sweep takes no turn or there are `limit` turns. A step is a burst where a virtual CPU acts and can be
-/// leased: up to 4,096 of its instructions, which run on copies of up to 16 frames beside the other processors, and then count as so many
-/// turns. Else, and where a burst comes to nothing, it is one turn. Before each step the worker calls the gate, with the processor and how many
-/// turns of it there were.
+/// log for as many. In turn come sweeps, in which each processor has a turn that is not idle, and rounds, until a sweep takes no turn or there are
+/// `limit` turns. The workers of a round begin together. Each takes steps until it took 4,096 turns, in later rounds up to 1,048,576; while its
+/// processor is idle it looks again and again, some thousand times at most, until no other worker has anything to do. A step is a burst where a
+/// virtual CPU acts and can be leased: instructions up to the end of its quantum, which run on copies of up to 16 frames beside the other
+/// processors, and then count as so many turns. Else, and where a burst comes to nothing, it is one turn. Before each step and each look the worker
+/// calls the gate, with the processor and how many turns of it there were.
 ///
 /// Whatever the workers did, there is one order of turns, and what comes is the run over it. It ends quiet or has `limit` turns. The only error is
 /// `Memory`, where memory is refused. It may wait; what it promises holds if it returns.

@@ -7,3 +7,4 @@ pub mod Stamps
 pub mod Placing
 pub mod Readiness
 pub mod Readies
+pub mod Spending

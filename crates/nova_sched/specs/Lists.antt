@@ -1,5 +1,5 @@
 -- How scheduling contexts are kept: a table by number, and for each processor a list of its numbers.
-use Rattle.std.specs.Prelude.{◌≡◌, ℕ, List, [], ◌∷◌, map, slice_get, Option, Some, None, if◌then◌else◌}
+use Rattle.std.specs.Prelude.{◌≡◌, ℕ, ◌+◌, ◌-◌, List, [], ◌∷◌, map, slice_get, Option, Some, None, if◌then◌else◌}
 use Rattle.nova_model.specs.Choice.{in_front}
 use Rattle.nova_model.specs.State.{entry}
 use Rattle.nova_model.specs.Turn.{is_spent, budget_after}
@@ -48,6 +48,10 @@ foremost_among entries scs = foremost (runnable_among entries scs)
 -- a turn is paid
 abbrev pub paid : Queued → ℕ → Queued
 paid e stamp = record e { budget = budget_after (is_spent e.budget) e.quantum stamp e.budget }
+
+-- so many turns are paid, fewer than are left
+abbrev pub used_up : Queued → ℕ → Queued
+used_up e n = record e { budget = record { left = e.budget.left - n; stamp = e.budget.stamp; ticks = e.budget.ticks + n } }
 
 -- the same queues with no room for more
 abbrev pub with_no_room : QueueState → QueueState

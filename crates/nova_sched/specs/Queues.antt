@@ -1,5 +1,5 @@
 -- Scheduling contexts as they wait for turns: who of a processor has the next one, and what a turn is charged to.
-use Rattle.std.specs.Prelude.{ℕ, ◌+◌, ◌-◌, ◌<◌, ◌==◌, ◌&&◌, Bool, false, if◌then◌else◌, List, [], ◌∷◌, ◌++◌, length, replicate, slice_get, slice_index, slice_set, Option, Some, None, option_map}
+use Rattle.std.specs.Prelude.{ℕ, zero, suc, ◌+◌, ◌-◌, ◌<◌, ◌==◌, ◌&&◌, Bool, false, if◌then◌else◌, List, [], ◌∷◌, ◌++◌, length, replicate, slice_get, slice_index, slice_set, Option, Some, None, option_map}
 use Rattle.nova_model.specs.Choice.{in_front, first_of, outranks}
 use Rattle.nova_model.specs.State.{entry}
 use Rattle.nova_model.specs.Turn.{is_spent, budget_after, stamp_after}
@@ -103,3 +103,8 @@ charged_by s sc (Some e) = record s {
 -- one pays a turn
 abbrev pub charged_schedule : Schedule → ℕ → Schedule
 charged_schedule s sc = charged_by s sc (queued_at s sc)
+
+-- and so many, one after another
+abbrev pub charged_schedules : ℕ → Schedule → ℕ → Schedule
+charged_schedules zero s sc = s
+charged_schedules (suc n) s sc = charged_schedule (charged_schedules n s sc) sc

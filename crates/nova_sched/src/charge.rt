@@ -1,6 +1,6 @@
-ghost use Rattle.std.specs.Prelude.{◌≡◌, ◌-◌, ◌^◌, ◌<◌, ℕ, false};
+ghost use Rattle.std.specs.Prelude.{◌≡◌, ◌+◌, ◌-◌, ◌^◌, ◌<◌};
 ghost use Rattle.nova_model.specs.Turn.{is_spent, budget_after};
-ghost use Rattle.nova_sched.specs.Lists.{paid};
+ghost use Rattle.nova_sched.specs.Lists.{paid, used_up};
 
 use crate::queued::Queued;
 use nova_model::Budget;
@@ -41,12 +41,12 @@ pub(crate) fn pay(entry: &mut Queued, stamp: u64)
     entry.budget = spend(entry.budget, entry.quantum, stamp);
 }
 
-/// A scheduling context pays a turn that is not the last of its quantum.
-pub(crate) fn tick(entry: &mut Queued)
-    requires left { is_spent entry.old.budget ≡ false }
-    requires ticks { entry.old.budget.ticks < 2 ^ 64 - 1 }
-    ensures { (stamp : ℕ) → entry.new ≡ paid entry.old stamp }
+/// A scheduling context pays so many turns, fewer than are left of its quantum.
+pub(crate) fn use_up(entry: &mut Queued, count: u32)
+    requires left { count < entry.old.budget.left }
+    requires ticks { entry.old.budget.ticks + count < 2 ^ 64 }
+    ensures { entry.new ≡ used_up entry.old count }
 {
-    entry.budget.left -= 1;
-    entry.budget.ticks += 1;
+    entry.budget.left -= count;
+    entry.budget.ticks += u64::from(count);
 }

@@ -1,11 +1,11 @@
 ghost use Rattle.std.specs.Prelude.{◌≡◌, ℕ, true, false, ◌+◌, ◌^◌, ◌<◌, ◌≤◌, ◌-◌, [], length, max, is_some, replicate, vec_len, vec_capacity, IsSome, IfSome, IfOk, IsOk, OnOk, OnErr, Some, slice_get};
 ghost use Rattle.nova_model.specs.Turn.{is_spent};
-ghost use Rattle.nova_sched.specs.Queues.{HasRoom, queued_at, choose, members, padded, added, marked, charged_schedule};
+ghost use Rattle.nova_sched.specs.Queues.{HasRoom, queued_at, choose, members, padded, added, marked, charged_schedule, charged_schedules};
 ghost use Rattle.nova_model.specs.Forest.{ArePairs};
 ghost use Rattle.nova_sched.specs.Lists.{unroomed};
 ghost use Rattle.nova_sched.specs.Ready.{IsBehind, as_runnable, dropped, items_at, placed, renewed, requeued, room_at};
 
-use crate::charge::{is_spent, pay, tick};
+use crate::charge::{is_spent, pay, use_up};
 use crate::queue::Queue;
 use crate::queued::{Queued, Runnable};
 use crate::ready::Ready;
@@ -322,19 +322,20 @@ impl Queues {
         renew(&mut self.readies, sc, &before, &after);
     }
 
-    /// Charges a turn that is not the last of a quantum.
-    fn charge_one(&mut self, sc: u32)
+    /// So many turns, fewer than are left of its quantum, are charged to a scheduling context at once.
+    #[inline(always)]
+    pub fn spend(&mut self, sc: u32, count: u32)
         requires there { IsSome (queued_at self.old.all sc) }
-        requires ticks { IfSome (queued_at self.old.all sc) (λ e. e.budget.ticks < 2 ^ 64 - 1) }
-        requires left { IfSome (queued_at self.old.all sc) (λ e. is_spent e.budget ≡ false) }
-        ensures charged { self.new.all ≡ charged_schedule self.old.all sc }
+        requires left { IfSome (queued_at self.old.all sc) (λ e. count < e.budget.left) }
+        requires ticks { IfSome (queued_at self.old.all sc) (λ e. e.budget.ticks + count < 2 ^ 64) }
+        ensures charged { self.new.all ≡ charged_schedules count self.old.all sc }
         ensures numbers { self.new.numbers ≡ self.old.numbers }
         ensures rooms { self.new.rooms ≡ self.old.rooms }
     {
         let Some(payer) = &mut self.entries[sc as usize] else {
             unreachable!();
         };
-        tick(payer);
+        use_up(payer, count);
     }
 
     /// A turn is charged to a scheduling context: one tick more, one turn less of what is left of its
@@ -351,7 +352,7 @@ impl Queues {
         if is_spent(&self.entry(sc).budget) {
             self.charge_last(sc);
         } else {
-            self.charge_one(sc);
+            self.spend(sc, 1);
         }
     }
 

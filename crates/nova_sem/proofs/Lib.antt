@@ -9,3 +9,4 @@ pub mod Calls
 pub mod Rooms
 pub mod Expiring
 pub mod Leaving
+pub mod Ordered

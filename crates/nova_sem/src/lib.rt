@@ -3,6 +3,7 @@
 
 mod counter;
 pub mod laws;
+mod queue;
 pub mod sems;
 
 pub use nova_model::{Down, Overflow};

@@ -13,9 +13,9 @@ use std::marker::Model;
 /// wait in the order in which they came. There is room for an execution context of any number of the table to wait.
 #[derive(Drop)]
 pub struct Sems {
-    counters: Vec<Option<Counter>>,
+    pub(crate) counters: Vec<Option<Counter>>,
     spare: usize,
-    links: Vec<u32>,
+    pub(crate) links: Vec<u32>,
 }
 
 impl Model for Sems {
@@ -35,7 +35,7 @@ impl Model for Sems {
 }
 
 /// The counter of a semaphore; none where no semaphore has the number.
-fn counter_at(counters: &[Option<Counter>], sm: u32) -> Option<Counter>
+pub(crate) fn counter_at(counters: &[Option<Counter>], sm: u32) -> Option<Counter>
     ensures counter { result ≡ counter_at counters.now sm }
     ensures number { IfSome result (λ counter. sm < length counters.now) }
 {

@@ -1,6 +1,6 @@
 -- Turns of a run that is shared.
 use Rattle.std.proofs.Common.{◌≡◌, ◌≢◌, ℕ, ◌+◌, ◌-◌, ◌<◌, ◌≤◌, ◌^◌, List, [], ◌∷◌, ◌++◌, length, refl, ap, ap₂, sym, ◌∙◌, subst, arith}
-use Rattle.std.specs.Prelude.{replicate, vec_capacity, Bool, true, false, is_some, None, if◌then◌else◌, Option, Some}
+use Rattle.std.specs.Prelude.{replicate, Bool, true, false, is_some, None, if◌then◌else◌, Option, Some}
 use Rattle.std.proofs.lemmas.List.{append-nil, length-replicate}
 use Rattle.nova_kernel.specs.Views.{KernelView, IsMaking}
 use Rattle.nova_model.specs.State.{KernelState}
@@ -123,7 +123,7 @@ turns_none blocks none = ap turns none
 
 -- a run that took no turn
 pub shared_none : (f : Finished) → f.opening.state ≡ f.kernel.state → f.order.blocks ≡ [] → f.trace.items ≡ [] → f.limit ≤ f.kernel.room → f.kernel.state.turns + f.limit ≤ 2 ^ 31
-    → f.limit ≤ f.order.spare → f.limit ≤ vec_capacity f.trace → IsSharedRun f
+    → f.limit ≤ f.order.spare → f.limit ≤ f.trace.capacity → IsSharedRun f
 shared_none f opening blocks events room few places capacity =
     let none : turns f.order.blocks ≡ [] = turns_none f.order.blocks blocks in
     let long : length f.trace.items ≡ 0 = ap length events in record {

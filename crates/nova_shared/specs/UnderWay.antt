@@ -1,5 +1,5 @@
 -- Runs on their way, and what turns add to them.
-use Rattle.std.specs.Prelude.{◌≡◌, ℕ, ◌+◌, ◌-◌, ◌^◌, ◌≤◌, List, [], ◌∷◌, ◌++◌, length, is_some, if◌then◌else◌, vec_capacity}
+use Rattle.std.specs.Prelude.{◌≡◌, ℕ, ◌+◌, ◌-◌, ◌^◌, ◌≤◌, List, [], ◌∷◌, ◌++◌, length, is_some, if◌then◌else◌}
 use Rattle.nova_model.specs.State.{KernelState}
 use Rattle.nova_model.specs.Turn.{turn}
 use Rattle.nova_model.specs.Runs.{run, trace}
@@ -24,7 +24,7 @@ pub record IsReady (f : Finished) : Type 0 where
 -- there is room in the order and in the trace for as many turns as there may be
 pub record HasRoom (f : Finished) : Type 0 where
   pub order : f.limit ≤ f.order.spare + length f.trace.items
-  pub trace : f.limit ≤ vec_capacity f.trace
+  pub trace : f.limit ≤ f.trace.capacity
 
 -- after these turns
 pub record Passed (old : Finished) (list : List ℕ) (new : Finished) : Type 0 where

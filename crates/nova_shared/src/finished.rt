@@ -1,4 +1,4 @@
-ghost use Rattle.std.specs.Prelude.{◌≡◌, ◌+◌, ◌^◌, ◌<◌, ◌≤◌, ◌++◌, [], length, replicate, is_some, None, option_map, vec_capacity, vec_len, IfOk, IfErr, OnOk, OnErr};
+ghost use Rattle.std.specs.Prelude.{◌≡◌, ◌+◌, ◌^◌, ◌<◌, ◌≤◌, ◌++◌, [], length, replicate, is_some, None, option_map, IfOk, IfErr, OnOk, OnErr};
 ghost use Rattle.nova_kernel.specs.Views.{IsMaking};
 ghost use Rattle.nova_leases.specs.Advances.{step_of};
 ghost use Rattle.nova_model.specs.Choice.{choice};
@@ -12,6 +12,7 @@ ghost use Rattle.nova_shared.specs.UnderWay.{IsReady, HasRoom, Passed, left, tak
 use crate::block::Block;
 use nova_kernel::{Event, EventKind, Kernel, Turn};
 use nova_order::Order;
+use nova_trace::Trace;
 use std::alloc::{AllocError, Global};
 
 /// A run of a kernel.
@@ -27,7 +28,7 @@ pub struct Finished {
     pub order: Order,
 
     /// The event of each turn, in order.
-    pub trace: Vec<Event>,
+    pub trace: Trace,
 
     /// How many turns there may be.
     pub limit: u64,
@@ -50,17 +51,6 @@ fn plain_step(kernel: &Kernel, cpu: u32) -> Option<Event>
     })
 }
 
-/// Adds an event so many times, in reserved room.
-fn add_times(trace: &mut Vec<Event>, event: Event, count: u64)
-    requires { vec_len trace.old + count ≤ vec_capacity trace.old }
-    ensures items { trace.new.items ≡ trace.old.items ++ replicate count event }
-    ensures room { vec_capacity trace.old ≤ vec_capacity trace.new }
-{
-    for _i in 0..count {
-        trace.push_reserved(event);
-    }
-}
-
 impl Finished {
     /// A run of at most `limit` turns that has taken none, with room for them. It refuses for want of memory alone, and then gives the kernel
     /// back.
@@ -76,7 +66,7 @@ impl Finished {
         let Ok(()) = order.reserve(limit as usize) else {
             return Err(kernel);
         };
-        let Ok(trace) = Vec::with_capacity(alloc, limit as usize) else {
+        let Ok(trace) = Trace::with_capacity(alloc, limit as usize) else {
             return Err(kernel);
         };
         let Ok(opening) = kernel.copy() else {
@@ -106,7 +96,7 @@ impl Finished {
     {
         match self.kernel.turn(cpu)? {
             Turn::Stepped(event) => {
-                self.trace.push_reserved(event);
+                self.trace.add(event, 1);
                 self.order.push(cpu, 1);
                 Ok(true)
             }
@@ -132,7 +122,7 @@ impl Finished {
         if count == 0 {
             return;
         }
-        add_times(&mut self.trace, event, count);
+        self.trace.add(event, count);
         self.order.push(cpu, count);
     }
 
@@ -149,7 +139,7 @@ impl Finished {
         ensures no_idle { IsFreeOfIdle self.old.kernel.state (replicate result cpu) }
     {
         let event = plain_step(&self.kernel, cpu);
-        let left = self.limit - self.trace.len() as u64;
+        let left = self.limit - self.trace.len();
         let taken = call.act(&mut self.kernel, cpu, left);
         self.enter(cpu, event, taken);
         taken

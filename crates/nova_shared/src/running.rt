@@ -70,7 +70,7 @@ impl Running {
         ensures told { IfOk result (IsTold self.old.opening.kernel.state self.old.opening.limit cpu self.old.order self.new.order) }
         ensures memory { IfErr result (λ taken. (taken ≡ length self.old.order) × IsRefused self.old.opening.kernel.state self.old.opening.limit cpu self.old.order self.new.order) }
     {
-        let taken = self.run.trace.len() as u64;
+        let taken = self.run.trace.len();
         if taken == self.run.limit {
             return Ok(SharedTurn::AtLimit(taken));
         }
@@ -95,7 +95,7 @@ impl Running {
         let taken = self.run.block(cpu, call);
         BlockDone {
             taken,
-            seen: self.run.trace.len() as u64,
+            seen: self.run.trace.len(),
         }
     }
 

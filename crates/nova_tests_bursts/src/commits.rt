@@ -12,6 +12,7 @@ use nova_kernel::{EcKind, Kernel, Object};
 use nova_leases::CommitDone;
 use nova_report::report;
 use nova_scenario::read;
+use nova_trace::Trace;
 use std::alloc::Global;
 use std::process::Abort;
 
@@ -144,6 +145,12 @@ fn burst(
     tell(commit(kernel, lent, left))
 }
 
+/// The report of a machine, without its events.
+fn eventless(rt: &impl Abort, alloc: Global, kernel: &Kernel) -> Vec<u8> {
+    let none = Trace::with_capacity(alloc, 0).expect(rt, "ample memory");
+    report(alloc, kernel, &none).expect(rt, "ample memory")
+}
+
 /// The report of that machine after those turns and so many more of a processor, without its events.
 fn after(rt: &impl Abort, alloc: Global, rest: &str, cpu: u32, turns: u64) -> Vec<u8>
     requires cpu { cpu < 2 }
@@ -151,7 +158,7 @@ fn after(rt: &impl Abort, alloc: Global, rest: &str, cpu: u32, turns: u64) -> Ve
 {
     let mut kernel = prepared(rt, alloc, rest);
     take(&mut kernel, cpu, turns).expect(rt, "ample memory");
-    report(alloc, &kernel, &[]).expect(rt, "ample memory")
+    eventless(rt, alloc, &kernel)
 }
 
 /// A burst of the guest: what it shows, what the root goes on with, the turns that come between its lease and its commit, how many turns there
@@ -214,7 +221,7 @@ fn is_so(rt: &impl Abort, alloc: Global, row: &Row) -> bool {
         return false;
     }
     let told = burst(rt, alloc, &mut kernel, cpu, turns, row.left);
-    let text = report(alloc, &kernel, &[]).expect(rt, "ample memory");
+    let text = eventless(rt, alloc, &kernel);
     let wanted = after(rt, alloc, row.rest, other, taken);
     told == row.told && text.as_slice() == wanted.as_slice()
 }

@@ -16,7 +16,7 @@ pub fn tell(rt: &impl Abort, run: Finished) -> Told {
     Told {
         order: run.order.text().expect(rt, "ample memory"),
         turns: run.order.sum(),
-        events: run.trace.len() as u64,
+        events: run.trace.len(),
         is_quiet: run.kernel.quiet(),
     }
 }

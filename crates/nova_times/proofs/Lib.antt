@@ -1,6 +1,5 @@
-pub mod Placing
-pub mod Firsts
-pub mod Lines
-pub mod Keeping
+pub mod Orders
+pub mod Trees
+pub mod Processors
 pub mod Nexts
-pub mod Changes
+pub mod Keeping

@@ -1,8 +1,7 @@
--- The first of a processor's entries in the row is the one that comes next.
-use Rattle.std.proofs.Common.{◌≡◌, ℕ, zero, suc, ◌+◌, ◌<◌, ◌≤◌, List, [], ◌∷◌, ◌++◌, length, refl, ap, sym, subst, ◌∙◌, inl, inr, arith}
+-- The first of a processor's entries is the one that comes next.
+use Rattle.std.proofs.Common.{◌≡◌, ℕ, zero, suc, ◌+◌, List, [], ◌∷◌, ◌++◌, refl, ap, sym, subst, ◌∙◌, inl, inr, arith}
 use Rattle.std.specs.Prelude.{◌⊎◌, ◌==◌, ◌&&◌, Bool, true, false, not, cond, is_some, nat_le, slice_get, if◌then◌else◌, Option, Some, None, option_map, option_and_then}
-use Rattle.std.specs.List.{AllByRecursion, find, list_all}
-use Rattle.nova_model.specs.Forest.{ArePairs}
+use Rattle.std.specs.List.{find, list_all}
 use Rattle.nova_model.specs.Times as model
 use Rattle.nova_model.specs.Times.{Times, alarm_entries, alarm_entry, before_rest, clock, comes_before, deadline_entries, deadline_entry, due_on, entries, goes_on, if_due, is_before, next_entry, next_moment, until_due}
 use Rattle.nova_model.specs.State.{deadline_of, entry}
@@ -10,13 +9,13 @@ use Rattle.nova_model.specs.declared.times.AlarmState.{AlarmState}
 use Rattle.nova_model.specs.declared.times.Deadline.{Deadline}
 use Rattle.nova_model.specs.declared.times.Due.{Due}
 use Rattle.nova_model.specs.declared.times.Due.TheVariants as due
-use Rattle.nova_times.specs.Entries.{comes_first, entry_before, precedes}
-use Rattle.nova_times.specs.Row.{IsAmong, IsBehind, first_on, is_on}
-use Rattle.nova_times.specs.Line.{is_due_by, least_on}
-use Rattle.nova_times.specs.Kept.{entry_of_alarm, entry_of_deadline, row_of}
+use Rattle.nova_times.specs.Entries.{comes_first, precedes}
+use Rattle.nova_times.specs.Kept.{AreShown, alarm_leaf, alarm_leaves, deadline_leaf, deadline_leaves, seen}
+use Rattle.nova_times.specs.Processors.{first_of, is_due_by, moment_of}
+use Rattle.nova_times.specs.Trees.{leaf, least_of}
 use Rattle.nova_times.specs.declared.entry.Entry.{Entry}
-use Rattle.nova_times.proofs.Keeping.{IsRow}
-use Rattle.nova_times.proofs.Placing.{all_among}
+use Rattle.nova_times.proofs.Orders.{NoLater, equal, lesser_in, lesser_left, lesser_right}
+use Rattle.nova_times.proofs.Trees.{IsLeaf, least_before, least_in}
 
 -- LISTS
 
@@ -24,11 +23,11 @@ abbrev pub IsIn : {T : Type 0} → List T → T → Type 0
 IsIn [] x = ⊥
 IsIn (y ∷ ys) x = (y ≡ x) ⊎ IsIn ys x
 
-pub every : (T : Type 0) (p : T → Bool) (xs : List T) → ((x : T) → IsIn xs x → p x ≡ true) → list_all p xs ≡ true
+every : (T : Type 0) (p : T → Bool) (xs : List T) → ((x : T) → IsIn xs x → p x ≡ true) → list_all p xs ≡ true
 every T p [] h = refl
 every T p (x ∷ xs) h = let here = h x (inl refl) in let rest = every T p xs (λ y i. h y (inr i)) in rw (here, rest) refl
 
-pub of_every : (T : Type 0) (p : T → Bool) (xs : List T) (x : T) → list_all p xs ≡ true → IsIn xs x → p x ≡ true
+of_every : (T : Type 0) (p : T → Bool) (xs : List T) (x : T) → list_all p xs ≡ true → IsIn xs x → p x ≡ true
 of_every T p [] x all i = absurd i
 of_every T p (y ∷ ys) x all i = by_place (p y) refl all i (λ rest k. of_every T p ys x rest k)
   where
@@ -38,7 +37,7 @@ of_every T p (y ∷ ys) x all i = by_place (p y) refl all i (λ rest k. of_every
     by_place false h all k next = absurd (cc)
 
 -- what alone passes is found
-pub find_only : (T : Type 0) (p : T → Bool) (xs : List T) (x : T) → IsIn xs x → p x ≡ true → ((y : T) → IsIn xs y → p y ≡ true → y ≡ x) → find p xs ≡ Some x
+find_only : (T : Type 0) (p : T → Bool) (xs : List T) (x : T) → IsIn xs x → p x ≡ true → ((y : T) → IsIn xs y → p y ≡ true → y ≡ x) → find p xs ≡ Some x
 find_only T p [] x i h only = absurd i
 find_only T p (y ∷ ys) x i h only = by_pass (p y) refl i (λ k. find_only T p ys x k h (λ z j. only z (inr j)))
   where
@@ -73,180 +72,98 @@ rest_in : (T : Type 0) (o : Option T) (xs : List T) (x : T) → IsIn xs x → Is
 rest_in T None xs x i = i
 rest_in T (Some y) xs x i = inr i
 
+in_front : (T : Type 0) (o : Option T) (xs : List T) (x : T) → IsIn (before_rest o xs) x → (o ≡ Some x) ⊎ IsIn xs x
+in_front T None xs x i = inr i
+in_front T (Some y) xs x (inl e) = inl (ap Some e)
+in_front T (Some y) xs x (inr i) = inr i
+
 -- ENTRIES AS THE MODEL HAS THEM
 
-abbrev pub seen : Entry → model.Entry
-seen e = record { moment = e.at; what = e.due }
-
--- an alarm or deadline of a processor, and its entry in the row
-pub record IsEntry (t : Times) (cpu : ℕ) (x : model.Entry) : Type 0 where
-  pub of : Entry
-  pub there : row_of t of.due ≡ Some of
-  pub its_cpu : of.cpu ≡ cpu
-  pub is : seen of ≡ x
-
-alarm_seen : (cpu n : ℕ) (a : AlarmState) → goes_on a ≡ true → a.alarm.cpu ≡ cpu → alarm_entry cpu n a ≡ Some (seen (entry_of_alarm n a))
-alarm_seen cpu n a on at = let here : (a.alarm.cpu == cpu) ≡ true = grind (arith, at) in rw (here, on) refl
-
-deadline_seen : (cpu ec : ℕ) (d : Deadline) → d.cpu ≡ cpu → deadline_entry cpu ec (Some d) ≡ Some (seen (entry_of_deadline ec d))
-deadline_seen cpu ec d at = let here : (d.cpu == cpu) ≡ true = grind (arith, at) in rw here refl
-
-alarms_in : (cpu n i : ℕ) (alarms : List AlarmState) (a : AlarmState) → slice_get alarms i ≡ Some a → goes_on a ≡ true → a.alarm.cpu ≡ cpu → IsIn (alarm_entries cpu n alarms) (seen (entry_of_alarm (n + i) a))
-alarms_in cpu n i [] a h on at = absurd cc
-alarms_in cpu n zero (b ∷ alarms) a h on at =
-    let same : b ≡ a = cc in
-    front_in model.Entry (alarm_entry cpu n b) (alarm_entries cpu (n + 1) alarms) (seen (entry_of_alarm (n + 0) a))
-    (ap (alarm_entry cpu n) same ∙ alarm_seen cpu n a on at ∙ ap (λ (k : ℕ). Some (seen (entry_of_alarm k a))) (let e : n ≡ n + 0 = omega arith in e))
-alarms_in cpu n (suc i) (b ∷ alarms) a h on at =
-    subst (λ (k : ℕ). IsIn (before_rest (alarm_entry cpu n b) (alarm_entries cpu (n + 1) alarms)) (seen (entry_of_alarm k a))) (let e : n + 1 + i ≡ n + suc i = omega arith in e)
-    (rest_in model.Entry (alarm_entry cpu n b) (alarm_entries cpu (n + 1) alarms) (seen (entry_of_alarm (n + 1 + i) a)) (alarms_in cpu (n + 1) i alarms a h on at))
-
-deadlines_in : (cpu n i : ℕ) (ds : List (Option Deadline)) (d : Deadline) → entry (slice_get ds i) ≡ Some d → d.cpu ≡ cpu → IsIn (deadline_entries cpu n ds) (seen (entry_of_deadline (n + i) d))
-deadlines_in cpu n i [] d h at = absurd cc
-deadlines_in cpu n zero (o ∷ ds) d h at =
-    front_in model.Entry (deadline_entry cpu n o) (deadline_entries cpu (n + 1) ds) (seen (entry_of_deadline (n + 0) d))
-    (ap (deadline_entry cpu n) h ∙ deadline_seen cpu n d at ∙ ap (λ (k : ℕ). Some (seen (entry_of_deadline k d))) (let e : n ≡ n + 0 = omega arith in e))
-deadlines_in cpu n (suc i) (o ∷ ds) d h at =
-    subst (λ (k : ℕ). IsIn (before_rest (deadline_entry cpu n o) (deadline_entries cpu (n + 1) ds)) (seen (entry_of_deadline k d))) (let e : n + 1 + i ≡ n + suc i = omega arith in e)
-    (rest_in model.Entry (deadline_entry cpu n o) (deadline_entries cpu (n + 1) ds) (seen (entry_of_deadline (n + 1 + i) d)) (deadlines_in cpu (n + 1) i ds d h at))
-
--- what is in the row is among them
-
-alarm_goes : (n : ℕ) (a : AlarmState) (e : Entry) (t : Bool) → (if t then Some (entry_of_alarm n a) else None) ≡ Some e → t ≡ true
-alarm_goes n a e true h = refl
-alarm_goes n a e false h = absurd cc
-
-alarm_is : (n : ℕ) (a : AlarmState) (e : Entry) (t : Bool) → (if t then Some (entry_of_alarm n a) else None) ≡ Some e → entry_of_alarm n a ≡ e
-alarm_is n a e true h = cc
-alarm_is n a e false h = absurd cc
-
-pub row_in : (t : Times) (cpu : ℕ) (d : Due) (e : Entry) → row_of t d ≡ Some e → e.cpu ≡ cpu → IsIn (entries t cpu) (seen e)
-row_in t cpu (due.Alarm n) e h at = by_alarm (slice_get t.alarms n) refl h
+alarm_seen : (cpu n : ℕ) (a : AlarmState) → option_map seen (alarm_leaf cpu n (Some a)) ≡ alarm_entry cpu n a
+alarm_seen cpu n a = by_test ((a.alarm.cpu == cpu) && goes_on a)
   where
-    by_alarm : (o : Option AlarmState) → slice_get t.alarms n ≡ o → Rattle.nova_times.specs.Kept.alarm_row n o ≡ Some e → IsIn (entries t cpu) (seen e)
-    by_alarm None there k = absurd cc
-    by_alarm (Some a) there k =
-        let on = alarm_goes n a e (goes_on a) k in
-        let is = alarm_is n a e (goes_on a) k in
-        let its : a.alarm.cpu ≡ cpu = ap (λ (x : Entry). x.cpu) is ∙ at in
-        let same : 0 + n ≡ n = omega arith in
-        subst (λ (x : Entry). IsIn (entries t cpu) (seen x)) is
-        (in_append_left model.Entry (alarm_entries cpu 0 t.alarms) (deadline_entries cpu 0 t.deadlines) (seen (entry_of_alarm n a))
-        (subst (λ (k : ℕ). IsIn (alarm_entries cpu 0 t.alarms) (seen (entry_of_alarm k a))) same (alarms_in cpu 0 n t.alarms a there on its)))
-row_in t cpu (due.Deadline ec) e h at = by_deadline (deadline_of t ec) refl h
+    by_test : (t : Bool) → option_map seen (if t then Some (record { at = a.next; due = due.Alarm n }) else None) ≡ (if t then Some (record { moment = a.next; what = due.Alarm n }) else None)
+    by_test true = refl
+    by_test false = refl
+
+deadline_seen : (cpu ec : ℕ) (d : Option Deadline) → option_map seen (deadline_leaf cpu ec d) ≡ deadline_entry cpu ec d
+deadline_seen cpu ec None = refl
+deadline_seen cpu ec (Some d) = by_test (d.cpu == cpu)
   where
-    by_deadline : (o : Option Deadline) → deadline_of t ec ≡ o → Rattle.nova_times.specs.Kept.deadline_row ec o ≡ Some e → IsIn (entries t cpu) (seen e)
-    by_deadline None there k = absurd cc
-    by_deadline (Some d) there k =
-        let is : entry_of_deadline ec d ≡ e = cc in
-        let its : d.cpu ≡ cpu = ap (λ (x : Entry). x.cpu) is ∙ at in
-        let same : 0 + ec ≡ ec = omega arith in
-        subst (λ (x : Entry). IsIn (entries t cpu) (seen x)) is
-        (in_append_right model.Entry (alarm_entries cpu 0 t.alarms) (deadline_entries cpu 0 t.deadlines) (seen (entry_of_deadline ec d))
-        (subst (λ (k : ℕ). IsIn (deadline_entries cpu 0 t.deadlines) (seen (entry_of_deadline k d))) same (deadlines_in cpu 0 ec t.deadlines d there its)))
+    by_test : (t : Bool) → option_map seen (if t then Some (record { at = d.at; due = due.Deadline ec }) else None) ≡ (if t then Some (record { moment = d.at; what = due.Deadline ec }) else None)
+    by_test true = refl
+    by_test false = refl
 
--- and each of them is in the row
+-- what stands at a number is among them
 
-pub record IsAlarmAt (cpu n : ℕ) (alarms : List AlarmState) (x : model.Entry) : Type 0 where
-  pub place : ℕ
-  pub of : AlarmState
-  pub there : slice_get alarms place ≡ Some of
-  pub on : goes_on of ≡ true
-  pub its_cpu : of.alarm.cpu ≡ cpu
-  pub is : seen (entry_of_alarm (n + place) of) ≡ x
+alarms_in : (cpu n i : ℕ) (alarms : List AlarmState) (e : Entry) → alarm_leaf cpu (n + i) (slice_get alarms i) ≡ Some e → IsIn (alarm_entries cpu n alarms) (seen e)
+alarms_in cpu n i [] e h = absurd cc
+alarms_in cpu n zero (a ∷ alarms) e h =
+    let same : n + 0 ≡ n = omega arith in
+    front_in model.Entry (alarm_entry cpu n a) (alarm_entries cpu (n + 1) alarms) (seen e) (sym (alarm_seen cpu n a) ∙ ap (λ (k : ℕ). option_map seen (alarm_leaf cpu k (Some a))) (sym same) ∙ ap (option_map seen) h)
+alarms_in cpu n (suc i) (a ∷ alarms) e h =
+    let same : n + 1 + i ≡ n + suc i = omega arith in
+    rest_in model.Entry (alarm_entry cpu n a) (alarm_entries cpu (n + 1) alarms) (seen e) (alarms_in cpu (n + 1) i alarms e (ap (λ (k : ℕ). alarm_leaf cpu k (slice_get alarms i)) same ∙ h))
 
-alarms_at : (cpu n : ℕ) (alarms : List AlarmState) (x : model.Entry) → IsIn (alarm_entries cpu n alarms) x → IsAlarmAt cpu n alarms x
+deadlines_in : (cpu n i : ℕ) (ds : List (Option Deadline)) (e : Entry) → deadline_leaf cpu (n + i) (entry (slice_get ds i)) ≡ Some e → IsIn (deadline_entries cpu n ds) (seen e)
+deadlines_in cpu n i [] e h = absurd cc
+deadlines_in cpu n zero (d ∷ ds) e h =
+    let same : n + 0 ≡ n = omega arith in
+    front_in model.Entry (deadline_entry cpu n d) (deadline_entries cpu (n + 1) ds) (seen e) (sym (deadline_seen cpu n d) ∙ ap (λ (k : ℕ). option_map seen (deadline_leaf cpu k d)) (sym same) ∙ ap (option_map seen) h)
+deadlines_in cpu n (suc i) (d ∷ ds) e h =
+    let same : n + 1 + i ≡ n + suc i = omega arith in
+    rest_in model.Entry (deadline_entry cpu n d) (deadline_entries cpu (n + 1) ds) (seen e) (deadlines_in cpu (n + 1) i ds e (ap (λ (k : ℕ). deadline_leaf cpu k (entry (slice_get ds i))) same ∙ h))
+
+-- and each of them stands at a number
+
+record IsAt (leaf_at : ℕ → Option Entry) (x : model.Entry) : Type 0 where
+  place : ℕ
+  of : Entry
+  there : leaf_at place ≡ Some of
+  is : seen of ≡ x
+
+seen_some : (leaf_at : ℕ → Option Entry) (place : ℕ) (x : model.Entry) → option_map seen (leaf_at place) ≡ Some x → IsAt leaf_at x
+seen_some leaf_at place x h = by_there (leaf_at place) refl h
+  where
+    by_there : (o : Option Entry) → leaf_at place ≡ o → option_map seen o ≡ Some x → IsAt leaf_at x
+    by_there None at k = absurd cc
+    by_there (Some e) at k = record { place = place; of = e; there = at; is = cc }
+
+alarms_at : (cpu n : ℕ) (alarms : List AlarmState) (x : model.Entry) → IsIn (alarm_entries cpu n alarms) x → IsAt (λ i. alarm_leaf cpu (n + i) (slice_get alarms i)) x
 alarms_at cpu n [] x i = absurd i
-alarms_at cpu n (a ∷ alarms) x i = by_tests (a.alarm.cpu == cpu) refl (goes_on a) refl i (λ j. later (alarms_at cpu (n + 1) alarms x j))
+alarms_at cpu n (a ∷ alarms) x i = by_place (in_front model.Entry (alarm_entry cpu n a) (alarm_entries cpu (n + 1) alarms) x i) (λ j. alarms_at cpu (n + 1) alarms x j)
   where
-    later : IsAlarmAt cpu (n + 1) alarms x → IsAlarmAt cpu n (a ∷ alarms) x
+    later : IsAt (λ i. alarm_leaf cpu (n + 1 + i) (slice_get alarms i)) x → IsAt (λ i. alarm_leaf cpu (n + i) (slice_get (a ∷ alarms) i)) x
     later h = record {
       place = suc h.place;
       of = h.of;
-      there = h.there;
-      on = h.on;
-      its_cpu = h.its_cpu;
-      is = ap (λ (k : ℕ). seen (entry_of_alarm k h.of)) (let e : n + suc h.place ≡ n + 1 + h.place = omega arith in e) ∙ h.is;
+      there = ap (λ (k : ℕ). alarm_leaf cpu k (slice_get alarms h.place)) (let e : n + suc h.place ≡ n + 1 + h.place = omega arith in e) ∙ h.there;
+      is = h.is;
     }
 
-    by_tests : (t : Bool) → (a.alarm.cpu == cpu) ≡ t → (u : Bool) → goes_on a ≡ u → IsIn (before_rest (if t && u then Some (seen (entry_of_alarm n a)) else None) (alarm_entries cpu (n + 1) alarms)) x →
-        (IsIn (alarm_entries cpu (n + 1) alarms) x → IsAlarmAt cpu n (a ∷ alarms) x) → IsAlarmAt cpu n (a ∷ alarms) x
-    by_tests true at true on (inl e) rest = record {
-      place = 0;
-      of = a;
-      there = refl;
-      on = on;
-      its_cpu = grind (arith, at);
-      is = ap (λ (k : ℕ). seen (entry_of_alarm k a)) (let same : n + 0 ≡ n = omega arith in same) ∙ e;
-    }
-    by_tests true at true on (inr j) rest = rest j
-    by_tests true at false on j rest = rest j
-    by_tests false at u on j rest = rest j
+    by_place : (alarm_entry cpu n a ≡ Some x) ⊎ IsIn (alarm_entries cpu (n + 1) alarms) x →
+        (IsIn (alarm_entries cpu (n + 1) alarms) x → IsAt (λ i. alarm_leaf cpu (n + 1 + i) (slice_get alarms i)) x) → IsAt (λ i. alarm_leaf cpu (n + i) (slice_get (a ∷ alarms) i)) x
+    by_place (inl e) rest =
+        seen_some (λ i. alarm_leaf cpu (n + i) (slice_get (a ∷ alarms) i)) 0 x (ap (λ (k : ℕ). option_map seen (alarm_leaf cpu k (Some a))) (let same : n + 0 ≡ n = omega arith in same) ∙ alarm_seen cpu n a ∙ e)
+    by_place (inr j) rest = later (rest j)
 
-pub record IsDeadlineAt (cpu n : ℕ) (ds : List (Option Deadline)) (x : model.Entry) : Type 0 where
-  pub place : ℕ
-  pub of : Deadline
-  pub there : entry (slice_get ds place) ≡ Some of
-  pub its_cpu : of.cpu ≡ cpu
-  pub is : seen (entry_of_deadline (n + place) of) ≡ x
-
-deadlines_at : (cpu n : ℕ) (ds : List (Option Deadline)) (x : model.Entry) → IsIn (deadline_entries cpu n ds) x → IsDeadlineAt cpu n ds x
+deadlines_at : (cpu n : ℕ) (ds : List (Option Deadline)) (x : model.Entry) → IsIn (deadline_entries cpu n ds) x → IsAt (λ i. deadline_leaf cpu (n + i) (entry (slice_get ds i))) x
 deadlines_at cpu n [] x i = absurd i
-deadlines_at cpu n (o ∷ ds) x i = by_there o refl i (λ j. later (deadlines_at cpu (n + 1) ds x j))
+deadlines_at cpu n (d ∷ ds) x i = by_place (in_front model.Entry (deadline_entry cpu n d) (deadline_entries cpu (n + 1) ds) x i) (λ j. deadlines_at cpu (n + 1) ds x j)
   where
-    later : IsDeadlineAt cpu (n + 1) ds x → IsDeadlineAt cpu n (o ∷ ds) x
+    later : IsAt (λ i. deadline_leaf cpu (n + 1 + i) (entry (slice_get ds i))) x → IsAt (λ i. deadline_leaf cpu (n + i) (entry (slice_get (d ∷ ds) i))) x
     later h = record {
       place = suc h.place;
       of = h.of;
-      there = h.there;
-      its_cpu = h.its_cpu;
-      is = ap (λ (k : ℕ). seen (entry_of_deadline k h.of)) (let e : n + suc h.place ≡ n + 1 + h.place = omega arith in e) ∙ h.is;
+      there = ap (λ (k : ℕ). deadline_leaf cpu k (entry (slice_get ds h.place))) (let e : n + suc h.place ≡ n + 1 + h.place = omega arith in e) ∙ h.there;
+      is = h.is;
     }
 
-    by_test : (d : Deadline) → o ≡ Some d → (t : Bool) → (d.cpu == cpu) ≡ t → IsIn (before_rest (if t then Some (seen (entry_of_deadline n d)) else None) (deadline_entries cpu (n + 1) ds)) x →
-        (IsIn (deadline_entries cpu (n + 1) ds) x → IsDeadlineAt cpu n (o ∷ ds) x) → IsDeadlineAt cpu n (o ∷ ds) x
-    by_test d is true at (inl e) rest = record {
-      place = 0;
-      of = d;
-      there = is;
-      its_cpu = grind (arith, at);
-      is = ap (λ (k : ℕ). seen (entry_of_deadline k d)) (let same : n + 0 ≡ n = omega arith in same) ∙ e;
-    }
-    by_test d is true at (inr j) rest = rest j
-    by_test d is false at j rest = rest j
-
-    by_there : (p : Option Deadline) → o ≡ p → IsIn (before_rest (deadline_entry cpu n p) (deadline_entries cpu (n + 1) ds)) x →
-        (IsIn (deadline_entries cpu (n + 1) ds) x → IsDeadlineAt cpu n (o ∷ ds) x) → IsDeadlineAt cpu n (o ∷ ds) x
-    by_there None is j rest = rest j
-    by_there (Some d) is j rest = by_test d is (d.cpu == cpu) refl j rest
-
-pub in_row : (t : Times) (cpu : ℕ) (x : model.Entry) → IsIn (entries t cpu) x → IsEntry t cpu x
-in_row t cpu x i = by_kind (in_append model.Entry (alarm_entries cpu 0 t.alarms) (deadline_entries cpu 0 t.deadlines) x i)
-  where
-    of_alarm : IsAlarmAt cpu 0 t.alarms x → IsEntry t cpu x
-    of_alarm h =
-        let same : 0 + h.place ≡ h.place = omega arith in
-        let there = h.there in
-        let on = h.on in record {
-          of = entry_of_alarm h.place h.of;
-          there = rw (there, on) refl;
-          its_cpu = h.its_cpu;
-          is = ap (λ (k : ℕ). seen (entry_of_alarm k h.of)) (sym same) ∙ h.is;
-        }
-
-    of_deadline : IsDeadlineAt cpu 0 t.deadlines x → IsEntry t cpu x
-    of_deadline h =
-        let same : 0 + h.place ≡ h.place = omega arith in
-        let there = h.there in record {
-          of = entry_of_deadline h.place h.of;
-          there = rw there refl;
-          its_cpu = h.its_cpu;
-          is = ap (λ (k : ℕ). seen (entry_of_deadline k h.of)) (sym same) ∙ h.is;
-        }
-
-    by_kind : IsIn (alarm_entries cpu 0 t.alarms) x ⊎ IsIn (deadline_entries cpu 0 t.deadlines) x → IsEntry t cpu x
-    by_kind (inl j) = of_alarm (alarms_at cpu 0 t.alarms x j)
-    by_kind (inr j) = of_deadline (deadlines_at cpu 0 t.deadlines x j)
+    by_place : (deadline_entry cpu n d ≡ Some x) ⊎ IsIn (deadline_entries cpu (n + 1) ds) x →
+        (IsIn (deadline_entries cpu (n + 1) ds) x → IsAt (λ i. deadline_leaf cpu (n + 1 + i) (entry (slice_get ds i))) x) → IsAt (λ i. deadline_leaf cpu (n + i) (entry (slice_get (d ∷ ds) i))) x
+    by_place (inl e) rest =
+        seen_some (λ i. deadline_leaf cpu (n + i) (entry (slice_get (d ∷ ds) i))) 0 x (ap (λ (k : ℕ). option_map seen (deadline_leaf cpu k d)) (let same : n + 0 ≡ n = omega arith in same) ∙ deadline_seen cpu n d ∙ e)
+    by_place (inr j) rest = later (rest j)
 
 -- THE FIRST
 
@@ -256,127 +173,139 @@ same_before (due.Alarm a) (due.Deadline b) = grind arith
 same_before (due.Deadline a) (due.Alarm b) = grind arith
 same_before (due.Deadline a) (due.Deadline b) = grind arith
 
-pub seen_before : (a b : Entry) → comes_before (seen a) (seen b) ≡ entry_before a b
+seen_before : (a b : Entry) → comes_before (seen a) (seen b) ≡ precedes a b
 seen_before a b = rw (same_before a.due b.due) refl
 
--- the first of a processor is there, and stands before each other of it
-pub first_there : (cpu : ℕ) (es : List Entry) (e : Entry) → first_on cpu es ≡ Some e → IsAmong es e
-first_there cpu [] e h = absurd cc
-first_there cpu (q ∷ qs) e h = by_test (is_on cpu q) h (λ k. first_there cpu qs e k)
+-- what is known of the first: it is an entry of the processor, and none of them precedes it
+record IsFirst (t : Times) (cpu : ℕ) (r : Option Entry) : Type 0 where
+  there : (e : Entry) → r ≡ Some e → IsIn (entries t cpu) (seen e)
+  before : (x : model.Entry) → IsIn (entries t cpu) x → (e : Entry) × ((seen e ≡ x) × NoLater r e)
+
+first_is_first : (t : Times) (cpu : ℕ) (xs ys : List (Option Entry)) → AreShown t cpu xs ys → IsFirst t cpu (first_of xs ys)
+first_is_first t cpu xs ys are = record {
+  there = λ e h. by_side e (lesser_in (least_of xs) (least_of ys) e h);
+  before = λ x i. by_kind x (in_append model.Entry (alarm_entries cpu 0 t.alarms) (deadline_entries cpu 0 t.deadlines) x i);
+}
   where
-    by_test : (t : Bool) → cond t (Some q) (first_on cpu qs) ≡ Some e → (first_on cpu qs ≡ Some e → IsAmong qs e) → IsAmong (q ∷ qs) e
-    by_test true k rest = let same : q ≡ e = cc in inl same
-    by_test false k rest = inr (rest k)
+    of_alarm : (e : Entry) → IsLeaf xs e → IsIn (entries t cpu) (seen e)
+    of_alarm e at =
+        let same : 0 + at.place ≡ at.place = omega arith in
+        in_append_left model.Entry (alarm_entries cpu 0 t.alarms) (deadline_entries cpu 0 t.deadlines) (seen e)
+        (alarms_in cpu 0 at.place t.alarms e (ap (λ (k : ℕ). alarm_leaf cpu k (slice_get t.alarms at.place)) same ∙ sym (are.alarms at.place) ∙ at.is))
 
-pub first_its : (cpu : ℕ) (es : List Entry) (e : Entry) → first_on cpu es ≡ Some e → e.cpu ≡ cpu
-first_its cpu [] e h = absurd cc
-first_its cpu (q ∷ qs) e h = by_test (is_on cpu q) refl h (λ k. first_its cpu qs e k)
-  where
-    by_test : (t : Bool) → is_on cpu q ≡ t → cond t (Some q) (first_on cpu qs) ≡ Some e → (first_on cpu qs ≡ Some e → e.cpu ≡ cpu) → e.cpu ≡ cpu
-    by_test true on k rest = let same : q ≡ e = cc in ap (λ (x : Entry). x.cpu) (sym same) ∙ (let its : q.cpu ≡ cpu = grind (arith, on) in its)
-    by_test false on k rest = rest k
+    of_deadline : (e : Entry) → IsLeaf ys e → IsIn (entries t cpu) (seen e)
+    of_deadline e at =
+        let same : 0 + at.place ≡ at.place = omega arith in
+        in_append_right model.Entry (alarm_entries cpu 0 t.alarms) (deadline_entries cpu 0 t.deadlines) (seen e)
+        (deadlines_in cpu 0 at.place t.deadlines e (ap (λ (k : ℕ). deadline_leaf cpu k (deadline_of t at.place)) same ∙ sym (are.deadlines at.place) ∙ at.is))
 
-pub first_before : (cpu : ℕ) (es : List Entry) (e x : Entry) → ArePairs IsBehind es → first_on cpu es ≡ Some e → IsAmong es x → x.cpu ≡ cpu → (x ≡ e) ⊎ (precedes e x ≡ true)
-first_before cpu [] e x order h i at = absurd i
-first_before cpu (q ∷ qs) e x order h i at = by_test (is_on cpu q) refl h i (λ k j. first_before cpu qs e x order.1 k j at)
-  where
-    by_test : (t : Bool) → is_on cpu q ≡ t → cond t (Some q) (first_on cpu qs) ≡ Some e → (q ≡ x) ⊎ IsAmong qs x → (first_on cpu qs ≡ Some e → IsAmong qs x → (x ≡ e) ⊎ (precedes e x ≡ true)) → (x ≡ e) ⊎ (precedes e x ≡ true)
-    by_test true on k (inl same) rest = let it : q ≡ e = cc in inl (sym same ∙ it)
-    by_test true on k (inr j) rest = let it : q ≡ e = cc in inr (subst (λ (y : Entry). precedes y x ≡ true) it (all_among (IsBehind q) qs x order.0 j))
-    by_test false on k (inl same) rest = let its : q.cpu ≡ cpu = ap (λ (y : Entry). y.cpu) same ∙ at in absurd (grind (arith, on, its))
-    by_test false on k (inr j) rest = rest k j
+    by_side : (e : Entry) → (least_of xs ≡ Some e) ⊎ (least_of ys ≡ Some e) → IsIn (entries t cpu) (seen e)
+    by_side e (inl h) = of_alarm e (least_in xs e h)
+    by_side e (inr h) = of_deadline e (least_in ys e h)
 
-pub none_there : (cpu : ℕ) (es : List Entry) (x : Entry) → first_on cpu es ≡ None → IsAmong es x → x.cpu ≡ cpu → ⊥
-none_there cpu [] x h i at = i
-none_there cpu (q ∷ qs) x h i at = by_test (is_on cpu q) refl h i (λ k j. none_there cpu qs x k j at)
-  where
-    by_test : (t : Bool) → is_on cpu q ≡ t → cond t (Some q) (first_on cpu qs) ≡ None → (q ≡ x) ⊎ IsAmong qs x → (first_on cpu qs ≡ None → IsAmong qs x → ⊥) → ⊥
-    by_test true on k i rest = absurd (cc)
-    by_test false on k (inl same) rest = let its : q.cpu ≡ cpu = ap (λ (y : Entry). y.cpu) same ∙ at in absurd (grind (arith, on, its))
-    by_test false on k (inr j) rest = rest k j
+    at_alarm : (x : model.Entry) → IsAt (λ i. alarm_leaf cpu (0 + i) (slice_get t.alarms i)) x → (e : Entry) × ((seen e ≡ x) × NoLater (first_of xs ys) e)
+    at_alarm x at =
+        let same : at.place ≡ 0 + at.place = omega arith in
+        let is : leaf xs at.place ≡ Some at.of = are.alarms at.place ∙ ap (λ (k : ℕ). alarm_leaf cpu k (slice_get t.alarms at.place)) same ∙ at.there in
+        (at.of, (at.is, lesser_left (least_of xs) (least_of ys) at.of (least_before xs at.place at.of is)))
 
--- of one processor the order is that of moments
+    at_deadline : (x : model.Entry) → IsAt (λ i. deadline_leaf cpu (0 + i) (entry (slice_get t.deadlines i))) x → (e : Entry) × ((seen e ≡ x) × NoLater (first_of xs ys) e)
+    at_deadline x at =
+        let same : at.place ≡ 0 + at.place = omega arith in
+        let is : leaf ys at.place ≡ Some at.of = are.deadlines at.place ∙ ap (λ (k : ℕ). deadline_leaf cpu k (deadline_of t at.place)) same ∙ at.there in
+        (at.of, (at.is, lesser_right (least_of xs) (least_of ys) at.of (least_before ys at.place at.of is)))
 
-within : (a b : Entry) → a.cpu ≡ b.cpu → precedes a b ≡ true → entry_before a b ≡ true
-within a b at h = grind (arith, at, h)
+    by_kind : (x : model.Entry) → IsIn (alarm_entries cpu 0 t.alarms) x ⊎ IsIn (deadline_entries cpu 0 t.deadlines) x → (e : Entry) × ((seen e ≡ x) × NoLater (first_of xs ys) e)
+    by_kind x (inl j) = at_alarm x (alarms_at cpu 0 t.alarms x j)
+    by_kind x (inr j) = at_deadline x (deadlines_at cpu 0 t.deadlines x j)
 
-not_back : (a b : Entry) → entry_before a b ≡ true → entry_before b a ≡ false
-not_back a b h = grind (arith, h)
-
-not_self : (a : Entry) → entry_before a a ≡ false
-not_self a = grind arith
-
-pub next_is : (es : List Entry) (t : Times) (cpu : ℕ) → IsRow es t → next_entry t cpu ≡ option_map seen (first_on cpu es)
+next_of : (t : Times) (cpu : ℕ) (r : Option Entry) → IsFirst t cpu r → option_map seen r ≡ next_entry t cpu
 unfolding next_entry
-next_is es t cpu row = by_first (first_on cpu es) refl
+next_of t cpu None first = sym (nothing (entries t cpu) refl)
   where
-    by_first : (o : Option Entry) → first_on cpu es ≡ o → find (λ a. list_all (λ b. not (comes_before b a)) (entries t cpu)) (entries t cpu) ≡ option_map seen o
-    by_first None h = nothing (entries t cpu) refl
-      where
-        nothing : (xs : List model.Entry) → entries t cpu ≡ xs → find (λ a. list_all (λ b. not (comes_before b a)) (entries t cpu)) xs ≡ None
-        nothing [] is = refl
-        nothing (x ∷ xs) is =
-            let entry = in_row t cpu x (subst (λ (l : List model.Entry). IsIn l x) (sym is) (inl refl)) in
-            absurd (none_there cpu es entry.of h (row.all entry.of.due entry.of entry.there) entry.its_cpu)
-    by_first (Some e) h =
-        let there = first_there cpu es e h in
-        let at = first_its cpu es e h in
-        find_only model.Entry (λ a. list_all (λ b. not (comes_before b a)) (entries t cpu)) (entries t cpu) (seen e) (row_in t cpu e.due e (row.each e there) at)
-        (every model.Entry (λ b. not (comes_before b (seen e))) (entries t cpu) (λ y i. none_before y (in_row t cpu y i)))
-        (λ y i pass. only y (in_row t cpu y i) (of_every model.Entry (λ b. not (comes_before b y)) (entries t cpu) (seen e) pass (row_in t cpu e.due e (row.each e there) at)))
-      where
-        its_first : (x : Entry) → row_of t x.due ≡ Some x → x.cpu ≡ cpu → (x ≡ e) ⊎ (precedes e x ≡ true)
-        its_first x k at = first_before cpu es e x row.order h (row.all x.due x k) at
+    none : (x : model.Entry) → IsIn (entries t cpu) x → ⊥
+    none x i = (first.before x i).1.1
 
-        none_before : (y : model.Entry) → IsEntry t cpu y → not (comes_before y (seen e)) ≡ true
-        none_before y entry = subst (λ (z : model.Entry). not (comes_before z (seen e)) ≡ true) entry.is (by_place (its_first entry.of entry.there entry.its_cpu))
-          where
-            by_place : (entry.of ≡ e) ⊎ (precedes e entry.of ≡ true) → not (comes_before (seen entry.of) (seen e)) ≡ true
-            by_place (inl same) = ap not (seen_before entry.of e ∙ ap (λ (z : Entry). entry_before z e) same ∙ not_self e)
-            by_place (inr first) =
-                let its = entry.its_cpu in
-                let at = first_its cpu es e h in
-                ap not (seen_before entry.of e ∙ not_back e entry.of (within e entry.of (at ∙ sym its) first))
+    nothing : (xs : List model.Entry) → entries t cpu ≡ xs → find (λ a. list_all (λ b. not (comes_before b a)) (entries t cpu)) xs ≡ None
+    nothing [] is = refl
+    nothing (x ∷ xs) is = absurd (none x (subst (λ (l : List model.Entry). IsIn l x) (sym is) (inl refl)))
+next_of t cpu (Some e) first = sym found
+  where
+    none_before : (y : model.Entry) → IsIn (entries t cpu) y → not (comes_before y (seen e)) ≡ true
+    none_before y i =
+        let q = (first.before y i).0 in
+        ap not (ap (λ (z : model.Entry). comes_before z (seen e)) (sym (first.before y i).1.0) ∙ seen_before q e ∙ (first.before y i).1.1)
 
-        only : (y : model.Entry) → IsEntry t cpu y → not (comes_before (seen e) y) ≡ true → y ≡ seen e
-        only y entry pass = by_place (its_first entry.of entry.there entry.its_cpu)
-          where
-            by_place : (entry.of ≡ e) ⊎ (precedes e entry.of ≡ true) → y ≡ seen e
-            by_place (inl same) = sym entry.is ∙ ap seen same
-            by_place (inr first) =
-                let its = entry.its_cpu in
-                let at = first_its cpu es e h in
-                let before : comes_before (seen e) y ≡ true = ap (comes_before (seen e)) (sym entry.is) ∙ seen_before e entry.of ∙ within e entry.of (at ∙ sym its) first in
-                let not_it : not (comes_before (seen e) y) ≡ false = ap not before in
-                absurd (cc)
+    passes : (t : Bool) → not t ≡ true → t ≡ false
+    passes true h = absurd cc
+    passes false h = refl
+
+    only : (y : model.Entry) → IsIn (entries t cpu) y → not (comes_before (seen e) y) ≡ true → y ≡ seen e
+    only y i pass =
+        let q = (first.before y i).0 in
+        let is = (first.before y i).1.0 in
+        let off : precedes e q ≡ false = sym (seen_before e q) ∙ ap (comes_before (seen e)) is ∙ passes (comes_before (seen e) y) pass in
+        sym is ∙ ap seen (equal q e (first.before y i).1.1 off)
+
+    found : find (λ a. list_all (λ b. not (comes_before b a)) (entries t cpu)) (entries t cpu) ≡ Some (seen e)
+    found = find_only model.Entry (λ a. list_all (λ b. not (comes_before b a)) (entries t cpu)) (entries t cpu) (seen e) (first.there e refl)
+        (every model.Entry (λ b. not (comes_before b (seen e))) (entries t cpu) (λ y i. none_before y i))
+        (λ y i pass. only y i (of_every model.Entry (λ b. not (comes_before b y)) (entries t cpu) (seen e) pass (first.there e refl)))
+
+pub next_is : (t : Times) (cpu : ℕ) (xs ys : List (Option Entry)) → AreShown t cpu xs ys → option_map seen (first_of xs ys) ≡ next_entry t cpu
+next_is t cpu xs ys are = next_of t cpu (first_of xs ys) (first_is_first t cpu xs ys are)
+
+-- a processor that isn't there: its entries are searched
+
+alarm_leaves_at : (cpu n i : ℕ) (alarms : List AlarmState) → leaf (alarm_leaves cpu n alarms) i ≡ alarm_leaf cpu (n + i) (slice_get alarms i)
+alarm_leaves_at cpu n i [] = refl
+alarm_leaves_at cpu n zero (a ∷ alarms) = ap (λ (k : ℕ). alarm_leaf cpu k (Some a)) (let same : n ≡ n + 0 = omega arith in same)
+alarm_leaves_at cpu n (suc i) (a ∷ alarms) = alarm_leaves_at cpu (n + 1) i alarms ∙ ap (λ (k : ℕ). alarm_leaf cpu k (slice_get alarms i)) (let same : n + 1 + i ≡ n + suc i = omega arith in same)
+
+deadline_leaves_at : (cpu n i : ℕ) (ds : List (Option Deadline)) → leaf (deadline_leaves cpu n ds) i ≡ deadline_leaf cpu (n + i) (entry (slice_get ds i))
+deadline_leaves_at cpu n i [] = refl
+deadline_leaves_at cpu n zero (d ∷ ds) = ap (λ (k : ℕ). deadline_leaf cpu k d) (let same : n ≡ n + 0 = omega arith in same)
+deadline_leaves_at cpu n (suc i) (d ∷ ds) = deadline_leaves_at cpu (n + 1) i ds ∙ ap (λ (k : ℕ). deadline_leaf cpu k (entry (slice_get ds i))) (let same : n + 1 + i ≡ n + suc i = omega arith in same)
+
+pub shown_beyond : (t : Times) (cpu : ℕ) → AreShown t cpu (alarm_leaves cpu 0 t.alarms) (deadline_leaves cpu 0 t.deadlines)
+shown_beyond t cpu = record {
+  alarms = λ n. alarm_leaves_at cpu 0 n t.alarms ∙ ap (λ (k : ℕ). alarm_leaf cpu k (slice_get t.alarms n)) (let same : 0 + n ≡ n = omega arith in same);
+  deadlines = λ n. deadline_leaves_at cpu 0 n t.deadlines ∙ ap (λ (k : ℕ). deadline_leaf cpu k (deadline_of t n)) (let same : 0 + n ≡ n = omega arith in same);
+}
 
 -- the least moment, and what is due
 
-pub least_is : (es : List Entry) (t : Times) (cpu : ℕ) → IsRow es t → least_on cpu es ≡ next_moment t cpu
-least_is es t cpu row = by_first (first_on cpu es) ∙ sym (ap (option_map (λ (e : model.Entry). e.moment)) (next_is es t cpu row))
-  where
-    by_first : (o : Option Entry) → option_map (λ (e : Entry). e.at) o ≡ option_map (λ (e : model.Entry). e.moment) (option_map seen o)
-    by_first None = refl
-    by_first (Some e) = refl
+moment_seen : (o : Option Entry) → moment_of o ≡ option_map (λ (e : model.Entry). e.moment) (option_map seen o)
+moment_seen None = refl
+moment_seen (Some e) = refl
 
-abbrev pub due_first : ℕ → Option Entry → Option Due
-due_first now o = option_and_then (if_due now) (option_map seen o)
+pub moment_is : (t : Times) (cpu : ℕ) (o : Option Entry) → option_map seen o ≡ next_entry t cpu → moment_of o ≡ next_moment t cpu
+moment_is t cpu o is = moment_seen o ∙ ap (option_map (λ (e : model.Entry). e.moment)) is
 
-pub due_is : (es : List Entry) (t : Times) (cpu : ℕ) → IsRow es t → due_first (clock t cpu) (first_on cpu es) ≡ due_on t cpu
-due_is es t cpu row = ap (option_and_then (if_due (clock t cpu))) (sym (next_is es t cpu row))
-
-pub is_due_first : (now : ℕ) (o : Option Entry) → is_due_by now (option_map (λ (e : Entry). e.at) o) ≡ is_some (due_first now o)
-is_due_first now None = refl
-is_due_first now (Some e) = by_test (nat_le e.at now)
+due_some : (now : ℕ) (o : Option Entry) → is_due_by now (moment_of o) ≡ is_some (option_and_then (if_due now) (option_map seen o))
+due_some now None = refl
+due_some now (Some e) = by_test (nat_le e.at now)
   where
     by_test : (t : Bool) → t ≡ is_some (if t then Some e.due else None)
     by_test true = refl
     by_test false = refl
 
-pub due_of_first : (now : ℕ) (o : Option Entry) (e : Entry) → o ≡ Some e → is_due_by now (option_map (λ (x : Entry). x.at) o) ≡ true → Some e.due ≡ due_first now o
-due_of_first now None e is on = absurd cc
-due_of_first now (Some x) e is on = let same : x ≡ e = cc in ap (λ (y : Entry). Some y.due) (sym same) ∙ rw on refl
+pub is_due_is : (t : Times) (cpu : ℕ) (o : Option Entry) → option_map seen o ≡ next_entry t cpu → is_due_by (clock t cpu) (moment_of o) ≡ is_some (due_on t cpu)
+is_due_is t cpu o is = due_some (clock t cpu) o ∙ ap (λ (x : Option model.Entry). is_some (option_and_then (if_due (clock t cpu)) x)) is
 
-pub not_due_first : (now : ℕ) (o : Option Entry) → is_due_by now (option_map (λ (x : Entry). x.at) o) ≡ false → None ≡ due_first now o
-not_due_first now None off = refl
-not_due_first now (Some x) off = rw off refl
+pub due_is : (t : Times) (cpu : ℕ) (o : Option Entry) (e : Entry) → o ≡ Some e → option_map seen o ≡ next_entry t cpu → is_some (due_on t cpu) ≡ true → Some e.due ≡ due_on t cpu
+due_is t cpu o e at is some = by_test (nat_le e.at (clock t cpu)) refl
+  where
+    due_of : due_on t cpu ≡ (if nat_le e.at (clock t cpu) then Some e.due else None)
+    due_of = ap (option_and_then (if_due (clock t cpu))) (sym is ∙ ap (option_map seen) at)
+
+    by_test : (b : Bool) → nat_le e.at (clock t cpu) ≡ b → Some e.due ≡ due_on t cpu
+    by_test true h = sym (due_of ∙ ap (λ (b : Bool). if b then Some e.due else None) h)
+    by_test false h =
+        let none : due_on t cpu ≡ None = due_of ∙ ap (λ (b : Bool). if b then Some e.due else None) h in
+        let off : is_some (due_on t cpu) ≡ false = ap is_some none in
+        absurd (cc)
+
+pub not_due : (o : Option Due) → is_some o ≡ false → None ≡ o
+not_due None h = refl
+not_due (Some d) h = absurd cc

@@ -1,5 +1,5 @@
--- Moments of processors, and their order.
-use Rattle.std.specs.Prelude.{ℕ, ◌==◌, ◌&&◌, ◌||◌, Bool, nat_lt}
+-- Moments, what is due at them, and their order.
+use Rattle.std.specs.Prelude.{ℕ, ◌==◌, ◌&&◌, ◌||◌, Bool, nat_lt, if◌then◌else◌, Option, Some, None}
 use Rattle.nova_times.specs.declared.entry.Entry.{Entry}
 use Rattle.nova_model.specs.declared.times.Due.{Due}
 use Rattle.nova_model.specs.declared.times.Due.TheVariants.{Alarm, Deadline}
@@ -16,13 +16,12 @@ number (Deadline ec) = ec
 abbrev pub comes_first : Due → Due → Bool
 comes_first a b = nat_lt (rank a) (rank b) || ((rank a == rank b) && nat_lt (number a) (number b))
 
--- of one processor: the lesser moment, and at equal moments what comes first
-abbrev pub entry_before : Entry → Entry → Bool
-entry_before a b = nat_lt a.at b.at || ((a.at == b.at) && comes_first a.due b.due)
-
--- of all: by processor
+-- the lesser moment, and at equal moments what comes first
 abbrev pub precedes : Entry → Entry → Bool
-precedes a b = nat_lt a.cpu b.cpu || ((a.cpu == b.cpu) && entry_before a b)
+precedes a b = nat_lt a.at b.at || ((a.at == b.at) && comes_first a.due b.due)
 
-abbrev pub is_below : ℕ → Entry → Bool
-is_below cpu e = nat_lt e.cpu cpu
+-- of two, if they are there, the one that no other precedes
+abbrev pub lesser : Option Entry → Option Entry → Option Entry
+lesser None b = b
+lesser (Some a) None = Some a
+lesser (Some a) (Some b) = if precedes b a then Some b else Some a

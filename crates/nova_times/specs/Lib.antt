@@ -1,4 +1,4 @@
 pub mod Entries
-pub mod Row
-pub mod Line
+pub mod Trees
+pub mod Processors
 pub mod Kept

@@ -1,19 +1,11 @@
 ghost use Rattle.std.specs.Prelude.{◌≡◌};
-ghost use Rattle.nova_times.specs.Entries.{rank, number, precedes, is_below};
+ghost use Rattle.nova_times.specs.Entries.{lesser, number, precedes, rank};
 
 use nova_model::Due;
-
-/// A processor as it is kept: its clock, and the least moment of its entries.
-#[derive(Clone, Copy)]
-pub(crate) struct Processor {
-    pub(crate) clock: u64,
-    pub(crate) least: Option<u64>,
-}
 
 /// A moment of a processor, and what it is of.
 #[derive(Clone, Copy)]
 pub(crate) struct Entry {
-    pub(crate) cpu: u32,
     pub(crate) at: u64,
     pub(crate) due: Due,
 }
@@ -38,14 +30,10 @@ fn number(due: Due) -> u32
     }
 }
 
-/// Whether the first stands before the second: of a lesser processor, and of one processor the lesser moment, then
-/// an alarm, then the lesser number.
-pub(crate) fn precedes(a: &Entry, b: &Entry) -> bool
+/// Whether the first comes before the second: the lesser moment, then an alarm, then the lesser number.
+fn precedes(a: &Entry, b: &Entry) -> bool
     ensures { result ≡ precedes a.now b.now }
 {
-    if a.cpu != b.cpu {
-        return a.cpu < b.cpu;
-    }
     if a.at != b.at {
         return a.at < b.at;
     }
@@ -56,9 +44,17 @@ pub(crate) fn precedes(a: &Entry, b: &Entry) -> bool
     number(a.due) < number(b.due)
 }
 
-/// Whether an entry is of a lesser processor.
-pub(crate) fn is_below(e: &Entry, cpu: u32) -> bool
-    ensures { result ≡ is_below cpu e.now }
+/// The one of two that comes before the other; the one that is there, if it is alone.
+pub(crate) fn lesser(a: Option<Entry>, b: Option<Entry>) -> Option<Entry>
+    ensures { result ≡ lesser a b }
 {
-    e.cpu < cpu
+    match (a, b) {
+        (Some(first), Some(second)) => Some(if precedes(&second, &first) {
+            second
+        } else {
+            first
+        }),
+        (Some(first), None) => Some(first),
+        (None, _) => b,
+    }
 }

@@ -2,9 +2,10 @@
 #![tactic(auto)]
 
 mod entry;
-mod line;
-mod row;
+mod leaves;
+mod processor;
 pub mod times;
+mod tree;
 
 pub use nova_model::{Alarm, AlarmState, Deadline, Due};
 pub use times::Times;

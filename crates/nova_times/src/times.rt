@@ -1,14 +1,13 @@
-ghost use Rattle.std.specs.Prelude.{◌≡◌, ◌<◌, ◌≤◌, ◌+◌, ◌*◌, ◌-◌, ◌^◌, ℕ, true, [], length, map, max, replicate, is_some, slice_get, Some, None, IfOk, IfSome, IsSome, IsOk, OnOk, OnErr};
-ghost use Rattle.nova_model.specs.Times.{clock, due_on, goes_on, grown, next_moment, rung, rung_once, ticked, until_due, with_alarm, with_deadline};
+ghost use Rattle.std.specs.Prelude.{◌≡◌, ◌<◌, ◌≤◌, ◌+◌, ◌*◌, ◌-◌, ◌^◌, ℕ, true, [], length, map, replicate, is_some, slice_get, slice_set, Some, None, option_map, IfOk, IfSome, IsSome, IsOk, OnOk, OnErr};
+ghost use Rattle.nova_model.specs.Times.{clock, due_on, goes_on, grown, next_entry, next_moment, rung, rung_once, ticked, until_due, with_alarm, with_deadline};
 ghost use Rattle.nova_model.specs.State.{deadline_of};
-ghost use Rattle.nova_model.specs.Forest.{ArePairs};
-ghost use Rattle.nova_model.specs.declared.times.Due.TheVariants as due;
-ghost use Rattle.nova_times.specs.Row.{IsAmong, IsBehind};
-ghost use Rattle.nova_times.specs.Kept.{IsAlarm, entry_of_alarm, entry_of_deadline, shifted};
+ghost use Rattle.nova_times.specs.Kept.{IsAlarm, IsOf, alarm_leaves, deadline_leaves, seen};
+ghost use Rattle.nova_times.specs.Processors.{first_of, is_due_by, moment_of};
 ghost use Rattle.nova_model.specs.declared.times.AlarmState.{AlarmState};
 
-use crate::entry::Entry;
-use crate::line::Line;
+use crate::entry::{Entry, lesser};
+use crate::leaves::{alarm_entry, deadline_entry, least_alarm, least_deadline};
+use crate::processor::{self, Processor};
 use nova_model::{Alarm, AlarmState, Deadline, Due};
 use std::alloc::{AllocError, Global};
 use std::marker::Model;
@@ -17,7 +16,7 @@ use std::marker::Model;
 /// known without a search.
 #[derive(Drop)]
 pub struct Times {
-    line: Line,
+    processors: Vec<Processor>,
     deadlines: Vec<Option<Deadline>>,
     alarms: Vec<AlarmState>,
     sources: Vec<Alarm>,
@@ -28,41 +27,20 @@ pub struct Times {
 impl Model for Times {
     ghost use Rattle.std.specs.Prelude.{◌≤◌, ◌+◌, length, vec_capacity};
     ghost use Rattle.nova_times.specs.Kept.{TimesState, AreTimes, HasRoom};
+    ghost use Rattle.nova_times.specs.Processors.{clocks_of};
 
     ghost Value = { TimesState };
 
     ghost view = { λ t. record {
-      all = record { clocks = t.line.clocks; deadlines = t.deadlines.items; alarms = t.alarms.items };
+      all = record { clocks = clocks_of t.processors.items; deadlines = t.deadlines.items; alarms = t.alarms.items };
       contexts = t.contexts;
       spare = t.spare;
     } };
 
     ghost invariant = { λ t.
-        AreTimes t.line.items (record { clocks = t.line.clocks; deadlines = t.deadlines.items; alarms = t.alarms.items }) t.sources.items
-        × (HasRoom (length t.deadlines.items) (length t.alarms.items) t.contexts t.spare t.line.room
+        AreTimes t.processors.items (record { clocks = clocks_of t.processors.items; deadlines = t.deadlines.items; alarms = t.alarms.items }) t.sources.items
+        × (HasRoom (length t.deadlines.items) (length t.alarms.items) t.contexts t.spare t.processors.items
         × ((t.contexts ≤ vec_capacity t.deadlines) × ((length t.alarms.items + t.spare ≤ vec_capacity t.alarms) × (length t.alarms.items + t.spare ≤ vec_capacity t.sources)))) };
-}
-
-/// The entry of a deadline.
-fn of_deadline(ec: u32, deadline: &Deadline) -> Entry
-    ensures { result ≡ entry_of_deadline ec deadline.now }
-{
-    Entry {
-        cpu: deadline.cpu,
-        at: deadline.at,
-        due: Due::Deadline(ec),
-    }
-}
-
-/// The entry of an alarm.
-fn of_alarm(number: u32, state: &AlarmState) -> Entry
-    ensures { result ≡ entry_of_alarm number state.now }
-{
-    Entry {
-        cpu: state.alarm.cpu,
-        at: state.next,
-        due: Due::Alarm(number),
-    }
 }
 
 /// An alarm that has rung: its next moment is a period later.
@@ -78,34 +56,13 @@ fn rung_once(state: &AlarmState) -> AlarmState
     }
 }
 
-/// Whether an alarm hasn't ended.
-fn goes_on(state: &AlarmState) -> bool
-    ensures { result ≡ goes_on state.now }
-{
-    state.rings < state.alarm.count
-}
-
-/// The entry of an alarm goes, and comes with its next moment unless the alarm has ended.
-fn shift(line: &mut Line, number: u32, before: &AlarmState, after: &AlarmState)
-    requires there { IsAmong line.old.items (entry_of_alarm number before.now) }
-    requires alone { (q : Entry) → IsAmong line.old.items q → q.due ≡ due.Alarm number → q ≡ entry_of_alarm number before.now }
-    requires order { ArePairs IsBehind line.old.items }
-    requires room { length line.old.items ≤ line.old.room }
-    ensures { line.new ≡ record line.old { items = shifted number before.now after.now line.old.items } }
-{
-    line.remove(of_alarm(number, before));
-    if goes_on(after) {
-        line.insert(of_alarm(number, after));
-    }
-}
-
 impl Times {
     /// Clocks at 0 of so many processors, and nothing to come. It refuses for want of memory alone.
     pub fn new(alloc: Global, cpus: u32) -> Result<Times, AllocError>
         ensures { IfOk result (λ t. t.all ≡ record { clocks = replicate cpus 0; deadlines = []; alarms = [] }) }
     {
         Ok(Times {
-            line: Line::new(alloc, cpus)?,
+            processors: processor::new(alloc, cpus)?,
             deadlines: Vec::new(alloc),
             alarms: Vec::new(alloc),
             sources: Vec::new(alloc),
@@ -118,7 +75,10 @@ impl Times {
     pub fn clock(&self, cpu: u32) -> u64
         ensures { result ≡ clock self.now.all cpu }
     {
-        self.line.clock(cpu)
+        match self.processors.get(cpu as usize) {
+            Some(processor) => processor.clock(),
+            None => 0,
+        }
     }
 
     /// The clock of a processor goes on.
@@ -128,7 +88,17 @@ impl Times {
         requires bound { clock self.old.all cpu < 2 ^ 64 - 1 }
         ensures { self.new ≡ record self.old { all = ticked self.old.all cpu } }
     {
-        self.line.tick(cpu);
+        self.pass(cpu, 1);
+    }
+
+    /// The clock of a processor goes on by so many turns at once.
+    #[inline(always)]
+    pub fn pass(&mut self, cpu: u32, count: u64)
+        requires there { cpu < length self.old.all.clocks }
+        requires bound { clock self.old.all cpu + count < 2 ^ 64 }
+        ensures { self.new ≡ record self.old { all = record self.old.all { clocks = slice_set self.old.all.clocks cpu (clock self.old.all cpu + count) } } }
+    {
+        self.processors[cpu as usize].pass(count);
     }
 
     /// Makes room for the deadline of the execution context of the next number. Where there is room, this succeeds. It refuses for
@@ -142,11 +112,13 @@ impl Times {
         ensures enough { length self.old.all.deadlines < self.old.contexts → IsOk result }
         ensures err { OnErr result (self.new ≡ self.old) }
     {
-        let count = self.deadlines.len();
-        let contexts = self.contexts.max(count + 1);
-        self.deadlines.reserve(contexts - count)?;
-        self.line
-            .reserve(contexts + self.alarms.len() + self.spare)?;
+        if self.deadlines.len() < self.contexts {
+            return Ok(());
+        }
+        let contexts = self.contexts + 1;
+        self.deadlines.reserve(1)?;
+        let alarms = self.alarms.len() + self.spare;
+        processor::reserve(&mut self.processors, alarms, contexts)?;
         self.contexts = contexts;
         Ok(())
     }
@@ -166,14 +138,16 @@ impl Times {
         *self.deadlines.get(ec as usize)?
     }
 
-    /// Sets the deadline of an execution context whose number is there, and that has none.
-    fn put_deadline(&mut self, ec: u32, deadline: Deadline)
+    /// The deadline of an execution context whose number is there comes or goes; it is of the processor, before and after.
+    fn put_deadline(&mut self, ec: u32, cpu: u32, deadline: Option<Deadline>)
         requires there { ec < length self.old.all.deadlines }
-        requires none { deadline_of self.old.all ec ≡ None }
-        ensures { self.new ≡ record self.old { all = with_deadline self.old.all ec (Some deadline) } }
+        requires before { IsOf cpu (deadline_of self.old.all ec) }
+        requires after { IsOf cpu deadline }
+        ensures { self.new ≡ record self.old { all = with_deadline self.old.all ec deadline } }
     {
-        self.line.insert(of_deadline(ec, &deadline));
-        self.deadlines[ec as usize] = Some(deadline);
+        let entry = deadline_entry(cpu, ec, deadline);
+        processor::put_deadline(&mut self.processors, cpu, ec, entry);
+        self.deadlines[ec as usize] = deadline;
     }
 
     /// Sets the deadline of an execution context, in place of one that it has: a semaphore, and a moment on the clock of a
@@ -184,7 +158,7 @@ impl Times {
     {
         if (ec as usize) < self.deadlines.len() {
             self.clear_deadline(ec);
-            self.put_deadline(ec, Deadline { cpu, sm, at });
+            self.put_deadline(ec, cpu, Some(Deadline { cpu, sm, at }));
         }
     }
 
@@ -195,8 +169,7 @@ impl Times {
         let Some(deadline) = self.deadline(ec) else {
             return;
         };
-        self.line.remove(of_deadline(ec, &deadline));
-        self.deadlines[ec as usize] = None;
+        self.put_deadline(ec, deadline.cpu, None);
     }
 
     /// Makes room for one more alarm. Where there is room, this succeeds. It refuses for want of memory alone, and then nothing has
@@ -210,12 +183,14 @@ impl Times {
         ensures enough { 0 < self.old.spare → IsOk result }
         ensures err { OnErr result (self.new ≡ self.old) }
     {
-        let spare = self.spare.max(1);
-        self.alarms.reserve(spare)?;
-        self.sources.reserve(spare)?;
-        self.line
-            .reserve(self.contexts + self.alarms.len() + spare)?;
-        self.spare = spare;
+        if self.spare > 0 {
+            return Ok(());
+        }
+        self.alarms.reserve(1)?;
+        self.sources.reserve(1)?;
+        let alarms = self.alarms.len() + 1;
+        processor::reserve(&mut self.processors, alarms, self.contexts)?;
+        self.spare = 1;
         Ok(())
     }
 
@@ -235,7 +210,8 @@ impl Times {
             next: alarm.first,
             rings: 0,
         };
-        self.line.insert(of_alarm(number, &state));
+        let entry = alarm_entry(alarm.cpu, number, &state);
+        processor::put_alarm(&mut self.processors, alarm.cpu, number, entry);
         self.alarms.push_reserved(state);
         self.sources.push_reserved(alarm);
         self.spare -= 1;
@@ -264,15 +240,52 @@ impl Times {
     {
         let state = self.alarms[number as usize];
         let after = rung_once(&state);
-        shift(&mut self.line, number, &state, &after);
+        let cpu = state.alarm.cpu;
+        let entry = alarm_entry(cpu, number, &after);
+        processor::put_alarm(&mut self.processors, cpu, number, entry);
         self.alarms[number as usize] = after;
+    }
+
+    /// What comes first on a processor that isn't there, by a search.
+    #[inline(never)]
+    fn first_beyond(&self, cpu: u32) -> Option<Entry>
+        ensures { result ≡ first_of (alarm_leaves cpu 0 self.now.all.alarms) (deadline_leaves cpu 0 self.now.all.deadlines) }
+    {
+        lesser(
+            least_alarm(self.alarms.as_slice(), cpu),
+            least_deadline(self.deadlines.as_slice(), cpu),
+        )
+    }
+
+    /// What comes first on a processor.
+    fn first(&self, cpu: u32) -> Option<Entry>
+        ensures { option_map seen result ≡ next_entry self.now.all cpu }
+    {
+        match self.processors.get(cpu as usize) {
+            Some(processor) => processor.first(),
+            None => self.first_beyond(cpu),
+        }
     }
 
     /// The least moment of a processor. None exactly where it has none.
     pub fn next(&self, cpu: u32) -> Option<u64>
         ensures { result ≡ next_moment self.now.all cpu }
     {
-        self.line.least(cpu)
+        match self.processors.get(cpu as usize) {
+            Some(processor) => processor.least(),
+            None => self.first_beyond(cpu).map(|e| e.at),
+        }
+    }
+
+    /// Whether something is due at once, where a processor isn't there, whose clock stands at 0.
+    #[inline(never)]
+    fn is_due_beyond(&self, cpu: u32) -> bool
+        ensures { result ≡ is_due_by 0 (moment_of (first_of (alarm_leaves cpu 0 self.now.all.alarms) (deadline_leaves cpu 0 self.now.all.deadlines))) }
+    {
+        match self.first_beyond(cpu) {
+            Some(e) => e.at == 0,
+            None => false,
+        }
     }
 
     /// Whether something is due on a processor.
@@ -280,7 +293,10 @@ impl Times {
     pub fn is_due(&self, cpu: u32) -> bool
         ensures { result ≡ is_some (due_on self.now.all cpu) }
     {
-        self.line.is_due(cpu)
+        match self.processors.get(cpu as usize) {
+            Some(processor) => processor.is_due(),
+            None => self.is_due_beyond(cpu),
+        }
     }
 
     /// What is due on a processor: of what stands at the least moment an alarm before a deadline, then the least number. None
@@ -288,8 +304,8 @@ impl Times {
     pub fn due(&self, cpu: u32) -> Option<Due>
         ensures { result ≡ due_on self.now.all cpu }
     {
-        if self.line.is_due(cpu) {
-            Some(self.line.first(cpu)?.due)
+        if self.is_due(cpu) {
+            Some(self.first(cpu)?.due)
         } else {
             None
         }
@@ -299,21 +315,21 @@ impl Times {
     pub fn until_due(&self, cpu: u32) -> Option<u64>
         ensures { result ≡ until_due self.now.all cpu }
     {
-        let least = self.line.least(cpu)?;
-        Some(least.saturating_sub(self.line.clock(cpu)))
+        let least = self.next(cpu)?;
+        Some(least.saturating_sub(self.clock(cpu)))
     }
 
     /// The same once more, with as much room for deadlines. It refuses for want of memory alone.
     pub fn copy(&self, alloc: Global) -> Result<Times, AllocError>
         ensures { IfOk result (λ t. (t.all ≡ self.now.all) × (t.contexts ≡ self.now.contexts)) }
     {
-        let line = self.line.copy()?;
+        let processors = processor::copies(alloc, self.processors.as_slice())?;
         let mut deadlines = Vec::from_slice(alloc, self.deadlines.as_slice())?;
         deadlines.reserve(self.contexts - deadlines.len())?;
         let alarms = Vec::from_slice(alloc, self.alarms.as_slice())?;
         let sources = Vec::from_slice(alloc, self.sources.as_slice())?;
         Ok(Times {
-            line,
+            processors,
             deadlines,
             alarms,
             sources,

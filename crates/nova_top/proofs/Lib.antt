@@ -10,3 +10,4 @@ pub mod TwoLines
 pub mod Twins
 pub mod Single
 pub mod Replays
+pub mod Repeated

@@ -31,7 +31,7 @@ all_below cpus (x ∷ xs) all = one x (list_all (λ cpu. nat_lt cpu cpus) xs) al
 both_hold : (a : Bool) (n most : ℕ) → a ≡ true → n ≤ most → IsTrue (a && nat_le n most)
 both_hold a n most is few = grind arith
 
-is_there : (cpus most : ℕ) (blocks : List Block) → IsOrder blocks → AllByRecursion (λ cpu. cpu < cpus) (turns blocks) → length (turns blocks) ≤ most →
+pub is_there : (cpus most : ℕ) (blocks : List Block) → IsOrder blocks → AllByRecursion (λ cpu. cpu < cpus) (turns blocks) → length (turns blocks) ≤ most →
     IsTrue (is_within cpus most blocks)
 is_there cpus most blocks order all few =
     subst IsTrue (sym (within_turns cpus most blocks order))

@@ -15,3 +15,4 @@ pub mod Main
 pub mod Prepared
 pub mod Sent
 pub mod Replayed
+pub mod Repeated

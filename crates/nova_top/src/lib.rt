@@ -16,4 +16,4 @@ mod subjects;
 pub use exit::{Exit, OrderWhy, ScenarioWhy, TwinWhy};
 pub use main_call::nova_main;
 pub use nova_run::{Gate, Open};
-pub use replay::a_written_order_gives_the_same_report;
+pub use replay::{a_written_order_gives_the_same_report, one_thread_repeats_a_run};

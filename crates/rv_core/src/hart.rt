@@ -1,7 +1,8 @@
 ghost use Rattle.std.specs.Prelude.{◌≡◌, ◌<◌, ◌*◌, ◌%◌, ◌^◌, ◌⊎◌};
 ghost use Rattle.rv_model.specs.Table.{instr_from};
 ghost use Rattle.rv_model.specs.Step.{next, sets, goes, jumps, branches, loads, stores};
-ghost use Rattle.rv_model.specs.Step.{shift_right_signed, executed, one};
+ghost use Rattle.rv_model.specs.Codes.{instr_of};
+ghost use Rattle.rv_model.specs.Step.{shift_right_signed, executed, decoded, one};
 ghost use Rattle.rv_core.specs.Rows.{HasRegisters};
 ghost use Rattle.rv_core.specs.Steps.{space_of, Follows, FollowsAlone, extension_of};
 
@@ -11,9 +12,11 @@ use crate::outcome::{
     BREAKPOINT, ENVIRONMENT_CALL, FETCH_FAULT, ILLEGAL, LOAD_FAULT, MISALIGNED, Outcome,
     STORE_FAULT,
 };
+use crate::readings::{Reading, Readings};
 use rv_model::{Mnemonic, Operands, Regs};
 
 /// On to the next instruction.
+#[inline(always)]
 fn go_on(regs: &mut Regs) -> Outcome
     ensures done { result ≡ Outcome.Next }
     ensures registers { regs.new ≡ next regs.old }
@@ -23,6 +26,7 @@ fn go_on(regs: &mut Regs) -> Outcome
 }
 
 /// On to the next instruction, with a value in rd.
+#[inline(always)]
 fn set(regs: &mut Regs, rd: u32, value: u32) -> Outcome
     requires { rd < 32 }
     ensures { FollowsAlone (sets regs.old rd value) regs.old result regs.new }
@@ -32,6 +36,7 @@ fn set(regs: &mut Regs, rd: u32, value: u32) -> Outcome
 }
 
 /// To an address, which must be a multiple of 4.
+#[inline(always)]
 fn go(regs: &mut Regs, target: u32) -> Outcome
     ensures { FollowsAlone (goes regs.old target) regs.old result regs.new }
 {
@@ -43,6 +48,7 @@ fn go(regs: &mut Regs, target: u32) -> Outcome
 }
 
 /// To an address, which must be a multiple of 4, with the address of the next instruction in rd.
+#[inline(always)]
 fn jump(regs: &mut Regs, rd: u32, target: u32) -> Outcome
     requires { rd < 32 }
     ensures { FollowsAlone (jumps regs.old rd target) regs.old result regs.new }
@@ -57,6 +63,7 @@ fn jump(regs: &mut Regs, rd: u32, target: u32) -> Outcome
 }
 
 /// To pc and an offset where the test holds, else on.
+#[inline(always)]
 fn branch(regs: &mut Regs, test: bool, offset: u32) -> Outcome
     ensures { FollowsAlone (branches regs.old test offset) regs.old result regs.new }
 {
@@ -68,6 +75,7 @@ fn branch(regs: &mut Regs, test: bool, offset: u32) -> Outcome
     }
 }
 
+#[inline(always)]
 fn raise(reason: u32, q0: u32, q1: u32) -> Outcome
     ensures { result ≡ Outcome.Raise reason q0 q1 }
 {
@@ -82,6 +90,7 @@ enum Extension {
 }
 
 /// Loads a number of a width from an aligned address into rd.
+#[inline(always)]
 fn load<B: Bus>(
     regs: &mut Regs,
     bus: &mut B,
@@ -111,6 +120,7 @@ fn load<B: Bus>(
 }
 
 /// Stores the low bytes of a value to an aligned address.
+#[inline(always)]
 fn store<B: Bus>(regs: &mut Regs, bus: &mut B, width: u32, addr: u32, value: u32) -> Outcome
     requires width { (width ≡ 1) ⊎ ((width ≡ 2) ⊎ (width ≡ 4)) }
     requires room { B.room (B.state bus.old) }
@@ -129,6 +139,7 @@ fn store<B: Bus>(regs: &mut Regs, bus: &mut B, width: u32, addr: u32, value: u32
 }
 
 /// The number in the lowest bytes of a word.
+#[inline(always)]
 fn low_bytes(value: u32, width: u32) -> u32
     requires width { (width ≡ 1) ⊎ ((width ≡ 2) ⊎ (width ≡ 4)) }
     ensures low { result ≡ value % 2 ^ (8 * width) }
@@ -142,6 +153,7 @@ fn low_bytes(value: u32, width: u32) -> u32
 }
 
 /// What an instruction does, by its name and operands.
+#[inline(always)]
 fn execute<B: Bus>(regs: &mut Regs, bus: &mut B, mnemonic: Mnemonic, operands: Operands) -> Outcome
     requires registers { HasRegisters operands }
     requires room { B.room (B.state bus.old) }
@@ -201,6 +213,7 @@ fn execute<B: Bus>(regs: &mut Regs, bus: &mut B, mnemonic: Mnemonic, operands: O
 }
 
 /// A value shifted to the right by the low five bits of an amount, with copies of its sign.
+#[inline(always)]
 fn shift_right_signed(value: u32, amount: u32) -> u32
     ensures { result ≡ shift_right_signed value amount }
 {
@@ -227,4 +240,45 @@ pub fn step<B: Bus>(regs: &mut Regs, bus: &mut B) -> Outcome
         return raise(ILLEGAL, word, 0);
     };
     execute(regs, bus, mnemonic, operands)
+}
+
+/// One instruction whose word is fetched and not remembered. Few are, so that it stays out of the code of each.
+#[inline(never)]
+fn step_anew<B: Bus>(regs: &mut Regs, bus: &mut B, readings: &mut Readings, word: u32) -> Outcome
+    requires room { B.room (B.state bus.old) }
+    ensures { let space = space_of B.fetched B.loaded B.takes (B.state bus.old) in
+        let once = decoded regs.old space word (instr_of word) in
+        Follows B.stored once regs.old (B.state bus.old) result regs.new (B.state bus.new) }
+{
+    let Some((mnemonic, operands)) = decoder::parts(word) else {
+        return raise(ILLEGAL, word, 0);
+    };
+    readings.remember(Reading {
+        word,
+        mnemonic,
+        operands,
+    });
+    execute(regs, bus, mnemonic, operands)
+}
+
+/// One instruction, as `step` does it. What words read as is remembered.
+#[inline(always)]
+#[tactic(auto, unfolding(rv_model::specs::Step::one))]
+pub fn step_read<B: Bus>(regs: &mut Regs, bus: &mut B, readings: &mut Readings) -> Outcome
+    requires { B.room (B.state bus.old) }
+    ensures { let space = space_of B.fetched B.loaded B.takes (B.state bus.old) in
+        let once = one regs.old space in
+        Follows B.stored once regs.old (B.state bus.old) result regs.new (B.state bus.new) }
+{
+    let pc = regs.pc();
+    if pc % 4 != 0 {
+        return raise(MISALIGNED, pc, 0);
+    }
+    let Some(word) = bus.fetch(pc) else {
+        return raise(FETCH_FAULT, pc, 0);
+    };
+    let Some(reading) = readings.find(word) else {
+        return step_anew(regs, bus, readings, word);
+    };
+    execute(regs, bus, reading.mnemonic, reading.operands)
 }

@@ -7,11 +7,13 @@ pub mod encoder;
 pub mod hart;
 pub mod laws;
 pub mod outcome;
+pub mod readings;
 pub mod table;
 
 pub use bus::Bus;
 pub use decoder::decode;
 pub use encoder::encode;
-pub use hart::step;
+pub use hart::{step, step_read};
 pub use outcome::Outcome;
+pub use readings::Readings;
 pub use rv_model::{Format, Instr, Mnemonic, Operands, Regs};

@@ -14,6 +14,7 @@ TOP = Path(__file__).resolve().parents[1]
 sys.path.insert(0, str(TOP))
 
 from names import Law, defined, laws_of, names_in  # noqa: E402
+from rows import Link, contracts, edits_gone, left_out, links, missing  # noqa: E402
 from table import Credit, read, wrong  # noqa: E402
 
 # Definitions of two files, one name in both; a module and a use are none, and neither is what isn't public or is within a record.
@@ -48,11 +49,9 @@ pub fn set(n: u64)
 """
 LAWS = [Law("nova_a", "edges_end", frozenset({"first", "last"})), Law("nova_a", "turns_end", frozenset())]
 
-TABLE = """# Theorems
+TABLE = """# Definitions that code copies, and more
 
-| `no_row` | of another section |
-
-## Definitions that code copies, and more
+A clause that no definition is.
 
 | definitions | pinned by |
 |---|---|
@@ -60,10 +59,69 @@ TABLE = """# Theorems
 | `edge`, `Turn.entry` | `edges_end` (`first`, `last`), `turns_end` of `nova_a`; each: `turns_end`, by `nova_a/proofs/X.antt`. That it ends: **none** |
 | `turn` |  |
 
-## Wrong bodies
+## Another section
 
 | `no_row` | of another section |
 """
+
+# A type with a function, and a trait whose function has no body.
+TYPES = """pub struct Line {
+    end: u64,
+}
+
+impl Line {
+    /// Its end.
+    pub fn end<T: Copy>(
+        &self,
+    ) -> u64
+        ensures exact { result ≡ self.end }
+    {
+        self.end
+    }
+}
+
+pub trait Ends {
+    fn all(&self) -> u64
+        ensures few { result < 8 };
+
+    fn none(&self) -> u64;
+}
+"""
+
+RECORD = "pub record IsEnd (n : ℕ) : Type 0 where\n  pub last : n ≡ 0\n"
+
+THEOREMS = """# What is proved
+
+Not a row: [`edges_end`](../crates/nova_a/src/laws.rt): `third`.
+
+| promise | by |
+|---|---|
+| `edge` ends | [`edges_end`](../crates/nova_a/src/laws.rt): `first`, `last`; [`IsEnd`](../crates/nova_a/specs/End.antt): `last` |
+| a line ends | [`Line::end`](../crates/nova_a/src/line.rt): `exact`, [`Line`](../crates/nova_a/src/line.rt): `end`, `few`, `first` |
+"""
+
+BODIES = """| a | `nova_a`: `of_another_section` |
+
+## Mutants, and more
+
+| mutant | refused |
+|---|---|
+| early, late | `nova_a`: `ends_early`, `ends_late`; `nova_b`: `starts_early` |
+| some | the four of `nova_a` |
+"""
+
+# Links, and what is wrong with each.
+LINKS = (
+    (Link("edges_end", "crates/nova_a/src/laws.rt", ("first", "last")), []),
+    (Link("edges_end", "crates/nova_a/src/laws.rt", ("third",)), ["not behind edges_end: third"]),
+    (Link("Line::end", "crates/nova_a/src/line.rt", ("few",)), ["not behind Line::end: few"]),
+    (Link("Ends::all", "crates/nova_a/src/line.rt", ("few",)), []),
+    (Link("Line", "crates/nova_a/src/line.rt", ("exact", "all", "fourth")), ["not behind Line: fourth"]),
+    (Link("IsEnd", "crates/nova_a/specs/End.antt", ("last", "first")), ["not behind IsEnd: first"]),
+    (Link("IsStart", "crates/nova_a/specs/End.antt", ("last",)), ["not in crates/nova_a/specs/End.antt: IsStart"]),
+    (Link("starts", "crates/nova_a/src/laws.rt", ()), ["not in crates/nova_a/src/laws.rt: starts"]),
+    (Link("edges_end", "crates/nova_a/src/edges.rt", ()), ["no file of edges_end: crates/nova_a/src/edges.rt"]),
+)
 
 # Credits, and what is wrong with each.
 CREDITS = (
@@ -114,6 +172,50 @@ class Rows(unittest.TestCase):
         for credit, said in CREDITS:
             with self.subTest(credit):
                 self.assertEqual(wrong(credit, LAWS), said)
+
+
+class Theorems(unittest.TestCase):
+    """What the rows of theorems link to."""
+
+    def setUp(self) -> None:
+        folder = tempfile.TemporaryDirectory()
+        self.addCleanup(folder.cleanup)
+        self.top = Path(folder.name)
+        for name, text in (("src/laws.rt", SOURCE), ("src/line.rt", TYPES), ("specs/End.antt", RECORD)):
+            path = self.top / "crates/nova_a" / name
+            path.parent.mkdir(parents=True, exist_ok=True)
+            path.write_text(text, "utf-8")
+
+    def test_links_stand_in_last_cells_with_what_is_behind_them(self) -> None:
+        self.assertEqual([(link.name, link.behind) for link in links(THEOREMS)], [
+            ("edges_end", ("first", "last")), ("IsEnd", ("last",)), ("Line::end", ("exact",)), ("Line", ("end", "few", "first"))])
+        self.assertEqual([fault for link in links(THEOREMS) for fault in missing(link, self.top)], [])
+
+    def test_a_contract_ends_where_its_body_begins(self) -> None:
+        for source, name, clauses in (
+            (SOURCE, "edges_end", 2),
+            (SOURCE, "turns_end", 1),
+            (SOURCE, "set", 1),
+            (TYPES, "end", 1),
+            (TYPES, "all", 1),
+            (TYPES, "none", 0),
+        ):
+            with self.subTest(name):
+                self.assertEqual([text.count("ensures") for text in contracts(source, name)], [clauses])
+
+    def test_what_is_not_there_is_found(self) -> None:
+        for link, said in LINKS:
+            with self.subTest(link):
+                self.assertEqual(missing(link, self.top), said)
+
+    def test_an_edit_that_is_gone_is_found(self) -> None:
+        folder = self.top / "crates/nova_a/must-fail"
+        folder.mkdir()
+        (folder / "ends_early.edit").write_text("", "utf-8")
+        self.assertEqual(edits_gone(BODIES, self.top), ["no edit of nova_a: ends_late", "no edit of nova_b: starts_early"])
+
+    def test_a_law_without_a_row_is_found(self) -> None:
+        self.assertEqual(left_out(links(THEOREMS), LAWS), ["no row of nova_a: turns_end"])
 
 
 if __name__ == "__main__":

@@ -1,6 +1,6 @@
 """The tests of the orders.
 
-python3 tools/orders/tests [--program FILE] [NAME..]
+python3 tools/orders/tests [--program FILE [--stays FILE]] [NAME..]
 """
 
 from __future__ import annotations
@@ -281,7 +281,7 @@ class Commands(unittest.TestCase):
             heed = lambda: signal.signal(signal.SIGINT, signal.SIG_DFL)
             with subprocess.Popen(words, stdout=subprocess.PIPE, stderr=subprocess.PIPE, text=True, preexec_fn=heed) as child:
                 assert child.stderr is not None
-                self.assertIn("starts of the program", child.stderr.readline())
+                self.assertIn(" runs", child.stderr.readline())
                 child.send_signal(signal.SIGINT)
                 began = time.monotonic()
                 written, said = child.communicate()
@@ -357,7 +357,8 @@ class Parts(unittest.TestCase):
 
 
 if __name__ == "__main__":
-    if sys.argv[1:2] == ["--program"]:
-        MEANS += sys.argv[1:3]
-        del sys.argv[1:3]
+    for word in ("--program", "--stays"):
+        if sys.argv[1:2] == [word]:
+            MEANS += sys.argv[1:3]
+            del sys.argv[1:3]
     unittest.main(module="__main__")

@@ -1,4 +1,4 @@
-use Rattle.std.proofs.Common.{rules, arith, ◌+◌, List, ◌≡◌, ◌<◌, ◌^◌, ℕ, ap, sym, ◌∙◌, subst}
+use Rattle.std.proofs.Common.{rules, refl, arith, ◌+◌, ◌≤◌, List, ◌≡◌, ◌<◌, ◌^◌, ℕ, ap, sym, ◌∙◌, subst}
 use Rattle.std.specs.Prelude.{IfSome, option_map, replicate, slice_get, true}
 use Rattle.nova_choice.specs.Choices.{chosen_of}
 use Rattle.nova_choice.specs.Schedules.{AreQueued}
@@ -10,7 +10,11 @@ use Rattle.nova_leases.specs.declared.steps.Page.{Page}
 use Rattle.nova_model.specs.State.{KernelState, entry}
 use Rattle.nova_parts.specs.Parts.{state_of}
 use Rattle.nova_parts.specs.declared.parts.Parts.{Parts}
-use Rattle.nova_kernel.proofs.Advancing.{IsLaid, counted_after, counts_fit, few_stores, lays, paid_times, queued_after, running_after, still_acts, still_frames, to_be_charged}
+use Rattle.nova_kernel.proofs.Advancing.{IsLaid, counted_after, counts_fit, few_stores, is_chosen, lays, paid_times, queued_after, running_after, still_acts, still_frames, to_be_charged}
+use Rattle.nova_kernel.proofs.Spending.{left_queued}
+use Rattle.nova_choice.specs.declared.choice.Chosen.{Chosen}
+use Rattle.nova_sched.specs.Queues.{queued_at}
+use Rattle.nova_sched.specs.declared.queued.Queued.{Queued}
 use Rattle.nova_kernel.specs.Begun.{IsBegun}
 use Rattle.nova_kernel.proofs.Begun.{run_begun}
 use Rattle.nova_kernel.proofs.burst.advance.Goals as goal
@@ -23,6 +27,14 @@ charge_times-requires-clause-charged c = to_be_charged (state_of c.args.parts.no
 
 pub charge_times-requires-clause-cpu : goal.charge_times-requires-clause-cpu
 charge_times-requires-clause-cpu c = subst (λ (n : ℕ). c.args.cpu < n) c.requires.counted.charged.processors c.requires.may.may.processor
+
+pub charge_times-requires-clause-left : goal.charge_times-requires-clause-left
+charge_times-requires-clause-left c =
+    let k : KernelState = state_of c.args.parts.now in
+    let may = c.requires.may in
+    let chosen : may.chosen.sc ≡ c.in-Some.chosen.sc = ap (λ (d : Chosen). d.sc) (sym (is_chosen k c.args.cpu c.args.steps.now c.in-Some.chosen may (sym c.in-Some.is ∙ c.choice.ensures.choice))) in
+    subst (λ (n : ℕ). IfSome (queued_at c.args.parts.now.queues.all n) (λ (e : Queued). c.args.steps.now.count ≤ e.budget.left)) chosen
+    (left_queued k c.args.parts.now.queues.all may.chosen.sc c.args.steps.now.count may.budget refl may.may.budget may.left)
 
 pub set_regs-requires : goal.set_regs-requires
 set_regs-requires c =

@@ -1,9 +1,10 @@
-use Rattle.std.proofs.Common.{◌≡◌, ◌++◌, ◌+◌, string_bytes, flat_map, filter, drop}
-use Rattle.std.specs.List.{enumerate_from}
-use Rattle.nova_report.specs.Report.{event_line, event_lines, is_told}
+use Rattle.std.proofs.Common.{◌≡◌, ◌++◌, ◌+◌, string_bytes, drop, length}
+use Rattle.nova_trace.specs.Traces.{events_of}
+use Rattle.nova_report.specs.Report.{event_lines, lines_from}
 use Rattle.nova_report.proofs.events.write_events.Given as goal
 
-abbrev pub invariant-loop-i : goal.invariant-loop-i
-invariant-loop-i l =
-    string_bytes l.out ++ flat_map event_line (filter is_told (enumerate_from (l.i + 1) (drop l.i l.trace)))
-    ≡ string_bytes l.initial.out ++ event_lines l.trace
+abbrev pub invariant-loop-entry : goal.invariant-loop-entry
+invariant-loop-entry l =
+    (string_bytes l.out ++ lines_from (l.place + 1) (events_of (drop l.entry-index l.entries))
+    ≡ string_bytes l.initial.out ++ event_lines l.trace.items)
+    × (l.place + length (events_of (drop l.entry-index l.entries)) ≡ length l.trace.items)

@@ -1,20 +1,30 @@
-use Rattle.std.proofs.Common.{rules, ◌≡◌, true, false, arith}
+use Rattle.std.proofs.Common.{rules, ◌≡◌, ◌<◌, ◌+◌, ◌-◌, arith, subst, ℕ, false, replicate}
 use Rattle.std.specs.Prelude.{is_some}
 use Rattle.nova_model.specs.Turn.{turn}
-use Rattle.nova_run.proofs.Blocks.{turn_on, turn_idle}
+use Rattle.nova_run.specs.Finished.{IsFreeOfIdle}
+use Rattle.nova_run.specs.UnderWay.{Passed}
+use Rattle.nova_run.proofs.Blocks.{turn_idle, turns_on}
 use Rattle.nova_run.proofs.orders.take.Goals as goal
 
-pub loop-turn-init : goal.loop-turn-init
-loop-turn-init c = ((c.in_ok-make_places.ensures.none, tt), omega (arith, c.in_ok-make_places.ensures.places, c.in_ok-make_places.ensures.none.count))
+pub returns-then-taken-eq0 : goal.returns-then-taken-eq0
+returns-then-taken-eq0 c =
+    let none : c.in_ok-taken.taken ≡ 0 = search rules in
+    let idle : is_some (turn c.loop-left.run.kernel.state c.args.cpu) ≡ false = c.in_ok-taken.ensures.idle none in
+    let some : 0 < c.loop-left.left = search rules in
+    let few = c.loop-left.invariant.2 in
+    turn_idle c.args.run.now c.loop-left.run c.args.cpu (c.args.count - c.loop-left.left) c.args.count (omega (arith, some, few)) c.loop-left.invariant.0.0 idle
 
-pub returns-then-not-branch : goal.returns-then-not-branch
-returns-then-not-branch c =
-    let idle : is_some (turn c.loop-turn.run.kernel.state c.args.cpu) ≡ false = search rules in
-    turn_idle c.args.run.now c.loop-turn.run c.args.cpu c.loop-turn._turn c.args.count (omega arith) c.loop-turn.invariant.0.0 idle
-
-pub loop-turn-preserved : goal.loop-turn-preserved
-loop-turn-preserved c =
-    let there : is_some (turn c.loop-turn.run.kernel.state c.args.cpu) ≡ true = search rules in (
-      turn_on c.args.run.now c.loop-turn.run c.turn.new.run c.args.cpu c.loop-turn._turn c.loop-turn.invariant.0 c.in_ok-turn.ensures.passed there,
-      omega (arith, c.loop-turn.invariant.1, c.turn.ensures.places),
+pub loop-left-preserved : goal.loop-left-preserved
+loop-left-preserved c =
+    let n = c.args.count - c.loop-left.left in
+    let m = c.in_ok-taken.taken in
+    let few = c.loop-left.invariant.2 in
+    let most = c.in_ok-taken.ensures.most in
+    let same : n + m ≡ c.args.count - (c.loop-left.left - m) = omega (arith, few, most) in
+    let on = turns_on c.args.run.now c.loop-left.run c.go.new.run c.args.cpu n m c.loop-left.invariant.0 c.in_ok-taken.ensures.passed c.in_ok-taken.ensures.no_idle in
+    let places = c.loop-left.invariant.1 in
+    let kept = c.in_ok-taken.ensures.places in (
+      subst (λ (l : ℕ). Passed c.args.run.now (replicate l c.args.cpu) c.go.new.run × IsFreeOfIdle c.args.run.now.kernel.state (replicate l c.args.cpu)) same on,
+      omega (arith, places, kept),
+      omega (arith, few, most),
     )

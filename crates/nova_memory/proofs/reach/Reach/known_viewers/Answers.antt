@@ -9,4 +9,4 @@ pub returns : goal.returns
 returns c =
     let r = c.self.inside in
     subst (λ (s : ReachState). IfSome c.get.result (AreViewers s.nodes.delegations.list c.args.frame)) c.self.view_is
-    (known_of r.nodes.delegations.list r.sights c.args.frame c.get.result c.get.ensures c.self.invariant.1.1)
+    (known_of r.nodes.delegations.list r.sights c.args.frame c.get.result c.get.ensures c.self.invariant.1.1.0)

@@ -10,5 +10,5 @@ pub returns-in-Some : goal.returns-in-Some
 returns-in-Some c =
     let r = c.self.inside in
     let known : AreViewers r.nodes.delegations.list c.args.frame c.in-Some.viewers =
-    known_of r.nodes.delegations.list r.sights c.args.frame _ (sym c.in-Some.is ∙ c.get.ensures) c.self.invariant.1.1 in
+    known_of r.nodes.delegations.list r.sights c.args.frame _ (sym c.in-Some.is ∙ c.get.ensures) c.self.invariant.1.1.0 in
     c.contains.ensures ∙ sym (known c.args.pd) ∙ ap (λ (s : ReachState). list_any (leads_to c.args.pd c.args.frame) s.nodes.delegations.list) c.self.view_is

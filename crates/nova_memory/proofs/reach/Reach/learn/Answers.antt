@@ -12,7 +12,10 @@ invariant_of-self c =
       c.self.invariant.0,
       (
         c.self.invariant.1.0,
-        subst (λ (s : List (Option Viewers)). AreSeen r.nodes.delegations.list s) (sym c.note.ensures)
-            (seen_set r.nodes.delegations.list r.sights c.args.frame c.viewers_of-viewers.result c.self.invariant.1.1 are),
+        (
+          subst (λ (s : List (Option Viewers)). AreSeen r.nodes.delegations.list s) (sym c.note.ensures)
+              (seen_set r.nodes.delegations.list r.sights c.args.frame c.viewers_of-viewers.result c.self.invariant.1.1.0 are),
+          c.self.invariant.1.1.1,
+        ),
       ),
     )

@@ -5,6 +5,7 @@ use Rattle.nova_range.specs.declared.range.Kind.TheVariants.{Mem}
 use Rattle.nova_model.specs.Delegations.{covers}
 use Rattle.nova_memory.specs.Reach.{LeadToFrames, ReachState}
 use Rattle.nova_memory.specs.Sights.{AreSeen}
+use Rattle.nova_memory.specs.Recents.{AreRecent}
 use Rattle.nova_nodes.specs.NodesStates.{NodesState}
 use Rattle.nova_memory.proofs.Placed.{at_found, page_found}
 use Rattle.nova_memory.proofs.reach.Reach.memory_at.Goals as goal
@@ -17,7 +18,10 @@ invariant_of-self c =
       (
         at_found c.at-self-inside.new.self.delegations r.pd c.args.page c.at-self-inside.result c.at-self-inside.ensures.sound c.at-self-inside.ensures.found
             c.at-self-inside.ensures.placed,
-        subst (λ (n : NodesState). AreSeen n.delegations.list r.sights) (sym same) c.self.invariant.1.1,
+        (
+          subst (λ (n : NodesState). AreSeen n.delegations.list r.sights) (sym same) c.self.invariant.1.1.0,
+          subst (λ (n : NodesState). AreRecent n.delegations.list r.recents) (sym same) c.self.invariant.1.1.1,
+        ),
       ),
     )
 

@@ -1,81 +1,59 @@
-use Rattle.std.proofs.Common.{rules, ◌≡◌, ◌≤◌, ◌<◌, ◌+◌, ◌*◌, ◌-◌, ◌^◌, ◌∙◌, ◌++◌, ◌∷◌, [], ℕ, List, length, length-append, refl, ap, ap₂, sym, subst, arith}
-use Rattle.std.specs.Prelude.{Bool, true, false, is_some, map, max, slice_get, slice_index, slice_index_or, slice_set, vec_capacity, Option, Some, None, option_map}
-use Rattle.nova_model.specs.Times.{Times, clock, due_on, goes_on, next_moment, rung, rung_once, until_due, with_alarm, with_deadline}
-use Rattle.nova_model.specs.State.{deadline_of, entry}
+use Rattle.std.proofs.Common.{rules, ◌≡◌, ◌<◌, ◌+◌, ◌*◌, ◌-◌, ◌^◌, ◌∙◌, ◌++◌, ◌∷◌, [], ℕ, List, length, length-append, ap, sym, subst, arith}
+use Rattle.std.specs.Prelude.{slice_set, Option, Some}
+use Rattle.nova_model.specs.Times.{Times}
 use Rattle.nova_model.specs.declared.times.Alarm.{Alarm}
 use Rattle.nova_model.specs.declared.times.AlarmState.{AlarmState}
-use Rattle.nova_model.specs.declared.times.Deadline.{Deadline}
-use Rattle.nova_model.specs.declared.times.Due.{Due}
-use Rattle.nova_model.specs.declared.times.Due.TheVariants as due
-use Rattle.nova_times.specs.Row.{IsAmong, IsBehind, dropped, first_on, placed}
-use Rattle.nova_times.specs.Line.{LineState, is_due_by, least_on}
-use Rattle.nova_times.specs.Kept.{AreTimes, HasRoom, IsBounded, TimesState, entry_of_alarm, entry_of_deadline, shifted}
+use Rattle.nova_times.specs.Kept.{AreTimes, IsBounded, TimesState, alarm_leaf}
+use Rattle.nova_times.specs.Processors.{AreChanged, clocks_of, processor_at}
 use Rattle.nova_times.specs.declared.entry.Entry.{Entry}
-use Rattle.nova_times.proofs.Keeping.{deadline_set_none, deadline_there, length_alarms, length_deadlines}
-use Rattle.nova_times.proofs.Changes.{none_of_alarm, one_of_alarm, room_for_deadline, room_in_all, row_part, rung_fits, times_added, times_cleared, times_grown, times_rung, times_set, times_ticked, alarm_is_on}
-use Rattle.nova_times.proofs.Nexts.{due_first, due_is, due_of_first, is_due_first, least_is, not_due_first}
+use Rattle.nova_times.proofs.Keeping.{alarm_added, place_of_alarm, room_alarm, room_moved, sources_added, times_alarm}
 use Rattle.nova_times.proofs.times.Times.add_alarm.Goals as goal
 
-pub insert-requires-clause-room : goal.insert-requires-clause-room
-insert-requires-clause-room c =
-    let line = c.self.inside.line in
-    let ds = c.self.inside.deadlines.items in
+pub put_alarm-requires : goal.put_alarm-requires
+put_alarm-requires c =
     let alarms = c.self.inside.alarms.items in
-    let src = c.self.inside.sources.items in
-    let t : Times = record { clocks = line.clocks; deadlines = ds; alarms = alarms } in
-    let are = c.self.invariant.0 in
-    let room = c.self.invariant.1.0 in
-    let less = room_in_all line.items t src are in
     let some : 0 < c.self.inside.spare = subst (λ (s : TimesState). 0 < s.spare) (sym c.self.view_is) c.requires.room in
-    let all = room.entries in
-    let each = room.each in
-    omega arith
-
-pub insert-requires-clause-apart : goal.insert-requires-clause-apart
-insert-requires-clause-apart c =
-    let line = c.self.inside.line in
-    let ds = c.self.inside.deadlines.items in
-    let alarms = c.self.inside.alarms.items in
-    let src = c.self.inside.sources.items in
-    let t : Times = record { clocks = line.clocks; deadlines = ds; alarms = alarms } in
-    let are = c.self.invariant.0 in
-    let room = c.self.invariant.1.0 in
-    let number : c.of_alarm.result.due ≡ due.Alarm (length alarms) = search rules in
-    λ q i same. none_of_alarm line.items t src are q i (same ∙ number)
+    let number : c.len-number.result ≡ length alarms = search rules in
+    place_of_alarm (length c.self.inside.deadlines.items) (length alarms) c.self.inside.contexts c.self.inside.spare c.self.inside.processors.items c.args.alarm.cpu c.len-number.result c.self.invariant.1.0 (omega arith)
 
 pub invariant_of-self : goal.invariant_of-self
 invariant_of-self c =
-    let line = c.self.inside.line in
+    let ps = c.self.inside.processors.items in
     let ds = c.self.inside.deadlines.items in
     let alarms = c.self.inside.alarms.items in
     let src = c.self.inside.sources.items in
-    let t : Times = record { clocks = line.clocks; deadlines = ds; alarms = alarms } in
+    let t : Times = record { clocks = clocks_of ps; deadlines = ds; alarms = alarms } in
     let are = c.self.invariant.0 in
     let room = c.self.invariant.1.0 in
+    let contexts = c.self.inside.contexts in
+    let spare = c.self.inside.spare in
+    let cpu = c.args.alarm.cpu in
+    let n = length alarms in
     let a : AlarmState = record { alarm = c.args.alarm; next = c.args.alarm.first; rings = 0 } in
-    let number : c.of_alarm.result ≡ entry_of_alarm (length alarms) a = search rules in
-    let out : c.insert.new.self ≡ record line { items = placed (entry_of_alarm (length alarms) a) line.items } = c.insert.ensures ∙ ap (λ (e : Entry). record line { items = placed e line.items }) number in
-    let asked = c.requires.alarm in
-    let count = asked.count in
-    let last = asked.last in
-    let on : goes_on a ≡ true = grind (arith, count) in
-    let some : 0 < c.self.inside.spare = subst (λ (s : TimesState). 0 < s.spare) (sym c.self.view_is) c.requires.room in
+    let qs = c.put_alarm.new.processors.items in
+    let entry : c.alarm_entry-entry.result ≡ alarm_leaf cpu n (Some a) = search rules in
+    let number : c.len-number.result ≡ n = search rules in
+    let changed : AreChanged cpu (record (processor_at ps cpu) { alarms = slice_set (processor_at ps cpu).alarms n (alarm_leaf cpu n (Some a)) }) ps qs =
+    subst (λ (e : Option Entry). AreChanged cpu (record (processor_at ps cpu) { alarms = slice_set (processor_at ps cpu).alarms n e }) ps qs) entry
+    (subst (λ (k : ℕ). AreChanged cpu (record (processor_at ps cpu) { alarms = slice_set (processor_at ps cpu).alarms k c.alarm_entry-entry.result }) ps qs) number c.put_alarm.ensures) in
+    let some : 0 < spare = subst (λ (s : TimesState). 0 < s.spare) (sym c.self.view_is) c.requires.room in
     let items : c.push_reserved.new.self.items ≡ alarms ++ a ∷ [] = c.push_reserved.ensures.items in
     let sources : c.push_reserved-2.new.self.items ≡ src ++ c.args.alarm ∷ [] = c.push_reserved-2.ensures.items in
     let more = ap length items ∙ length-append alarms (a ∷ []) in
     let whole : c.args.alarm.count - 0 ≡ c.args.alarm.count = omega arith in
-    let bounded : IsBounded a = record { last = subst (λ (n : ℕ). c.args.alarm.first + n * c.args.alarm.period < 2 ^ 64) (sym whole) last } in
-    let kept = times_added line.items t src a are on bounded in
-    let room1 = room.entries in
-    let room2 = room.few_alarms in
+    let fits : IsBounded a = record { last = subst (λ (k : ℕ). c.args.alarm.first + k * c.args.alarm.period < 2 ^ 64) (sym whole) c.requires.alarm.last } in
+    let place : cpu < length ps → n < length (processor_at ps cpu).alarms = place_of_alarm (length ds) (length alarms) contexts spare ps cpu n room (omega arith) in
+    let listed = ap (λ (l : List Alarm). l ++ c.args.alarm ∷ []) are.listed ∙ sym (sources_added alarms a) in
+    let kept = times_alarm ps qs t (clocks_of qs) src (src ++ c.args.alarm ∷ []) (alarms ++ a ∷ []) n a are (alarm_added alarms a) fits listed place changed in
     let caps1 = c.self.invariant.1.1.1.0 in
     let caps2 = c.self.invariant.1.1.1.1 in
     let cap1 = c.push_reserved.ensures.capacity in
-    let cap2 = c.push_reserved-2.ensures.capacity in
-    subst (λ (l : LineState). AreTimes l.items (record { clocks = l.clocks; deadlines = ds; alarms = c.push_reserved.new.self.items }) c.push_reserved-2.new.self.items
-    × (HasRoom (length ds) (length c.push_reserved.new.self.items) c.self.inside.contexts (c.self.inside.spare - 1) l.room
-    × ((c.self.inside.contexts ≤ vec_capacity c.self.inside.deadlines) × ((length c.push_reserved.new.self.items + (c.self.inside.spare - 1) ≤ vec_capacity c.push_reserved.new.self) × (length c.push_reserved.new.self.items + (c.self.inside.spare - 1) ≤ vec_capacity c.push_reserved-2.new.self))))) (sym out) (
-      subst (λ (l : List AlarmState). AreTimes (placed (entry_of_alarm (length alarms) a) line.items) (record { clocks = line.clocks; deadlines = ds; alarms = l }) c.push_reserved-2.new.self.items) (sym items)
-          (subst (λ (l : List Alarm). AreTimes (placed (entry_of_alarm (length alarms) a) line.items) (record { clocks = line.clocks; deadlines = ds; alarms = alarms ++ a ∷ [] }) l) (sym sources) kept),
-      (record { entries = omega arith; each = room.each; few = room.few; few_alarms = omega arith }, (c.self.invariant.1.1.0, (omega arith, omega arith))),
+    let cap2 = c.push_reserved-2.ensures.capacity in (
+      subst (λ (l : List AlarmState). AreTimes qs (record { clocks = clocks_of qs; deadlines = ds; alarms = l }) c.push_reserved-2.new.self.items) (sym items)
+          (subst (λ (l : List Alarm). AreTimes qs (record { clocks = clocks_of qs; deadlines = ds; alarms = alarms ++ a ∷ [] }) l) (sym sources) kept),
+      (
+        room_moved (length ds) (length alarms) (length c.push_reserved.new.self.items) contexts spare (spare - 1) qs (omega arith)
+            (room_alarm (length ds) (length alarms) contexts spare ps qs cpu n (alarm_leaf cpu n (Some a)) room changed),
+        (c.self.invariant.1.1.0, (omega arith, omega arith)),
+      ),
     )

@@ -1,44 +1,13 @@
-use Rattle.std.proofs.Common.{rules, ◌≡◌, ◌≤◌, ◌<◌, ◌+◌, ◌*◌, ◌-◌, ◌^◌, ◌∙◌, ◌++◌, ◌∷◌, [], ℕ, List, length, length-append, refl, ap, ap₂, sym, subst, arith}
-use Rattle.std.specs.Prelude.{Bool, true, false, is_some, map, max, slice_get, slice_index, slice_index_or, slice_set, vec_capacity, Option, Some, None, option_map}
-use Rattle.nova_model.specs.Times.{Times, clock, due_on, goes_on, next_moment, rung, rung_once, until_due, with_alarm, with_deadline}
-use Rattle.nova_model.specs.State.{deadline_of, entry}
-use Rattle.nova_model.specs.declared.times.Alarm.{Alarm}
-use Rattle.nova_model.specs.declared.times.AlarmState.{AlarmState}
-use Rattle.nova_model.specs.declared.times.Deadline.{Deadline}
-use Rattle.nova_model.specs.declared.times.Due.{Due}
-use Rattle.nova_model.specs.declared.times.Due.TheVariants as due
-use Rattle.nova_times.specs.Row.{IsAmong, IsBehind, dropped, first_on, placed}
-use Rattle.nova_times.specs.Line.{LineState, is_due_by, least_on}
-use Rattle.nova_times.specs.Kept.{AreTimes, HasRoom, IsBounded, TimesState, entry_of_alarm, entry_of_deadline, shifted}
-use Rattle.nova_times.specs.declared.entry.Entry.{Entry}
-use Rattle.nova_times.proofs.Keeping.{deadline_set_none, deadline_there, length_alarms, length_deadlines}
-use Rattle.nova_times.proofs.Changes.{none_of_alarm, one_of_alarm, room_for_deadline, room_in_all, row_part, rung_fits, times_added, times_cleared, times_grown, times_rung, times_set, times_ticked, alarm_is_on}
-use Rattle.nova_times.proofs.Nexts.{due_first, due_is, due_of_first, is_due_first, least_is, not_due_first}
+use Rattle.std.proofs.Common.{rules, ◌≡◌, sym, ◌∙◌}
+use Rattle.std.specs.Prelude.{Some}
+use Rattle.nova_model.specs.Times.{due_on}
+use Rattle.nova_times.proofs.Nexts.{due_is, not_due}
 use Rattle.nova_times.proofs.times.Times.due.Goals as goal
 
 pub returns-in_ok-first : goal.returns-in_ok-first
 returns-in_ok-first c =
-    let line = c.self.inside.line in
-    let ds = c.self.inside.deadlines.items in
-    let alarms = c.self.inside.alarms.items in
-    let src = c.self.inside.sources.items in
-    let t : Times = record { clocks = line.clocks; deadlines = ds; alarms = alarms } in
-    let are = c.self.invariant.0 in
-    let room = c.self.invariant.1.0 in
-    let now = clock t c.args.cpu in
-    let some : first_on c.args.cpu line.items ≡ Some c.in_ok-first.field-0 = search rules in
-    let on : is_due_by now (least_on c.args.cpu line.items) ≡ true = sym c.is_due.ensures ∙ c.if-is_due.true in
-    due_of_first now (first_on c.args.cpu line.items) c.in_ok-first.field-0 some on ∙ due_is line.items t c.args.cpu (row_part line.items t src are) ∙ ap (λ (s : TimesState). due_on s.all c.args.cpu) c.self.view_is
+    let some : c.first.result ≡ Some c.in_ok-first.field-0 = search rules in
+    due_is c.args.self.now.all c.args.cpu c.first.result c.in_ok-first.field-0 some c.first.ensures (sym c.is_due.ensures ∙ c.if-is_due.true)
 
 pub returns-else-is_due : goal.returns-else-is_due
-returns-else-is_due c =
-    let line = c.self.inside.line in
-    let ds = c.self.inside.deadlines.items in
-    let alarms = c.self.inside.alarms.items in
-    let src = c.self.inside.sources.items in
-    let t : Times = record { clocks = line.clocks; deadlines = ds; alarms = alarms } in
-    let are = c.self.invariant.0 in
-    let room = c.self.invariant.1.0 in
-    let now = clock t c.args.cpu in
-    let off : is_due_by now (least_on c.args.cpu line.items) ≡ false = sym c.is_due.ensures ∙ c.if-is_due.false in
-    not_due_first now (first_on c.args.cpu line.items) off ∙ due_is line.items t c.args.cpu (row_part line.items t src are) ∙ ap (λ (s : TimesState). due_on s.all c.args.cpu) c.self.view_is
+returns-else-is_due c = not_due (due_on c.args.self.now.all c.args.cpu) (sym c.is_due.ensures ∙ c.if-is_due.false)

@@ -1,28 +1,22 @@
-use Rattle.std.proofs.Common.{rules, ◌≡◌, ◌≤◌, ◌<◌, ◌+◌, ◌*◌, ◌-◌, ◌^◌, ◌∙◌, ◌++◌, ◌∷◌, [], ℕ, List, length, length-append, refl, ap, ap₂, sym, subst, arith}
-use Rattle.std.specs.Prelude.{Bool, true, false, is_some, map, max, slice_get, slice_index, slice_index_or, slice_set, vec_capacity, Option, Some, None, option_map}
-use Rattle.nova_model.specs.Times.{Times, clock, due_on, goes_on, next_moment, rung, rung_once, until_due, with_alarm, with_deadline}
-use Rattle.nova_model.specs.State.{deadline_of, entry}
-use Rattle.nova_model.specs.declared.times.Alarm.{Alarm}
-use Rattle.nova_model.specs.declared.times.AlarmState.{AlarmState}
-use Rattle.nova_model.specs.declared.times.Deadline.{Deadline}
-use Rattle.nova_model.specs.declared.times.Due.{Due}
-use Rattle.nova_model.specs.declared.times.Due.TheVariants as due
-use Rattle.nova_times.specs.Row.{IsAmong, IsBehind, dropped, first_on, placed}
-use Rattle.nova_times.specs.Line.{LineState, is_due_by, least_on}
-use Rattle.nova_times.specs.Kept.{AreTimes, HasRoom, IsBounded, TimesState, entry_of_alarm, entry_of_deadline, shifted}
-use Rattle.nova_times.specs.declared.entry.Entry.{Entry}
-use Rattle.nova_times.proofs.Keeping.{deadline_set_none, deadline_there, length_alarms, length_deadlines}
-use Rattle.nova_times.proofs.Changes.{none_of_alarm, one_of_alarm, room_for_deadline, room_in_all, row_part, rung_fits, times_added, times_cleared, times_grown, times_rung, times_set, times_ticked, alarm_is_on}
-use Rattle.nova_times.proofs.Nexts.{due_first, due_is, due_of_first, is_due_first, least_is, not_due_first}
+use Rattle.std.proofs.Common.{rules, ◌≡◌, ◌<◌, length, ap, ◌∙◌}
+use Rattle.std.specs.Prelude.{slice_index_or}
+use Rattle.nova_model.specs.Times.{Times, next_moment}
+use Rattle.nova_times.specs.Kept.{TimesState}
+use Rattle.nova_times.specs.Processors.{clocks_of, moment_of}
+use Rattle.nova_times.proofs.Keeping.{moment_beyond, moment_there}
+use Rattle.nova_times.proofs.Processors.{got}
 use Rattle.nova_times.proofs.times.Times.next.Goals as goal
 
-pub returns : goal.returns
-returns c =
-    let line = c.self.inside.line in
-    let ds = c.self.inside.deadlines.items in
-    let alarms = c.self.inside.alarms.items in
-    let src = c.self.inside.sources.items in
-    let t : Times = record { clocks = line.clocks; deadlines = ds; alarms = alarms } in
-    let are = c.self.invariant.0 in
-    let room = c.self.invariant.1.0 in
-    c.least.ensures ∙ least_is line.items t c.args.cpu (row_part line.items t src are) ∙ ap (λ (s : TimesState). next_moment s.all c.args.cpu) c.self.view_is
+pub returns-in-Some : goal.returns-in-Some
+returns-in-Some c =
+    let ps = c.self.inside.processors.items in
+    let t : Times = record { clocks = clocks_of ps; deadlines = c.self.inside.deadlines.items; alarms = c.self.inside.alarms.items } in
+    let low : c.args.cpu < length ps = search rules in
+    let value : c.in-Some.processor.now ≡ slice_index_or ps c.args.cpu c.in-Some.processor.now = search rules in
+    let at = got ps c.args.cpu c.in-Some.processor.now low value in
+    c.least.ensures ∙ moment_there ps t c.self.inside.sources.items c.args.cpu c.in-Some.processor.now c.self.invariant.0 at ∙ ap (λ (s : TimesState). next_moment s.all c.args.cpu) c.self.view_is
+
+pub returns-in-None : goal.returns-in-None
+returns-in-None c =
+    let is : c.map.result ≡ moment_of c.first_beyond.result = search rules in
+    is ∙ ap moment_of c.first_beyond.ensures ∙ moment_beyond c.args.self.now.all c.args.cpu

@@ -1,53 +1,47 @@
-use Rattle.std.proofs.Common.{rules, ◌≡◌, ◌≤◌, ◌<◌, ◌+◌, ◌*◌, ◌-◌, ◌^◌, ◌∙◌, ◌++◌, ◌∷◌, [], ℕ, List, length, length-append, refl, ap, ap₂, sym, subst, arith}
-use Rattle.std.specs.Prelude.{Bool, true, false, is_some, map, max, slice_get, slice_index, slice_index_or, slice_set, vec_capacity, Option, Some, None, option_map}
-use Rattle.nova_model.specs.Times.{Times, clock, due_on, goes_on, next_moment, rung, rung_once, until_due, with_alarm, with_deadline}
-use Rattle.nova_model.specs.State.{deadline_of, entry}
-use Rattle.nova_model.specs.declared.times.Alarm.{Alarm}
-use Rattle.nova_model.specs.declared.times.AlarmState.{AlarmState}
-use Rattle.nova_model.specs.declared.times.Deadline.{Deadline}
-use Rattle.nova_model.specs.declared.times.Due.{Due}
-use Rattle.nova_model.specs.declared.times.Due.TheVariants as due
-use Rattle.nova_times.specs.Row.{IsAmong, IsBehind, dropped, first_on, placed}
-use Rattle.nova_times.specs.Line.{LineState, is_due_by, least_on}
-use Rattle.nova_times.specs.Kept.{AreTimes, HasRoom, IsBounded, TimesState, entry_of_alarm, entry_of_deadline, shifted}
+use Rattle.std.proofs.Common.{◌≡◌, ◌<◌, ℕ, List, length, ap, sym, subst}
+use Rattle.std.specs.Prelude.{slice_set, Option}
+use Rattle.nova_model.specs.State.{deadline_of}
+use Rattle.nova_model.specs.Times.{Times}
+use Rattle.nova_times.specs.Kept.{HasRoom, IsOf, TimesState, deadline_leaf}
+use Rattle.nova_times.specs.Processors.{AreChanged, clocks_of, processor_at}
 use Rattle.nova_times.specs.declared.entry.Entry.{Entry}
-use Rattle.nova_times.proofs.Keeping.{deadline_set_none, deadline_there, length_alarms, length_deadlines}
-use Rattle.nova_times.proofs.Changes.{none_of_alarm, one_of_alarm, room_for_deadline, room_in_all, row_part, rung_fits, times_added, times_cleared, times_grown, times_rung, times_set, times_ticked, alarm_is_on}
-use Rattle.nova_times.proofs.Nexts.{due_first, due_is, due_of_first, is_due_first, least_is, not_due_first}
+use Rattle.nova_times.proofs.Keeping.{length_deadlines, place_of_deadline, room_put, times_put}
 use Rattle.nova_times.proofs.times.Times.put_deadline.Goals as goal
 
-pub insert-requires-clause-room : goal.insert-requires-clause-room
-insert-requires-clause-room c =
-    let line = c.self.inside.line in
+pub put_deadline-requires : goal.put_deadline-requires
+put_deadline-requires c =
+    let ps = c.self.inside.processors.items in
     let ds = c.self.inside.deadlines.items in
-    let alarms = c.self.inside.alarms.items in
-    let src = c.self.inside.sources.items in
-    let t : Times = record { clocks = line.clocks; deadlines = ds; alarms = alarms } in
-    let are = c.self.invariant.0 in
-    let room = c.self.invariant.1.0 in
     let lt : c.args.ec < length ds = subst (λ (s : TimesState). c.args.ec < length s.all.deadlines) (sym c.self.view_is) c.requires.there in
-    let none : deadline_of t c.args.ec ≡ None = subst (λ (s : TimesState). deadline_of s.all c.args.ec ≡ None) (sym c.self.view_is) c.requires.none in
-    let less = room_for_deadline line.items t src c.args.ec are lt none in
-    let all = room.entries in
-    let each = room.each in
-    omega arith
+    place_of_deadline (length ds) (length c.self.inside.alarms.items) c.self.inside.contexts c.self.inside.spare ps c.args.cpu c.args.ec c.self.invariant.1.0 lt
 
 pub invariant_of-self : goal.invariant_of-self
 invariant_of-self c =
-    let line = c.self.inside.line in
+    let ps = c.self.inside.processors.items in
     let ds = c.self.inside.deadlines.items in
     let alarms = c.self.inside.alarms.items in
-    let src = c.self.inside.sources.items in
-    let t : Times = record { clocks = line.clocks; deadlines = ds; alarms = alarms } in
-    let are = c.self.invariant.0 in
-    let room = c.self.invariant.1.0 in
-    let lt : c.args.ec < length ds = subst (λ (s : TimesState). c.args.ec < length s.all.deadlines) (sym c.self.view_is) c.requires.there in
-    let none : deadline_of t c.args.ec ≡ None = subst (λ (s : TimesState). deadline_of s.all c.args.ec ≡ None) (sym c.self.view_is) c.requires.none in
+    let cpu = c.args.cpu in
+    let ec = c.args.ec in
     let d = c.args.deadline in
-    let out : c.insert.new.self ≡ record line { items = placed (entry_of_deadline c.args.ec d) line.items } = c.insert.ensures ∙ ap (λ (e : Entry). record line { items = placed e line.items }) c.of_deadline.ensures in
-    let same = length_deadlines ds c.args.ec (Some d) in
-    let caps = c.self.invariant.1.1 in
-    subst (λ (l : LineState). AreTimes l.items (record { clocks = l.clocks; deadlines = slice_set ds c.args.ec (Some d); alarms = alarms }) src
-    × (HasRoom (length (slice_set ds c.args.ec (Some d))) (length alarms) c.self.inside.contexts c.self.inside.spare l.room
-    × ((c.self.inside.contexts ≤ vec_capacity c.self.inside.deadlines) × ((length alarms + c.self.inside.spare ≤ vec_capacity c.self.inside.alarms) × (length alarms + c.self.inside.spare ≤ vec_capacity c.self.inside.sources))))) (sym out)
-    (times_set line.items t src c.args.ec d are lt none, (subst (λ (n : ℕ). HasRoom n (length alarms) c.self.inside.contexts c.self.inside.spare line.room) (sym same) room, caps))
+    let qs = c.put_deadline.new.processors.items in
+    let t : Times = record { clocks = clocks_of ps; deadlines = ds; alarms = alarms } in
+    let lt : ec < length ds = subst (λ (s : TimesState). ec < length s.all.deadlines) (sym c.self.view_is) c.requires.there in
+    let before : IsOf cpu (deadline_of t ec) = subst (λ (s : TimesState). IsOf cpu (deadline_of s.all ec)) (sym c.self.view_is) c.requires.before in
+    let room = c.self.invariant.1.0 in
+    let changed : AreChanged cpu (record (processor_at ps cpu) { deadlines = slice_set (processor_at ps cpu).deadlines ec (deadline_leaf cpu ec d) }) ps qs =
+    subst (λ (e : Option Entry). AreChanged cpu (record (processor_at ps cpu) { deadlines = slice_set (processor_at ps cpu).deadlines ec e }) ps qs) c.deadline_entry-entry.ensures c.put_deadline.ensures in (
+      times_put ps qs t (clocks_of qs) c.self.inside.sources.items cpu ec d c.self.invariant.0 lt before c.requires.after
+          (place_of_deadline (length ds) (length alarms) c.self.inside.contexts c.self.inside.spare ps cpu ec room lt) changed,
+      (
+        subst (λ (n : ℕ). HasRoom n (length alarms) c.self.inside.contexts c.self.inside.spare qs) (sym (length_deadlines ds ec d))
+            (room_put (length ds) (length alarms) c.self.inside.contexts c.self.inside.spare ps qs cpu ec (deadline_leaf cpu ec d) room changed),
+        c.self.invariant.1.1,
+      ),
+    )
+
+pub returns : goal.returns
+returns c =
+    let ds = c.self.inside.deadlines.items in
+    let made : List ℕ → TimesState = λ l. record { all = record { clocks = l; deadlines = slice_set ds c.args.ec c.args.deadline; alarms = c.self.inside.alarms.items }; contexts = c.self.inside.contexts; spare = c.self.inside.spare } in
+    subst (λ (s : TimesState). ◌≡◌ {A = TimesState} (made (clocks_of c.put_deadline.new.processors.items)) (record s { all = record s.all { deadlines = slice_set s.all.deadlines c.args.ec c.args.deadline } })) c.self.view_is
+    (ap made c.put_deadline.ensures.clocks)

@@ -1,0 +1,4 @@
+pub use Rattle.nova_report.specs.Report
+pub use Rattle.nova_recording.specs.Recordings
+pub use Rattle.nova_recording.specs.Wants
+pub mod Answers

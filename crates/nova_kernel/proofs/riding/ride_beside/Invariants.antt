@@ -1,0 +1,15 @@
+use Rattle.std.proofs.Common.{◌≡◌, ◌+◌, ◌≤◌, Some}
+use Rattle.nova_leases.specs.Rides.{rides}
+use Rattle.nova_parts.specs.Beside.{IsEntered, with_regs}
+use Rattle.nova_parts.specs.Parts.{state_of}
+use Rattle.nova_kernel.proofs.riding.ride_beside.Given as goal
+
+-- those that went on so far
+abbrev pub invariant-loop-i : goal.invariant-loop-i
+invariant-loop-i l =
+    (rides l.i (with_regs (state_of l.fn.parts) l.ec l.fn.regs) l.ec ≡ Some (with_regs (state_of l.parts) l.ec l.regs))
+    × IsEntered l.parts l.ec
+    × (l.parts.contexts ≡ l.fn.parts.contexts)
+    × (l.parts.queues ≡ l.fn.parts.queues)
+    × (l.parts.revokes ≡ l.fn.parts.revokes)
+    × (l.fn.parts.reach.room ≤ l.parts.reach.room + l.i)

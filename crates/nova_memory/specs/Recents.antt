@@ -1,0 +1,23 @@
+-- The pages that were looked up last, with the frames that they lead to.
+use Rattle.std.specs.Prelude.{◌≡◌, ◌≢◌, ℕ, ◌<◌, ◌^◌, List, Option, Some, option_and_then}
+use Rattle.nova_guest.specs.Frames.{frame_with}
+use Rattle.nova_range.specs.Rights.{execute_right, read_right, write_right}
+use Rattle.nova_model.specs.AddressSpaces.{own_page}
+use Rattle.nova_model.specs.Delegations.{reach}
+use Rattle.nova_model.specs.declared.delegation.Derivation.{Derivation}
+use Rattle.nova_memory.specs.declared.recent.Recent.{Recent}
+use Rattle.nova_memory.specs.declared.recent.Recents.{Recents}
+
+-- a page that isn't a thread's own leads to its frame, with a right
+pub record LeadsOn (list : List Derivation) (right : ℕ) (r : Recent) : Type 0 where
+  pub own : r.page ≢ own_page
+  pub frame : option_and_then (frame_with right) (reach list r.pd r.page) ≡ Some r.frame
+
+-- unless none was looked up yet
+abbrev pub IsRecent : List Derivation → ℕ → Recent → Type 0
+IsRecent list right r = r.page < 2 ^ 20 → LeadsOn list right r
+
+pub record AreRecent (list : List Derivation) (r : Recents) : Type 0 where
+  pub fetched : IsRecent list execute_right r.fetched
+  pub loaded : IsRecent list read_right r.loaded
+  pub stored : IsRecent list write_right r.stored

@@ -1,0 +1,17 @@
+use Rattle.std.proofs.Common.{◌+◌, ◌-◌, ◌≤◌, length}
+use Rattle.nova_recording.specs.Recordings.{IsSameRun}
+use Rattle.nova_recording.specs.Wants.{IsLast}
+use Rattle.nova_recording.proofs.recording.Recording.last.Given as goal
+
+abbrev pub invariant-loop-self : goal.invariant-loop-self
+invariant-loop-self l = record {
+  same : IsSameRun l.fn.self l.self;
+  from : l.fn.self.turn ≤ l.self.turn;
+  ahead : l.self.turn ≤ l.to;
+  within : l.to ≤ length l.self.events;
+  room : l.to ≤ l.self.room + l.self.turn;
+  found : IsLast l.fn.self.opening l.fn.self.events l.search l.fn.self.turn l.self.turn l.found;
+}
+
+abbrev pub decreases-loop-self : goal.decreases-loop-self
+decreases-loop-self l = l.to - l.self.turn

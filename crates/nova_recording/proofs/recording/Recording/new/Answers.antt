@@ -1,0 +1,19 @@
+use Rattle.std.proofs.Common.{◌≡◌, ◌∙◌, ap, sym, subst, List}
+use Rattle.std.specs.List.{AllByRecursion}
+use Rattle.nova_recording.specs.Recordings.{IsKept, order_of}
+use Rattle.nova_recording.specs.declared.recording.Kept.{Kept}
+use Rattle.nova_recording.proofs.Turns.{are_turns, at_start}
+use Rattle.nova_recording.proofs.recording.Recording.new.Goals as goal
+
+pub invariant_of-result : goal.invariant_of-result
+invariant_of-result c =
+    let k = c.args.run.opening.state in
+    let events = c.in-Ok.field-0.events.items in
+    let same : order_of events ≡ c.requires.order =
+    ap order_of (c.in-Ok.ensures.events ∙ c.requires.finished.trace) ∙ c.a_trace_has_an_event_a_turn.ensures.processors k c.requires.order c.requires.no_idle in (
+      are_turns k events c.requires.order same c.requires.processors c.requires.few,
+      (
+        at_start k c.in-Ok.field-0.kernel.state events c.in-Ok.ensures.kernel,
+        subst (λ (kept : List Kept). AllByRecursion (IsKept k events) kept) (sym c.new.ensures.items) tt,
+      ),
+    )

@@ -1,0 +1,78 @@
+-- Which turns are wanted: by what the one that acts in them is about to do.
+use Rattle.std.specs.Prelude.{◌≡◌, ℕ, ◌+◌, ◌<◌, ◌≤◌, ◌==◌, ◌&&◌, ◌||◌, Bool, true, false, not, if◌then◌else◌, List, Option, Some, None, slice_get}
+use Rattle.std.specs.List.{list_any}
+use Rattle.nova_model.specs.State.{KernelState, context, pd_of}
+use Rattle.nova_model.specs.declared.context.EcState.{EcState}
+use Rattle.nova_model.specs.declared.context.State.{State}
+use Rattle.nova_model.specs.declared.context.State.TheVariants.{Ready}
+use Rattle.nova_model.specs.declared.event.Event.{Event}
+use Rattle.nova_recording.specs.Recordings.{RecordingView, at_turn}
+use Rattle.nova_recording.specs.Watches.{is_seen_by, touched}
+use Rattle.nova_recording.specs.declared.wants.Next.{Next}
+use Rattle.nova_recording.specs.declared.wants.Search.{Search}
+use Rattle.nova_recording.specs.declared.wants.Want.{Want}
+use Rattle.nova_recording.specs.declared.wants.Want.TheVariants.{At, By}
+
+abbrev pub is_ready : State → Bool
+is_ready Ready = true
+is_ready other = false
+
+-- it is about to execute an instruction: it is ready, and no recall is asked for
+abbrev pub is_going : EcState → Bool
+is_going x = is_ready x.state && not x.recall
+
+-- the instruction that an execution context of a domain is about to execute, by its address
+abbrev pub next_in : EcState → ℕ → ℕ → Option Next
+next_in x pd ec = if is_going x then Some (record { ec = ec; pd = pd; pc = x.regs.pc }) else None
+
+-- that of the next turn of a state
+abbrev pub next_of : KernelState → ℕ → Option Next
+next_of k ec = next_in (context k ec) (pd_of k ec) ec
+
+abbrev pub next_by : KernelState → Option Event → Option Next
+next_by k (Some e) = next_of k e.ec
+next_by k None = None
+
+abbrev pub is_met : Next → Want → Bool
+is_met next (At pd address) = (next.pd == pd) && (next.pc == address)
+is_met next (By ec) = next.ec == ec
+
+-- whether it is an instruction that is looked for, or loads or stores what is watched
+abbrev pub is_wanted : Search → KernelState → Option Next → Bool
+is_wanted search k (Some next) = list_any (is_met next) search.wants.items || is_seen_by search.watches.items (touched k next)
+is_wanted search k None = false
+
+-- whether the turn after so many is wanted
+abbrev pub wanted_in : Search → KernelState → Option Event → Bool
+wanted_in search k event = is_wanted search k (next_by k event)
+
+abbrev pub wanted_at : KernelState → List Event → Search → ℕ → Bool
+wanted_at k events search n = wanted_in search (at_turn k events n) (slice_get events n)
+
+-- none of the turns from one to another is wanted
+abbrev pub NoneWanted : KernelState → List Event → Search → ℕ → ℕ → Type 0
+NoneWanted k events search first last = (n : ℕ) → first ≤ n → n < last → wanted_at k events search n ≡ false
+
+-- the first turn from one on that is wanted, or the end of the search
+pub record IsFirst (k : KernelState) (events : List Event) (search : Search) (first last turn : ℕ) (is_found : Bool) : Type 0 where
+  pub from : first ≤ turn
+  pub to : turn ≤ last
+  pub before : NoneWanted k events search first turn
+  pub found : is_found ≡ true → wanted_at k events search turn ≡ true
+  pub missed : is_found ≡ false → turn ≡ last
+
+-- a turn that is wanted, after which none is
+pub record IsTheLast (k : KernelState) (events : List Event) (search : Search) (first last turn : ℕ) : Type 0 where
+  pub from : first ≤ turn
+  pub to : turn < last
+  pub wanted : wanted_at k events search turn ≡ true
+  pub after : NoneWanted k events search (turn + 1) last
+
+-- the last turn from one to another that is wanted, or none is
+abbrev pub IsLast : KernelState → List Event → Search → ℕ → ℕ → Option ℕ → Type 0
+IsLast k events search first last (Some turn) = IsTheLast k events search first last turn
+IsLast k events search first last None = NoneWanted k events search first last
+
+-- the present turn, where it is wanted
+abbrev pub latest : Search → RecordingView → Option ℕ → Option ℕ
+latest search r found = if wanted_in search r.state (slice_get r.events r.turn) then Some r.turn else found

@@ -1,0 +1,72 @@
+ghost use Rattle.std.specs.Prelude.{◌≡◌, ◌+◌, ◌<◌, ◌≤◌, length, IfSome, OnOk};
+ghost use Rattle.std.specs.List.{Contains};
+ghost use Rattle.nova_recording.specs.Recordings.{IsSameRun};
+
+use crate::recording::{Kept, Recording};
+use std::alloc::AllocError;
+
+/// The newest that is kept of the turns up to one.
+fn newest(kept: &[Kept], to: usize) -> Option<&Kept>
+    ensures kept { IfSome result (λ k. Contains kept.now k.now) }
+    ensures before { IfSome result (λ k. k.now.turn ≤ to) }
+{
+    kept.iter().rev().find(|kept| kept.turn <= to)
+}
+
+impl Recording {
+    /// Whether a state is kept of a turn after the present one and up to another.
+    fn is_kept_before(&self, to: usize) -> bool {
+        matches!(newest(&self.kept, to), Some(kept) if kept.turn > self.turn())
+    }
+
+    /// Begins anew, from the state in which the run began.
+    fn restart(&mut self) -> Result<(), AllocError>
+        ensures turn { OnOk result (self.new.turn ≡ 0) }
+        ensures same { IsSameRun self.old self.new }
+    {
+        let kernel = self.opening().copy()?;
+        self.take(0, kernel);
+        Ok(())
+    }
+
+    /// Takes the newest state that is kept of the turns up to one, or begins anew.
+    fn resume(&mut self, to: usize) -> Result<(), AllocError>
+        ensures turn { OnOk result (self.new.turn ≤ to) }
+        ensures same { IsSameRun self.old self.new }
+    {
+        let Some(kept) = newest(&self.kept, to) else {
+            return self.restart();
+        };
+        let turn = kept.turn;
+        let kernel = kept.kernel.copy()?;
+        self.take(turn, kernel);
+        Ok(())
+    }
+
+    /// Goes on to a turn that is not before the present one.
+    fn forward(&mut self, to: usize) -> Result<(), AllocError>
+        requires ahead { self.old.turn ≤ to }
+        requires within { to ≤ length self.old.events }
+        ensures turn { OnOk result (self.new.turn ≡ to) }
+        ensures same { IsSameRun self.old self.new }
+    {
+        self.reserve(to - self.turn())?;
+        while self.turn() < to {
+            self.step()?;
+        }
+        Ok(())
+    }
+
+    /// Goes to the state after so many turns, which the run has, in either direction. It refuses for want of memory alone, and is
+    /// then in the state of a turn on the way.
+    pub fn go(&mut self, to: usize) -> Result<(), AllocError>
+        requires within { to ≤ length self.old.events }
+        ensures turn { OnOk result (self.new.turn ≡ to) }
+        ensures same { IsSameRun self.old self.new }
+    {
+        if to < self.turn() || self.is_kept_before(to) {
+            self.resume(to)?;
+        }
+        self.forward(to)
+    }
+}

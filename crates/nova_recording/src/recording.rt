@@ -1,0 +1,203 @@
+ghost use Rattle.std.specs.Prelude.{◌≡◌, ◌+◌, ◌<◌, ◌≤◌, [], length, max, option_map, IfOk, OnOk, OnErr};
+ghost use Rattle.nova_model.specs.Delegations.{reach};
+ghost use Rattle.nova_recording.specs.Recordings.{IsAt, IsDone, IsSameRun};
+
+use crate::events::listed;
+use nova_kernel::{Event, Kernel, Rights};
+use nova_laws::a_trace_has_an_event_a_turn;
+use nova_shared::Finished;
+use nova_trace::Trace;
+use std::alloc::{AllocError, Global};
+use std::marker::Model;
+use std::mem;
+
+/// The state after so many turns of a run, to go on from.
+#[derive(Drop)]
+pub(crate) struct Kept {
+    pub(crate) turn: usize,
+    pub(crate) kernel: Kernel,
+}
+
+/// A run that was made, in the state after so many of its turns. States on the way are kept, so that it goes back from the newest of
+/// them.
+#[derive(Drop)]
+pub struct Recording {
+    opening: Kernel,
+    events: Vec<Event>,
+    kernel: Kernel,
+    turn: usize,
+    pub(crate) kept: Vec<Kept>,
+    spacing: usize,
+    next: usize,
+}
+
+impl Model for Recording {
+    ghost use Rattle.std.specs.List.{AllByRecursion};
+    ghost use Rattle.nova_recording.specs.Recordings.{RecordingView, AreTurns, IsAt, IsKept};
+
+    ghost Value = { RecordingView };
+
+    ghost view = { λ r. record {
+      opening = r.opening.state;
+      events = r.events.items;
+      turn = r.turn;
+      state = r.kernel.state;
+      room = r.kernel.room;
+    } };
+
+    ghost invariant = { λ r. AreTurns r.opening.state r.events.items × (IsAt r.opening.state r.events.items r.turn r.kernel.state
+        × AllByRecursion (IsKept r.opening.state r.events.items) r.kept.items) };
+}
+
+/// What is let go here is dropped apart from all else.
+fn let_go<T: Drop>(_value: T) {}
+
+/// What a recording begins with: the events of its turns one by one, and the state at the beginning once more.
+struct Begun {
+    events: Vec<Event>,
+    kernel: Kernel,
+}
+
+/// The events of a trace, and a kernel once more. It refuses for want of memory alone.
+fn begin(alloc: Global, opening: &Kernel, trace: &Trace) -> Result<Begun, AllocError>
+    ensures events { IfOk result (λ begun. begun.events.items ≡ trace.now.items) }
+    ensures kernel { IfOk result (λ begun. begun.kernel.state ≡ opening.now.state) }
+{
+    let events = listed(alloc, trace)?;
+    let kernel = opening.copy()?;
+    Ok(Begun { events, kernel })
+}
+
+impl Recording {
+    /// A run that is over, in the state at its beginning. No state is kept on the way. It refuses for want of memory alone.
+    pub fn new(alloc: Global, run: Finished) -> Result<Recording, AllocError>
+        requires { IsDone run }
+        ensures opening { IfOk result (λ r. r.opening ≡ run.opening.state) }
+        ensures events { IfOk result (λ r. r.events ≡ run.trace.items) }
+        ensures turn { IfOk result (λ r. r.turn ≡ 0) }
+    {
+        a_trace_has_an_event_a_turn();
+        let Finished {
+            opening,
+            kernel,
+            order,
+            trace,
+            ..
+        } = run;
+        let_go((kernel, order));
+        match begin(alloc, &opening, &trace) {
+            Ok(Begun { events, kernel }) => {
+                let_go(trace);
+                Ok(Recording {
+                    opening,
+                    events,
+                    kernel,
+                    turn: 0,
+                    kept: Vec::new(alloc),
+                    spacing: usize::MAX,
+                    next: usize::MAX,
+                })
+            }
+            Err(error) => {
+                let_go((opening, trace));
+                Err(error)
+            }
+        }
+    }
+
+    /// From the present turn on a state is kept each `spacing` turns, where none was yet. What was kept before stays.
+    pub fn keep_each(&mut self, spacing: usize)
+        ensures { self.new ≡ self.old }
+    {
+        self.spacing = spacing;
+        self.next = self.next.min(self.turn);
+    }
+
+    /// How many turns were taken to the present state, which is that after the first so many entries of the run's order.
+    pub fn turn(&self) -> usize
+        ensures turn { result ≡ self.now.turn }
+        ensures state { IsAt self.now.opening self.now.events self.now.turn self.now.state }
+    {
+        self.turn
+    }
+
+    /// The event of each turn of the run, in order.
+    pub fn events(&self) -> &[Event]
+        ensures { result.now ≡ self.now.events }
+    {
+        &self.events
+    }
+
+    /// The kernel at the beginning of the run.
+    pub fn opening(&self) -> &Kernel
+        ensures { result.now.state ≡ self.now.opening }
+    {
+        &self.opening
+    }
+
+    /// The kernel in the present state.
+    pub fn kernel(&self) -> &Kernel
+        ensures { result.now.state ≡ self.now.state }
+    {
+        &self.kernel
+    }
+
+    /// What a page of a protection domain leads to in the present state: a frame, and what is allowed there; none where it leads nowhere.
+    pub fn reach(&mut self, pd: u32, page: u32) -> Option<(u32, Rights)>
+        ensures page { result ≡ option_map (λ p. (p.frame, p.rights)) (reach self.old.state.delegations.list pd page) }
+        ensures kept { self.new ≡ self.old }
+    {
+        self.kernel.reach(pd, page)
+    }
+
+    /// Makes room for so many turns more in the console log.
+    pub(crate) fn reserve(&mut self, turns: usize) -> Result<(), AllocError>
+        ensures ok { OnOk result (self.new ≡ record self.old { room = max self.old.room turns }) }
+        ensures err { OnErr result (self.new ≡ self.old) }
+    {
+        self.kernel.reserve_log(turns)
+    }
+
+    /// Keeps the present state, where its turn has come.
+    fn keep(&mut self) -> Result<(), AllocError>
+        ensures { self.new ≡ self.old }
+    {
+        if self.turn < self.next {
+            return Ok(());
+        }
+        self.kept.reserve(1)?;
+        let kernel = self.kernel.copy()?;
+        self.kept.push_reserved(Kept {
+            turn: self.turn,
+            kernel,
+        });
+        self.next = self.turn.saturating_add(self.spacing);
+        Ok(())
+    }
+
+    /// Goes on by one turn. It refuses for want of memory alone, and then the turn is not taken.
+    pub(crate) fn step(&mut self) -> Result<(), AllocError>
+        requires more { self.old.turn < length self.old.events }
+        requires room { 0 < self.old.room }
+        ensures turn { OnOk result (self.new.turn ≡ self.old.turn + 1) }
+        ensures same { IsSameRun self.old self.new }
+        ensures room { self.old.room ≤ self.new.room + 1 }
+        ensures err { OnErr result (self.new ≡ self.old) }
+    {
+        self.keep()?;
+        let cpu = self.events[self.turn].cpu;
+        self.kernel.turn(cpu)?;
+        self.turn += 1;
+        Ok(())
+    }
+
+    /// Takes another state of the run in place of the present one.
+    pub(crate) fn take(&mut self, turn: usize, kernel: Kernel)
+        requires { IsAt self.old.opening self.old.events turn kernel.state }
+        ensures { self.new ≡ record self.old { turn = turn; state = kernel.state; room = kernel.room } }
+    {
+        let before = mem::replace(&mut self.kernel, kernel);
+        self.turn = turn;
+        let_go(before);
+    }
+}

@@ -1,0 +1,57 @@
+ghost use Rattle.std.specs.Prelude.{◌≡◌, ◌+◌, ◌<◌, ◌≤◌, length, IfOk, OnOk};
+ghost use Rattle.nova_recording.specs.Recordings.{IsSameRun};
+ghost use Rattle.nova_recording.specs.Wants.{IsFirst, IsLast, latest};
+
+use crate::recording::Recording;
+use crate::wants::Search;
+use std::alloc::AllocError;
+
+impl Recording {
+    /// The present turn where it does something that one looks for, else the one that was found before.
+    fn latest(&mut self, search: &Search, found: Option<usize>) -> Option<usize>
+        ensures latest { result ≡ latest search.now self.old found }
+        ensures kept { self.new ≡ self.old }
+    {
+        if self.is_wanted(search) {
+            Some(self.turn())
+        } else {
+            found
+        }
+    }
+
+    /// Goes on to the first turn that does something that one looks for, the present one included, and at most to a turn; and whether
+    /// there is such a turn before that. It refuses for want of memory alone, and is then in the state of a turn on the way.
+    pub fn run(&mut self, search: &Search, to: usize) -> Result<bool, AllocError>
+        requires ahead { self.old.turn ≤ to }
+        requires within { to ≤ length self.old.events }
+        ensures first { IfOk result (IsFirst self.old.opening self.old.events search.now self.old.turn to self.new.turn) }
+        ensures same { IsSameRun self.old self.new }
+    {
+        self.reserve(to - self.turn())?;
+        while self.turn() < to {
+            if self.is_wanted(search) {
+                return Ok(true);
+            }
+            self.step()?;
+        }
+        Ok(false)
+    }
+
+    /// Goes on to a turn, and tells the last one before it that does something that one looks for, of the present one and those after it.
+    /// It refuses for want of memory alone, and is then in the state of a turn on the way.
+    pub fn last(&mut self, search: &Search, to: usize) -> Result<Option<usize>, AllocError>
+        requires ahead { self.old.turn ≤ to }
+        requires within { to ≤ length self.old.events }
+        ensures last { IfOk result (IsLast self.old.opening self.old.events search.now self.old.turn to) }
+        ensures turn { OnOk result (self.new.turn ≡ to) }
+        ensures same { IsSameRun self.old self.new }
+    {
+        self.reserve(to - self.turn())?;
+        let mut found = None;
+        while self.turn() < to {
+            found = self.latest(search, found);
+            self.step()?;
+        }
+        Ok(found)
+    }
+}

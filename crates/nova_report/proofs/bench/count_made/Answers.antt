@@ -1,0 +1,32 @@
+use Rattle.std.proofs.Common.{rules, arith, ◌<◌, length}
+use Rattle.nova_report.specs.Summary.{is_made}
+use Rattle.nova_report.proofs.CountLemmas.{at_place, count_few, no_entry}
+use Rattle.nova_trace.proofs.Left.{blank}
+use Rattle.nova_report.proofs.bench.count_made.Goals as goal
+
+pub overflow_add-made : goal.overflow_add-made
+overflow_add-made c =
+    let more : c.loop-entry.entry-index < length c.entries-entries.result.now = search rules in
+    let at = at_place is_made c.entries-entries.result.now c.loop-entry.entry-index blank more in
+    let own = c.made_in-made.ensures in
+    let all = c.loop-entry.invariant in
+    let few = c.entries-entries.ensures.few in
+    let most = count_few is_made c.args.trace.now.items in
+    omega (arith, at, own, all, few, most)
+
+pub loop-entry-preserved : goal.loop-entry-preserved
+loop-entry-preserved c =
+    let more : c.loop-entry.entry-index < length c.entries-entries.result.now = search rules in
+    let at = at_place is_made c.entries-entries.result.now c.loop-entry.entry-index blank more in
+    let own = c.made_in-made.ensures in
+    let all = c.loop-entry.invariant in
+    omega (arith, at, own, all)
+
+pub returns-clause-count : goal.returns-clause-count
+returns-clause-count c =
+    let none = no_entry is_made c.entries-entries.result.now c.loop-entry.entry-index (search rules) in
+    let all = c.loop-entry.invariant in
+    omega (arith, none, all)
+
+pub returns-clause-few : goal.returns-clause-few
+returns-clause-few c = let is = returns-clause-count c in let most = count_few is_made c.args.trace.now.items in omega (arith, is, most)

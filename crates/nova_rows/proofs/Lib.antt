@@ -1,0 +1,4 @@
+pub mod Lookups
+pub mod NewWords
+pub mod Refusing
+pub mod Sizes

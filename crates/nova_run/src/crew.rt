@@ -1,0 +1,89 @@
+use std::sync::atomic::{AtomicU64, Ordering};
+use std::{hint, thread};
+
+/// How often a worker that has begun looks whether all others have, before it goes on without them.
+const LOOKS: u64 = 16384;
+
+/// An odd number whose multiples are spread over 64 bits: 2^64 by the golden ratio.
+const SPREAD: u64 = 0x9e37_79b9_7f4a_7c15;
+
+/// How long pauses are at most, in looks at nothing.
+static PACES: [u64; 6] = [16, 256, 2048, 8192, 16384, 32768];
+
+/// The workers of one round: how many there are, how many have begun, and how many have nothing to do, or no more.
+#[derive(Drop)]
+pub(crate) struct Crew {
+    workers: u64,
+    begun: AtomicU64,
+    resting: AtomicU64,
+
+    // How often they looked for each other and paused. It differs from run to run, as their threads come to begin.
+    noise: AtomicU64,
+}
+
+impl Crew {
+    /// So many workers, of which none has begun.
+    pub(crate) fn new(workers: u64) -> Crew {
+        Crew {
+            workers,
+            begun: AtomicU64::new(0),
+            resting: AtomicU64::new(0),
+            noise: AtomicU64::new(0),
+        }
+    }
+
+    /// A worker begins, with all others: it looks for them for a while, and goes on without those who don't come.
+    pub(crate) fn meet(&self) {
+        self.begun.fetch_add(1, Ordering::SeqCst);
+        for _look in 0..LOOKS {
+            if self.begun.load(Ordering::SeqCst) >= self.workers {
+                return;
+            }
+            self.noise.fetch_add(1, Ordering::SeqCst);
+            thread::yield_now();
+        }
+    }
+
+    /// A number that nobody foresees.
+    fn draw(&self) -> u64 {
+        self.noise
+            .fetch_add(1, Ordering::SeqCst)
+            .wrapping_mul(SPREAD)
+    }
+
+    /// How long the pauses of a worker are at most in this round. It differs by much from worker to worker, and from run to run.
+    pub(crate) fn pace(&self) -> u64 {
+        PACES[(self.draw() >> 32) as usize % PACES.len()]
+    }
+
+    /// A worker has nothing to do, or ends.
+    pub(crate) fn rest(&self) {
+        self.resting.fetch_add(1, Ordering::SeqCst);
+    }
+
+    /// A worker that had nothing to do goes on.
+    pub(crate) fn resume(&self) {
+        self.resting.fetch_sub(1, Ordering::SeqCst);
+    }
+
+    /// Whether none has anything to do.
+    pub(crate) fn rests(&self) -> bool {
+        self.resting.load(Ordering::SeqCst) >= self.workers
+    }
+
+    /// A pause of a worker that isn't alone: nobody foresees how long, but it is less than so many looks at nothing. It tells how many they were.
+    pub(crate) fn pause(&self, longest: u64) -> u64 {
+        if self.workers < 2 {
+            return 0;
+        }
+        let drawn = self.draw();
+        let length = (drawn >> 32) % longest.max(1);
+        for _look in 0..length {
+            hint::spin_loop();
+        }
+        if drawn >> 61 == 0 {
+            thread::yield_now();
+        }
+        length
+    }
+}

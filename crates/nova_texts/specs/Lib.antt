@@ -1,0 +1,5 @@
+pub mod Words
+pub mod Settings
+pub mod Rows
+pub mod Benches
+pub mod Faults

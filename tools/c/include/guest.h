@@ -1,0 +1,26 @@
+/* The guest that `build.sh --monitor` builds beside a monitor. Its memory is the upper half of RAM: the monitor reads and writes it there,
+   and gives of it what it will. The guest's own address 0 is guest_memory[0], but its program has nothing below GUEST_BEGIN. */
+#ifndef GUEST_H
+#define GUEST_H
+
+#include <stdint.h>
+
+/* Set by build.sh. What stands for a number has it as its address. */
+extern unsigned char guest_memory[];
+extern char guest_bytes_symbol[] __asm__("guest_bytes");
+extern char guest_entry_symbol[] __asm__("guest_entry");
+extern char guest_code_end_symbol[] __asm__("guest_code_end");
+
+/* How many bytes it has, whole pages. The guest's stack comes down from there. */
+#define guest_bytes ((uint32_t)guest_bytes_symbol)
+
+/* Where it begins. */
+#define guest_entry ((uint32_t)guest_entry_symbol)
+
+/* Where its code ends, a multiple of a page; from there on are its data. */
+#define guest_code_end ((uint32_t)guest_code_end_symbol)
+
+/* Its program's first address. A fault below it is one of a null pointer. */
+#define GUEST_BEGIN 0x1000u
+
+#endif

@@ -1,0 +1,60 @@
+"""Compares what docs/ARCHITECTURE.md says of files with the crates.
+
+python3 tools/changes [--tables] [FOLDER]
+
+Fails where a file has a row for most hypercalls, deeds, kinds of events or states and the page doesn't list it; where the page lists one
+that has not; and where it names a file, or a function in brackets behind one, that isn't there. `--tables` writes the tables as the page is
+to have them.
+"""
+
+from __future__ import annotations
+
+import argparse
+import sys
+from itertools import groupby
+from pathlib import Path
+
+from page import gone, listed, named
+from tables import ENUMERATIONS, Enumeration, tables
+
+TOP = Path(__file__).resolve().parents[2]
+PAGE = "docs/ARCHITECTURE.md"
+
+
+def parser() -> argparse.ArgumentParser:
+    """The words that the program takes."""
+    words = argparse.ArgumentParser(prog="changes", description="Compares what the page on architecture says of files with the crates.")
+    words.add_argument("--tables", action="store_true", help="write the tables of the page")
+    words.add_argument("top", nargs="?", type=Path, default=TOP, metavar="FOLDER", help="the repository (this one)")
+    return words
+
+
+def stale(text: str, top: Path, of: Enumeration) -> list[str]:
+    """What the table of an enumeration leaves out, and what it has that is no table, a line each."""
+    there, said = tables(top, of), listed(text, of.heading)
+    faults = [f'"{of.heading}" leaves out {file}' for file in there if file not in said]
+    return faults + [f'"{of.heading}" lists {file}, which has few of them' for file in said if file not in there]
+
+
+def written(files: list[str]) -> str:
+    """The rows of a table of files, a crate each."""
+    crates = groupby((file.partition("/")[::2] for file in files), key=lambda pair: pair[0])
+    return "\n".join(f"| `{crate}` | {', '.join(f'`{file}`' for _, file in pairs)} |" for crate, pairs in crates)
+
+
+def main(words: argparse.Namespace) -> int:
+    """Writes the faults and a line of counts, or the tables; the status is 1 where there is a fault."""
+    if words.tables:
+        print("\n\n".join(f"{of.heading}\n{written(tables(words.top, of))}" for of in ENUMERATIONS))
+        return 0
+    text = (words.top / PAGE).read_text("utf-8")
+    faults = [fault for of in ENUMERATIONS for fault in stale(text, words.top, of)] + gone(text, words.top)
+    for fault in faults:
+        print(f"{PAGE}: {fault}", file=sys.stderr)
+    files = sum(len(listed(text, of.heading)) for of in ENUMERATIONS)
+    print(f"{files} files in {len(ENUMERATIONS)} tables, {len(named(text))} named; {len(faults)} faults")
+    return 1 if faults else 0
+
+
+if __name__ == "__main__":
+    sys.exit(main(parser().parse_args()))

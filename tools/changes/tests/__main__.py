@@ -1,0 +1,121 @@
+"""The tests of the comparison: pages that grow stale are found out.
+
+python3 tools/changes/tests
+"""
+
+from __future__ import annotations
+
+import sys
+import tempfile
+import unittest
+from pathlib import Path
+
+TOP = Path(__file__).resolve().parents[1]
+sys.path.insert(0, str(TOP))
+
+from page import gone, listed, named, section  # noqa: E402
+from tables import Enumeration, sources, tables, variants  # noqa: E402
+
+CALLS = """/// What is asked for. It was Never.
+pub enum Call {
+    /// Asks.
+    Ask {
+        whom: u32,
+    },
+    Reply,
+    Make(u32),
+    Look,
+}
+
+pub enum Other {
+    None,
+}
+"""
+
+# A table of all, one with a default, one that only imports and tells of them, and a test's.
+FILES = {
+    "nova_a/src/call.rt": CALLS,
+    "nova_a/src/row.rt": "use crate::call::Call::{Ask};\nfn row(c: Call) { match c { Ask => 0, Reply => 1, Make => 2, Look => 3 } }\n",
+    "nova_b/specs/Rows.antt": "row Ask = 0\nrow Reply = 1\nrow Make = 2\nrow _ = 3\n",
+    "nova_b/proofs/Told.antt": "use Rattle.nova_a.{Ask, Reply, Make, Look}\n-- Ask, Reply, Make and Look\nrow Ask = refl\n",
+    "nova_b/out/kept.rt": CALLS,
+    "nova_tests_a/src/calls.rt": CALLS,
+}
+OF = Enumeration("A call", "crates/nova_a/src/call.rt", "Call", 0.75)
+FOUND = ["nova_a/src/call.rt", "nova_a/src/row.rt", "nova_b/specs/Rows.antt"]
+
+PAGE = """# Architecture
+
+| go to |
+|---|
+| `nova_a/src/row.rt` (`row`, the table `Call`), `Rows.antt` (of some); `nova_a/src`; `cargo.toml` |
+
+### A call
+
+1. Its number.
+
+| crate | files with a row |
+|---|---|
+| `nova_a` | `src/call.rt`, `src/row.rt` |
+| `nova_b` | `specs/Rows.antt` |
+
+| crate | of another table |
+|---|---|
+| `nova_c` | `src/c.rt` |
+
+### Another
+
+| crate | files |
+|---|---|
+| `nova_d` | `src/d.rt` |
+"""
+
+# What is named, and what is wrong with it.
+GONE = (
+    ("`nova_a/src/row.rt` (`row`)", []),
+    ("`row.rt` (`row`, and `column`)", ["not in row.rt: column"]),
+    ("`nova_b/src/row.rt`", ["no file: nova_b/src/row.rt"]),
+    ("`src/call.rt` and `Lines.antt` (`line`)", ["no file: Lines.antt"]),
+    ("`nova_b/out/kept.rt`", ["no file: nova_b/out/kept.rt"]),
+)
+
+
+class Changes(unittest.TestCase):
+    """What the crates have, and what the page says of it."""
+
+    def setUp(self) -> None:
+        folder = tempfile.TemporaryDirectory()
+        self.addCleanup(folder.cleanup)
+        self.top = Path(folder.name)
+        for name, text in FILES.items():
+            path = self.top / "crates" / name
+            path.parent.mkdir(parents=True, exist_ok=True)
+            path.write_text(text, "utf-8")
+
+    def test_variants_are_those_of_the_enumeration(self) -> None:
+        self.assertEqual(variants(CALLS, "Call"), ["Ask", "Reply", "Make", "Look"])
+        self.assertEqual(variants(CALLS, "Gone"), [])
+
+    def test_sources_are_those_of_crates_without_tests(self) -> None:
+        self.assertEqual([path.name for path in sources(self.top)], ["call.rt", "row.rt", "Told.antt", "Rows.antt"])
+
+    def test_a_table_has_a_row_for_most_variants(self) -> None:
+        self.assertEqual(tables(self.top, OF), FOUND)
+
+    def test_the_first_table_of_files_of_a_section_is_meant(self) -> None:
+        self.assertEqual(listed(PAGE, "A call"), FOUND)
+        self.assertEqual(listed(PAGE, "Another"), ["nova_d/src/d.rt"])
+        self.assertEqual(listed(PAGE, "A deed"), [])
+        self.assertTrue(section(PAGE, "A call").rstrip().endswith("`src/c.rt` |"))
+
+    def test_names_in_brackets_are_of_the_file_before_them(self) -> None:
+        self.assertEqual(named(PAGE)[:2], [("nova_a/src/row.rt", ["row", "Call"]), ("Rows.antt", [])])
+
+    def test_what_is_not_there_is_found(self) -> None:
+        for text, said in GONE:
+            with self.subTest(text):
+                self.assertEqual(gone(text, self.top), said)
+
+
+if __name__ == "__main__":
+    unittest.main()

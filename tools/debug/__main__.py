@@ -1,0 +1,97 @@
+"""Goes through a run in both directions.
+
+gdb-multiarch PROGRAM.elf -ex 'target remote | python3 tools/debug SCENARIO [ORDER]'
+python3 tools/debug trace SCENARIO [ORDER] [--from N] [--to N] [--ec E] [--elf FILE] [--semaphores]
+python3 tools/debug symbols SCENARIO FILE
+
+The first two take [--limit N] [--program FILE]; the first [--keep BYTES] [--one] [--log FILE].
+"""
+
+from __future__ import annotations
+
+import argparse
+import os
+import signal
+import sys
+from pathlib import Path
+
+from backend import BYTES, MOST, BackEnd, Refused
+from listing import Listing, list_turns
+from packets import Closed, Line
+from symbols import write_symbols
+from target import Target
+
+TOP = Path(__file__).resolve().parents[2]
+PROGRAM = TOP / "crates" / "nova_debug" / "out" / "nova_debug"
+
+
+def parser(trace: bool) -> argparse.ArgumentParser:
+    """The words of a command."""
+    words = argparse.ArgumentParser(prog="debug trace" if trace else "debug", description="Goes through a run in both directions.")
+    words.add_argument("scenario", type=Path, metavar="SCENARIO")
+    words.add_argument("order", type=Path, nargs="?", metavar="ORDER", help="the order of turns of the run (round robin)")
+    words.add_argument("--limit", type=int, default=MOST, metavar="N", help=f"the most turns of the run ({MOST})")
+    words.add_argument("--program", type=Path, default=PROGRAM, metavar="FILE", help="another program in place of the repository's")
+    if trace:
+        words.add_argument("--from", dest="first", type=int, default=0, metavar="N", help="the turn to begin with (0)")
+        words.add_argument("--to", dest="last", type=int, metavar="N", help="the turn to end before (that of the run's end)")
+        words.add_argument("--ec", type=int, metavar="E", help="the turns of one execution context alone")
+        words.add_argument("--elf", type=Path, metavar="FILE", help="an executable whose functions and lines are told")
+        words.add_argument("--semaphores", action="store_true", help="the turns alone that change semaphores, with which")
+    else:
+        kept = f"what states on the way may take, 0 for none ({BYTES})"
+        words.add_argument("--keep", type=int, default=BYTES, metavar="BYTES", help=kept)
+        words.add_argument("--one", action="store_true", help="all execution contexts are threads of one inferior")
+        words.add_argument("--log", type=Path, metavar="FILE", help="write what gdb asks, and the answers")
+    return words
+
+
+def trace(words: list[str]) -> int:
+    """Lists turns."""
+    asked = parser(True).parse_args(words)
+    back = BackEnd(asked.program, asked.scenario, asked.order, asked.limit)
+    list_turns(back, Listing(asked.first, asked.last, asked.ec, asked.elf, asked.semaphores), sys.stdout)
+    back.close()
+    return 0
+
+
+def serve(words: list[str]) -> int:
+    """Answers gdb. An interrupt from the keyboard is gdb's alone."""
+    asked = parser(False).parse_args(words)
+    signal.signal(signal.SIGINT, signal.SIG_IGN)
+    back = BackEnd(asked.program, asked.scenario, asked.order, asked.limit)
+    spacing = back.keep(asked.keep)
+    back.go(0)
+    log = asked.log.open("w") if asked.log else None
+    try:
+        Target(Line(0, 1), back, spacing, asked.one).serve(log)
+    except Closed:
+        back.close()
+    return 0
+
+
+def symbols(words: list[str]) -> int:
+    """Writes an executable with the labels and lines of a scenario's images of assembler."""
+    asked = argparse.ArgumentParser(prog="debug symbols", description="Makes an executable of a scenario's images of assembler.")
+    asked.add_argument("scenario", type=Path, metavar="SCENARIO")
+    asked.add_argument("output", type=Path, metavar="FILE")
+    given = asked.parse_args(words)
+    write_symbols(given.scenario, given.output)
+    return 0
+
+
+def main(words: list[str]) -> int:
+    """One command, and its status."""
+    commands = {"trace": trace, "symbols": symbols}
+    try:
+        return commands[words[0]](words[1:]) if words and words[0] in commands else serve(words)
+    except Refused as why:
+        print(f"debug: {why}", file=sys.stderr)
+        return 1
+    except BrokenPipeError:
+        os.dup2(os.open(os.devnull, os.O_WRONLY), sys.stdout.fileno())
+        return 1
+
+
+if __name__ == "__main__":
+    sys.exit(main(sys.argv[1:]))

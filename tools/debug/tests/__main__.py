@@ -1,0 +1,203 @@
+"""The tests of a run that is gone through.
+
+python3 tools/debug/tests [--program FILE] [--nova FILE] [--random N] [--write] [NAME..]
+
+They compare `nova_debug` with the reports of `nova solo`, and what gdb says with what stands beside this file; --write writes that anew.
+"""
+
+from __future__ import annotations
+
+import argparse
+import os
+import re
+import shutil
+import subprocess
+import sys
+import tempfile
+import unittest
+from itertools import groupby
+from pathlib import Path
+from random import Random
+
+HERE = Path(__file__).resolve().parent
+TOOL = HERE.parent
+TOP = TOOL.parents[1]
+sys.path.insert(0, str(TOOL))
+sys.path.insert(1, str(TOP / "tools" / "replays"))
+
+from access import Access, access_of  # noqa: E402
+from backend import BackEnd, Refused  # noqa: E402
+from scenarios import random_scenario  # noqa: E402
+
+# What the tests are made with, and how many random scenarios there are; each may take so many turns.
+PROGRAM, NOVA, COUNT, LIMIT = TOP / "crates/nova_debug/out/nova_debug", TOP / "nova", 40, 2000
+TOLD = ("ec", "sm", "console", "cap")
+GDB, COMPILER = "gdb-multiarch", "riscv64-unknown-elf-gcc"
+
+given = argparse.Namespace(program=PROGRAM, nova=NOVA, random=COUNT, write=False)
+
+
+def state_of(back: BackEnd) -> list[str]:
+    """What is told of the present state, as a report has it."""
+    return [line for words in ("contexts", "semaphores", "consoles", "delegations") for line in back.ask(words)]
+
+
+def report_of(*words: str) -> list[str]:
+    """The lines of a report of `nova solo`."""
+    return subprocess.run([str(given.nova), "solo", *words], capture_output=True, text=True, check=False).stdout.splitlines()
+
+
+def told_of(report: list[str]) -> list[str]:
+    """The lines of a report that tell of execution contexts, semaphores, consoles and delegations."""
+    return [line for line in report if line.split()[0] in TOLD]
+
+
+class Told(unittest.TestCase):
+    """What is told is what reports have."""
+
+    def compare(self, scenario: Path, random: Random) -> None:
+        """Compares a run with the report of its order, cut at a turn."""
+        back = BackEnd(given.program, scenario, None, LIMIT)
+        try:
+            turn = random.randrange(1, back.end + 1)
+            events = back.events(0, turn)
+            blocks = [(cpu, len(list(turns))) for cpu, turns in groupby(event.cpu for event in events)]
+            with tempfile.TemporaryDirectory() as folder:
+                order = Path(folder, "order")
+                order.write_text("".join(f"{cpu} {count}\n" for cpu, count in blocks))
+                report = report_of(str(scenario), str(order))
+            back.go(turn)
+            self.assertEqual(state_of(back), told_of(report), f"{scenario} after {turn} turns")
+            seen = [f"at {e.place + 1} {e.cpu} {e.actor} {e.kind} {e.a} {e.b}" for e in events if e.kind not in ("step", "tick")]
+            self.assertEqual(seen, [line for line in report if line.startswith("at ")], str(scenario))
+            self.assertEqual(back.ask("order " + " ".join(f"{cpu} {count}" for cpu, count in blocks)), report, str(scenario))
+            self.back_and_forth(back, scenario, random)
+        finally:
+            back.close()
+
+    def back_and_forth(self, back: BackEnd, scenario: Path, random: Random) -> None:
+        """A turn that is gone to by way of others tells what it tells from the beginning."""
+        back.ask(f"keep {random.randrange(1, 50)}")
+        for _ in range(6):
+            back.go(random.randrange(back.end + 1))
+        turn = back.turn
+        fresh = BackEnd(given.program, scenario, None, LIMIT)
+        try:
+            fresh.go(turn)
+            told, wanted = ((state_of(it), it.ask("objects"), it.next()) for it in (back, fresh))
+            self.assertEqual(told, wanted, f"{scenario}: {turn}")
+        finally:
+            fresh.close()
+
+    def test_examples(self) -> None:
+        for scenario in sorted((TOP / "examples").glob("*.nova")):
+            self.compare(scenario, Random(scenario.name))
+
+    def test_random_scenarios(self) -> None:
+        with tempfile.TemporaryDirectory() as folder:
+            for seed in range(1, given.random + 1):
+                scenario = Path(folder, "scenario.nova")
+                scenario.write_text(random_scenario(seed))
+                self.compare(scenario, Random(seed))
+
+    def test_lines_that_are_no_commands(self) -> None:
+        back = BackEnd(given.program, TOP / "examples/race.nova", TOP / "examples/race.order", LIMIT)
+        back.go(7)
+        wrong = "", "xyz", "go", "go x", "go 1 2", "break 1", "order", "order 0", "order 0 0", "order 9 1", "stores 1 2", "go 4294967296"
+        for line in wrong:
+            with self.assertRaises(Refused):
+                back.ask(line)
+            self.assertEqual(back.ask("at"), ["turn 7 of 54"])
+        back.close()
+
+    def test_searches(self) -> None:
+        """A search finds what going through the turns one by one finds."""
+
+        def is_load(access: Access | None) -> bool:
+            return access is not None and not access.stores and access.address == 0x1000
+
+        back = BackEnd(given.program, TOP / "examples/race.nova", TOP / "examples/race.order", LIMIT)
+        for looked_for, met in (
+            (["break 0 92", "by 6"], lambda following, access: following[2] == 92 or following[0] == 6),
+            (["stores 1 0 3"], lambda following, access: access and access.stores and access.address == 0x1000),
+            (["loads 1 2 2", "break 0 0"], lambda following, access: is_load(access) or following[2] == 0),
+        ):
+            found = []
+            for turn in range(back.end):
+                back.go(turn)
+                following = back.next()
+                if following and met(following, self.access(back, following[0])):
+                    found.append(turn)
+            back.go(0)
+            forwards = []
+            while back.run(looked_for, back.end):
+                forwards.append(back.turn)
+                back.go(back.turn + 1)
+            self.assertEqual(forwards, found)
+            back.go(0)
+            self.assertEqual(back.last(looked_for, back.end), found[-1])
+        back.close()
+
+    def access(self, back: BackEnd, number: int) -> Access | None:
+        """What the next instruction of an execution context loads or stores."""
+        context = back.contexts()[number]
+        return access_of(int.from_bytes(back.read(context, context.registers[32], 4), "little"), context.registers)
+
+
+@unittest.skipUnless(shutil.which(GDB) and shutil.which(COMPILER), f"{GDB} or {COMPILER} is not installed")
+class Gdb(unittest.TestCase):
+    """What gdb says in batch mode."""
+
+    maxDiff = None
+
+    def said(self, name: str, work: Path) -> str:
+        """What gdb says to a script beside this file, without names of folders."""
+        script = work / f"{name}.gdb"
+        names = {"work": str(work), "top": str(TOP), "program": str(given.program.resolve())}
+        script.write_text((HERE / f"{name}.gdb").read_text().format_map(names))
+        words, both = [GDB, "-q", "-nx", "-batch", "-x", str(script)], subprocess.STDOUT
+        text = subprocess.run(words, stdout=subprocess.PIPE, stderr=both, text=True, check=False, cwd=work, timeout=120).stdout
+        for place, word in ((str(work), "WORK"), (os.path.relpath(TOP, work), "TOP"), (str(TOP), "TOP")):
+            text = text.replace(place, word)
+        return re.sub(r"\n\n+", "\n", text)
+
+    def compare(self, name: str, *commands: list[str]) -> None:
+        """Makes what a script wants, and compares what gdb says."""
+        with tempfile.TemporaryDirectory() as folder:
+            work = Path(folder).resolve()
+            for command in commands:
+                subprocess.run([word.replace("WORK", str(work)) for word in command], check=True, cwd=TOP)
+            said = self.said(name, work)
+        wanted = HERE / f"{name}.out"
+        if given.write:
+            wanted.write_text(said)
+        self.assertEqual(said, wanted.read_text())
+
+    def symbols(self, scenario: str, output: str) -> list[str]:
+        """The command that makes an executable of a scenario's images of assembler."""
+        return [sys.executable, str(TOOL), "symbols", scenario, output]
+
+    def test_a_program_in_c(self) -> None:
+        self.compare("sort", ["tools/c/build.sh", "--debug", "tools/c/sort.c", "WORK/sort.nova"])
+
+    def test_a_race(self) -> None:
+        self.compare("race", self.symbols("examples/race.nova", "WORK/race.elf"))
+
+    def test_a_guest_and_its_monitor(self) -> None:
+        build = ["tools/c/build.sh", "--debug", "--guest", "tools/c/words.c", "WORK/guest.nova"]
+        self.compare("guest", build, self.symbols("WORK/guest.nova", "WORK/monitor.elf"))
+
+
+def main() -> None:
+    """Runs the tests that are named, or all."""
+    words = argparse.ArgumentParser(prog="tests")
+    words.add_argument("--program", type=Path, default=PROGRAM, metavar="FILE")
+    words.add_argument("--nova", type=Path, default=NOVA, metavar="FILE")
+    words.add_argument("--random", type=int, default=COUNT, metavar="N")
+    words.add_argument("--write", action="store_true")
+    _, rest = words.parse_known_args(namespace=given)
+    unittest.main(argv=[sys.argv[0], *rest], verbosity=1)
+
+
+if __name__ == "__main__":
+    main()

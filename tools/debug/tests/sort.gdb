@@ -1,0 +1,36 @@
+set pagination off
+set confirm off
+set width 0
+file {work}/sort.elf
+target remote | python3 {top}/tools/debug {work}/sort.nova --program {program}
+break sort
+continue
+backtrace
+print count
+next
+next
+info locals
+watch numbers[2]
+continue
+monitor turn
+print numbers
+delete
+break put_decimal if number < 0
+continue
+backtrace
+finish
+monitor console
+delete
+watch numbers[0]
+reverse-continue
+reverse-continue
+monitor turn
+reverse-stepi
+reverse-step
+monitor turn
+stepi
+monitor event
+reverse-finish
+delete
+continue
+kill

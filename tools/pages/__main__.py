@@ -1,0 +1,55 @@
+"""Tries what the pages show, and follows their links.
+
+python3 tools/pages [--program FILE] [--links] [FOLDER]
+
+Fails where a scenario of a page has another report or fault than the page says, a command writes something else, a quoted part of a file isn't
+in it, or a link leads nowhere.
+"""
+
+from __future__ import annotations
+
+import argparse
+import sys
+import tempfile
+from pathlib import Path
+
+from links import faults_of, pages_of
+from machine import Machine
+from samples import Tried, try_page
+
+TOP = Path(__file__).resolve().parents[2]
+
+
+def parser() -> argparse.ArgumentParser:
+    """The words that the program takes."""
+    words = argparse.ArgumentParser(prog="pages", description="Tries what the pages show, and follows their links.")
+    words.add_argument("--program", type=Path, metavar="FILE", help="the program that runs scenarios (that of the repository)")
+    words.add_argument("--links", action="store_true", help="follow links alone")
+    words.add_argument("top", nargs="?", type=Path, default=TOP, metavar="FOLDER", help="the repository (this one)")
+    return words
+
+
+def tried_of(top: Path, program: Path) -> Tried:
+    """What the pages of `docs` show, tried."""
+    tried = Tried()
+    with tempfile.TemporaryDirectory() as scratch:
+        machine = Machine(program, top, Path(scratch))
+        for page in pages_of(top):
+            if page.path.parent.name == "docs":
+                try_page(page, machine, tried)
+    return tried
+
+
+def main(words: argparse.Namespace) -> int:
+    """Writes the faults and a line of counts; the status is 1 where there is a fault."""
+    top = words.top.resolve()
+    links, faults = faults_of(top)
+    tried = Tried() if words.links else tried_of(top, words.program or top / "crates/nova/out/nova")
+    for fault in faults + tried.faults:
+        print(fault.replace(f"{top}/", ""), file=sys.stderr)
+    print(f"{links} links, {tried.count} samples, {tried.left} not tried; {len(faults) + len(tried.faults)} faults")
+    return 1 if faults or tried.faults else 0
+
+
+if __name__ == "__main__":
+    sys.exit(main(parser().parse_args()))
