@@ -48,6 +48,16 @@ class Target:
         self._alone = False
         self._last_stop = ""
         self._domains = {context.domain for context in self._look().values()}
+        # A breakpoint of one inferior is in all domains, in those too that are made later.
+        self._later = self._at_end() if one else set()
+
+    def _at_end(self) -> set[int]:
+        """The domains of the execution contexts that are there at the end of the run; one is left where one was."""
+        here = self._back.turn
+        self._back.go(self._back.end)
+        domains = {context.domain for context in self._back.contexts().values()}
+        self._back.go(here)
+        return domains
 
     # Threads
 
@@ -90,8 +100,9 @@ class Target:
     # Going on
 
     def _born(self, stop: Stop, before: int) -> Stop:
-        """A domain's first execution context makes a stop of its own, so that gdb learns of its inferior before it needs it."""
-        contexts = self._look()
+        """A domain's first execution context makes a stop of its own, so that gdb learns of its inferior before it needs it. Of what is
+        made later gdb isn't told yet."""
+        contexts = self._back.contexts()
         born = [n for n, c in contexts.items() if c.domain not in self._domains]
         if not born or not self._multi or self._one:
             return stop
@@ -188,7 +199,8 @@ class Target:
         self._look()
         context = self._ever[self._general]
         if kind in ("0", "1"):
-            domains = {c.domain for c in self._ever.values()} if self._one or not self._multi else {context.domain}
+            every = {c.domain for c in self._ever.values()} | self._later
+            domains = every if self._one or not self._multi else {context.domain}
             points = [Breakpoint(domain, int(address, 16)) for domain in domains]
         elif add:
             points = [self._going.watch(context, int(address, 16), int(size, 16), WATCHES[kind])]
@@ -258,9 +270,7 @@ class Target:
                 return "" if shown == "-" else bytes.fromhex(shown).decode("latin-1")
         raise Refused(f"there is no console {number}")
 
-    def _end(self, said: str) -> str:
-        if said.startswith(";"):
-            self._line.send("OK")
+    def _end(self, _said: str) -> str:
         raise Closed
 
     ACTS: tuple[tuple[str, Callable[[Target, str], str]], ...] = (
@@ -287,7 +297,8 @@ class Target:
         ("z", lambda self, said: self._point(said, False)),
         ("vCont?", lambda self, said: "vCont;c;C;s;S"),
         ("vCont;", _go_on),
-        ("vKill", _end),
+        # Other inferiors stay; with its last gdb goes.
+        ("vKill", lambda self, said: "OK"),
         ("c", lambda self, said: self._resume(False, False)),
         ("s", lambda self, said: self._resume(False, True)),
         ("bc", lambda self, said: self._resume(True, False)),

@@ -12,11 +12,25 @@ use std::sync::Wait;
 /// How many pages are copied for a burst at most.
 const PAGES: usize = 16;
 
-/// A lease of the virtual CPU that acts on a processor, where that can be had. One that is refused for want of memory is none.
+/// For how many instructions a lease is worth its cost at least.
+const LEAST: u32 = 256;
+
+/// Whether little is left of the quantum of the scheduling context that is chosen on a processor.
+fn has_little_left(kernel: &Kernel, cpu: u32) -> bool {
+    match kernel.choose(cpu) {
+        Some(sc) => matches!(kernel.left(sc), Some(left) if left < LEAST),
+        None => false,
+    }
+}
+
+/// A lease of the virtual CPU that acts on a processor, where that can be had and its quantum is worth it. One that is refused for want of memory is none.
 fn leased(kernel: &mut Kernel, alloc: Global, cpu: u32) -> Option<Lease>
     ensures stems { IfSome result (λ l. (l.run.cpu ≡ cpu) × StemsFrom l kernel.old.state) }
     ensures kept { kernel.new ≡ kernel.old }
 {
+    if has_little_left(kernel, cpu) {
+        return None;
+    }
     let Ok(leased) = lease(kernel, alloc, cpu, PAGES) else {
         return None;
     };

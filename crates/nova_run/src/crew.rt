@@ -32,6 +32,11 @@ impl Crew {
         }
     }
 
+    /// Whether there is one worker.
+    pub(crate) fn is_lone(&self) -> bool {
+        self.workers < 2
+    }
+
     /// A worker begins, with all others: it looks for them for a while, and goes on without those who don't come.
     pub(crate) fn meet(&self) {
         self.begun.fetch_add(1, Ordering::SeqCst);
@@ -73,7 +78,7 @@ impl Crew {
 
     /// A pause of a worker that isn't alone: nobody foresees how long, but it is less than so many looks at nothing. It tells how many they were.
     pub(crate) fn pause(&self, longest: u64) -> u64 {
-        if self.workers < 2 {
+        if self.is_lone() {
             return 0;
         }
         let drawn = self.draw();

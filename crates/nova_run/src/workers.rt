@@ -29,6 +29,10 @@ const GROWTH: u64 = 16;
 
 const MOST_TURNS: u64 = 1048576;
 
+/// How many turns a worker takes in one use of the kernel at most, so that others aren't kept waiting for long. It is one in the first round, where
+/// there are others, so that short runs come in many orders.
+const MOST_AT_ONCE: u64 = 4096;
+
 /// How often a worker looks again at an idle processor in one round.
 const LOOKS: u64 = 1024;
 
@@ -41,29 +45,50 @@ const SHORTEST: u64 = 64;
 /// How much longer a pause between looks is at most with each of them.
 const LONGER: u64 = 8;
 
-/// One step of a worker: a burst of at most so many instructions, or a turn where a burst came to nothing. It tells how many turns were taken; none
-/// where the processor is idle, there are as many turns as there may be, or memory is refused.
+/// How much a worker takes in a step: instructions of a burst, and else turns in one use of the kernel.
+#[derive(Clone, Copy)]
+struct Most {
+    burst: u64,
+    turns: u64,
+}
+
+/// How many turns a step was, and whether it was a burst.
+#[derive(Clone, Copy)]
+struct Taken {
+    turns: u64,
+    by_burst: bool,
+}
+
+/// One step of a worker: a burst, or where that came to nothing a turn, and after a plain step those that come next. It tells how many turns were taken;
+/// none where the processor is idle, there are as many turns as there may be, or memory is refused.
 fn step<R: Wait, G: Gate>(
     rt: &R,
     alloc: Global,
     shared: &Shared,
     gate: &G,
     seat: &mut CpuSeat,
-    most: u64,
-) -> Option<u64>
+    most: Most,
+) -> Option<Taken>
     requires { IsCpuSeat shared.now seat.old }
     ensures seat { seat.new ≡ record seat.old { front = seat.new.front } }
-    ensures some { IfSome result (λ n. 0 < n) }
+    ensures some { IfSome result (λ t. 0 < t.turns) }
 {
     gate.at(seat.cpu(), seat.mine());
-    let taken = burst(rt, alloc, shared, seat, most);
-    if taken > 0 {
-        return Some(taken);
+    let turns = burst(rt, alloc, shared, seat, most.burst);
+    if turns > 0 {
+        return Some(Taken {
+            turns,
+            by_burst: true,
+        });
     }
-    match shared.turn(rt, seat) {
-        Ok(SharedTurn::Stepped(_)) => Some(1),
-        Ok(SharedTurn::Idle(_)) | Ok(SharedTurn::AtLimit(_)) | Err(_) => None,
+    let turns = shared.turns(rt, seat, most.turns);
+    if turns == 0 {
+        return None;
     }
+    Some(Taken {
+        turns,
+        by_burst: false,
+    })
 }
 
 /// Another look at a processor that was idle: whether it took a turn; or none where it is not to be looked at again.
@@ -114,11 +139,11 @@ fn go<R: Wait, G: Gate>(
     crew: &Crew,
     pace: u64,
     seat: &mut CpuSeat,
-    most: u64,
-) -> Option<u64>
+    most: Most,
+) -> Option<Taken>
     requires { IsCpuSeat shared.now seat.old }
     ensures seat { seat.new ≡ record seat.old { front = seat.new.front } }
-    ensures some { IfSome result (λ n. 0 < n) }
+    ensures some { IfSome result (λ t. 0 < t.turns) }
 {
     let taken = step(rt, alloc, shared, gate, seat, most);
     if taken.is_some() {
@@ -129,13 +154,15 @@ fn go<R: Wait, G: Gate>(
         return None;
     }
     crew.resume();
-    Some(1)
+    Some(Taken {
+        turns: 1,
+        by_burst: false,
+    })
 }
 
-/// How many instructions the next burst has at most, after a step of so many turns: `GROWTH` times as many, up to the turns of the round, where that was a
-/// burst.
-fn longer(most: u64, taken: u64, turns: u64) -> u64 {
-    if taken > 1 {
+/// How many instructions the next burst has at most, after a step: `GROWTH` times as many, up to the turns of the round, where that was a burst.
+fn longer(most: u64, taken: Taken, turns: u64) -> u64 {
+    if taken.by_burst {
         most.saturating_mul(GROWTH).min(turns)
     } else {
         FIRST_TURNS
@@ -163,7 +190,12 @@ fn work<R: Wait, G: Gate>(
         crew.pace()
     };
     let mut left = turns;
-    let mut most = turns;
+    let mut burst = turns;
+    let at_once = if turns > FIRST_TURNS || crew.is_lone() {
+        MOST_AT_ONCE
+    } else {
+        1
+    };
     let mut pauses = if turns > FIRST_TURNS { 0 } else { PAUSES };
     while left > 0 {
         if pauses > 0 {
@@ -171,11 +203,15 @@ fn work<R: Wait, G: Gate>(
                 .saturating_sub(SHORTEST)
                 .saturating_sub(crew.pause(pace));
         }
+        let most = Most {
+            burst,
+            turns: at_once,
+        };
         let Some(taken) = go(rt, alloc, shared, gate, crew, pace, seat, most) else {
             return;
         };
-        left = left.saturating_sub(taken);
-        most = longer(most, taken, turns);
+        left = left.saturating_sub(taken.turns);
+        burst = longer(burst, taken, turns);
     }
     crew.rest();
 }
@@ -298,8 +334,9 @@ fn share<R: Threads + Wait + Sync, G: Gate + Sync>(
 /// `limit` turns. The workers of a round begin together. Each takes steps until it took 4,096 turns, in later rounds up to 1,048,576; while its
 /// processor is idle it looks again and again, some thousand times at most, until no other worker has anything to do. A step is a burst where a
 /// virtual CPU acts and can be leased: instructions up to the end of its quantum, which run on copies of up to 16 frames beside the other
-/// processors, and then count as so many turns. Else, and where a burst comes to nothing, it is one turn. Before each step and each look the worker
-/// calls the gate, with the processor and how many turns of it there were.
+/// processors, and then count as so many turns. Else, and where a burst comes to nothing, it is one turn, and after a plain step up to 4,095 plain
+/// steps that come next, but of these none in the first round where there are several workers. Before each step and each look the worker calls the
+/// gate, with the processor and how many turns of it there were.
 ///
 /// Whatever the workers did, there is one order of turns, and what comes is the run over it. It ends quiet or has `limit` turns. The only error is
 /// `Memory`, where memory is refused. It may wait; what it promises holds if it returns.

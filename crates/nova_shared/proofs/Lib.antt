@@ -3,3 +3,4 @@ pub mod Shares
 pub mod Seats
 pub mod Learning
 pub mod Stepping
+pub mod Going

@@ -1,6 +1,6 @@
 -- Turns that a block takes.
-use Rattle.std.proofs.Common.{◌≡◌, ℕ, ◌+◌, ◌≤◌, List, [], ◌∷◌, ◌++◌, length, refl, ap, sym, ◌∙◌, arith}
-use Rattle.std.specs.Prelude.{replicate, is_some, true, Option, Some, None, option_map}
+use Rattle.std.proofs.Common.{◌≡◌, ℕ, ◌+◌, ◌≤◌, List, [], ◌∷◌, ◌++◌, length, refl, ap, sym, ◌∙◌, arith, subst}
+use Rattle.std.specs.Prelude.{replicate, is_some, true, Option, Some, None, option_map, IfSome}
 use Rattle.std.proofs.lemmas.List.{length-append, length-replicate}
 use Rattle.nova_kernel.specs.Views.{KernelView}
 use Rattle.nova_leases.specs.Advances.{step_of}
@@ -108,3 +108,9 @@ module _ (k : KernelState) (cpu n : ℕ) (steps : ArePlainSteps (choice k cpu) c
 pub no_steps : (o : Option Candidate) (cpu : ℕ) → ArePlainSteps o cpu 0 []
 no_steps None cpu = refl
 no_steps (Some c) cpu = refl
+
+-- turns that have the event that was told are plain steps
+pub told_steps : (o : Option Candidate) (cpu n : ℕ) (es : List Event) (told : Option Event) → told ≡ option_map (step_of cpu) o → (told ≡ None → n ≡ 0)
+    → IfSome told (λ e. es ≡ replicate n e) → ArePlainSteps o cpu n es
+told_steps (Some c) cpu n es told is none all = subst (λ (t : Option Event). IfSome t (λ e. es ≡ replicate n e)) is all
+told_steps None cpu n es told is none all = none is

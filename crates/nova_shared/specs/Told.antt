@@ -13,6 +13,10 @@ IsTold k most cpu found left (Stepped n) = (left ≡ found ++ cpu ∷ []) × (n 
 IsTold k most cpu found left (Idle n) = (left ≡ found) × (n ≡ length found) × (n < most) × (turn (run k found) cpu ≡ None)
 IsTold k most cpu found left (AtLimit n) = (left ≡ found) × (n ≡ length found) × (n ≡ most)
 
+-- where no turn was taken though there may be so many, the processor is idle, or memory was refused to a turn that makes an object or a derivation
+abbrev pub HasNone : KernelState → ℕ → ℕ → Type 0
+HasNone k left cpu = 0 < left → IsSome (turn k cpu) → IsMaking k cpu
+
 -- memory was refused to a turn that makes an object or a derivation
 abbrev pub IsRefused : KernelState → ℕ → ℕ → List ℕ → List ℕ → Type 0
 IsRefused k most cpu found left = (left ≡ found) × (length found < most) × IsMaking (run k found) cpu

@@ -7,10 +7,11 @@ ghost use Rattle.nova_model.specs.Turn.{turn};
 ghost use Rattle.nova_order.specs.Blocks.{turns, total};
 ghost use Rattle.nova_shared.specs.Runs.{IsSharedRun};
 ghost use Rattle.nova_shared.specs.Steps.{repeated};
+ghost use Rattle.nova_shared.specs.Told.{HasNone};
 ghost use Rattle.nova_shared.specs.UnderWay.{IsReady, HasRoom, Passed, left, taken};
 
 use crate::block::Block;
-use nova_kernel::{Event, EventKind, Kernel, Turn};
+use nova_kernel::{Event, EventKind, Kernel, StepsTaken, Turn};
 use nova_order::Order;
 use nova_trace::Trace;
 use std::alloc::{AllocError, Global};
@@ -143,5 +144,69 @@ impl Finished {
         let taken = call.act(&mut self.kernel, cpu, left);
         self.enter(cpu, event, taken);
         taken
+    }
+
+    /// Plain steps of a processor, one after another: how many, at most so many. None is taken where who acts there is about to do something else.
+    fn steps(&mut self, cpu: u32, most: u64) -> u64
+        requires ready { IsReady self.old }
+        requires room { HasRoom self.old }
+        requires more { length self.old.trace.items + most ≤ self.old.limit }
+        requires cpu { cpu < self.old.kernel.state.cpus }
+        ensures most { result ≤ most }
+        ensures passed { Passed self.old (replicate result cpu) self.new }
+        ensures room { HasRoom self.new }
+        ensures no_idle { IsFreeOfIdle self.old.kernel.state (replicate result cpu) }
+    {
+        let StepsTaken { event, count } = self.kernel.steps(cpu, most);
+        self.enter(cpu, event, count);
+        count
+    }
+
+    /// The same on and on, until none is taken: a quantum may end on the way.
+    fn ride_on(&mut self, cpu: u32, most: u64) -> u64
+        requires ready { IsReady self.old }
+        requires room { HasRoom self.old }
+        requires more { length self.old.trace.items + most ≤ self.old.limit }
+        requires cpu { cpu < self.old.kernel.state.cpus }
+        ensures most { result ≤ most }
+        ensures passed { Passed self.old (replicate result cpu) self.new }
+        ensures room { HasRoom self.new }
+        ensures no_idle { IsFreeOfIdle self.old.kernel.state (replicate result cpu) }
+    {
+        let mut left = most;
+        while left > 0 {
+            let taken = self.steps(cpu, left);
+            if taken == 0 {
+                return most - left;
+            }
+            left -= taken;
+        }
+        most
+    }
+
+    /// A turn of a processor, and after a plain step those that come next: how many turns, at most so many. Where there may be one, none is taken only
+    /// where the processor is idle or memory is refused.
+    pub(crate) fn go(&mut self, cpu: u32, most: u64) -> u64
+        requires ready { IsReady self.old }
+        requires room { HasRoom self.old }
+        requires more { length self.old.trace.items + most ≤ self.old.limit }
+        requires cpu { cpu < self.old.kernel.state.cpus }
+        ensures most { result ≤ most }
+        ensures passed { Passed self.old (replicate result cpu) self.new }
+        ensures room { HasRoom self.new }
+        ensures no_idle { IsFreeOfIdle self.old.kernel.state (replicate result cpu) }
+        ensures none { result ≡ 0 → HasNone self.old.kernel.state most cpu }
+    {
+        if most == 0 {
+            return 0;
+        }
+        match self.turn(cpu) {
+            Ok(true) => {}
+            Ok(false) | Err(_) => return 0,
+        }
+        if !self.trace.ends_with_step() {
+            return 1;
+        }
+        self.ride_on(cpu, most - 1) + 1
     }
 }

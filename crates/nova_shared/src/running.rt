@@ -2,7 +2,7 @@ ghost use Rattle.std.specs.Prelude.{◌≡◌, ◌+◌, ◌-◌, ◌%◌, ◌^�
 ghost use Rattle.nova_model.specs.Runs.{run};
 ghost use Rattle.nova_order.specs.Blocks.{turns};
 ghost use Rattle.nova_shared.specs.Runs.{IsSharedRun};
-ghost use Rattle.nova_shared.specs.Told.{IsTold, IsRefused};
+ghost use Rattle.nova_shared.specs.Told.{HasNone, IsTold, IsRefused};
 
 use crate::block::{Block, BlockDone};
 use crate::finished::Finished;
@@ -93,6 +93,24 @@ impl Running {
         ensures tells { B.tells call.old cpu (run self.old.opening.kernel.state self.old.order) (self.old.opening.limit - length self.old.order) call.new result.taken }
     {
         let taken = self.run.block(cpu, call);
+        BlockDone {
+            taken,
+            seen: self.run.trace.len(),
+        }
+    }
+
+    /// A turn of a processor, and after a plain step those that come next: at most so many. Where there may be one, none is taken only where the
+    /// processor is idle or memory is refused.
+    pub(crate) fn turns(&mut self, cpu: u32, most: u64) -> BlockDone
+        requires cpu { cpu < self.old.opening.kernel.state.cpus }
+        ensures same { (self.new.opening ≡ self.old.opening) × (self.new.uses ≡ self.old.uses) }
+        ensures order { self.new.order ≡ self.old.order ++ replicate result.taken cpu }
+        ensures seen { (result.seen ≡ length self.old.order + result.taken) × (result.seen ≤ self.old.opening.limit) }
+        ensures most { result.taken ≤ most }
+        ensures none { result.taken ≡ 0 → 0 < most → HasNone (run self.old.opening.kernel.state self.old.order) (self.old.opening.limit - length self.old.order) cpu }
+    {
+        let left = self.run.limit - self.run.trace.len();
+        let taken = self.run.go(cpu, most.min(left));
         BlockDone {
             taken,
             seen: self.run.trace.len(),

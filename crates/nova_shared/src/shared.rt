@@ -8,13 +8,13 @@ ghost use Rattle.nova_order.specs.Blocks.{turns};
 ghost use Rattle.nova_shared.specs.Finished.{IsFinished};
 ghost use Rattle.nova_shared.specs.Ran.{Ran, IsCpuSeat, AreCpuSeats};
 ghost use Rattle.nova_shared.specs.Seen.{Learns, LearnsOfBlock, LearnsOfOthers, mine};
-ghost use Rattle.nova_shared.specs.Told.{IsTold, IsRefused};
+ghost use Rattle.nova_shared.specs.Told.{HasNone, IsTold, IsRefused};
 ghost use Rattle.nova_shared.specs.UnderWay.{IsReady, HasRoom};
 
 use crate::block::{Block, BlockDone, Blocking};
 use crate::finished::Finished;
 use crate::running::Running;
-use crate::turn::{OneTurn, SharedTurn};
+use crate::turn::{OneTurn, SharedTurn, Turns};
 use nova_kernel::Kernel;
 use nova_lock::{HistoryLock, Seat};
 use std::alloc::{AllocError, Global};
@@ -279,6 +279,43 @@ impl Shared {
         ensures learned { LearnsOfBlock seat.old seat.new result }
     {
         let done = self.act(rt, &mut seat.seat, call);
+        seat.seen = done.seen;
+        seat.mine += done.taken;
+        done.taken
+    }
+
+    /// One use of the lock, in which the processor of a seat takes turns, at most so many.
+    fn go(&self, rt: &impl Wait, seat: &mut Seat<Running>, most: u64) -> BlockDone
+        requires own { IsCpuSeat self.now seat.old }
+        ensures seat { seat.new ≡ record seat.old { front = seat.new.front } }
+        ensures told { (found : List ℕ) × IsFrontOf seat.old.number seat.old.front found
+            × (seat.new.front ≡ found ++ replicate result.taken seat.old.number) × (result.seen ≡ length found + result.taken) × (result.seen ≤ self.now.opened.opening.limit)
+            × (result.taken ≡ 0 → 0 < most → HasNone (run self.now.opened.opening.kernel.state found) (self.now.opened.opening.limit - length found) seat.old.number) }
+        ensures most { result.taken ≤ most }
+        ensures learned { LearnsOfBlock seat.old seat.new result.taken }
+    {
+        let mut call = Turns {
+            cpu: seat.number(),
+            most,
+        };
+        self.lock.with(rt, seat, &mut call)
+    }
+
+    /// Turns of the processor of a seat in one use of the lock, at most so many, and how many they are: one, and after a plain step the plain steps that
+    /// come next. Where there may be one, none is taken only where the processor is idle or memory is refused. The order of turns that it finds begins
+    /// with the seat's front and has all turns that the seat ever took. The order that it leaves has these turns more, and is the seat's new front.
+    ///
+    /// It may wait for other processors; what it promises holds if it returns.
+    pub fn turns(&self, rt: &impl Wait, seat: &mut CpuSeat, most: u64) -> u64
+        requires own { IsCpuSeat self.now seat.old }
+        ensures seat { seat.new ≡ record seat.old { front = seat.new.front } }
+        ensures told { (found : List ℕ) × IsFrontOf seat.old.number seat.old.front found
+            × (seat.new.front ≡ found ++ replicate result seat.old.number) × (length found + result ≤ self.now.opened.opening.limit)
+            × (result ≡ 0 → 0 < most → HasNone (run self.now.opened.opening.kernel.state found) (self.now.opened.opening.limit - length found) seat.old.number) }
+        ensures most { result ≤ most }
+        ensures learned { LearnsOfBlock seat.old seat.new result }
+    {
+        let done = self.go(rt, &mut seat.seat, most);
         seat.seen = done.seen;
         seat.mine += done.taken;
         done.taken

@@ -1,6 +1,7 @@
 ghost use Rattle.std.specs.Prelude.{◌≡◌, ◌<◌, length, IfOk, IfErr};
 ghost use Rattle.nova_shared.specs.Told.{IsTold, IsRefused};
 
+use crate::block::BlockDone;
 use crate::running::Running;
 use nova_lock::LockCall;
 
@@ -38,6 +39,34 @@ impl LockCall<Running> for OneTurn {
 
     fn act(&mut self, value: &mut Running) -> Result<SharedTurn, u64> {
         let out = value.turn(self.cpu);
+        value.count();
+        out
+    }
+}
+
+/// A use of the lock in which a processor takes a turn, and after a plain step those that come next: at most so many.
+#[derive(Clone, Copy)]
+pub struct Turns {
+    pub cpu: u32,
+    pub most: u64,
+}
+
+impl LockCall<Running> for Turns {
+    ghost use Rattle.std.specs.Prelude.{◌≡◌, ◌+◌, ◌-◌, ◌<◌, ◌≤◌, ◌++◌, length, replicate};
+    ghost use Rattle.nova_model.specs.Runs.{run};
+    ghost use Rattle.nova_shared.specs.Told.{HasNone};
+
+    type Out = BlockDone;
+
+    ghost number = { λ t. t.cpu };
+
+    ghost ready = { λ t o h. t.cpu < o.kernel.state.cpus };
+
+    ghost did = { λ o t found left next out. (left ≡ found ++ replicate out.taken t.cpu) × (out.seen ≡ length found + out.taken) × (out.seen ≤ o.limit)
+        × (out.taken ≤ t.most) × (out.taken ≡ 0 → 0 < t.most → HasNone (run o.kernel.state found) (o.limit - length found) t.cpu) };
+
+    fn act(&mut self, value: &mut Running) -> BlockDone {
+        let out = value.turns(self.cpu, self.most);
         value.count();
         out
     }

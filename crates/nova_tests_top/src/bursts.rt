@@ -8,10 +8,10 @@ use std::sync::Wait;
 use std::sync::atomic::{AtomicU64, Ordering};
 use std::thread::Threads;
 
-/// A guest and its monitor on one processor. The guest is told where it begins and is given a page, on which it loops from its 57th turn on,
-/// with two turns left of its quantum of 7.
+/// A guest and its monitor on the first of two processors. The guest is told where it begins and is given a page, on which it loops from the 58th turn on,
+/// with most of its quantum of 1,000 left.
 static LOOPING: &str =
-    "cpus 1\nram 2\nconsoles 1\nroot 0 0 1 10\nimage 0 asm\naddi x17, x0, 3\naddi x10, x0, 32\naddi x14, x0, 48\necall\naddi x17, x0, 5\naddi x10, x0, 64\naddi x12, x0, 32\naddi x14, x0, 0x100\necall\naddi x10, x0, 66\naddi x14, x0, 0x140\necall\naddi x10, x0, 70\naddi x13, x0, 6\naddi x14, x0, 0x180\necall\naddi x17, x0, 2\naddi x10, x0, 33\nlui x12, 0x40\naddi x12, x12, 531\necall\naddi x17, x0, 3\naddi x10, x0, 34\naddi x11, x0, 33\naddi x12, x0, 512\naddi x13, x0, 0\naddi x14, x0, 64\necall\naddi x17, x0, 4\naddi x10, x0, 35\naddi x12, x0, 34\naddi x13, x0, 1794\necall\nebreak\nend\nimage 0x100 asm\nlui x5, 0xfffff\naddi x6, x0, 2\nsw x6, 16(x5)\naddi x17, x0, 1\necall\nend\nimage 0x140 asm\nlui x6, 16\nsw x6, 0(x5)\nlui x6, 1\naddi x6, x6, 29\nsw x6, 504(x5)\naddi x6, x0, 1\nsw x6, 508(x5)\necall\nend\nimage 0x180 asm\nlui x7, 4\nlw x6, 72(x5)\nsb x6, 0(x7)\nlw x6, 28(x5)\naddi x6, x6, 4\nsw x6, 28(x5)\naddi x6, x0, 2\nsw x6, 16(x5)\necall\nend\nimage 0x1000 asm\njal x0, 0\nend\n";
+    "cpus 2\nram 2\nconsoles 1\nroot 0 0 1 10\nimage 0 asm\naddi x17, x0, 3\naddi x10, x0, 32\naddi x14, x0, 48\necall\naddi x17, x0, 5\naddi x10, x0, 64\naddi x12, x0, 32\naddi x14, x0, 0x100\necall\naddi x10, x0, 66\naddi x14, x0, 0x140\necall\naddi x10, x0, 70\naddi x13, x0, 6\naddi x14, x0, 0x180\necall\naddi x17, x0, 2\naddi x10, x0, 33\nlui x12, 0x40\naddi x12, x12, 531\necall\naddi x17, x0, 3\naddi x10, x0, 34\naddi x11, x0, 33\naddi x12, x0, 512\naddi x13, x0, 0\naddi x14, x0, 64\necall\naddi x17, x0, 4\naddi x10, x0, 35\naddi x12, x0, 34\nlui x13, 0x3f\naddi x13, x13, -2046\necall\nebreak\nend\nimage 0x100 asm\nlui x5, 0xfffff\naddi x6, x0, 2\nsw x6, 16(x5)\naddi x17, x0, 1\necall\nend\nimage 0x140 asm\nlui x6, 16\nsw x6, 0(x5)\nlui x6, 1\naddi x6, x6, 29\nsw x6, 504(x5)\naddi x6, x0, 1\nsw x6, 508(x5)\necall\nend\nimage 0x180 asm\nlui x7, 4\nlw x6, 72(x5)\nsb x6, 0(x7)\nlw x6, 28(x5)\naddi x6, x6, 4\nsw x6, 28(x5)\naddi x6, x0, 2\nsw x6, 16(x5)\necall\nend\nimage 0x1000 asm\njal x0, 0\nend\n";
 
 /// A gate that notes before which steps it was called, by the turns of processor 0 that were taken.
 #[derive(Drop)]
@@ -19,7 +19,7 @@ struct Noting {
     fifty_six: AtomicU64,
     fifty_seven: AtomicU64,
     fifty_eight: AtomicU64,
-    sixty_five: AtomicU64,
+    one_hundred: AtomicU64,
 }
 
 impl Gate for Noting {
@@ -28,7 +28,7 @@ impl Gate for Noting {
             (0, 56) => &self.fifty_six,
             (0, 57) => &self.fifty_seven,
             (0, 58) => &self.fifty_eight,
-            (0, 65) => &self.sixty_five,
+            (0, 100) => &self.one_hundred,
             _ => return,
         };
         noted.store(1, Ordering::SeqCst);
@@ -41,7 +41,7 @@ fn noted(gate: &Noting) -> [u64; 4] {
         gate.fifty_six.load(Ordering::SeqCst),
         gate.fifty_seven.load(Ordering::SeqCst),
         gate.fifty_eight.load(Ordering::SeqCst),
-        gate.sixty_five.load(Ordering::SeqCst),
+        gate.one_hundred.load(Ordering::SeqCst),
     ]
 }
 
@@ -66,9 +66,9 @@ fn a_burst_of_a_guest_is_one_step_of_its_worker(rt: HostRuntime) {
         fifty_six: AtomicU64::new(0),
         fifty_seven: AtomicU64::new(0),
         fifty_eight: AtomicU64::new(0),
-        sixty_five: AtomicU64::new(0),
+        one_hundred: AtomicU64::new(0),
     };
     let end = run(&rt, rt.alloc(), &gate);
     assert!(rt; end == (Exit::Limit, true));
-    assert!(rt; noted(&gate) == [1, 0, 1, 1]);
+    assert!(rt; noted(&gate) == [1, 1, 0, 0]);
 }

@@ -173,19 +173,14 @@ class Gdb(unittest.TestCase):
             wanted.write_text(said)
         self.assertEqual(said, wanted.read_text())
 
-    def symbols(self, scenario: str, output: str) -> list[str]:
-        """The command that makes an executable of a scenario's images of assembler."""
-        return [sys.executable, str(TOOL), "symbols", scenario, output]
-
     def test_a_program_in_c(self) -> None:
         self.compare("sort", ["tools/c/build.sh", "--debug", "tools/c/sort.c", "WORK/sort.nova"])
 
     def test_a_race(self) -> None:
-        self.compare("race", self.symbols("examples/race.nova", "WORK/race.elf"))
+        self.compare("race", [sys.executable, str(TOOL), "symbols", "examples/race.nova", "WORK/race.elf"])
 
     def test_a_guest_and_its_monitor(self) -> None:
-        build = ["tools/c/build.sh", "--debug", "--guest", "tools/c/words.c", "WORK/guest.nova"]
-        self.compare("guest", build, self.symbols("WORK/guest.nova", "WORK/monitor.elf"))
+        self.compare("guest", ["tools/c/build.sh", "--debug", "--guest", "tools/c/words.c", "WORK/guest.nova"])
 
 
 def main() -> None:

@@ -2,36 +2,63 @@ set pagination off
 set confirm off
 set width 0
 set schedule-multiple on
-set architecture riscv:rv32
-set osabi none
-file {work}/monitor.elf
+file {work}/guest.elf
+add-inferior -exec {work}/guest.elf
+add-inferior -exec {work}/guest.guest.elf
 target remote | python3 {top}/tools/debug {work}/guest.nova --program {program}
-break *0x140
 continue
+monitor turn
+break on_fault
+continue
+monitor turn
 info threads
-thread 1.1
 continue
+continue
+monitor turn
 info threads
 x/8xw 0xfffff000
-monitor event
-thread 2.1
-file {work}/guest.elf
+next
+next
+print/x address
+print page
+thread 3.1
 backtrace
 x/i $pc
+delete
 monitor stop raise
 reverse-continue
 monitor turn
 info threads
+monitor delegations 16
 monitor unstop
-delete
+thread 3.1
 stepi
+x/xw $sp + 12
+monitor turn
+monitor delegations 16
+reverse-stepi
 monitor turn
 reverse-stepi
 monitor turn
-thread 2.1
-monitor delegations 8
+break on_fault
+continue
+monitor turn
+next
+reverse-next
+monitor turn
+delete
+finish
+tbreak put_word
+continue
+backtrace
+print/x word
+finish
+monitor console
 thread 1.1
-monitor goto 0
+reverse-continue
+monitor turn
+monitor goto 388
 maintenance flush register-cache
 continue
 info threads
+kill

@@ -2,9 +2,11 @@ set pagination off
 set confirm off
 set width 0
 file {work}/sort.elf
-target remote | python3 {top}/tools/debug {work}/sort.nova --program {program}
+target remote | python3 {top}/tools/debug {work}/sort.nova --one --program {program}
 break sort
 continue
+monitor turn
+info threads
 backtrace
 print count
 next
@@ -33,4 +35,5 @@ monitor event
 reverse-finish
 delete
 continue
+info threads
 kill
