@@ -7,7 +7,7 @@ use nova_range::Status;
 use rv_model::Regs;
 
 /// What is read of a call with one of its arguments, the others being such as each call takes.
-pub fn read_with(number: u32, register: u32, argument: u32) -> Result<Call, Status>
+pub(crate) fn read_with(number: u32, register: u32, argument: u32) -> Result<Call, Status>
     requires { register < 32 }
 {
     let mut regs = Regs::new(0, 0);
@@ -53,6 +53,6 @@ fn read_as(number: u32) -> [Row; 4] {
 }
 
 /// What numbers are read as arguments of calls.
-pub fn arguments() -> [[Row; 4]; 4] {
+pub(crate) fn arguments() -> [[Row; 4]; 4] {
     [read_as(0), read_as(1), read_as(2), read_as(3)]
 }

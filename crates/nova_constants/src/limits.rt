@@ -50,7 +50,7 @@ fn most_turns() -> (u32, u32) {
 }
 
 /// The greatest arguments of calls.
-pub fn limits() -> [Row; 6] {
+pub(crate) fn limits() -> [Row; 6] {
     let selectors = selectors();
     let event_base = most_event_base(selectors);
     let (quantum, priority) = most_turns();

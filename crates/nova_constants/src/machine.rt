@@ -16,7 +16,7 @@ const ROOT: Root = Root {
 };
 
 /// The reasons of exits, and the size of a page.
-pub fn reasons() -> [Row; 9] {
+pub(crate) fn reasons() -> [Row; 9] {
     [
         ("NOVA_ILLEGAL", outcome::ILLEGAL),
         ("NOVA_FETCH_FAULT", outcome::FETCH_FAULT),
@@ -50,12 +50,12 @@ fn event_base(objects: &Objects, number: u32) -> u32 {
 }
 
 /// The root's objects.
-pub fn objects(alloc: Global) -> Result<Objects, AllocError> {
+pub(crate) fn objects(alloc: Global) -> Result<Objects, AllocError> {
     root_objects(alloc, ROOT)
 }
 
 /// What the root begins with.
-pub fn root(objects: &Objects) -> [Row; 5] {
+pub(crate) fn root(objects: &Objects) -> [Row; 5] {
     [
         (name_of(objects.get(0)), 0),
         (name_of(objects.get(1)), 1),

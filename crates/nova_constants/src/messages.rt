@@ -90,7 +90,7 @@ fn first_passed() -> u32 {
 }
 
 /// The places of an exit's message.
-pub fn exits() -> [Row; 7] {
+pub(crate) fn exits() -> [Row; 7] {
     let message = exited();
     [
         ("NOVA_EXIT_WORDS", message.word(0)),
@@ -104,7 +104,7 @@ pub fn exits() -> [Row; 7] {
 }
 
 /// The places of message words, and how many there may be of what.
-pub fn places() -> [Row; 12] {
+pub(crate) fn places() -> [Row; 12] {
     let message = numbered();
     let (range, second) = message.item(0);
     [

@@ -3,7 +3,7 @@ use nova_calls::numbers;
 use nova_range::{Flags, Mtd, Rights, Status, Target};
 
 /// The numbers of the hypercalls up to those that make objects.
-pub fn makers() -> [Row; 7] {
+pub(crate) fn makers() -> [Row; 7] {
     [
         ("NOVA_CALL", numbers::CALL),
         ("NOVA_REPLY", numbers::REPLY),
@@ -16,7 +16,7 @@ pub fn makers() -> [Row; 7] {
 }
 
 /// The numbers of the other hypercalls.
-pub fn controls() -> [Row; 6] {
+pub(crate) fn controls() -> [Row; 6] {
     [
         ("NOVA_REVOKE", numbers::REVOKE),
         ("NOVA_LOOKUP", numbers::LOOKUP),
@@ -28,7 +28,7 @@ pub fn controls() -> [Row; 6] {
 }
 
 /// The statuses.
-pub fn statuses() -> [Row; 9] {
+pub(crate) fn statuses() -> [Row; 9] {
     [
         ("NOVA_SUCCESS", Status::Success.code()),
         ("NOVA_TIMEOUT", Status::Timeout.code()),
@@ -48,7 +48,7 @@ fn bits(rights: Rights) -> u32 {
 }
 
 /// The rights to memory and to objects.
-pub fn rights() -> [Row; 13] {
+pub(crate) fn rights() -> [Row; 13] {
     [
         ("NOVA_READ", bits(Rights::READ)),
         ("NOVA_WRITE", bits(Rights::WRITE)),
@@ -67,7 +67,7 @@ pub fn rights() -> [Row; 13] {
 }
 
 /// All rights to each.
-pub fn all_rights() -> [Row; 6] {
+pub(crate) fn all_rights() -> [Row; 6] {
     [
         ("NOVA_ALL_OF_MEMORY", bits(Rights::all_to(Target::Memory))),
         ("NOVA_ALL_OF_PD", bits(Rights::all_to(Target::Pd))),
@@ -79,7 +79,7 @@ pub fn all_rights() -> [Row; 6] {
 }
 
 /// The groups of an exit's message.
-pub fn groups() -> [Row; 4] {
+pub(crate) fn groups() -> [Row; 4] {
     [
         ("NOVA_QUAL", Mtd::QUAL.bits()),
         ("NOVA_PC", Mtd::PC.bits()),

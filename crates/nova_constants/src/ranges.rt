@@ -76,7 +76,7 @@ fn pages() -> u32 {
 }
 
 /// What is read as range words and as hotspots.
-pub fn words() -> [Row; 11] {
+pub(crate) fn words() -> [Row; 11] {
     [
         (name_of(0), 0),
         (name_of(1), 1),

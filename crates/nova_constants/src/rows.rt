@@ -5,7 +5,7 @@ use std::io::Write;
 pub type Row = (&'static str, u32);
 
 /// Writes a line for each name, with its number.
-pub fn write_rows(out: &mut impl Write, rows: &[Row]) -> io::Result<()> {
+pub(crate) fn write_rows(out: &mut impl Write, rows: &[Row]) -> io::Result<()> {
     for (name, number) in rows {
         if !name.is_empty() {
             writeln!(out, "{name} {number}")?;
