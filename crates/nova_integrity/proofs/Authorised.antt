@@ -36,10 +36,10 @@ use Rattle.nova_range.specs.Rights.{write_right}
 use Rattle.nova_integrity.specs.Rights.{HasTurn, LeadsTo}
 use Rattle.nova_integrity.specs.Integrity.{Acts, FrameBy, Idles, IsAuthorised, IsByRight, IsByTime, Passes}
 use Rattle.nova_integrity.proofs.Branches.{chosen_grows, delegations_by, objects_by}
-use Rattle.nova_integrity.proofs.Deciding.{deed_rightful}
+use Rattle.nova_integrity.proofs.Rightful.{deed_rightful}
 use Rattle.nova_integrity.proofs.Passing.{coming, due_in, turned_by_time}
 use Rattle.nova_integrity.proofs.Stores.{deed_stores}
-use Rattle.nova_integrity.proofs.Tables.{contexts_by, counts_by, deadlines_by, identifiers_by, messages_by, semaphores_by, transfers_by}
+use Rattle.nova_integrity.proofs.Tables.{contexts_by, counts_by, counts_right, deadlines_by, identifiers_by, messages_by, semaphores_by, transfers_by}
 
 -- WHO ACTS
 
@@ -86,7 +86,7 @@ reached_shares s turns ec child cursor is = children_shared s turns ec cursor ch
 turned_right : (k : KernelState) (cpu : ℕ) (c : Candidate) → IsForest k.delegations → HasShares k → AreSelectors k → TablesFit k → next_to_act k cpu ≡ Some c → after k cpu ≡ turned k cpu (acting k c) →
     IsByRight k (turned k cpu (acting k c)) cpu c.actor c.sc
 turned_right k cpu c forest shares selectors fits chosen state =
-    let r = deed_rightful k c.actor forest selectors in
+    let r = deed_rightful k c.actor forest selectors fits.served in
     let actor : IsActor k.contexts c.actor = actor_of k.contexts c.actor (chosen_acts k cpu c chosen) in
     let stores = deed_stores k c.actor (deed k c.actor) refl in
     let grows = subst (Grows k c.actor) state (chosen_grows k cpu c chosen) in
@@ -105,7 +105,7 @@ turned_right k cpu c forest shares selectors fits chosen state =
       alarms = refl;
       clocks = refl;
       budgets = subst (λ (s : KernelState). IsPaidBy k s cpu c.sc) state (turn_paid k cpu (event_of cpu c (deed k c.actor)) (acting_kind (deed k c.actor)) (chosen_answers k cpu c chosen));
-      counts = λ n. counts_by k c.actor n fits.tables;
+      counts = λ n. counts_right k (turned k cpu (acting k c)) cpu c.actor n state (counts_by k c.actor n fits.tables);
       turns = refl;
       processors = λ n other. index_other k.stirs.processors cpu n _ other;
       cpus = refl;

@@ -205,7 +205,7 @@ owned_later k cpu S n (Sc ec its priority quantum) s = tt
 owned_later k cpu S n (Pt handler mtd ip) s = member_later k cpu S handler s
 owned_later k cpu S n Sm s = tt
 
-local_member : (k : KernelState) (S : ℕ → Type 0) (handler : ℕ) (o : Option Object) → slice_get k.objects handler ≡ o → option_map is_local o ≡ Some true → IsOwned k S handler o → IsMember k S handler
+pub local_member : (k : KernelState) (S : ℕ → Type 0) (handler : ℕ) (o : Option Object) → slice_get k.objects handler ≡ o → option_map is_local o ≡ Some true → IsOwned k S handler o → IsMember k S handler
 local_member k S handler None is local s = absurd (cc)
 local_member k S handler (Some Pd) is local s = absurd (cc)
 local_member k S handler (Some (Ec pd its kind event)) is local s = record { domain = pd; cpu = its; kind = kind; event = event; object = is; of = s }

@@ -11,7 +11,7 @@ use Rattle.nova_calls.specs.declared.call.Call.{Call}
 use Rattle.nova_calls.specs.declared.call.Call.TheVariants as asks
 use Rattle.nova_calls.specs.declared.call.SmAction.{SmAction}
 use Rattle.nova_calls.specs.declared.call.SmAction.TheVariants as act
-use Rattle.nova_calls.specs.declared.numbers.TheConstants.{LOOKUP, CALL, CREATE_EC, CREATE_SC, CREATE_PT, CREATE_SM, EC_CTRL, PT_CTRL, SC_CTRL, SM_CTRL}
+use Rattle.nova_calls.specs.declared.numbers.TheConstants.{LOOKUP, CALL, CREATE_EC, CREATE_SC, CREATE_PT, CREATE_SM, EC_CTRL, PT_CTRL, REVOKE, SC_CTRL, SM_CTRL}
 use Rattle.nova_calls.specs.Numbers.{number_of}
 use Rattle.nova_calls.proofs.Numbered.{read_numbered}
 use Rattle.nova_objects.specs.declared.object.Object.{Object}
@@ -29,7 +29,7 @@ use Rattle.nova_model.specs.Deliveries.{delivery, delivery_between, first_delive
 use Rattle.nova_model.specs.Edges.{is_giving}
 use Rattle.nova_model.specs.Exits.{exit_at, exit_portal, exit_to, exits, raised_exit}
 use Rattle.nova_model.specs.Forest.{IsForest}
-use Rattle.nova_model.specs.Hypercalls.{and_then, deadline_after, downed_by, downed_within, hypercall, looked_up, new_domain, row, sm_ctrl, ticks_in, unless, upped_by}
+use Rattle.nova_model.specs.Hypercalls.{and_then, asked, deadline_after, downed_by, downed_within, hypercall, looked_up, new_domain, or_refuses, row, sm_ctrl, ticks_in, unless, upped_by}
 use Rattle.nova_model.specs.Portals.{handler_in, handler_of, identifier, ip_of, mtd_in}
 use Rattle.nova_model.specs.Revokes.{Revocation, in_scope, next_leaf}
 use Rattle.nova_model.specs.Semaphores.{answer_of, semaphore, woken}
@@ -51,10 +51,9 @@ use Rattle.nova_model.specs.declared.transfer.Delivery.{Delivery}
 use Rattle.nova_model.specs.declared.transfer.Sequel.TheVariants as sequel
 use Rattle.nova_forest.specs.Courses.{IsLeaf}
 use Rattle.nova_forest.specs.Made.{IsGivenChild}
-use Rattle.nova_forest.proofs.Allowed.{IsAllowed, deed_allowed}
 use Rattle.nova_forest.proofs.Leaves.{leaf_facts}
 use Rattle.nova_forest.proofs.Members.{contains_from_in, found_in, in_filtered, in_from_contains}
-use Rattle.nova_forest.proofs.Walk.{IfDone, giving_holds, hypercall_holds}
+use Rattle.nova_forest.proofs.Walk.{IfDone, giving_holds}
 use Rattle.nova_laws.specs.Asked.{HoldsAt}
 use Rattle.nova_laws.specs.Tables.{IsOf}
 use Rattle.nova_laws.proofs.Holding.{named_is}
@@ -63,13 +62,19 @@ use Rattle.nova_origins.specs.Events.{AreSelectors}
 use Rattle.nova_origins.proofs.Rights.{IsUnder, under}
 use Rattle.nova_integrity.specs.Rights.{CallsAt, GivesFirst, GivesTo, MayTake, Names, RepliesWith, TakesOfCaller}
 use Rattle.nova_integrity.specs.Rightful.{IsExitAt, IsRightful, IsTold, OfNothing, OfRange, OfTicks, AtStartup, OfInstruction, OfRecall, IsOfExit}
+use Rattle.nova_integrity.proofs.Refusals.{IsUndone, asked_holds, asked_undone}
 use Rattle.nova_integrity.proofs.Selected.{ReadsAction, Selects, call_selected, named_by, names, portal_at}
 
 -- what is found while a deed is decided; what it may make is known already
-abbrev Found : KernelState → ℕ → Deed → Type 0
+abbrev pub Found : KernelState → ℕ → Deed → Type 0
 Found k ec (deeds.Makes call target made) = Unit {0}
 Found k ec (deeds.Opens target domain) = Unit {0}
 Found k ec (deeds.Gives child cursor) = Unit {0}
+Found k ec (deeds.Skips reason place cursor) = Unit {0}
+Found k ec (deeds.Finishes item end words follows) = Unit {0}
+Found k ec (deeds.Revokes range own) = reg (context k ec).regs 17 ≡ REVOKE
+Found k ec deeds.Returns = Unit {0}
+Found k ec (deeds.Aborts handler came) = (context k ec).state ≡ Calling handler
 Found k ec d = IsRightful k ec d
 
 -- ROWS
@@ -171,23 +176,30 @@ row_found k ec (asks.Call portal flag) numbered at =
     call_holds (Found k ec) k ec (pd_of k ec) portal flag
     (λ pt is. record { at = calls_at k ec portal pt numbered at is.portal; begins = refl; number_is = refl; items_are = refl; flag = flag; admits = is.admits })
     (λ pt is. record { at = calls_at k ec portal pt numbered at is.portal; flag = flag; admits = is.admits })
-row_found k ec asks.Reply numbered at = reply_holds (Found k ec) k ec (λ caller mark is. (is.serves, is.local))
+row_found k ec asks.Reply numbered at = reply_holds (Found k ec) k ec (λ caller mark is. (is.serves, is.local, sym numbered))
 row_found k ec (asks.CreatePd target pd first) numbered at = create_pd_holds (Found k ec) k (pd_of k ec) target pd first (new_pd_found k ec target first)
 row_found k ec (asks.CreateEc target pd cpu kind sp event) numbered at = makes_hold (Found k ec) CREATE_EC target (λ made. tt) k (pd_of k ec) pd _
 row_found k ec (asks.CreateSc target pd its quantum priority) numbered at = makes_hold (Found k ec) CREATE_SC target (λ made. tt) k (pd_of k ec) pd _
 row_found k ec (asks.CreatePt target pd handler mtd ip) numbered at = makes_hold (Found k ec) CREATE_PT target (λ made. tt) k (pd_of k ec) pd _
 row_found k ec (asks.CreateSm target pd count) numbered at = makes_hold (Found k ec) CREATE_SM target (λ made. tt) k (pd_of k ec) pd (λ o. Ok (Sm count))
-row_found k ec (asks.Lookup range) numbered at = looked k ec range
+row_found k ec (asks.Lookup range) numbered at = (numbered, looked k ec range)
 row_found k ec (asks.Revoke range own) numbered at = sym numbered
 row_found k ec (asks.EcCtrl whose) numbered at = named_found k ec EC_CTRL whose control_right is_ec (λ n. deeds.Recalls n) numbered at (λ n may is. (may, is))
 row_found k ec (asks.ScCtrl sc) numbered at =
-    named_found k ec SC_CTRL sc control_right is_sc (λ n. deeds.Tells SC_CTRL (ticks_in (budget_at k n))) numbered at (λ n may is. OfTicks refl n may is refl)
+    named_found k ec SC_CTRL sc control_right is_sc (λ n. deeds.Tells SC_CTRL (ticks_in (budget_at k n))) numbered at (λ n may is. (numbered, OfTicks refl n may is refl))
 row_found k ec (asks.PtCtrl pt number) numbered at = named_found k ec PT_CTRL pt control_right is_pt (λ n. deeds.Names n number) numbered at.0 (λ n may is. (may, is, at.1))
 row_found k ec (asks.SmCtrl sm action) numbered at = sm_found k ec sm action numbered at.0 at.1
 
-call_found : (k : KernelState) (ec : ℕ) → Found k ec (hypercall k ec (pd_of k ec) (context k ec).regs)
-call_found k ec =
-    hypercall_holds (Found k ec) k ec (pd_of k ec) (context k ec).regs (λ call status. tt) (λ c reads. row_found k ec c (read_numbered (context k ec).regs c reads) (call_selected (context k ec).regs c reads))
+pub call_found : (k : KernelState) (ec : ℕ) → Found k ec (hypercall k ec (pd_of k ec) (context k ec).regs)
+call_found k ec = by_answer (asked k ec (pd_of k ec) (context k ec).regs) (asked_undone k ec (pd_of k ec) (context k ec).regs) done
+  where
+    done : IfDone (Found k ec) (asked k ec (pd_of k ec) (context k ec).regs)
+    done = asked_holds (Found k ec) k ec (pd_of k ec) (context k ec).regs
+        (λ c reads. row_found k ec c (read_numbered (context k ec).regs c reads) (call_selected (context k ec).regs c reads))
+
+    by_answer : (r : Result Deed Status) → IsUndone r → IfDone (Found k ec) r → Found k ec (or_refuses (reg (context k ec).regs 17) r)
+    by_answer (Ok d) undone holds = holds
+    by_answer (Err status) undone holds = record { number = refl; undone = undone }
 
 -- EXITS
 
@@ -317,7 +329,7 @@ giving_found : (k : KernelState) (ec : ℕ) → is_giving (context k ec).state �
 giving_found k ec gives =
     giving_holds (Found k ec) k ec gives tt (record { gives = λ d x g. tt; skips = λ d reason place is. tt; finishes = λ v end answer present is. tt })
 
-deed_found : (k : KernelState) (ec : ℕ) → IsForest k.delegations → AreSelectors k → Found k ec (deed k ec)
+pub deed_found : (k : KernelState) (ec : ℕ) → IsForest k.delegations → AreSelectors k → Found k ec (deed k ec)
 unfolding deed
 deed_found k ec forest selectors = by_state (context k ec).state refl
   where
@@ -337,15 +349,6 @@ deed_found k ec forest selectors = by_state (context k ec).state refl
 
 pub given_rightful : (k : KernelState) (ec : ℕ) (child : Derivation) (g : IsGivenChild k ec child) → GivesTo k ec g.source.pd child.pd
 given_rightful k ec child g = gives_to k ec g.item g.source.pd child.pd g.present (sym g.held) (sym g.receiver)
-
-is_rightful : (k : KernelState) (ec : ℕ) (d : Deed) → IsAllowed k ec d → Found k ec d → IsRightful k ec d
-is_rightful k ec (deeds.Makes call target made) may found = may.creator
-is_rightful k ec (deeds.Opens target domain) may found = may.0.creator
-is_rightful k ec (deeds.Gives child cursor) may found = (may, given_rightful k ec child may)
-is_rightful k ec d may found = found
-
-pub deed_rightful : (k : KernelState) (ec : ℕ) → IsForest k.delegations → AreSelectors k → IsRightful k ec (deed k ec)
-deed_rightful k ec forest selectors = is_rightful k ec (deed k ec) (deed_allowed k ec) (deed_found k ec forest selectors)
 
 -- WHAT BECOMES OF AN EXIT
 

@@ -40,7 +40,7 @@ use Rattle.nova_integrity.specs.Rightful.{IsRightful}
 use Rattle.nova_origins.specs.Giving.{Acts as Acting}
 use Rattle.nova_integrity.specs.Rights.{CallsAt, ExitsAt}
 use Rattle.nova_integrity.specs.Waits.{HasLocalEdges}
-use Rattle.nova_integrity.proofs.Deciding.{deed_rightful}
+use Rattle.nova_integrity.proofs.Rightful.{deed_rightful}
 use Rattle.nova_integrity.proofs.Entries.{join_each}
 use Rattle.nova_integrity.proofs.Messages.{exits_at}
 
@@ -148,7 +148,7 @@ at_index P [] n o all is = absurd (cc)
 at_index P (x ∷ os) zero o all is = subst P (same_Some x o is) all.0
 at_index P (x ∷ os) (suc n) o all is = at_index P os n o all.1 is
 
-handler_local : (k : KernelState) (portal handler mtd ip : ℕ) → HasTables k → slice_get k.objects portal ≡ Some (Pt handler mtd ip) → IsOf k.objects is_local handler
+pub handler_local : (k : KernelState) (portal handler mtd ip : ℕ) → HasTables k → slice_get k.objects portal ≡ Some (Pt handler mtd ip) → IsOf k.objects is_local handler
 handler_local k portal handler mtd ip tables is = at_index (Refers k.objects) k.objects portal (Pt handler mtd ip) tables.refer is
 
 awaits_local : (k : KernelState) (ec : ℕ) (d : Deed) → HasTables k → IsRightful k ec d → Awaits (IsOf k.objects is_local) d
@@ -207,7 +207,7 @@ source_edges k source local e h is =
     local_kept k.objects (Some Sm) h (more_at (GoTo (IsOf k.objects is_local)) k.contexts None e (local e) (λ old. old) h is)
 
 pub reached_rightful : (s : Scenario) (turns : List ℕ) (ec : ℕ) → IsRightful (run (boot s) turns) ec (deed (run (boot s) turns) ec)
-reached_rightful s turns ec = deed_rightful (run (boot s) turns) ec (reached_sound s turns).forest (reached_selectors s turns)
+reached_rightful s turns ec = deed_rightful (run (boot s) turns) ec (reached_sound s turns).forest (reached_selectors s turns) (reached_sound s turns).kept.served
 
 pub local_edges : (s : Scenario) (turns : List ℕ) → HasLocalEdges (run (boot s) turns)
 local_edges s =

@@ -37,7 +37,7 @@ pub record AreHomed (k : KernelState) : Type 0 where
   pub opened : (ec new : ℕ) → (context k ec).state ≡ Granting (Some new) → slice_get k.objects new ≡ Some Pd
 
 -- the domain of an execution context that is there
-home_there : (k : KernelState) (ec : ℕ) → HasTables k → is_some (context_at k ec) ≡ true → slice_get k.objects (pd_of k ec) ≡ Some Pd
+pub home_there : (k : KernelState) (ec : ℕ) → HasTables k → is_some (context_at k ec) ≡ true → slice_get k.objects (pd_of k ec) ≡ Some Pd
 home_there k ec tables there = by_object (slice_get k.objects ec) refl (context_is k ec there tables)
   where
     by_object : (o : Option Object) → slice_get k.objects ec ≡ o → option_map is_ec o ≡ Some true → slice_get k.objects (pd_in o) ≡ Some Pd

@@ -48,5 +48,5 @@ message_by k ec n (deeds.Sends handler ip number mtd reason q0 q1) m is r asks e
 message_by k ec n (deeds.Replies caller mark.Call items) m is r asks e = at_number k ec caller n _ m (CopiesReply r.0 refl) e
 message_by k ec n (deeds.Replies caller mark.Exit items) m is r asks e = absurd (cc)
 message_by k ec n (deeds.Finishes item end None after) m is r asks e = absurd (cc)
-message_by k ec n (deeds.Finishes item end (Some w) after) m is r asks e = at_number k ec w.ec n _ m (TellsItem asks.0 item w.first w.second refl) e
+message_by k ec n (deeds.Finishes item end (Some w) after) m is r asks e = at_number k ec w.ec n _ m (TellsItem asks.0 item end w r.1 refl refl) e
 message_by k ec n other m is r asks e = absurd (cc)

@@ -2,6 +2,7 @@
 use Rattle.std.proofs.Common.{◌≡◌, ℕ, List, [], ◌∷◌, refl, sym, ap, ◌∙◌, subst, inl, inr}
 use Rattle.std.specs.Prelude.{◌≢◌, ◌==◌, ◌&&◌, Bool, true, false, not, IfSome, is_some, option_map, Option, Some, None}
 use Rattle.std.proofs.lemmas.Bool.{eqb-true}
+use Rattle.rv_model.specs.Registers.{reg}
 use Rattle.rv_model.specs.Step.{Once, Raised, Went}
 use Rattle.nova_calls.specs.declared.numbers.TheConstants.{EC_CTRL}
 use Rattle.nova_range.specs.declared.status.Status.{Status}
@@ -36,7 +37,7 @@ use Rattle.nova_laws.proofs.Setting.{entry_itself, entry_other}
 use Rattle.nova_laws.proofs.TablesFit.{TablesFit}
 use Rattle.nova_integrity.specs.Rightful.{IsRaise, IsRightful, IsTold}
 use Rattle.nova_integrity.specs.Rights.{IsServing, Names}
-use Rattle.nova_integrity.specs.Integrity.{Answered, AsksItself, ByExit, IsItself, Kept, MayComeTo, RecallBy, Stepped, Unasked}
+use Rattle.nova_integrity.specs.Integrity.{Answered, AsksItself, ByExit, IsItself, Kept, Left, Lost, MayComeTo, RecallBy, Stepped, Unasked}
 use Rattle.nova_integrity.proofs.Messages.{exits_at}
 
 -- ONE EDIT
@@ -47,7 +48,7 @@ same_itself k ec x = record { number = refl; processor = refl; state = inl refl;
 comes_to : (k : KernelState) (ec : ℕ) (x : EcState) (s : State) → MayComeTo k ec s → IsItself k ec x (record x { state = s })
 comes_to k ec x s may = record { number = refl; processor = refl; state = inr may; regs = Kept refl; caller = inl refl; recall = Unasked refl }
 
-answers : (k : KernelState) (ec : ℕ) (x : EcState) (status : Status) (value : Option ℕ) → IfSome value (λ v. (call : ℕ) × IsTold k ec call v) → IsItself k ec x (answered x status value)
+answers : (k : KernelState) (ec : ℕ) (x : EcState) (status : Status) (value : Option ℕ) → IfSome value (λ v. IsTold k ec (reg (context k ec).regs 17) v) → IsItself k ec x (answered x status value)
 answers k ec x status value told =
     record { number = refl; processor = refl; state = inr tt; regs = Answered status value told refl; caller = inl refl; recall = Unasked refl }
 
@@ -174,7 +175,7 @@ deed_own k ec (deeds.Skips reason place_ cursor) is r asks next actor fits = non
 deed_own k ec (deeds.Removes leaf) is r asks next actor fits = none_own k ec actor
 deed_own k ec deeds.Steps is r asks next actor fits = steps_own k ec (instruction k ec) actor is refl
 deed_own k ec (deeds.Raises reason q0 q1) is r asks next actor fits = one_own k ec (Raising reason q0 q1) actor (raises k ec reason q0 q1 (context k ec) r)
-deed_own k ec (deeds.Dies reason q0) is r asks next actor fits = one_own k ec (Becomes Dead) actor (comes_to k ec (context k ec) Dead tt)
+deed_own k ec (deeds.Dies reason q0) is r asks next actor fits = one_own k ec (Becomes Dead) actor (comes_to k ec (context k ec) Dead (Lost reason q0 r))
 deed_own k ec (deeds.Waits handler reason q0 q1) is r asks next actor fits =
     one_own k ec (Becomes (Sending reason q0 q1 handler)) actor (comes_to k ec (context k ec) (Sending reason q0 q1 handler) (exits_at k ec handler r.0 r.1 r.2 reason q0 q1 exit.Waits r.3))
 deed_own k ec (deeds.Sends handler ip number mtd reason q0 q1) is r asks next actor fits =
@@ -183,7 +184,7 @@ deed_own k ec (deeds.Sends handler ip number mtd reason q0 q1) is r asks next ac
 deed_own k ec (deeds.Refuses call status) is r asks next actor fits = one_own k ec (Answers status None) actor (answers k ec (context k ec) status None tt)
 deed_own k ec (deeds.Makes call target made) is r asks next actor fits = one_own k ec (Answers Success None) actor (answers k ec (context k ec) Success None tt)
 deed_own k ec (deeds.Recalls whose) is r asks next actor fits = recalls_own k ec whose actor r.0 _ refl
-deed_own k ec (deeds.Tells call value) is r asks next actor fits = one_own k ec (Answers Success (Some value)) actor (answers k ec (context k ec) Success (Some value) (call, r))
+deed_own k ec (deeds.Tells call value) is r asks next actor fits = one_own k ec (Answers Success (Some value)) actor (answers k ec (context k ec) Success (Some value) (subst (λ (c : ℕ). IsTold k ec c value) r.0 r.1))
 deed_own k ec (deeds.Names pt number) is r asks next actor fits = one_own k ec (Answers Success None) actor (answers k ec (context k ec) Success None tt)
 deed_own k ec (deeds.Opens target domain) is r asks next actor fits =
     one_own k ec (Becomes (Granting (Some domain))) actor (comes_to k ec (context k ec) (Granting (Some domain)) (ap (λ (n : ℕ). Some n) next, r))
@@ -195,8 +196,8 @@ deed_own k ec (deeds.Helps handler) is r asks next actor fits = one_own k ec (Be
 deed_own k ec (deeds.Replies caller came true) is r asks next actor fits = one_own k ec (Becomes Replying) actor (comes_to k ec (context k ec) Replying (caller, came, r.0))
 deed_own k ec (deeds.Replies caller came false) is r asks next actor fits = replies_own k ec caller came (message k ec) actor fits r.0
 deed_own k ec (deeds.Aborts handler mark.Call) is r asks next actor fits = one_own k ec (Answers Aborted None) actor (answers k ec (context k ec) Aborted None tt)
-deed_own k ec (deeds.Aborts handler mark.Exit) is r asks next actor fits = one_own k ec (Becomes Dead) actor (comes_to k ec (context k ec) Dead tt)
-deed_own k ec (deeds.Revokes range own) is r asks next actor fits = one_own k ec (Becomes (Revoking range own)) actor (comes_to k ec (context k ec) (Revoking range own) tt)
+deed_own k ec (deeds.Aborts handler mark.Exit) is r asks next actor fits = one_own k ec (Becomes Dead) actor (comes_to k ec (context k ec) Dead (Left handler r.0 (actor.waits handler r.0)))
+deed_own k ec (deeds.Revokes range own) is r asks next actor fits = one_own k ec (Becomes (Revoking range own)) actor (comes_to k ec (context k ec) (Revoking range own) r.1)
 deed_own k ec deeds.Returns is r asks next actor fits = one_own k ec (Answers Success None) actor (answers k ec (context k ec) Success None tt)
 deed_own k ec (deeds.Ups sm whom) is r asks next actor fits = ups_own k ec sm whom actor fits asks
 deed_own k ec (deeds.Downs sm) is r asks next actor fits = one_own k ec (Answers Success None) actor (answers k ec (context k ec) Success None tt)

@@ -234,7 +234,7 @@ turns_same k (cpu ∷ turns) frame bytes hidden =
     ap (λ (s : KernelState). run s turns) (turn_same k cpu frame bytes hidden.0) ∙ turns_same (after k cpu) turns frame bytes hidden.1
 
 -- and their events
-event_same : (k : KernelState) (cpu frame : ℕ) (bytes : List ℕ) → ((ec : ℕ) → Acts k cpu ec → IsHidden k (pd_of k ec) frame) →
+pub event_same : (k : KernelState) (cpu frame : ℕ) (bytes : List ℕ) → ((ec : ℕ) → Acts k cpu ec → IsHidden k (pd_of k ec) frame) →
     option_map (λ (s : Step). s.event) (turn (with_bytes k frame bytes) cpu) ≡ option_map (λ (s : Step). s.event) (turn k cpu)
 unfolding turn
 event_same k cpu frame bytes hidden = by_due (due_on k.times cpu) refl

@@ -1,6 +1,6 @@
 -- Each entry of each table after a turn: it stays, or is so by right.
 use Rattle.std.proofs.Common.{◌≡◌, ℕ, zero, suc, ◌+◌, List, [], ◌∷◌, ◌⊎◌, length, refl, sym, ap, ◌∙◌, subst, inl, inr, arith}
-use Rattle.std.specs.Prelude.{◌≢◌, Bool, true, false, if◌then◌else◌, ◌==◌, IfSome, is_some, option_and_then, replicate, slice_get, slice_index, slice_set, Option, Some, None, option_map}
+use Rattle.std.specs.Prelude.{◌≢◌, Bool, true, false, if◌then◌else◌, ◌==◌, IfSome, IsSome, is_some, option_and_then, replicate, slice_get, slice_index, slice_set, Option, Some, None, option_map}
 use Rattle.std.proofs.lemmas.Option.{same_Some}
 use Rattle.rv_model.specs.Registers.{reg}
 use Rattle.nova_objects.specs.declared.object.EcKind.{EcKind}
@@ -10,7 +10,11 @@ use Rattle.nova_objects.specs.declared.object.Object.TheVariants.{Pd, Ec, Sc, Pt
 use Rattle.nova_model.specs.Capabilities.{is_ec, is_pt, is_sm, is_vcpu}
 use Rattle.nova_model.specs.Creation.{context_of, count_of, first_registers, first_state, identifier_of, idle_semaphore, object_of, stir_count_of, transfer_of, words_of}
 use Rattle.nova_model.specs.Deeds.{deed}
+use Rattle.nova_guest.specs.declared.input.Input.{Input}
+use Rattle.nova_guest.specs.declared.input.Input.TheVariants as input
+use Rattle.nova_model.specs.Guests as turns
 use Rattle.nova_model.specs.Inputs.{input_of, is_outside, is_stirred, only_if}
+use Rattle.nova_model.specs.Runs.{after}
 use Rattle.nova_model.specs.Semaphores.{lowered, raised, semaphore_at}
 use Rattle.nova_model.specs.State.{KernelState, Semaphore, deadline_of, ec_in, entry, no_transfer, no_words, transfer_at}
 use Rattle.nova_model.specs.declared.context.State.TheVariants.{Fresh, Parked}
@@ -23,6 +27,7 @@ use Rattle.nova_model.specs.declared.transfer.Transfer.{Transfer}
 use Rattle.nova_forest.specs.Effects.{all_edited, applied, deadline_by, deadlines_with, edits_by, effect, identifier_by, joined, made_by, no_deadline, put, semaphore_by, semaphores_with, transfer_by, words_by}
 use Rattle.nova_forest.specs.Turns.{stirred_counts}
 use Rattle.nova_forest.proofs.Allowed.{deed_allowed}
+use Rattle.nova_laws.specs.Stirs.{stirs_of}
 use Rattle.nova_laws.specs.Tables.{HasTables, has_words}
 use Rattle.nova_laws.specs.Words.{words_at}
 use Rattle.nova_laws.proofs.Blocking.{first_woken}
@@ -30,11 +35,12 @@ use Rattle.nova_laws.proofs.Courses.{edited_length}
 use Rattle.nova_laws.proofs.Referring.{deed_asks}
 use Rattle.nova_laws.proofs.Serving.{IsActor}
 use Rattle.nova_laws.proofs.Setting.{index_other, more_at}
+use Rattle.nova_laws.proofs.Stirring.{counts_nothing, counts_outside, counts_own}
 use Rattle.nova_laws.proofs.TablesFit.{TablesFit}
 use Rattle.nova_laws.proofs.TablesKept.{contexts_length}
 use Rattle.nova_integrity.specs.Rights.{AsksDown, IsNew}
 use Rattle.nova_integrity.specs.Rightful.{IsRightful}
-use Rattle.nova_integrity.specs.Integrity.{Clears, Controls, DeadlineBy, Sets, CountBy, NewCount, Stirs, Downs, IdentifierBy, IsBorn, MessageBy, NewContext, NewItems, NewPortal, NewSemaphore, NewWords, OwnItems, SemaphoreBy, TransferBy, Ups}
+use Rattle.nova_integrity.specs.Integrity.{Clears, Controls, DeadlineBy, Sets, CountBy, NewCount, NoCount, Stirs, Unstirred, Downs, IdentifierBy, IsBorn, MessageBy, NewContext, NewItems, NewPortal, NewSemaphore, NewWords, OwnItems, SemaphoreBy, TransferBy, Ups}
 use Rattle.nova_integrity.proofs.Branches.{creator_of}
 use Rattle.nova_integrity.proofs.Contexts.{IsRight, context_by, words_after}
 use Rattle.nova_integrity.proofs.Entries.{change_each, change_length, get_set, join_each, put_each, put_length, same_length}
@@ -137,9 +143,12 @@ counted Q is none some first (Some c ∷ counts) zero = subst (λ (g : ℕ). Q g
 counted Q is none some first (o ∷ counts) (suc n) =
     subst (λ (g : ℕ). Q g (entry (slice_get counts n)) (entry (slice_get (stirred_counts is (first + 1) counts) n))) (omega arith) (counted Q is none some (first + 1) counts n)
 
+-- a count stays, or is of a new virtual CPU, or was there
+abbrev pub IsCounted : KernelState → ℕ → ℕ → Option ℕ → Option ℕ → Type 0
+IsCounted k ec n old new = (new ≡ old) ⊎ ((IsNew k ec n × IfSome new (λ c. c ≡ 0)) ⊎ IsSome old)
+
 pub counts_by : (k : KernelState) (ec n : ℕ) → HasTables k →
-    let new = stirred_counts (is_stirred k ec (deed k ec)) 0 (applied k (effect k ec (deed k ec))).stirs.guests in
-    (entry (slice_get new n) ≡ entry (slice_get k.stirs.guests n)) ⊎ CountBy k ec n (entry (slice_get k.stirs.guests n)) (entry (slice_get new n))
+    IsCounted k ec n (entry (slice_get k.stirs.guests n)) (entry (slice_get (stirred_counts (is_stirred k ec (deed k ec)) 0 (applied k (effect k ec (deed k ec))).stirs.guests) n))
 counts_by k ec n tables =
     rises between (entry (slice_get (stirred_counts (is_stirred k ec (deed k ec)) 0 (applied k (effect k ec (deed k ec))).stirs.guests) n))
     (subst (λ (g : ℕ). Rises g between (entry (slice_get (stirred_counts (is_stirred k ec (deed k ec)) 0 (applied k (effect k ec (deed k ec))).stirs.guests) n))) (omega arith)
@@ -154,17 +163,46 @@ counts_by k ec n tables =
     between = entry (slice_get (applied k (effect k ec (deed k ec))).stirs.guests n)
 
     Rises : ℕ → Option ℕ → Option ℕ → Type 0
-    Rises g old new = (new ≡ old) ⊎ ((is_stirred k ec (deed k ec) g ≡ true) × ((c : ℕ) × (old ≡ Some c) × (new ≡ Some (c + 1))))
+    Rises g old new = (new ≡ old) ⊎ ((is_stirred k ec (deed k ec) g ≡ true) × ((c : ℕ) × (old ≡ Some c)))
 
     by_test : (g c : ℕ) (t : Bool) → is_stirred k ec (deed k ec) g ≡ t → Rises g (Some c) (Some (if t then c + 1 else c))
-    by_test g c true is = inr (is, (c, refl, refl))
+    by_test g c true is = inr (is, (c, refl))
     by_test g c false is = inl refl
 
-    rises : (between new : Option ℕ) → Rises n between new → Q between → (new ≡ entry (slice_get k.stirs.guests n)) ⊎ CountBy k ec n (entry (slice_get k.stirs.guests n)) new
+    was_some : (o : Option ℕ) (c : ℕ) → o ≡ Some c → IsSome o
+    was_some (Some d) c is = refl
+    was_some None c is = absurd (cc)
+
+    rises : (between new : Option ℕ) → Rises n between new → Q between → IsCounted k ec n (entry (slice_get k.stirs.guests n)) new
     rises between new (inl same) (inl old) = inl (same ∙ old)
-    rises between new (inl same) (inr made) = inr (NewCount made.0 (subst (λ (o : Option ℕ). IfSome o (λ c. c ≡ 0)) (sym same) made.1))
-    rises between new (inr up) (inl old) = inr (Stirs up.0 up.1.0 (sym old ∙ up.1.1) up.1.2)
+    rises between new (inl same) (inr made) = inr (inl (made.0, subst (λ (o : Option ℕ). IfSome o (λ c. c ≡ 0)) (sym same) made.1))
+    rises between new (inr up) (inl old) = inr (inr (was_some (entry (slice_get k.stirs.guests n)) up.1.0 (sym old ∙ up.1.1)))
     rises between new (inr up) (inr made) = absurd (let some = up.0 in let none = made.2 in cc)
+
+-- it rises where the turn is an input other than an own step, and stays elsewhere
+pub counts_right : (k new : KernelState) (cpu ec n : ℕ) → after k cpu ≡ new → IsCounted k ec n (stirs_of k n) (stirs_of new n) → CountBy k cpu ec n (stirs_of k n) (stirs_of new n)
+counts_right k new cpu ec n state counted_ = by_old (stirs_of k n) refl counted_
+  where
+    now : (o : Option ℕ) → stirs_of (after k cpu) n ≡ o → stirs_of new n ≡ o
+    now o is = ap (λ (s : KernelState). stirs_of s n) (sym state) ∙ is
+
+    is_own : (i : Input) → (i ≡ input.Own) ⊎ (i ≢ input.Own)
+    is_own input.Own = inl refl
+    is_own other = inr (λ same. cc)
+
+    by_input : (count : ℕ) → stirs_of k n ≡ Some count → (o : Option Input) → turns.input k cpu n ≡ o → CountBy k cpu ec n (Some count) (stirs_of new n)
+    by_input count old None none = Unstirred (λ i is. absurd (let both : None ≡ Some i = sym none ∙ is in cc)) count refl (now (Some count) (counts_nothing k cpu n count old none))
+    by_input count old (Some i) some = elim (is_own i) [
+      | inl own ↦
+          Unstirred (λ j is. same_Some j i (sym is ∙ some) ∙ own) count refl (now (Some count) (counts_own k cpu n count old (some ∙ ap (λ (j : Input). Some j) own)))
+      | inr other ↦ Stirs i some other count refl (now (Some (count + 1)) (counts_outside k cpu n count i old some other))
+    ]
+
+    by_old : (o : Option ℕ) → stirs_of k n ≡ o → IsCounted k ec n o (stirs_of new n) → CountBy k cpu ec n o (stirs_of new n)
+    by_old (Some count) old is = by_input count old (turns.input k cpu n) refl
+    by_old None old (inl same) = NoCount refl same
+    by_old None old (inr (inl made)) = NewCount made.0 refl made.1
+    by_old None old (inr (inr some)) = absurd (cc)
 
 -- ITEMS
 

@@ -137,7 +137,7 @@ sent_on k g other r is = absurd (cc)
 
 ends_by : (k : KernelState) (g : ℕ) (d : Deed) → IsActor k.contexts g → IsRightful k g d → own_input d ≡ Some Died → Ends k g
 ends_by k g (deeds.Dies reason q0) actor r is = ByLoss reason q0 r
-ends_by k g (deeds.Aborts handler came) actor r is = ByHandler handler r (actor.waits handler r)
+ends_by k g (deeds.Aborts handler came) actor r is = ByHandler handler r.0 (actor.waits handler r.0)
 ends_by k g (deeds.Sends handler ip number mtd reason q0 q1) actor r is = absurd (cc)
 ends_by k g deeds.Steps actor r is = absurd (cc)
 ends_by k g (deeds.Raises reason q0 q1) actor r is = absurd (cc)

@@ -5,6 +5,8 @@ use Rattle.byteorder.specs.Endian.{little_bytes}
 use Rattle.rv_model.specs.Registers.{Registers, reg}
 use Rattle.rv_model.specs.Step.{Store, Went}
 use Rattle.nova_guest.specs.Frames.{replaced}
+use Rattle.nova_guest.specs.declared.input.Input.{Input}
+use Rattle.nova_guest.specs.declared.input.Input.TheVariants.{Own}
 use Rattle.nova_objects.specs.declared.object.Object.{Object}
 use Rattle.nova_range.specs.declared.status.Status.{Status}
 use Rattle.nova_range.specs.declared.status.Status.TheVariants.{Success, Timeout}
@@ -14,8 +16,9 @@ use Rattle.nova_model.specs.Capabilities.{control_right}
 use Rattle.nova_model.specs.Choice.{choose}
 use Rattle.nova_model.specs.Deeds.{answered, answered_registers, deed, instruction, recall, resumed, serving}
 use Rattle.nova_model.specs.Delegations.{Delegations, added, without}
+use Rattle.nova_model.specs.Edges.{is_dead, state_in}
 use Rattle.nova_model.specs.Forest.{IsWithin}
-use Rattle.nova_model.specs.Inputs.{is_stirred}
+use Rattle.nova_model.specs.Guests.{input}
 use Rattle.nova_model.specs.Portals.{identifier}
 use Rattle.nova_model.specs.Semaphores.{lowered, raised, semaphore, semaphore_at, without_one}
 use Rattle.nova_model.specs.State.{KernelState, Semaphore, context, context_at, deadline_of, entry, message, no_transfer, no_words, pd_of, transfer_at}
@@ -24,7 +27,7 @@ use Rattle.nova_model.specs.declared.context.EcState.{EcState}
 use Rattle.nova_model.specs.declared.context.Mark.{Mark}
 use Rattle.nova_model.specs.declared.context.Mark.TheVariants.{Call, Exit}
 use Rattle.nova_model.specs.declared.context.State.{State}
-use Rattle.nova_model.specs.declared.context.State.TheVariants.{Blocked, Calling, Exiting, Fresh, Granting, Helping, Parked, Replying, Sending}
+use Rattle.nova_model.specs.declared.context.State.TheVariants.{Blocked, Calling, Dead, Exiting, Fresh, Granting, Helping, Parked, Replying, Revoking, Sending}
 use Rattle.nova_model.specs.declared.deed.Deed.TheVariants.{Steps}
 use Rattle.nova_model.specs.declared.delegation.Derivation.{Derivation}
 use Rattle.nova_model.specs.declared.log.LogByte.{LogByte}
@@ -32,13 +35,18 @@ use Rattle.nova_model.specs.declared.times.AlarmState.{AlarmState}
 use Rattle.nova_model.specs.declared.times.Deadline.{Deadline}
 use Rattle.nova_model.specs.declared.times.Due.{Due}
 use Rattle.nova_model.specs.declared.times.Due.TheVariants as due
+use Rattle.nova_model.specs.declared.transfer.ItemEnd.{ItemEnd}
+use Rattle.nova_model.specs.declared.transfer.ItemWords.{ItemWords}
 use Rattle.nova_model.specs.declared.transfer.Transfer.{Transfer}
 use Rattle.nova_forest.specs.Made.{IsFirstCapability, MayCreate}
 use Rattle.nova_laws.specs.Giving.{IsShared}
 use Rattle.nova_laws.specs.Moments.{IsDueOn}
+use Rattle.nova_laws.specs.Revoking.{AsksRevoke}
 use Rattle.nova_laws.specs.Scheduling.{IsPaidBy, IsUnpaid}
+use Rattle.nova_laws.specs.Stirs.{stirs_of}
+use Rattle.nova_laws.specs.Windows.{TellsOfItem}
 use Rattle.nova_laws.specs.Words.{IsAmongWords, words_at}
-use Rattle.nova_integrity.specs.Rightful.{IsOwnDeadline, IsRaise, IsTold}
+use Rattle.nova_integrity.specs.Rightful.{IsLost, IsOwnDeadline, IsRaise, IsTold}
 use Rattle.nova_integrity.specs.Rights.{AsksDown, AsksUp, CallsAt, ExitsAt, GivesTo, HasTurn, IsNew, IsServing, MayTake, Names, Stores, StoresTo}
 
 -- MEMORY
@@ -63,13 +71,14 @@ pub record LogBy (k : KernelState) (ec : ℕ) (old new : List LogByte) : Type 0 
 -- MESSAGE WORDS
 
 -- of the one who acts by its own store; of the handler that it calls, or to which its exit goes; of its caller, to whom it replies; of itself or its caller, who is
--- told what came of an item; or of a new thread
+-- told by two words what came of the present item; or of a new thread
 pub data MessageBy (k : KernelState) (ec n : ℕ) (new : Option (List ℕ)) : Type 0 where
   StoresOwn : n ≡ ec → (s : Store) → Stores k ec s → IsAmongWords k ec s → new ≡ Some (stored (message k n) (s.address % 4096) s.width s.value) → MessageBy k ec n new
   CopiesCall : CallsAt k ec n → new ≡ Some (copied (message k ec) (message k n)) → MessageBy k ec n new
   CopiesExit : (e : ExitsAt k ec n) → new ≡ Some (exited (record { 0 = e.mtd }) e.q0 e.q1 (context k ec).regs (message k n)) → MessageBy k ec n new
   CopiesReply : IsServing k ec n Call → new ≡ Some (copied (message k ec) (message k n)) → MessageBy k ec n new
-  TellsItem : ((n ≡ ec) ⊎ IsServing k ec n Call) → (item first second : ℕ) → new ≡ Some (with_item (message k n) item first second) → MessageBy k ec n new
+  TellsItem : ((n ≡ ec) ⊎ IsServing k ec n Call) → (item : ℕ) (end : ItemEnd) (words : ItemWords) → TellsOfItem k ec item end words → words.ec ≡ n →
+      new ≡ Some (with_item (message k n) item words.first words.second) → MessageBy k ec n new
   NewWords : IsNew k ec n → IfSome new (λ m. m ≡ no_words) → MessageBy k ec n new
 
 -- EXECUTION CONTEXTS
@@ -83,8 +92,13 @@ pub record IsBorn (n : ℕ) (x : EcState) : Type 0 where
   pub recall : x.recall ≡ false
   pub state : (x.state ≡ Parked) ⊎ (x.state ≡ Fresh)
 
+-- one that acts ends: nobody takes its exit, or the handler for whose reply it waits has ended
+pub data EndsBy (k : KernelState) (ec : ℕ) : Type 0 where
+  Lost : (reason q0 : ℕ) → IsLost k ec reason q0 → EndsBy k ec
+  Left : (handler : ℕ) → (context k ec).state ≡ Calling handler → is_dead (state_in k.contexts handler) ≡ true → EndsBy k ec
+
 -- a state to which one that acts may come by itself: to wait for a handler, by a portal that it may call or to which its exit goes; to wait at a semaphore by a down, to which it has the right; to give
--- a first range to a domain that it makes; to reply to the caller that it serves, and to be parked then; or to an exit that it raises
+-- a first range to a domain that it makes; to reply to the caller that it serves, and to be parked then; to an exit that it raises; to a revoke that its registers ask for; or to its end
 abbrev pub MayComeTo : KernelState → ℕ → State → Type 0
 MayComeTo k ec (Calling handler) = CallsAt k ec handler ⊎ ExitsAt k ec handler
 MayComeTo k ec (Helping handler) = CallsAt k ec handler
@@ -95,13 +109,15 @@ MayComeTo k ec Replying = (caller : ℕ) × (mark : Mark) × IsServing k ec call
 MayComeTo k ec Parked = (caller : ℕ) × (mark : Mark) × IsServing k ec caller mark
 MayComeTo k ec (Exiting reason q0 q1) = IsRaise k ec reason q0 q1
 MayComeTo k ec Fresh = ⊥
+MayComeTo k ec (Revoking range own) = AsksRevoke k ec range own
+MayComeTo k ec Dead = EndsBy k ec
 MayComeTo k ec other = Unit {0}
 
 -- its registers stay; or are those that its instruction makes of them; or a call is answered: the status in x10, what it is told in x11, and pc after the call
 pub data RegistersBy (k : KernelState) (ec : ℕ) (old new : Registers) : Type 0 where
   Kept : new ≡ old → RegistersBy k ec old new
   Stepped : deed k ec ≡ Steps → (store : Option Store) → instruction k ec ≡ Went new store → RegistersBy k ec old new
-  Answered : (status : Status) (value : Option ℕ) → IfSome value (λ v. (call : ℕ) × IsTold k ec call v) → new ≡ answered_registers old status value → RegistersBy k ec old new
+  Answered : (status : Status) (value : Option ℕ) → IfSome value (λ v. IsTold k ec (reg (context k ec).regs 17) v) → new ≡ answered_registers old status value → RegistersBy k ec old new
 
 -- its recall stays; its own exit clears it, that of the recall; or it asks for its own, with control of itself
 pub data RecallBy (k : KernelState) (ec : ℕ) (old new : Bool) (state : State) : Type 0 where
@@ -173,10 +189,12 @@ pub data DeadlineBy (k : KernelState) (ec n : ℕ) (new : Option Deadline) : Typ
   Sets : n ≡ ec → (d : Deadline) → AsksDown k ec d.sm → IsOwnDeadline k ec d.sm d → new ≡ Some d → DeadlineBy k ec n new
   Clears : (sm : ℕ) → AsksUp k ec sm → (rest : List ℕ) → (semaphore k.semaphores sm).waiting ≡ n ∷ rest → new ≡ None → DeadlineBy k ec n new
 
--- the stir count of a virtual CPU: the turn is an input of it, other than its own step; or of a new one
-pub data CountBy (k : KernelState) (ec n : ℕ) (old new : Option ℕ) : Type 0 where
-  Stirs : is_stirred k ec (deed k ec) n ≡ true → (count : ℕ) → old ≡ Some count → new ≡ Some (count + 1) → CountBy k ec n old new
-  NewCount : IsNew k ec n → IfSome new (λ c. c ≡ 0) → CountBy k ec n old new
+-- the stir count of a virtual CPU: it rises where the turn is an input of it, other than its own step, and stays where it is none; or that of a new one; or there is no such virtual CPU
+pub data CountBy (k : KernelState) (cpu ec n : ℕ) (old new : Option ℕ) : Type 0 where
+  Stirs : (i : Input) → input k cpu n ≡ Some i → i ≢ Own → (count : ℕ) → old ≡ Some count → new ≡ Some (count + 1) → CountBy k cpu ec n old new
+  Unstirred : ((i : Input) → input k cpu n ≡ Some i → i ≡ Own) → (count : ℕ) → old ≡ Some count → new ≡ Some count → CountBy k cpu ec n old new
+  NewCount : IsNew k ec n → old ≡ None → IfSome new (λ c. c ≡ 0) → CountBy k cpu ec n old new
+  NoCount : old ≡ None → new ≡ None → CountBy k cpu ec n old new
 
 -- A TURN
 
@@ -199,8 +217,7 @@ pub record IsByRight (k new : KernelState) (cpu ec sc : ℕ) : Type 0 where
   pub clocks : new.times.clocks ≡ (ticked k.times cpu).clocks
   -- budgets, ticks and stamps
   pub budgets : IsPaidBy k new cpu sc
-  pub counts : (n : ℕ) → (entry (slice_get new.stirs.guests n) ≡ entry (slice_get k.stirs.guests n))
-      ⊎ CountBy k ec n (entry (slice_get k.stirs.guests n)) (entry (slice_get new.stirs.guests n))
+  pub counts : (n : ℕ) → CountBy k cpu ec n (stirs_of k n) (stirs_of new n)
   pub turns : new.turns ≡ k.turns + 1
   pub processors : (n : ℕ) → n ≢ cpu → slice_index new.stirs.processors n ≡ slice_index k.stirs.processors n
   pub cpus : new.cpus ≡ k.cpus

@@ -8,3 +8,5 @@ pub mod Waits
 pub mod Unwritten
 pub mod Secrecy
 pub mod Confined
+pub mod Trusted
+pub mod Disclosure

@@ -9,7 +9,7 @@ ghost use Rattle.nova_model.specs.Edges.{is_dead, state_in};
 ghost use Rattle.nova_model.specs.declared.context.State.TheVariants.{Calling, Granting};
 ghost use Rattle.nova_origins.specs.Giving.{Acts, HasMade};
 ghost use Rattle.nova_integrity.specs.Integrity.{IsAuthorised, IsByRight};
-ghost use Rattle.nova_integrity.specs.Rightful.{IsOfExit, IsRightful};
+ghost use Rattle.nova_integrity.specs.Rightful.{IsAsking, IsOfCall, IsOfExit, IsRightful};
 ghost use Rattle.nova_integrity.specs.Rights.{HasTurn};
 ghost use Rattle.nova_integrity.specs.Unwritten.{IsUnwritten};
 
@@ -38,11 +38,16 @@ pub fn turns_change_by_right()
 /// portals, ticks, ups and downs are of what its domain holds at the selector in x10, with the right to them;
 /// an up or a down is the one that x11 asks for, and a wait has a deadline exactly where x11 asks for one, on its
 /// own processor and so many ticks after the turn as x12 says. A lookup tells 0, or the word of a derivation of
-/// its own domain. One that waits for a reply acts only where its handler has ended, and one that gives a first range made
-/// that domain in a turn of its own.
+/// its own domain. A refusal is of the call in x17, and doesn't say SUCCESS. What only a hypercall does is done by
+/// a thread whose next instruction is one, or that makes its call again. A part of an item is skipped for a reason
+/// that holds, an item ends as it is and tells whom it is for, and a revoke is the one that the registers ask for
+/// and returns where nothing is left of its scope. One that waits for a reply acts only where its handler has
+/// ended, which keeps it as the caller that came by that mark, and one that gives a first range made that domain
+/// in a turn of its own.
 pub fn deeds_are_rightful()
     ensures rightful { (scenario : Scenario) (turns : List ℕ) (ec : ℕ)
         → IsRightful (run (boot scenario) turns) ec (deed (run (boot scenario) turns) ec) }
+    ensures asks { (k : KernelState) (ec : ℕ) → IsOfCall (deed k ec) → IsAsking k ec }
     ensures exits { (k : KernelState) (ec reason q0 q1 : ℕ)
         → raised_exit (context k ec).state ≡ Some (reason, q0, q1)
         → IsOfExit reason q0 q1 (deed k ec) }

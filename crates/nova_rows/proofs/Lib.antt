@@ -1,4 +1,11 @@
+pub mod Alone
+pub mod Giving
+pub mod Joining
 pub mod Lookups
 pub mod NewWords
+pub mod Reading
 pub mod Refusing
 pub mod Sizes
+pub mod States
+pub mod Telling
+pub mod Worked

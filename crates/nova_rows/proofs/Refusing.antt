@@ -33,6 +33,7 @@ use Rattle.nova_model.specs.declared.context.Mark.{Mark}
 use Rattle.nova_model.specs.declared.context.State.{State}
 use Rattle.nova_model.specs.declared.context.State.TheVariants.{Fresh, Ready, Parked, Calling, Helping, Exiting, Sending, Granting, Replying, Revoking, Blocked, Dead}
 use Rattle.nova_model.specs.declared.deed.Deed.{Deed}
+use Rattle.nova_model.specs.declared.deed.Deed.TheVariants as does
 use Rattle.nova_model.specs.declared.deed.Deed.TheVariants.{Blocks, Makes, Names, Recalls, Refuses, Tells}
 use Rattle.nova_model.specs.declared.delegation.Derivation.{Derivation}
 use Rattle.nova_model.specs.declared.new_object.NewObject.{NewObject}
@@ -48,9 +49,16 @@ use Rattle.nova_model.specs.declared.transfer.Skip.{Skip}
 use Rattle.nova_model.specs.declared.transfer.Transfer.{Transfer}
 use Rattle.nova_rows.specs.Refusals.{is_refusal}
 
--- no row gives a refusal as its deed
-abbrev Gives : Result Deed Status → Type 0
-Gives (Ok d) = is_refusal d ≡ false
+-- no row gives a refusal as its deed, nor a part or the end of an item
+abbrev pub is_of_row : Deed → Bool
+is_of_row (Refuses call status) = false
+is_of_row (does.Gives child cursor) = false
+is_of_row (does.Skips reason place cursor) = false
+is_of_row (does.Finishes item end words after) = false
+is_of_row other = true
+
+abbrev pub Gives : Result Deed Status → Type 0
+Gives (Ok d) = is_of_row d ≡ true
 Gives (Err status) = Unit {0}
 
 and_then_gives : {A : Type 0} (r : Result A Status) (next : A → Result Deed Status) → ((x : A) → Gives (next x)) → Gives (and_then r next)
@@ -70,11 +78,11 @@ replied_gives : (k : KernelState) (ec : ℕ) (c : Option (ℕ × Mark)) → Give
 replied_gives k ec (Some (caller, m)) = refl
 replied_gives k ec None = tt
 
-domain_gives : (k : KernelState) (target : ℕ) (range : Option (Range × Rights)) → is_refusal (new_domain k target range) ≡ false
+domain_gives : (k : KernelState) (target : ℕ) (range : Option (Range × Rights)) → is_of_row (new_domain k target range) ≡ true
 domain_gives k target None = refl
 domain_gives k target (Some range) = refl
 
-busy_gives : (k : KernelState) (domain target : ℕ) (d : Deed) → is_refusal d ≡ false → Gives (unless_busy k domain target d)
+busy_gives : (k : KernelState) (domain target : ℕ) (d : Deed) → is_of_row d ≡ true → Gives (unless_busy k domain target d)
 busy_gives k domain target d is = unless_gives (is_revoked k domain target) Busy (Ok d) is
 
 makes_gives : (k : KernelState) (domain number target pd : ℕ) (object : ℕ → Result NewObject Status) → Gives (makes k domain number target pd object)
@@ -82,14 +90,14 @@ makes_gives k domain number target pd object =
     and_then_gives (maker k domain target pd) (λ owner. and_then (object owner) (λ made. unless_busy k domain target (Makes number target made))) (λ owner.
     and_then_gives (object owner) (λ made. unless_busy k domain target (Makes number target made)) (λ made. busy_gives k domain target (Makes number target made) refl))
 
-control_gives : (r : Result ℕ Status) (d : ℕ → Deed) → ((n : ℕ) → is_refusal (d n) ≡ false) → Gives (and_then r (λ n. Ok (d n)))
+control_gives : (r : Result ℕ Status) (d : ℕ → Deed) → ((n : ℕ) → is_of_row (d n) ≡ true) → Gives (and_then r (λ n. Ok (d n)))
 control_gives r d each = and_then_gives r (λ n. Ok (d n)) each
 
 upped_gives : (sm : ℕ) (r : Result (Option ℕ) too.Overflow) → Gives (upped_by sm r)
 upped_gives sm (Ok whom) = refl
 upped_gives sm (Err e) = tt
 
-downed_gives : (sm : ℕ) (d : Down) → is_refusal (downed_by sm d) ≡ false
+downed_gives : (sm : ℕ) (d : Down) → is_of_row (downed_by sm d) ≡ true
 downed_gives sm down.Done = refl
 downed_gives sm down.Blocked = refl
 
@@ -131,11 +139,11 @@ row_gives k ec domain (SmCtrl selector (act.DownWithin ticks)) =
     and_then_gives (named k domain is_sm down_right selector) (λ sm. downed_within sm ticks (deadline_after k ec sm ticks) (answer_of (semaphore k.semaphores sm)))
     (λ sm. within_gives sm ticks (deadline_after k ec sm ticks) (answer_of (semaphore k.semaphores sm)))
 
-asked_gives : (k : KernelState) (ec domain : ℕ) (r : Registers) → Gives (asked k ec domain r)
+pub asked_gives : (k : KernelState) (ec domain : ℕ) (r : Registers) → Gives (asked k ec domain r)
 asked_gives k ec domain r = and_then_gives (call_of r) (row k ec domain) (row_gives k ec domain)
 
 refused_by : (number call : ℕ) (r : Result Deed Status) (status : Status) → Gives r → or_refuses number r ≡ Refuses call status → (call ≡ number) × (r ≡ Err status)
-refused_by number call (Ok d) status gives is = let both : true ≡ false = sym (ap is_refusal is) ∙ gives in absurd (cc)
+refused_by number call (Ok d) status gives is = let both : false ≡ true = sym (ap is_of_row is) ∙ gives in absurd (cc)
 refused_by number call (Err other) status gives is = (cc, cc)
 
 pub call_refused : (k : KernelState) (ec domain call : ℕ) (r : Registers) (status : Status) → hypercall k ec domain r ≡ Refuses call status → (call ≡ reg r 17) × (asked k ec domain r ≡ Err status)

@@ -1,13 +1,13 @@
-ghost use Rattle.std.specs.Prelude.{◌≡◌, ℕ, ◌+◌, ◌<◌, ◌^◌, Bool, true, false, [], Option, Some, None, Ok, Err};
+ghost use Rattle.std.specs.Prelude.{◌≡◌, ℕ, ◌+◌, ◌<◌, ◌^◌, Bool, true, false, List, [], ◌∷◌, Option, Some, None, Ok, Err};
 ghost use Rattle.rv_model.specs.Registers.{Registers, reg};
 ghost use Rattle.nova_calls.specs.Hypercalls.{call_of};
 ghost use Rattle.nova_calls.specs.declared.call.Call.TheVariants as asks;
 ghost use Rattle.nova_calls.specs.declared.call.Call.TheVariants.{Revoke, Lookup, EcCtrl, ScCtrl, PtCtrl, SmCtrl};
-ghost use Rattle.nova_calls.specs.declared.call.SmAction.TheVariants.{Down, Up};
+ghost use Rattle.nova_calls.specs.declared.call.SmAction.TheVariants.{Down, DownWithin, Up};
 ghost use Rattle.nova_calls.specs.declared.numbers.TheConstants.{LOOKUP, SC_CTRL};
 ghost use Rattle.nova_model.specs.Calls.{admitted};
 ghost use Rattle.nova_model.specs.Capabilities.{call_right, control_right, down_right, is_ec, is_pt, is_sc, is_sm, named, up_right};
-ghost use Rattle.nova_model.specs.Hypercalls.{hypercall, looked_up, reply, call, ticks_in};
+ghost use Rattle.nova_model.specs.Hypercalls.{hypercall, deadline_after, looked_up, reply, call, ticks_in};
 ghost use Rattle.nova_model.specs.Portals.{handler_of, identifier, ip_of};
 ghost use Rattle.nova_model.specs.Semaphores.{semaphore};
 ghost use Rattle.nova_model.specs.State.{KernelState, budget_at, context, is_local_thread, message};
@@ -20,7 +20,8 @@ ghost use Rattle.nova_range.specs.declared.status.Status.TheVariants.{BadPar};
 ghost use Rattle.nova_utcb.specs.Messages.{has_counts, has_items};
 
 /// What registers ask for is done: a revoke and a lookup always; a control where the selector names the object with the right, as the
-/// recall, the ticks, the identifier, the up and the down; and what they ask for that doesn't read is refused with its status.
+/// recall, the ticks, the identifier, the up, which wakes the first that waits, and the down, which waits at counter 0, to a deadline where one
+/// is asked for; and what they ask for that doesn't read is refused with its status.
 pub fn what_is_asked_for_is_done()
     ensures revoke { (k : KernelState) (ec domain : ℕ) (r : Registers) (range : Range) (own : Bool) → call_of r ≡ Ok (Revoke range own) → hypercall k ec domain r ≡ Revokes range own }
     ensures lookup { (k : KernelState) (ec domain : ℕ) (r : Registers) (range : Range) → call_of r ≡ Ok (Lookup range) →
@@ -33,10 +34,17 @@ pub fn what_is_asked_for_is_done()
         named k domain is_pt control_right selector ≡ Ok n → hypercall k ec domain r ≡ Names n number }
     ensures up { (k : KernelState) (ec domain selector sm : ℕ) (r : Registers) → call_of r ≡ Ok (SmCtrl selector Up) → named k domain is_sm up_right selector ≡ Ok sm →
         (semaphore k.semaphores sm).waiting ≡ [] → (semaphore k.semaphores sm).count + 1 < 2 ^ 32 → hypercall k ec domain r ≡ Ups sm None }
+    ensures wakes { (k : KernelState) (ec domain selector sm first : ℕ) (rest : List ℕ) (r : Registers) → call_of r ≡ Ok (SmCtrl selector Up) →
+        named k domain is_sm up_right selector ≡ Ok sm → (semaphore k.semaphores sm).waiting ≡ first ∷ rest → hypercall k ec domain r ≡ Ups sm (Some first) }
     ensures down { (k : KernelState) (ec domain selector sm : ℕ) (r : Registers) → call_of r ≡ Ok (SmCtrl selector Down) → named k domain is_sm down_right selector ≡ Ok sm →
         0 < (semaphore k.semaphores sm).count → hypercall k ec domain r ≡ Downs sm }
     ensures blocks { (k : KernelState) (ec domain selector sm : ℕ) (r : Registers) → call_of r ≡ Ok (SmCtrl selector Down) → named k domain is_sm down_right selector ≡ Ok sm →
         (semaphore k.semaphores sm).count ≡ 0 → hypercall k ec domain r ≡ Blocks sm None }
+    ensures within { (k : KernelState) (ec domain selector sm ticks : ℕ) (r : Registers) → call_of r ≡ Ok (SmCtrl selector (DownWithin ticks)) →
+        named k domain is_sm down_right selector ≡ Ok sm → 0 < (semaphore k.semaphores sm).count → hypercall k ec domain r ≡ Downs sm }
+    ensures until { (k : KernelState) (ec domain selector sm ticks : ℕ) (r : Registers) → call_of r ≡ Ok (SmCtrl selector (DownWithin ticks)) →
+        named k domain is_sm down_right selector ≡ Ok sm → (semaphore k.semaphores sm).count ≡ 0 → 0 < ticks →
+        hypercall k ec domain r ≡ Blocks sm (Some (deadline_after k ec sm ticks)) }
     ensures unread { (k : KernelState) (ec domain : ℕ) (r : Registers) (status : Status) → call_of r ≡ Err status → hypercall k ec domain r ≡ Refuses (reg r 17) status }
 {}
 

@@ -1,8 +1,11 @@
 ghost use Rattle.std.specs.Prelude.{◌≡◌, ℕ, ◌<◌, List, [], ◌∷◌, ◌++◌, length, slice_index, None, map};
 ghost use Rattle.nova_model.specs.Capabilities.{bind_portal_right, bind_scheduling_right, call_right, control_right, create_right, down_right, event_right, rights_to, up_right};
-ghost use Rattle.nova_model.specs.Creation.{with_object};
+ghost use Rattle.nova_model.specs.Creation.{object_of, with_object};
+ghost use Rattle.nova_model.specs.Deeds.{done};
 ghost use Rattle.nova_model.specs.Sources.{Source, with_source};
-ghost use Rattle.nova_model.specs.State.{KernelState, message};
+ghost use Rattle.nova_model.specs.State.{KernelState, message, pd_of};
+ghost use Rattle.nova_model.specs.declared.deed.Deed.TheVariants.{Makes, Opens};
+ghost use Rattle.nova_model.specs.declared.new_object.NewObject.{NewObject};
 ghost use Rattle.nova_model.specs.declared.new_object.NewObject.TheVariants as new;
 ghost use Rattle.nova_objects.specs.declared.object.EcKind.TheVariants.{Global, Local};
 ghost use Rattle.nova_objects.specs.declared.object.Object.TheVariants.{Pd, Ec, Sc, Pt, Sm};
@@ -42,6 +45,30 @@ pub fn a_source_is_a_semaphore_of_the_roots()
       base = length k.objects;
       order = 0;
       rights = rights_of 3;
+      target = length k.objects;
+      parent = None;
+    } ∷ [] }
+{}
+
+/// Who makes an object holds it at the selector that it asked for, without a parent and with all rights to it.
+pub fn a_maker_holds_what_it_made_where_it_asked()
+    ensures made { (k : KernelState) (ec call target : ℕ) (made : NewObject) → (done k ec (Makes call target made)).delegations.list ≡ k.delegations.list ++ record {
+      id = k.delegations.next;
+      pd = pd_of k ec;
+      kind = Obj;
+      base = target;
+      order = 0;
+      rights = rights_to (object_of made);
+      target = length k.objects;
+      parent = None;
+    } ∷ [] }
+    ensures opened { (k : KernelState) (ec target domain : ℕ) → (done k ec (Opens target domain)).delegations.list ≡ k.delegations.list ++ record {
+      id = k.delegations.next;
+      pd = pd_of k ec;
+      kind = Obj;
+      base = target;
+      order = 0;
+      rights = rights_of 1;
       target = length k.objects;
       parent = None;
     } ∷ [] }

@@ -1,14 +1,17 @@
 ghost use Rattle.std.specs.Prelude.{◌≡◌, ℕ, ◌≤◌, ◌<◌, Bool, true, false, Option, Some, None, Ok, Err};
-ghost use Rattle.nova_model.specs.Capabilities.{bind_portal_right, bind_scheduling_right, create_right, is_held, is_local, is_pd, is_schedulable, named};
+ghost use Rattle.nova_calls.specs.declared.call.Call.TheVariants.{Call, EcCtrl, PtCtrl, ScCtrl, SmCtrl};
+ghost use Rattle.nova_calls.specs.declared.call.SmAction.TheVariants.{Down, DownWithin, Up};
+ghost use Rattle.nova_model.specs.Capabilities.{bind_portal_right, bind_scheduling_right, call_right, control_right, create_right, down_right, is_ec, is_held, is_local, is_pd, is_pt, is_sc, is_schedulable, is_sm, named, up_right};
 ghost use Rattle.nova_model.specs.Deeds.{deed};
-ghost use Rattle.nova_model.specs.Hypercalls.{asked, create_ec, create_pd, create_pt, create_sc, create_sm, is_scheduled, maker};
+ghost use Rattle.nova_model.specs.Hypercalls.{asked, create_ec, create_pd, create_pt, create_sc, create_sm, is_scheduled, maker, row};
 ghost use Rattle.nova_model.specs.Running.{is_revoked};
-ghost use Rattle.nova_model.specs.State.{KernelState, context, pd_of};
+ghost use Rattle.nova_model.specs.State.{KernelState, context, message, pd_of};
 ghost use Rattle.nova_model.specs.declared.deed.Deed.TheVariants.{Refuses};
 ghost use Rattle.rv_model.specs.Registers.{reg};
 ghost use Rattle.nova_objects.specs.declared.object.EcKind.{EcKind};
 ghost use Rattle.nova_objects.specs.declared.object.Object.{Object};
 ghost use Rattle.nova_range.specs.declared.range.Range.{Range};
+ghost use Rattle.nova_utcb.specs.Messages.{has_counts};
 ghost use Rattle.nova_range.specs.declared.rights.Rights.{Rights};
 ghost use Rattle.nova_range.specs.declared.status.Status.{Status};
 ghost use Rattle.nova_range.specs.declared.status.Status.TheVariants.{BadCap, BadCpu, Busy};
@@ -49,4 +52,21 @@ pub fn makers_are_refused_in_this_order()
 pub fn refusals_are_of_rows()
     ensures { (k : KernelState) (ec call : ℕ) (status : Status) → deed k ec ≡ Refuses call status →
         (call ≡ reg (context k ec).regs 17) × (asked k ec (pd_of k ec) (context k ec).regs ≡ Err status) }
+{}
+
+/// A call or a control whose selector names no such object with the right to it is BAD_CAP; a call is so where its message counts no more
+/// words than there are.
+pub fn without_a_capability_is_bad_cap()
+    ensures call { (k : KernelState) (ec domain selector : ℕ) (flag : Bool) (status : Status) → has_counts (message k ec) ≡ true →
+        named k domain is_pt call_right selector ≡ Err status → row k ec domain (Call selector flag) ≡ Err BadCap }
+    ensures recall { (k : KernelState) (ec domain selector : ℕ) (status : Status) → named k domain is_ec control_right selector ≡ Err status →
+        row k ec domain (EcCtrl selector) ≡ Err BadCap }
+    ensures ticks { (k : KernelState) (ec domain selector : ℕ) (status : Status) → named k domain is_sc control_right selector ≡ Err status →
+        row k ec domain (ScCtrl selector) ≡ Err BadCap }
+    ensures identifier { (k : KernelState) (ec domain selector number : ℕ) (status : Status) → named k domain is_pt control_right selector ≡ Err status →
+        row k ec domain (PtCtrl selector number) ≡ Err BadCap }
+    ensures up { (k : KernelState) (ec domain selector : ℕ) (status : Status) → named k domain is_sm up_right selector ≡ Err status →
+        row k ec domain (SmCtrl selector Up) ≡ Err BadCap }
+    ensures down { (k : KernelState) (ec domain selector ticks : ℕ) (status : Status) → named k domain is_sm down_right selector ≡ Err status →
+        (row k ec domain (SmCtrl selector Down) ≡ Err BadCap) × (row k ec domain (SmCtrl selector (DownWithin ticks)) ≡ Err BadCap) }
 {}

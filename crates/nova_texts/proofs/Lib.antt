@@ -1,6 +1,15 @@
 pub mod Added
 pub mod Begun
-pub mod BenchRows
+pub mod BenchStates
+pub mod BenchTurn
+pub mod BenchMade
+pub mod BenchPass
+pub mod BenchEnds
+pub mod BenchRevoke
+pub mod BenchPasses
+pub mod BenchProgram
+pub mod BenchWhole
+pub mod BenchLine
 pub mod Bytes
 pub mod Faults
 pub mod OneOrder

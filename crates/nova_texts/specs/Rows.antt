@@ -1,5 +1,9 @@
 -- Texts and bytes of which it is computed what they are read as.
 use Rattle.std.specs.Prelude.{ℕ, List, [], ◌∷◌, ◌++◌}
+use Rattle.nova_model.specs.Boot.{Scenario}
+use Rattle.nova_model.specs.declared.event.Event.{Event}
+use Rattle.nova_model.specs.declared.event.EventKind.TheVariants.{Raise}
+use Rattle.nova_text.specs.Line.{Row}
 
 -- the header of an executable of entry 4,100, with so many program headers from byte 52 on
 abbrev pub file_header : ℕ → List ℕ
@@ -20,3 +24,21 @@ one_segment file memory = file_header 1 ++ program_header 1 file memory
 -- a segment, and a header of another type behind it
 abbrev pub segment_and : ℕ → List ℕ
 segment_and kind = file_header 2 ++ (program_header 1 20 50 ++ program_header kind 20 50)
+
+-- a text as its only line
+abbrev pub line_of : List ℕ → Row
+line_of text = record { number = 1; start = 0; text = text }
+
+-- a root with pc 8, stack pointer 12, priority 5 and a quantum of 6, two frames of RAM, a console and a source; and a breakpoint of the root's
+abbrev pub a_start : Scenario
+a_start = record {
+  cpus = 1;
+  ram = 1;
+  consoles = 1;
+  root = record { pc = 8; sp = 12; priority = 5; quantum = 6 };
+  images = [];
+  sources = record { cpu = 0; first = 7; period = 9; count = 2 } ∷ [];
+}
+
+abbrev pub a_raise : Event
+a_raise = record { cpu = 0; sc = 2; ec = 1; kind = Raise; a = 7; b = 3 }

@@ -2,6 +2,7 @@ use Rattle.nova_origins.proofs.Origins.{makers}
 use Rattle.nova_integrity.proofs.Deciding.{exit_becomes}
 use Rattle.nova_integrity.proofs.Edges.{reached_rightful}
 use Rattle.nova_integrity.proofs.Own.{aborts_dead}
+use Rattle.nova_integrity.proofs.Requests.{deed_asks_for}
 use Rattle.nova_integrity.proofs.rights.deeds_are_rightful.Goals as goal
 
 pub returns-clause-rightful : goal.returns-clause-rightful
@@ -15,3 +16,6 @@ returns-clause-aborts c = aborts_dead
 
 pub returns-clause-firsts : goal.returns-clause-firsts
 returns-clause-firsts c = makers
+
+pub returns-clause-asks : goal.returns-clause-asks
+returns-clause-asks c = deed_asks_for
