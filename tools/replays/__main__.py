@@ -1,6 +1,6 @@
 """Runs scenarios by threads, and takes the turns of each run's order again by one: the report must be the same.
 
-python3 tools/replays [--count N] [--first SEED] [--limit N] [--program FILE] [--keep FOLDER] [FOLDER]
+python3 tools/replays [--count N] [--first SEED] [--times N] [--limit N] [--seconds N] [--program FILE] [--keep FOLDER] [FOLDER]
 python3 tools/replays --show SEED
 """
 
@@ -13,6 +13,7 @@ import tempfile
 from collections import Counter
 from collections.abc import Iterator
 from concurrent.futures import ThreadPoolExecutor
+from functools import partial
 from pathlib import Path
 
 from replay import Replay, Verdict, not_by_threads, processors_of, replay
@@ -20,8 +21,8 @@ from scenarios import random_scenario
 
 TOP = Path(__file__).resolve().parents[2]
 
-# How many random scenarios there are, and how many turns each may take.
-COUNT, LIMIT = 100, 5000
+# How many random scenarios there are, how many turns each may take, and how many seconds a command.
+COUNT, LIMIT, SECONDS = 100, 5000, 120
 
 
 def parser() -> argparse.ArgumentParser:
@@ -30,7 +31,9 @@ def parser() -> argparse.ArgumentParser:
     words.add_argument("folder", nargs="?", type=Path, metavar="FOLDER", help="run the scenarios of this folder, and no random ones")
     words.add_argument("--count", type=int, default=COUNT, metavar="N", help=f"so many random scenarios ({COUNT})")
     words.add_argument("--first", type=int, default=1, metavar="SEED", help="the seed of the first of them; each next one is one more (1)")
+    words.add_argument("--times", type=int, default=1, metavar="N", help="run each scenario so many times (1)")
     words.add_argument("--limit", type=int, default=LIMIT, metavar="N", help=f"how many turns a run may take ({LIMIT})")
+    words.add_argument("--seconds", type=int, default=SECONDS, metavar="N", help=f"how many seconds a command may take ({SECONDS})")
     words.add_argument("--program", default=str(TOP / "nova"), metavar="FILE", help="the program (nova at the top of the repository)")
     words.add_argument("--keep", type=Path, metavar="FOLDER", help="keep scenarios and orders in this folder")
     words.add_argument("--show", type=int, metavar="SEED", help="write the scenario of a seed, and run nothing")
@@ -73,11 +76,13 @@ def main(words: argparse.Namespace) -> int:
         work = words.keep or Path(folder)
         work.mkdir(parents=True, exist_ok=True)
         with ThreadPoolExecutor(os.cpu_count()) as workers:
-            paths = list(scenarios(words, work))
-            orders = [work / f"{path.stem}.order" for path in paths]
+            runs = [(path, number) for path in scenarios(words, work) for number in range(1, words.times + 1)]
+            paths = [path for path, _ in runs]
+            orders = [work / (f"{path.stem}.{number}.order" if number > 1 else f"{path.stem}.order") for path, number in runs]
             for order in orders:
                 order.unlink(missing_ok=True)
-            seen = list(workers.map(lambda path, order: replay(words.program, path, order, words.limit), paths, orders))
+            replayed = partial(replay, words.program, limit=words.limit, seconds=words.seconds)
+            seen = list(workers.map(replayed, paths, orders))
         return 0 if told(list(zip(paths, seen))) else 1
 
 

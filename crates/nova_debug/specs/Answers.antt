@@ -1,129 +1,22 @@
--- What is answered, line by line.
-use Rattle.std.specs.Prelude.{◌≡◌, ℕ, ◌+◌, ◌-◌, Bool, true, false, List, [], ◌++◌, codes, decimal, flat_map, length, min, max, Option, Some, None, slice_get, drop, take}
-use Rattle.std.specs.List.{enumerate_from, range_with_len}
-use Rattle.nova_model.specs.State.{KernelState, context_at, entry}
-use Rattle.nova_model.specs.Semaphores.{semaphore}
-use Rattle.nova_model.specs.declared.context.EcState.{EcState}
-use Rattle.nova_model.specs.declared.context.Mark.{Mark}
-use Rattle.nova_model.specs.declared.context.State.{State}
-use Rattle.nova_model.specs.declared.context.State.TheVariants.{Calling, Helping, Sending, Blocked}
-use Rattle.nova_model.specs.declared.event.Event.{Event}
-use Rattle.nova_utcb.specs.Messages.{word}
-use Rattle.nova_objects.specs.declared.object.Object.{Object}
-use Rattle.nova_objects.specs.declared.object.Object.TheVariants.{Ec}
-use Rattle.nova_report.specs.Words.{line_feed, hexadecimal, event_word, parent_word}
-use Rattle.nova_report.specs.Report.{context_lines, console_lines, derivation_lines, semaphore_lines}
-use Rattle.nova_recording.specs.Recordings.{RecordingView}
-use Rattle.nova_recording.specs.Wants.{IsFirst, IsLast, next_by}
-use Rattle.nova_recording.specs.declared.wants.Next.{Next}
+-- What comes of a line: where one is then, what is looked for, and what is answered.
+use Rattle.std.specs.Prelude.{◌≡◌, ℕ, Bool, true, false, List, [], ◌∷◌, ◌++◌, codes, decimal, length, max, min, Option, Some, None, option_map}
+use Rattle.nova_model.specs.Delegations.{reach}
+use Rattle.nova_model.specs.State.{KernelState}
+use Rattle.nova_guest.specs.declared.page.Page.{Page}
+use Rattle.nova_recording.specs.Recordings.{IsAt, RecordingView, at_turn}
+use Rattle.nova_recording.specs.Wants.{IsFirst, IsLast}
 use Rattle.nova_recording.specs.declared.wants.Search.{Search}
-use Rattle.nova_debug.specs.declared.command.Reading.{Reading}
-use Rattle.nova_debug.specs.declared.command.Reading.TheVariants.{Place, Instruction, Contexts, Semaphores, Consoles, Delegations, Objects, Words, Frame, Events, Queue}
-
--- a number, with a space before it
-abbrev pub number_text : ℕ → List ℕ
-number_text n = codes " " ++ decimal n
-
--- the present turn, and how many the run has
-abbrev pub place_line : RecordingView → List ℕ
-place_line r = codes "turn " ++ (decimal r.turn ++ (codes " of " ++ (decimal (length r.events) ++ line_feed)))
-
--- the instruction that is next: who is about to execute it, in which domain, at which address
-abbrev pub instruction_line : Option Next → List ℕ
-instruction_line (Some next) = codes "next " ++ (decimal next.ec ++ (codes " " ++ (decimal next.pd ++ (codes " " ++ (decimal next.pc ++ line_feed)))))
-instruction_line None = codes "next -\n"
-
--- the event of a turn, by how many were taken before it
-abbrev pub event_line : ℕ → Event → List ℕ
-event_line place e = codes "event " ++ (decimal place ++ (codes " " ++ (decimal e.cpu ++ (codes " " ++ (decimal e.sc ++ (codes " " ++ (decimal e.ec
-    ++ (codes " " ++ (event_word e.kind ++ (codes " " ++ (decimal e.a ++ (codes " " ++ (decimal e.b ++ line_feed)))))))))))))
-
--- the events from one on, and those of them before another
-abbrev pub events_from : List Event → ℕ → List Event
-events_from events from = drop (min from (length events)) events
-
-abbrev pub events_between : List Event → ℕ → ℕ → List Event
-events_between events from to = take (min (to - from) (length (events_from events from))) (events_from events from)
-
-abbrev pub event_after : ℕ → ℕ × Event → List ℕ
-event_after from (i, e) = event_line (from + i) e
-
-abbrev pub events_text : ℕ → List Event → List ℕ
-events_text from events = flat_map (event_after from) (enumerate_from 0 events)
-
--- the one that an execution context waits for: the handler of its call or exit, or a semaphore
-abbrev pub awaited : State → Option ℕ
-awaited (Calling handler) = Some handler
-awaited (Helping handler) = Some handler
-awaited (Sending reason q0 q1 handler) = Some handler
-awaited (Blocked sm) = Some sm
-awaited other = None
-
--- the one that it serves
-abbrev pub caller_in : Option (ℕ × Mark) → Option ℕ
-caller_in (Some (caller, mark)) = Some caller
-caller_in None = None
-
-abbrev pub caller_of : EcState → Option ℕ
-caller_of x = caller_in x.caller
-
--- of an execution context its domain, its processor, its caller and the one that it waits for
-abbrev pub context_line : ℕ → ℕ → ℕ → Option EcState → List ℕ
-context_line id pd cpu (Some x) = codes "object " ++ (decimal id ++ (codes " " ++ (decimal pd ++ (codes " " ++ (decimal cpu ++ (codes " "
-    ++ (parent_word (caller_of x) ++ (codes " " ++ (parent_word (awaited x.state) ++ line_feed)))))))))
-context_line id pd cpu None = []
-
-abbrev pub object_line : KernelState → ℕ × Object → List ℕ
-object_line k (id, Ec pd cpu kind event) = context_line id pd cpu (context_at k id)
-object_line k (id, other) = []
-
-abbrev pub object_lines : KernelState → List ℕ
-object_lines k = flat_map (object_line k) (enumerate_from 0 k.objects)
-
--- the message words of a thread
-abbrev pub word_text : ℕ → List ℕ
-word_text w = codes " " ++ hexadecimal 8 w
-
-unfoldable pub words_text : List ℕ → List ℕ
-words_text ws = flat_map (λ (i : ℕ). word_text (word ws i)) (range_with_len 0 128)
-
-abbrev pub words_line : Option (List ℕ) → List ℕ
-words_line (Some ws) = codes "words" ++ (words_text ws ++ line_feed)
-words_line None = codes "words -\n"
-
--- the bytes of a frame
-abbrev pub bytes_text : List ℕ → List ℕ
-bytes_text bytes = flat_map (hexadecimal 2) bytes
-
-abbrev pub frame_line : Option (List ℕ) → List ℕ
-frame_line (Some bytes) = codes "bytes " ++ (bytes_text bytes ++ line_feed)
-frame_line None = codes "bytes -\n"
-
--- who waits at a semaphore, in order
-abbrev pub numbers_text : List ℕ → List ℕ
-numbers_text ns = flat_map number_text ns
-
-abbrev pub queue_line : List ℕ → List ℕ
-queue_line ecs = codes "queue" ++ (numbers_text ecs ++ line_feed)
-
--- what a page leads to
-abbrev pub page_line : Option (ℕ × ℕ) → List ℕ
-page_line (Some (frame, rights)) = codes "page " ++ (decimal frame ++ (codes " " ++ (decimal rights ++ line_feed)))
-page_line None = codes "page -\n"
-
--- what is read of the present state
-abbrev pub told : RecordingView → Reading → List ℕ
-told r Place = place_line r
-told r Instruction = instruction_line (next_by r.state (slice_get r.events r.turn))
-told r Contexts = context_lines r.state
-told r Semaphores = semaphore_lines r.state
-told r Consoles = console_lines r.state
-told r Delegations = derivation_lines r.state
-told r Objects = object_lines r.state
-told r (Words ec) = words_line (entry (slice_get r.state.messages ec))
-told r (Frame frame) = frame_line (slice_get r.state.memory.ram frame)
-told r (Events from to) = events_text from (events_between r.events from to)
-told r (Queue sm) = queue_line (semaphore r.state.semaphores sm).waiting
+use Rattle.nova_recording.specs.declared.wants.Want.{Want}
+use Rattle.nova_recording.specs.declared.wants.Want.TheVariants as want
+use Rattle.nova_recording.specs.declared.watches.Watch.{Watch}
+use Rattle.nova_report.specs.Words.{line_feed}
+use Rattle.nova_telling.specs.Told.{code_line, page_line, told_at}
+use Rattle.rv_model.specs.Codes.{instr_of}
+use Rattle.nova_debug.specs.declared.command.Command.{Command}
+use Rattle.nova_debug.specs.declared.command.Command.TheVariants.{Tell, Code, Page as PageOf, Go, Run, Last, Break, By, Loads, Stores, Clear}
+use Rattle.nova_debug.specs.declared.serving.Session.{Session}
+use Rattle.nova_debug.specs.declared.serving.Reply.{Reply}
+use Rattle.nova_debug.specs.declared.serving.Reply.TheVariants.{No, Done, Refused}
 
 -- a search's end
 abbrev pub stop_line : Bool → List ℕ
@@ -134,9 +27,27 @@ abbrev pub last_line : Option ℕ → List ℕ
 last_line (Some turn) = codes "last " ++ (decimal turn ++ line_feed)
 last_line None = codes "none\n"
 
--- the turn to which a search goes that is asked for one: no further than the end, and not back
+-- the turn to which one goes, and a search for that: no further than the end, and a search not back
+abbrev pub turn_of : RecordingView → ℕ → ℕ
+turn_of r to = min to (length r.events)
+
 abbrev pub end_of : RecordingView → ℕ → ℕ
-end_of r to = max (min to (length r.events)) r.turn
+end_of r to = max (turn_of r to) r.turn
+
+-- one stays, and something is told
+pub record HasTold (old new : RecordingView) (text before after : List ℕ) : Type 0 where
+  pub stayed : new ≡ old
+  pub written : after ≡ before ++ text
+
+-- one stays, and nothing is told
+pub record HasStayed (old new : RecordingView) (before after : List ℕ) : Type 0 where
+  pub stayed : new ≡ old
+  pub written : after ≡ before
+
+-- one went to a turn, and nothing is told
+pub record HasGone (old new : RecordingView) (to : ℕ) (before after : List ℕ) : Type 0 where
+  pub turn : new.turn ≡ turn_of old to
+  pub written : after ≡ before
 
 -- one went on to the first turn that is looked for, and what was written says whether there is one
 pub record HasRun (old new : RecordingView) (search : Search) (to : ℕ) (before after : List ℕ) : Type 0 where
@@ -150,3 +61,58 @@ pub record HasPassed (old new : RecordingView) (search : Search) (to : ℕ) (bef
   pub last : IsLast old.opening old.events search old.turn (end_of old to) found
   pub turn : new.turn ≡ end_of old to
   pub written : after ≡ before ++ last_line found
+
+-- what a page of a domain leads to at the present turn: a frame, and the bits of the rights there
+abbrev pub page_at : KernelState → ℕ → ℕ → Option (ℕ × ℕ)
+page_at k pd page = option_map (λ (p : Page). (p.frame, p.rights.0)) (reach k.delegations.list pd page)
+
+-- what a command comes to: where one is after it, and what is told
+abbrev pub IsAnswered : Command → Search → RecordingView → RecordingView → List ℕ → List ℕ → Type 0
+IsAnswered (Tell reading) search old new before after = HasTold old new (told_at old reading) before after
+IsAnswered (Code word) search old new before after = HasTold old new (code_line (instr_of word)) before after
+IsAnswered (PageOf pd page) search old new before after = HasTold old new (page_line (page_at (at_turn old.opening old.events old.turn) pd page)) before after
+IsAnswered (Go to) search old new before after = HasGone old new to before after
+IsAnswered (Run to) search old new before after = HasRun old new search to before after
+IsAnswered (Last to) search old new before after = HasPassed old new search to before after
+IsAnswered other search old new before after = HasStayed old new before after
+
+-- what is looked for after it
+abbrev pub wants_after : Command → List Want → List Want
+wants_after (Break pd address) wants = wants ++ want.At pd address ∷ []
+wants_after (By ec) wants = wants ++ want.By ec ∷ []
+wants_after Clear wants = []
+wants_after other wants = wants
+
+abbrev pub bytes_of : ℕ → ℕ → ℕ → Bool → Bool → Watch
+bytes_of frame first last loads stores = record { frame = frame; first = first; last = last; loads = loads; stores = stores }
+
+abbrev pub watches_after : Command → List Watch → List Watch
+watches_after (Loads frame first last) watches = watches ++ bytes_of frame first last true false ∷ []
+watches_after (Stores frame first last) watches = watches ++ bytes_of frame first last false true ∷ []
+watches_after Clear watches = []
+watches_after other watches = watches
+
+-- one is at a turn of the run, in the state after the first so many entries of its order
+pub record IsHere (r : RecordingView) (told : ℕ) : Type 0 where
+  pub turn : told ≡ r.turn
+  pub state : IsAt r.opening r.events r.turn r.state
+
+-- a command was done
+pub record IsDone (command : Command) (old new : Session) (turn : ℕ) (before after : List ℕ) : Type 0 where
+  pub answered : IsAnswered command old.search old.recording new.recording before after
+  pub wants : new.search.wants.items ≡ wants_after command old.search.wants.items
+  pub watches : new.search.watches.items ≡ watches_after command old.search.watches.items
+  pub here : IsHere new.recording turn
+
+-- What is replied to a line, by what it asks: where it is no command, all stays.
+abbrev pub IsReplied : Option Command → Reply → Session → Session → List ℕ → List ℕ → Type 0
+IsReplied None No old new before after = (new ≡ old) × (after ≡ before)
+IsReplied (Some command) (Done turn) old new before after = IsDone command old new turn before after
+IsReplied (Some command) (Refused turn) old new before after = IsHere new.recording turn
+IsReplied asked reply old new before after = ⊥
+
+-- the lines of a reply, of which what is told comes first
+abbrev pub reply_text : Reply → List ℕ → List ℕ
+reply_text No text = codes "no\n"
+reply_text (Done turn) text = text ++ (codes "ok " ++ (decimal turn ++ line_feed))
+reply_text (Refused turn) text = codes "memory " ++ (decimal turn ++ line_feed)

@@ -1,31 +1,5 @@
+use nova_telling::Reading;
 use nova_text::{Line, parse_number};
-
-/// What is read of the present state.
-#[derive(Clone, Copy)]
-pub enum Reading {
-    /// The present turn, and how many the run has.
-    Place,
-    /// The instruction that is next.
-    Instruction,
-    /// The execution contexts, with their registers.
-    Contexts,
-    /// The semaphores, with their counters.
-    Semaphores,
-    /// What the consoles show.
-    Consoles,
-    /// The delegations.
-    Delegations,
-    /// The domain and the processor of each execution context, and whom it serves and waits for.
-    Objects,
-    /// The message words of a thread.
-    Words(u32),
-    /// The bytes of a frame.
-    Frame(u32),
-    /// The events of the turns from one on, before another.
-    Events(u32, u32),
-    /// Who waits at a semaphore, in order.
-    Queue(u32),
-}
 
 /// What is asked in a line.
 #[derive(Clone, Copy)]
@@ -52,7 +26,7 @@ pub enum Command {
     Stores(u32, u32, u32),
     /// Looks for nothing more.
     Clear,
-    /// Keeps a state each so many turns.
+    /// Keeps states on the way, in at most so many bytes.
     Keep(u32),
 }
 
@@ -88,6 +62,7 @@ fn with_number(verb: &[u8], number: u32) -> Option<Command> {
 fn with_numbers(verb: &[u8], first: u32, second: u32) -> Option<Command> {
     match verb {
         b"events" => Some(Command::Tell(Reading::Events(first, second))),
+        b"slices" => Some(Command::Tell(Reading::Slices(first, second))),
         b"page" => Some(Command::Page(first, second)),
         b"break" => Some(Command::Break(first, second)),
         _ => None,

@@ -2,14 +2,15 @@
 //! ask, and answers in lines.
 #![tactic(auto)]
 
-ghost use Rattle.std.specs.Prelude.{◌≡◌, ◌≤◌, ◌^◌, IfOk, IfSome};
+ghost use Rattle.std.specs.Prelude.{◌≡◌, ◌≤◌, ◌^◌, IfOk, IfSome, OnOk};
+ghost use Rattle.std.specs.Io.KnownBytes.{Appends};
+ghost use Rattle.nova_debug.specs.Answers.{reply_text};
 ghost use Rattle.nova_scenario.specs.Sound.{IsSound};
 
 mod command;
 mod making;
 mod orders;
 mod serving;
-mod telling;
 
 use command::{Command, command_of};
 use making::{run_along, run_rounds};
@@ -21,7 +22,7 @@ use nova_run::RunFault;
 use nova_scenario::{Scenario, read};
 use nova_text::{Lines, parse_number};
 use orders::{is_within, order_of};
-use serving::Session;
+use serving::{Reply, Session};
 use std::alloc::Global;
 use std::io::{BufRead, BufReader, BufWriter, Write};
 use std::process::ExitCode;
@@ -29,6 +30,9 @@ use std::{env, io};
 
 /// The most bytes of a scenario, and of an order.
 const MOST: u64 = 64 * 1024 * 1024;
+
+/// The most bytes of states that are kept on the way, unless a line says otherwise.
+const KEPT: usize = 64 * 1024 * 1024;
 
 /// The most turns of a run.
 const TURNS: u32 = 10_000_000;
@@ -70,9 +74,9 @@ fn order_on(alloc: Global, blocks: &[u8]) -> Option<Order> {
 }
 
 /// Answers a line.
-fn answer(
+fn answer<W: Write>(
     alloc: Global,
-    out: &mut impl Write,
+    out: &mut W,
     session: &mut Session,
     line: &[u8],
 ) -> io::Result<()> {
@@ -82,26 +86,30 @@ fn answer(
     }
 }
 
+/// Writes the lines of a reply, of which what is told comes first.
+fn write_reply<W: Write>(out: &mut W, text: &[u8], reply: Reply) -> io::Result<()>
+    ensures { OnOk result (Appends (W.contents out.old) (W.contents out.new) (reply_text reply text.now)) }
+{
+    match reply {
+        Reply::No => out.write_all(b"no\n"),
+        Reply::Done(turn) => {
+            out.write_all(text)?;
+            writeln!(out, "ok {turn}")
+        }
+        Reply::Refused(turn) => writeln!(out, "memory {turn}"),
+    }
+}
+
 /// Answers a line that asks of the session's run.
-fn answer_command(
+fn answer_command<W: Write>(
     alloc: Global,
-    out: &mut impl Write,
+    out: &mut W,
     session: &mut Session,
     line: &[u8],
 ) -> io::Result<()> {
-    let Some(command) = asked(line) else {
-        return out.write_all(b"no\n");
-    };
     let mut text = String::new(alloc);
-    let served = session.serve(alloc, &mut text, command);
-    let turn = session.recording.turn();
-    match served {
-        Ok(()) => {
-            out.write_all(text.as_bytes())?;
-            writeln!(out, "ok {turn}")
-        }
-        Err(_) => writeln!(out, "memory {turn}"),
-    }
+    let reply = session.reply(alloc, &mut text, asked(line));
+    write_reply(out, text.as_bytes(), reply)
 }
 
 /// Answers the lines of standard input, each before the next is read.
@@ -117,6 +125,8 @@ fn converse(rt: HostRuntime, session: &mut Session) -> io::Result<()> {
 
 /// Goes through a run, where it was made.
 fn go_through(rt: HostRuntime, recording: Recording) -> io::Result<()> {
+    let mut recording = recording;
+    recording.keep_within(KEPT);
     let search = Search {
         wants: Vec::new(rt.alloc()),
         watches: Vec::new(rt.alloc()),

@@ -1,11 +1,12 @@
-ghost use Rattle.std.specs.Prelude.{◌≡◌, ◌++◌, length, min, OnOk, string_bytes};
-ghost use Rattle.nova_debug.specs.Answers.{HasPassed, HasRun, stop_line, last_line};
-ghost use Rattle.nova_recording.specs.Recordings.{IsSameRun};
+ghost use Rattle.std.specs.Prelude.{◌≡◌, ◌++◌, ◌∷◌, [], not, OnOk, string_bytes};
+ghost use Rattle.nova_debug.specs.Answers.{HasPassed, HasRun, IsAnswered, IsReplied, bytes_of, last_line, page_at, stop_line, turn_of, wants_after, watches_after};
+ghost use Rattle.nova_recording.specs.Recordings.{IsSameRun, at_turn};
+ghost use Rattle.nova_telling.specs.Told.{page_line};
 
 use crate::command::Command;
-use crate::telling::{tell, write_code, write_page};
 use bitflags::Flags;
 use nova_recording::{Recording, Search, Want, Watch};
+use nova_telling::{tell, write_code, write_page};
 use std::alloc::{AllocError, Global};
 
 /// A run that is gone through, and what is looked for in it.
@@ -15,28 +16,65 @@ pub struct Session {
     pub search: Search,
 }
 
+/// What is replied to a line, behind what is told.
+#[derive(Clone, Copy)]
+pub enum Reply {
+    /// It is no command.
+    No,
+    /// It was done, and one is at a turn.
+    Done(usize),
+    /// Memory was refused, and one is at a turn.
+    Refused(usize),
+}
+
+/// Looks for what a command asks one to look for, beside what is looked for, or for nothing. It refuses for want of memory alone.
+fn look_for(search: &mut Search, command: Command) -> Result<(), AllocError>
+    ensures wants { OnOk result (search.new.wants.items ≡ wants_after command search.old.wants.items) }
+    ensures watches { OnOk result (search.new.watches.items ≡ watches_after command search.old.watches.items) }
+{
+    match command {
+        Command::Break(pd, address) => want(search, Want::At { pd, address }),
+        Command::By(ec) => want(search, Want::By { ec }),
+        Command::Loads(frame, first, last) => watch(search, bytes_of(frame, first, last, false)),
+        Command::Stores(frame, first, last) => watch(search, bytes_of(frame, first, last, true)),
+        Command::Clear => {
+            search.wants.clear();
+            search.watches.clear();
+            Ok(())
+        }
+        _ => Ok(()),
+    }
+}
+
 /// Looks for an instruction, too.
-fn want(search: &mut Search, want: Want) -> Result<(), AllocError> {
+fn want(search: &mut Search, want: Want) -> Result<(), AllocError>
+    ensures wants { OnOk result (search.new.wants.items ≡ search.old.wants.items ++ want ∷ []) }
+    ensures watches { search.new.watches ≡ search.old.watches }
+{
     search.wants.push(want)?;
     Ok(())
 }
 
-/// Looks for loads of bytes of a frame, or for stores to them, too.
-fn watch(
-    search: &mut Search,
-    frame: u32,
-    first: u32,
-    last: u32,
-    stores: bool,
-) -> Result<(), AllocError> {
-    search.watches.push(Watch {
+/// Looks for loads or stores, too.
+fn watch(search: &mut Search, watch: Watch) -> Result<(), AllocError>
+    ensures watches { OnOk result (search.new.watches.items ≡ search.old.watches.items ++ watch ∷ []) }
+    ensures wants { search.new.wants ≡ search.old.wants }
+{
+    search.watches.push(watch)?;
+    Ok(())
+}
+
+/// Bytes of a frame, of which one looks for stores or for loads.
+fn bytes_of(frame: u32, first: u32, last: u32, stores: bool) -> Watch
+    ensures { result ≡ bytes_of frame first last (not stores) stores }
+{
+    Watch {
         frame,
         first,
         last,
         loads: !stores,
         stores,
-    })?;
-    Ok(())
+    }
 }
 
 fn write_stop(out: &mut String, found: bool) -> Result<(), AllocError>
@@ -57,15 +95,16 @@ fn write_last(out: &mut String, found: Option<usize>) -> Result<(), AllocError>
 impl Session {
     /// A turn of the run, or its end.
     fn within(&self, to: u32) -> usize
-        ensures { result ≡ min to (length self.now.recording.events) }
+        ensures { result ≡ turn_of self.now.recording to }
     {
         (to as usize).min(self.recording.events().len())
     }
 
     /// Goes to a turn, or to the end.
     fn go(&mut self, to: u32) -> Result<(), AllocError>
-        ensures turn { OnOk result (self.new.recording.turn ≡ min to (length self.old.recording.events)) }
+        ensures turn { OnOk result (self.new.recording.turn ≡ turn_of self.old.recording to) }
         ensures same { IsSameRun self.old.recording self.new.recording }
+        ensures search { self.new.search ≡ self.old.search }
     {
         let to = self.within(to);
         self.recording.go(to)
@@ -75,6 +114,7 @@ impl Session {
     fn run(&mut self, out: &mut String, to: u32) -> Result<(), AllocError>
         ensures ran { OnOk result (HasRun self.old.recording self.new.recording self.old.search to (string_bytes out.old) (string_bytes out.new)) }
         ensures same { IsSameRun self.old.recording self.new.recording }
+        ensures search { self.new.search ≡ self.old.search }
     {
         let to = self.within(to).max(self.recording.turn());
         let found = self.recording.run(&self.search, to)?;
@@ -85,6 +125,7 @@ impl Session {
     fn last(&mut self, out: &mut String, to: u32) -> Result<(), AllocError>
         ensures passed { OnOk result (HasPassed self.old.recording self.new.recording self.old.search to (string_bytes out.old) (string_bytes out.new)) }
         ensures same { IsSameRun self.old.recording self.new.recording }
+        ensures search { self.new.search ≡ self.old.search }
     {
         let to = self.within(to).max(self.recording.turn());
         let found = self.recording.last(&self.search, to)?;
@@ -93,21 +134,24 @@ impl Session {
 
     /// Tells what a page leads to.
     fn page(&mut self, out: &mut String, pd: u32, page: u32) -> Result<(), AllocError>
+        ensures told { OnOk result (string_bytes out.new ≡ string_bytes out.old ++ page_line (page_at (at_turn self.old.recording.opening self.old.recording.events self.old.recording.turn) pd page)) }
         ensures kept { self.new.recording ≡ self.old.recording }
+        ensures search { self.new.search ≡ self.old.search }
     {
         let page = self.recording.reach(pd, page);
         write_page(out, page.map(|(frame, rights)| (frame, rights.bits())))
     }
 
-    /// Does what is asked in a line, and answers it. The run stays the same, and one is in the state of a turn of it. It refuses for
-    /// want of memory alone.
-    pub fn serve(
+    /// Goes where a command asks one to go, and tells what it asks for.
+    fn follow(
         &mut self,
         alloc: Global,
         out: &mut String,
         command: Command,
     ) -> Result<(), AllocError>
+        ensures answered { OnOk result (IsAnswered command self.old.search self.old.recording self.new.recording (string_bytes out.old) (string_bytes out.new)) }
         ensures same { IsSameRun self.old.recording self.new.recording }
+        ensures search { self.new.search ≡ self.old.search }
     {
         match command {
             Command::Tell(reading) => tell(alloc, out, &self.recording, reading),
@@ -116,23 +160,44 @@ impl Session {
             Command::Go(to) => self.go(to),
             Command::Run(to) => self.run(out, to),
             Command::Last(to) => self.last(out, to),
-            Command::Break(pd, address) => want(&mut self.search, Want::At { pd, address }),
-            Command::By(ec) => want(&mut self.search, Want::By { ec }),
-            Command::Loads(frame, first, last) => {
-                watch(&mut self.search, frame, first, last, false)
-            }
-            Command::Stores(frame, first, last) => {
-                watch(&mut self.search, frame, first, last, true)
-            }
-            Command::Clear => {
-                self.search.wants.clear();
-                self.search.watches.clear();
+            Command::Keep(bytes) => {
+                self.recording.keep_within(bytes as usize);
                 Ok(())
             }
-            Command::Keep(spacing) => {
-                self.recording.keep_each(spacing as usize);
-                Ok(())
-            }
+            _ => Ok(()),
+        }
+    }
+
+    /// Does what a line asks, and answers it. Where it refuses, for want of memory alone, one is in the state of a turn of the same run.
+    pub fn serve(
+        &mut self,
+        alloc: Global,
+        out: &mut String,
+        command: Command,
+    ) -> Result<(), AllocError>
+        ensures answered { OnOk result (IsAnswered command self.old.search self.old.recording self.new.recording (string_bytes out.old) (string_bytes out.new)) }
+        ensures wants { OnOk result (self.new.search.wants.items ≡ wants_after command self.old.search.wants.items) }
+        ensures watches { OnOk result (self.new.search.watches.items ≡ watches_after command self.old.search.watches.items) }
+        ensures same { IsSameRun self.old.recording self.new.recording }
+    {
+        self.follow(alloc, out, command)?;
+        look_for(&mut self.search, command)
+    }
+
+    /// Replies to a line, by what it asks; what is told goes to `out`. Where memory was refused, one is in the state of the turn that the
+    /// reply names.
+    pub fn reply(&mut self, alloc: Global, out: &mut String, asked: Option<Command>) -> Reply
+        ensures replied { IsReplied asked result self.old self.new (string_bytes out.old) (string_bytes out.new) }
+        ensures same { IsSameRun self.old.recording self.new.recording }
+    {
+        let Some(command) = asked else {
+            return Reply::No;
+        };
+        let served = self.serve(alloc, out, command);
+        let turn = self.recording.turn();
+        match served {
+            Ok(()) => Reply::Done(turn),
+            Err(_) => Reply::Refused(turn),
         }
     }
 }

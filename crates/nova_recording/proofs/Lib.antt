@@ -1,2 +1,4 @@
+pub mod Copied
 pub mod Expanding
 pub mod Turns
+pub mod Watched

@@ -1,4 +1,5 @@
 pub use Rattle.nova_shared.specs.Finished
+pub mod Copies
 pub mod Recordings
 pub mod Watches
 pub mod Wants

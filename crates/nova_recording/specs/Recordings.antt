@@ -6,7 +6,7 @@ use Rattle.nova_model.specs.Runs.{IsFreeOfIdle, run}
 use Rattle.nova_model.specs.declared.event.Event.{Event}
 use Rattle.nova_shared.specs.Finished.{IsFinished}
 use Rattle.nova_shared.specs.declared.finished.Finished.{Finished}
-use Rattle.nova_recording.specs.declared.recording.Kept.{Kept}
+use Rattle.nova_recording.specs.declared.copies.Kept.{Kept}
 
 -- the processors whose turns were taken
 abbrev pub order_of : List Event → List ℕ

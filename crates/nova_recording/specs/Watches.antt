@@ -8,9 +8,10 @@ use Rattle.rv_model.specs.declared.instr.Instr.{Instr}
 use Rattle.rv_model.specs.declared.mnemonic.Mnemonic.{Mnemonic}
 use Rattle.rv_model.specs.declared.mnemonic.Mnemonic.TheVariants.{Lb, Lh, Lw, Lbu, Lhu, Sb, Sh, Sw}
 use Rattle.rv_model.specs.Table.{mnemonic_of, operands_of}
+use Rattle.nova_model.specs.AddressSpaces.{own_page}
 use Rattle.nova_model.specs.Delegations.{reach}
 use Rattle.nova_model.specs.Memory.{Memory, read}
-use Rattle.nova_model.specs.State.{KernelState, context_at}
+use Rattle.nova_model.specs.State.{KernelState, context_at, is_thread}
 use Rattle.nova_guest.specs.declared.page.Page.{Page}
 use Rattle.nova_range.specs.declared.rights.Rights.{Rights}
 use Rattle.nova_model.specs.declared.context.EcState.{EcState}
@@ -57,8 +58,11 @@ accessed k next = option_and_then (access_in (context_at k next.ec)) (option_and
 abbrev pub touch_in : Access → ℕ → Touch
 touch_in a frame = record { frame = frame; first = a.address % 4096; last = a.address % 4096 + a.extent.last; stores = a.extent.stores }
 
+-- what an address leads to; on a thread's own page there are its message words, and no frame
 abbrev pub touch_by : KernelState → Next → Access → Option Touch
-touch_by k next a = option_map (λ (p : ℕ × Rights). touch_in a p.0) (option_map (λ (p : Page). (p.frame, p.rights)) (reach k.delegations.list next.pd (a.address / 4096)))
+touch_by k next a =
+    if is_thread k next.ec && (a.address / 4096 == own_page) then None
+    else option_map (λ (p : ℕ × Rights). touch_in a p.0) (option_map (λ (p : Page). (p.frame, p.rights)) (reach k.delegations.list next.pd (a.address / 4096)))
 
 abbrev pub touched : KernelState → Next → Option Touch
 touched k next = option_and_then (touch_by k next) (accessed k next)

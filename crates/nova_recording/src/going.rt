@@ -1,22 +1,13 @@
-ghost use Rattle.std.specs.Prelude.{◌≡◌, ◌+◌, ◌<◌, ◌≤◌, length, IfSome, OnOk};
-ghost use Rattle.std.specs.List.{Contains};
+ghost use Rattle.std.specs.Prelude.{◌≡◌, ◌+◌, ◌<◌, ◌≤◌, length, OnOk};
 ghost use Rattle.nova_recording.specs.Recordings.{IsSameRun};
 
-use crate::recording::{Kept, Recording};
+use crate::recording::Recording;
 use std::alloc::AllocError;
-
-/// The newest that is kept of the turns up to one.
-fn newest(kept: &[Kept], to: usize) -> Option<&Kept>
-    ensures kept { IfSome result (λ k. Contains kept.now k.now) }
-    ensures before { IfSome result (λ k. k.now.turn ≤ to) }
-{
-    kept.iter().rev().find(|kept| kept.turn <= to)
-}
 
 impl Recording {
     /// Whether a state is kept of a turn after the present one and up to another.
     fn is_kept_before(&self, to: usize) -> bool {
-        matches!(newest(&self.kept, to), Some(kept) if kept.turn > self.turn())
+        matches!(self.copies.newest(to), Some(kept) if kept.turn > self.turn())
     }
 
     /// Begins anew, from the state in which the run began.
@@ -34,7 +25,7 @@ impl Recording {
         ensures turn { OnOk result (self.new.turn ≤ to) }
         ensures same { IsSameRun self.old self.new }
     {
-        let Some(kept) = newest(&self.kept, to) else {
+        let Some(kept) = self.copies.newest(to) else {
             return self.restart();
         };
         let turn = kept.turn;

@@ -2,7 +2,9 @@ ghost use Rattle.std.specs.Prelude.{◌≡◌, ◌+◌, ◌<◌, ◌≤◌, [], 
 ghost use Rattle.nova_model.specs.Delegations.{reach};
 ghost use Rattle.nova_recording.specs.Recordings.{IsAt, IsDone, IsSameRun};
 
+use crate::copies::{Copies, Kept};
 use crate::events::listed;
+use crate::sizes::bytes_of;
 use nova_kernel::{Event, Kernel, Rights};
 use nova_laws::a_trace_has_an_event_a_turn;
 use nova_shared::Finished;
@@ -11,28 +13,19 @@ use std::alloc::{AllocError, Global};
 use std::marker::Model;
 use std::mem;
 
-/// The state after so many turns of a run, to go on from.
-#[derive(Drop)]
-pub(crate) struct Kept {
-    pub(crate) turn: usize,
-    pub(crate) kernel: Kernel,
-}
-
 /// A run that was made, in the state after so many of its turns. States on the way are kept, so that it goes back from the newest of
-/// them.
+/// them; each is the state of its own turn.
 #[derive(Drop)]
 pub struct Recording {
     opening: Kernel,
     events: Vec<Event>,
     kernel: Kernel,
     turn: usize,
-    pub(crate) kept: Vec<Kept>,
-    spacing: usize,
-    next: usize,
+    pub(crate) copies: Copies,
 }
 
 impl Model for Recording {
-    ghost use Rattle.std.specs.List.{AllByRecursion};
+    ghost use Rattle.std.specs.Prelude.{All};
     ghost use Rattle.nova_recording.specs.Recordings.{RecordingView, AreTurns, IsAt, IsKept};
 
     ghost Value = { RecordingView };
@@ -46,7 +39,7 @@ impl Model for Recording {
     } };
 
     ghost invariant = { λ r. AreTurns r.opening.state r.events.items × (IsAt r.opening.state r.events.items r.turn r.kernel.state
-        × AllByRecursion (IsKept r.opening.state r.events.items) r.kept.items) };
+        × All (IsKept r.opening.state r.events.items) r.copies) };
 }
 
 /// What is let go here is dropped apart from all else.
@@ -93,9 +86,7 @@ impl Recording {
                     events,
                     kernel,
                     turn: 0,
-                    kept: Vec::new(alloc),
-                    spacing: usize::MAX,
-                    next: usize::MAX,
+                    copies: Copies::none(alloc),
                 })
             }
             Err(error) => {
@@ -105,12 +96,14 @@ impl Recording {
         }
     }
 
-    /// From the present turn on a state is kept each `spacing` turns, where none was yet. What was kept before stays.
-    pub fn keep_each(&mut self, spacing: usize)
+    /// From the present turn on states are kept on the way, to go back from, in at most so many bytes; none for 0. What was kept before is
+    /// let go. What a state takes is reckoned by what it has of frames, objects, derivations and bytes in the console log.
+    pub fn keep_within(&mut self, bytes: usize)
         ensures { self.new ≡ self.old }
     {
-        self.spacing = spacing;
-        self.next = self.next.min(self.turn);
+        let room = bytes / bytes_of(&self.kernel);
+        let spacing = self.events.len() / room.max(1);
+        self.copies.begin(bytes, spacing.max(1), self.turn);
     }
 
     /// How many turns were taken to the present state, which is that after the first so many entries of the run's order.
@@ -137,7 +130,8 @@ impl Recording {
 
     /// The kernel in the present state.
     pub fn kernel(&self) -> &Kernel
-        ensures { result.now.state ≡ self.now.state }
+        ensures state { result.now.state ≡ self.now.state }
+        ensures at { IsAt self.now.opening self.now.events self.now.turn self.now.state }
     {
         &self.kernel
     }
@@ -145,6 +139,7 @@ impl Recording {
     /// What a page of a protection domain leads to in the present state: a frame, and what is allowed there; none where it leads nowhere.
     pub fn reach(&mut self, pd: u32, page: u32) -> Option<(u32, Rights)>
         ensures page { result ≡ option_map (λ p. (p.frame, p.rights)) (reach self.old.state.delegations.list pd page) }
+        ensures at { IsAt self.old.opening self.old.events self.old.turn self.old.state }
         ensures kept { self.new ≡ self.old }
     {
         self.kernel.reach(pd, page)
@@ -162,17 +157,16 @@ impl Recording {
     fn keep(&mut self) -> Result<(), AllocError>
         ensures { self.new ≡ self.old }
     {
-        if self.turn < self.next {
+        if !self.copies.is_due(self.turn) {
             return Ok(());
         }
-        self.kept.reserve(1)?;
+        self.copies.make_room(bytes_of(&self.kernel));
+        if !self.copies.is_due(self.turn) {
+            return Ok(());
+        }
         let kernel = self.kernel.copy()?;
-        self.kept.push_reserved(Kept {
-            turn: self.turn,
-            kernel,
-        });
-        self.next = self.turn.saturating_add(self.spacing);
-        Ok(())
+        let turn = self.turn;
+        self.copies.add(Kept { turn, kernel })
     }
 
     /// Goes on by one turn. It refuses for want of memory alone, and then the turn is not taken.

@@ -98,7 +98,6 @@ impl Recording {
         let Some(next) = self.next() else {
             return false;
         };
-        next.is_any(&search.wants)
-            || (!search.watches.is_empty() && self.is_seen(next, &search.watches))
+        next.is_any(&search.wants) || self.is_seen(next, &search.watches)
     }
 }

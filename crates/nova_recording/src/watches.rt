@@ -1,13 +1,19 @@
 ghost use Rattle.std.specs.Prelude.{◌≡◌, ◌<◌, IfSome};
 ghost use Rattle.std.specs.List.{list_any};
+ghost use Rattle.nova_model.specs.State.{is_thread};
 ghost use Rattle.nova_recording.specs.Watches.{access_of, accessed, extent_of, is_seen, is_seen_by, touched, touch_in, word_at};
 ghost use Rattle.rv_core.specs.Encodable.{IsEncodable};
 
 use crate::recording::Recording;
 use crate::wants::Next;
 use nova_guest::words::read_word;
+use nova_kernel::Kernel;
+use nova_objects::{EcKind, Object};
 use rv_core::table::{mnemonic, operands};
 use rv_core::{Instr, Mnemonic, Regs, decode};
+
+/// The page of a thread's own message words, where no delegation leads.
+const OWN_PAGE: u32 = 0xfffff;
 
 /// How far the last byte is, from 0 to 3, that an instruction loads or stores from its address on, and whether it stores.
 #[derive(Clone, Copy)]
@@ -111,6 +117,16 @@ fn touch_in(access: Access, frame: u32) -> Touch
     }
 }
 
+/// Whether an object is a thread, which has a page of its own.
+fn is_thread(kernel: &Kernel, ec: u32) -> bool
+    ensures { result ≡ is_thread kernel.now.state ec }
+{
+    match kernel.object(ec) {
+        Some(Object::Ec { kind, .. }) => !matches!(kind, EcKind::Vcpu),
+        _ => false,
+    }
+}
+
 impl Recording {
     /// The word at an address of a protection domain, where RAM is; the address is a multiple of 4.
     fn word_at(&mut self, pd: u32, pc: u32) -> Option<u32>
@@ -140,21 +156,29 @@ impl Recording {
         access_of(&context.regs, instr)
     }
 
-    /// The bytes of a frame that the next instruction loads or stores.
+    /// The bytes of a frame that the next instruction loads or stores; none where these are a thread's message words.
     fn touched(&mut self, next: Next) -> Option<Touch>
         ensures touch { result ≡ touched self.old.state next }
         ensures kept { self.new ≡ self.old }
     {
         let access = self.accessed(next)?;
-        let (frame, _) = self.reach(next.pd, access.address / 4096)?;
+        let page = access.address / 4096;
+        if is_thread(self.kernel(), next.ec) && page == OWN_PAGE {
+            return None;
+        }
+        let (frame, _) = self.reach(next.pd, page)?;
         Some(touch_in(access, frame))
     }
 
     /// Whether the next instruction loads or stores what is watched.
+    #[tactic(auto, using(crate::proofs::Watched::nothing_seen))]
     pub(crate) fn is_seen(&mut self, next: Next, watches: &[Watch]) -> bool
         ensures seen { result ≡ is_seen_by watches.now (touched self.old.state next) }
         ensures kept { self.new ≡ self.old }
     {
+        if watches.is_empty() {
+            return false;
+        }
         match self.touched(next) {
             Some(touch) => touch.is_any(watches),
             None => false,

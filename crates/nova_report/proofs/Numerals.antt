@@ -1,8 +1,9 @@
--- What `{:08x}` and `{:02x}` write.
+-- What `{:08x}` and `{:02x}` write, and how many digits numbers have.
 use Rattle.std.proofs.Common.{◌≡◌, ◌∙◌, refl, sym, ap, ℕ, zero, suc, ◌+◌, ◌-◌, ◌/◌, ◌%◌, ◌^◌, ◌<◌, ◌≤◌, Bool, true, false, ◌&&◌, List, [], ◌∷◌, ◌++◌, length, replicate, arith}
 use Rattle.std.specs.Prelude.{◌==◌, nat_eq, nat_lt, if◌then◌else◌}
-use Rattle.std.specs.Fmt.{digits, digits_onto, digit_glyph, padded_integral, char_count, format_spec}
+use Rattle.std.specs.Fmt.{decimal, digits, digits_onto, digit_glyph, padded_integral, char_count, format_spec}
 use Rattle.std.proofs.lemmas.Bool.Decides.{nat_tests}
+use Rattle.std.proofs.lemmas.Fmt.{length-decimal-le}
 use Rattle.std.proofs.lemmas.List.{append_assoc, append-nil, replicate_more}
 use Rattle.nova_report.specs.Words.{digit, hexadecimal}
 
@@ -113,3 +114,6 @@ word_is n less = number_is 7 n (omega arith) less
 
 pub byte_is : (n : ℕ) → n < 2 ^ 8 → padded_integral (format_spec 32 0 4 2 (2 ^ 64 - 1)) false [] (digits 16 false n) ≡ hexadecimal 2 n
 byte_is n less = number_is 1 n (omega arith) less
+
+pub few_digits : (n : ℕ) → n < 2 ^ 64 → length (decimal n) ≤ 20
+few_digits n fits = length-decimal-le 20 n (omega arith) (omega arith) fits

@@ -1,4 +1,5 @@
 pub use Rattle.nova_model.specs.State
 pub mod Words
+pub mod Lines
 pub mod Report
 pub mod Summary

@@ -119,6 +119,10 @@ derivation_line d = codes "cap " ++ (decimal d.id ++ (codes " " ++ (parent_word 
 abbrev pub derivation_lines : KernelState → List ℕ
 derivation_lines k = flat_map derivation_line k.delegations.list
 
+-- what the kernel holds at the end, and each source
+abbrev pub sections : KernelState → List Event → List ℕ
+sections k trace = context_lines k ++ (budget_lines k ++ (semaphore_lines k ++ (source_lines (map (λ a. a.alarm) k.times.alarms) trace
+    ++ (console_lines k ++ derivation_lines k))))
+
 unfoldable pub report : KernelState → List Event → List ℕ
-report k trace = run_line k ++ (event_lines trace ++ (context_lines k ++ (budget_lines k ++ (semaphore_lines k
-    ++ (source_lines (map (λ a. a.alarm) k.times.alarms) trace ++ (console_lines k ++ derivation_lines k))))))
+report k trace = run_line k ++ (event_lines trace ++ sections k trace)

@@ -1,7 +1,8 @@
-ghost use Rattle.std.specs.Prelude.{◌≡◌, ◌+◌, ◌<◌, ◌^◌, ◌++◌, false, replicate, OnOk, string_bytes};
+ghost use Rattle.std.specs.Prelude.{◌≡◌, ◌+◌, ◌<◌, ◌≤◌, ◌^◌, ◌++◌, false, length, replicate, OnOk};
 ghost use Rattle.nova_report.specs.Words.{event_word};
 ghost use Rattle.nova_report.specs.Report.{event_line, event_lines, is_silent, lines_from};
 
+use crate::line::Line;
 use nova_model::{Event, EventKind};
 use nova_trace::{Repeated, Trace};
 use std::alloc::AllocError;
@@ -14,7 +15,8 @@ fn is_silent(kind: EventKind) -> bool
 
 /// The word of a kind of event.
 pub fn event_word<'a>(kind: EventKind) -> &'a str
-    ensures { result.now ≡ event_word kind }
+    ensures word { result.now ≡ event_word kind }
+    ensures short { length result.now ≤ 6 }
 {
     match kind {
         EventKind::Step => "step",
@@ -36,26 +38,30 @@ pub fn event_word<'a>(kind: EventKind) -> &'a str
     }
 }
 
-fn write_event(out: &mut String, place: u64, event: Event) -> Result<(), AllocError>
-    ensures { OnOk result (string_bytes out.new ≡ string_bytes out.old ++ event_line (place, event)) }
+fn write_event(out: &mut Vec<u8>, place: u64, event: Event) -> Result<(), AllocError>
+    ensures { OnOk result (out.new.items ≡ out.old.items ++ event_line (place, event)) }
 {
-    let Event {
-        cpu,
-        ec,
-        kind,
-        a,
-        b,
-        ..
-    } = event;
-    let word = event_word(kind);
-    writeln!(out, "at {place} {cpu} {ec} {word} {a} {b}")
+    let mut line = Line::new();
+    line.put_number(u64::from(event.b));
+    line.put(b" ");
+    line.put_number(u64::from(event.a));
+    line.put(b" ");
+    line.put(event_word(event.kind).as_bytes());
+    line.put(b" ");
+    line.put_number(u64::from(event.ec));
+    line.put(b" ");
+    line.put_number(u64::from(event.cpu));
+    line.put(b" ");
+    line.put_number(place);
+    line.put(b"at ");
+    out.extend_from_slice(line.text())
 }
 
 /// The lines of an event that has one and comes so many times, after a place.
-fn write_times(out: &mut String, place: u64, event: Event, count: u64) -> Result<(), AllocError>
+fn write_times(out: &mut Vec<u8>, place: u64, event: Event, count: u64) -> Result<(), AllocError>
     requires told { is_silent event.kind ≡ false }
     requires few { place + count < 2 ^ 64 }
-    ensures { OnOk result (string_bytes out.new ≡ string_bytes out.old ++ lines_from (place + 1) (replicate count event)) }
+    ensures { OnOk result (out.new.items ≡ out.old.items ++ lines_from (place + 1) (replicate count event)) }
 {
     for i in 0..count {
         write_event(out, place + i + 1, event)?;
@@ -64,9 +70,9 @@ fn write_times(out: &mut String, place: u64, event: Event, count: u64) -> Result
 }
 
 /// The lines of an event that comes so many times, after a place: none where it is silent.
-fn write_entry(out: &mut String, place: u64, entry: &Repeated) -> Result<(), AllocError>
+fn write_entry(out: &mut Vec<u8>, place: u64, entry: &Repeated) -> Result<(), AllocError>
     requires few { place + entry.now.count < 2 ^ 64 }
-    ensures { OnOk result (string_bytes out.new ≡ string_bytes out.old ++ lines_from (place + 1) (replicate entry.now.count entry.now.event)) }
+    ensures { OnOk result (out.new.items ≡ out.old.items ++ lines_from (place + 1) (replicate entry.now.count entry.now.event)) }
 {
     if is_silent(entry.event.kind) {
         return Ok(());
@@ -75,8 +81,8 @@ fn write_entry(out: &mut String, place: u64, entry: &Repeated) -> Result<(), All
 }
 
 /// A line for each event but step and tick, by place from 1.
-pub fn write_events(out: &mut String, trace: &Trace) -> Result<(), AllocError>
-    ensures { OnOk result (string_bytes out.new ≡ string_bytes out.old ++ event_lines trace.now.items) }
+pub fn write_events(out: &mut Vec<u8>, trace: &Trace) -> Result<(), AllocError>
+    ensures { OnOk result (out.new.items ≡ out.old.items ++ event_lines trace.now.items) }
 {
     let entries = trace.entries();
     let mut place = 0;

@@ -6,6 +6,7 @@ mod consoles;
 mod derivations;
 mod events;
 mod hex;
+mod line;
 mod objects;
 mod run;
 mod sources;

@@ -7,6 +7,11 @@ use Rattle.nova_model.specs.Runs.{run}
 use Rattle.nova_model.specs.State.{KernelState}
 use Rattle.nova_laws.proofs.Passes.{run_append}
 use Rattle.nova_burst.specs.Lending.{ComesAfter, LeaseView, StemsFrom}
+use Rattle.nova_lock.specs.Seats.{SeatView}
+
+-- a use of the lock leaves its seat the number
+pub number_kept : {T : Type 0} (s t : SeatView T) → t ≡ record s { front = t.front } → s.number ≡ t.number
+number_kept {T} s t same = sym (ap (λ (v : SeatView T). v.number) same)
 
 -- a lease that was taken after some turns comes after them in each history that begins with them
 pub comes_after : (k : KernelState) (cpu : ℕ) (l : LeaseView) (found front h : List ℕ) (n : ℕ) → front ≡ found ++ replicate n cpu → n ≡ 0 → StemsFrom l (run k found) → IsPrefix front h → ComesAfter l (run k h)

@@ -1,7 +1,9 @@
-ghost use Rattle.std.specs.Prelude.{◌≡◌, IfSome};
+ghost use Rattle.std.specs.Prelude.{◌≡◌, ◌+◌, IfSome};
 ghost use Rattle.nova_burst.specs.Lending.{StemsFrom, turns_of};
 ghost use Rattle.nova_shared.specs.Ran.{IsCpuSeat};
+ghost use Rattle.nova_shared.specs.Seen.{mine};
 
+use crate::gate::Gate;
 use nova_burst::{Lease, commit, lease};
 use nova_kernel::Kernel;
 use nova_leases::CommitDone;
@@ -12,23 +14,31 @@ use std::sync::Wait;
 /// How many pages are copied for a burst at most.
 const PAGES: usize = 16;
 
-/// For how many instructions a lease is worth its cost at least.
+/// For how many instructions a lease is worth its cost at least; and where no other worker could use the kernel meanwhile.
 const LEAST: u32 = 256;
 
-/// Whether little is left of the quantum of the scheduling context that is chosen on a processor.
-fn has_little_left(kernel: &Kernel, cpu: u32) -> bool {
+const LEAST_ALONE: u32 = 4096;
+
+/// For how many instructions a lease is worth its cost, among so many workers.
+fn least_among(workers: u64) -> u32 {
+    if workers < 2 { LEAST_ALONE } else { LEAST }
+}
+
+/// Whether less than so much is left of the quantum of the scheduling context that is chosen on a processor.
+fn has_little_left(kernel: &Kernel, cpu: u32, least: u32) -> bool {
     match kernel.choose(cpu) {
-        Some(sc) => matches!(kernel.left(sc), Some(left) if left < LEAST),
+        Some(sc) => matches!(kernel.left(sc), Some(left) if left < least),
         None => false,
     }
 }
 
-/// A lease of the virtual CPU that acts on a processor, where that can be had and its quantum is worth it. One that is refused for want of memory is none.
-fn leased(kernel: &mut Kernel, alloc: Global, cpu: u32) -> Option<Lease>
+/// A lease of the virtual CPU that acts on a processor, where that can be had and at least so much is left of its quantum. One that is refused for want
+/// of memory is none.
+fn leased(kernel: &mut Kernel, alloc: Global, cpu: u32, least: u32) -> Option<Lease>
     ensures stems { IfSome result (λ l. (l.run.cpu ≡ cpu) × StemsFrom l kernel.old.state) }
     ensures kept { kernel.new ≡ kernel.old }
 {
-    if has_little_left(kernel, cpu) {
+    if has_little_left(kernel, cpu, least) {
         return None;
     }
     let Ok(leased) = lease(kernel, alloc, cpu, PAGES) else {
@@ -51,6 +61,7 @@ fn turns_of(done: CommitDone) -> u64
 #[derive(Drop)]
 struct Leasing {
     alloc: Global,
+    least: u32,
     lease: Option<Lease>,
     left: u64,
 }
@@ -65,7 +76,7 @@ impl Block for Leasing {
 
     #[tactic(auto, using(nova_shared::proofs::Stepping::no_steps))]
     fn act(&mut self, kernel: &mut Kernel, cpu: u32, left: u64) -> u64 {
-        self.lease = leased(kernel, self.alloc, cpu);
+        self.lease = leased(kernel, self.alloc, cpu, self.least);
         self.left = left;
         0
     }
@@ -94,26 +105,38 @@ impl Block for Committing {
     }
 }
 
-/// A burst of the processor of a seat, of at most so many instructions, and how many turns it was: it is leased in one use of the kernel, runs on its copies while others use the
-/// kernel, and is committed in another use. It was none where nothing could be leased, and where nothing was committed.
-pub(crate) fn burst<R: Wait>(
+/// How many instructions a burst has at most, where there may be so many turns more: its worker's share of them, or few, so that the last bursts of
+/// all workers can be committed. More than there was room for would be run in vain.
+fn share_of(left: u64, workers: u64) -> u64 {
+    let share = left / workers.max(1);
+    share.max(u64::from(LEAST)).min(left)
+}
+
+/// A burst of the processor of a seat, of at most so many instructions, beside other workers; and how many turns it was. It is leased in one use of the
+/// kernel, runs on its copies while others use the kernel, and is committed in another use. It was none where nothing could be leased, and where nothing
+/// was committed.
+pub(crate) fn burst<R: Wait, G: Gate>(
     rt: &R,
     alloc: Global,
     shared: &Shared,
+    gate: &G,
     seat: &mut CpuSeat,
     most: u64,
+    workers: u64,
 ) -> u64
-    requires { IsCpuSeat shared.now seat.old }
-    ensures { seat.new ≡ record seat.old { front = seat.new.front } }
+    requires own { IsCpuSeat shared.now seat.old }
+    requires gate { G.called gate.now seat.old.number (mine seat.old) }
+    ensures seat { seat.new ≡ record seat.old { front = seat.new.front } }
+    ensures taken { mine seat.new ≡ mine seat.old + result }
 {
     let mut leasing = Leasing {
         alloc,
+        least: least_among(workers),
         lease: None,
         left: 0,
     };
     shared.block(rt, seat, &mut leasing);
-    // More than there was room for would be run in vain.
-    let most = most.min(leasing.left);
+    let most = most.min(share_of(leasing.left, workers));
     let Some(mut lease) = leasing.lease else {
         return 0;
     };

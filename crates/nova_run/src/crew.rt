@@ -32,6 +32,11 @@ impl Crew {
         }
     }
 
+    /// How many workers there are.
+    pub(crate) fn workers(&self) -> u64 {
+        self.workers
+    }
+
     /// Whether there is one worker.
     pub(crate) fn is_lone(&self) -> bool {
         self.workers < 2
@@ -51,12 +56,14 @@ impl Crew {
 
     /// A number that nobody foresees.
     fn draw(&self) -> u64 {
-        self.noise
+        let drawn = self
+            .noise
             .fetch_add(1, Ordering::SeqCst)
-            .wrapping_mul(SPREAD)
+            .wrapping_mul(SPREAD);
+        (drawn ^ (drawn >> 32)).wrapping_mul(SPREAD)
     }
 
-    /// How long the pauses of a worker are at most in this round. It differs by much from worker to worker, and from run to run.
+    /// How long the pauses of a worker are at most in its next step. It differs by much from step to step, and from run to run.
     pub(crate) fn pace(&self) -> u64 {
         PACES[(self.draw() >> 32) as usize % PACES.len()]
     }

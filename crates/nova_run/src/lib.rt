@@ -6,6 +6,7 @@ mod crew;
 mod fault;
 mod gate;
 mod orders;
+mod riding;
 mod rounds;
 mod turns;
 mod workers;

@@ -4,6 +4,7 @@ ghost use Rattle.nova_run.specs.Finished.{IsFinished, IsFreeOfIdle};
 ghost use Rattle.nova_run.specs.UnderWay.{IsReady, Passed, taken};
 
 use crate::fault::RunFault;
+use crate::riding::{FEW, Riding};
 use nova_kernel::{Kernel, StepsTaken, Turn};
 use nova_order::Order;
 use nova_shared::Finished;
@@ -131,6 +132,7 @@ fn steps(run: &mut Finished, cpu: u32, most: u64) -> Result<u64, AllocError>
 }
 
 /// The same on and on, until none is taken: a quantum may end on the way.
+#[inline(never)]
 fn ride_on(run: &mut Finished, cpu: u32, most: u64) -> Result<u64, AllocError>
     requires ready { IsReady run.old }
     requires more { length run.old.trace.items + most ≤ run.old.limit }
@@ -152,9 +154,15 @@ fn ride_on(run: &mut Finished, cpu: u32, most: u64) -> Result<u64, AllocError>
     Ok(most)
 }
 
-/// A turn of a processor, and after a plain step those that come next: how many turns, at most so many; none where the processor is idle. There are
-/// places for their events.
-pub(crate) fn go(run: &mut Finished, cpu: u32, most: u64) -> Result<u64, AllocError>
+/// A turn of a processor, and where plain steps are to be taken at once those that come next: how many turns, at most so many; none where the processor
+/// is idle. There are places for their events.
+#[inline(always)]
+pub(crate) fn go(
+    run: &mut Finished,
+    riding: &mut Riding,
+    cpu: u32,
+    most: u64,
+) -> Result<u64, AllocError>
     requires ready { IsReady run.old }
     requires some { 0 < most }
     requires more { length run.old.trace.items + most ≤ run.old.limit }
@@ -169,9 +177,10 @@ pub(crate) fn go(run: &mut Finished, cpu: u32, most: u64) -> Result<u64, AllocEr
     if !turn(run, cpu)? {
         return Ok(0);
     }
-    if !run.trace.ends_with_step() {
+    if !riding.follows(run.trace.ends_with_step()) || most < FEW {
         return Ok(1);
     }
     let more = ride_on(run, cpu, most - 1)?;
+    riding.went(more);
     Ok(more + 1)
 }

@@ -11,7 +11,7 @@ ghost use Rattle.nova_shared.specs.Ran.{Ran, IsCpuSeat, AreCpuSeats};
 use crate::bursts::burst;
 use crate::crew::Crew;
 use crate::fault::RunFault;
-use crate::gate::Gate;
+use crate::gate::{Gate, call, take, take_one};
 use crate::rounds::run_all;
 use crate::turns::{kept, let_go};
 use nova_kernel::Kernel;
@@ -45,11 +45,12 @@ const SHORTEST: u64 = 64;
 /// How much longer a pause between looks is at most with each of them.
 const LONGER: u64 = 8;
 
-/// How much a worker takes in a step: instructions of a burst, and else turns in one use of the kernel.
+/// How much a worker takes in a step: instructions of a burst, and else turns in one use of the kernel; and how many workers there are.
 #[derive(Clone, Copy)]
 struct Most {
     burst: u64,
     turns: u64,
+    workers: u64,
 }
 
 /// How many turns a step was, and whether it was a burst.
@@ -73,15 +74,15 @@ fn step<R: Wait, G: Gate>(
     ensures seat { seat.new ≡ record seat.old { front = seat.new.front } }
     ensures some { IfSome result (λ t. 0 < t.turns) }
 {
-    gate.at(seat.cpu(), seat.mine());
-    let turns = burst(rt, alloc, shared, seat, most.burst);
+    call(gate, seat);
+    let turns = burst(rt, alloc, shared, gate, seat, most.burst, most.workers);
     if turns > 0 {
         return Some(Taken {
             turns,
             by_burst: true,
         });
     }
-    let turns = shared.turns(rt, seat, most.turns);
+    let turns = take(rt, shared, gate, seat, most.turns);
     if turns == 0 {
         return None;
     }
@@ -96,8 +97,8 @@ fn look<R: Wait, G: Gate>(rt: &R, shared: &Shared, gate: &G, seat: &mut CpuSeat)
     requires { IsCpuSeat shared.now seat.old }
     ensures { seat.new ≡ record seat.old { front = seat.new.front } }
 {
-    gate.at(seat.cpu(), seat.mine());
-    match shared.turn(rt, seat) {
+    call(gate, seat);
+    match take_one(rt, shared, gate, seat) {
         Ok(SharedTurn::Stepped(_)) => Some(true),
         Ok(SharedTurn::Idle(_)) => Some(false),
         Ok(SharedTurn::AtLimit(_)) | Err(_) => None,
@@ -184,11 +185,6 @@ fn work<R: Wait, G: Gate>(
     ensures { seat.new ≡ record seat.old { front = seat.new.front } }
 {
     crew.meet();
-    let pace = if turns > FIRST_TURNS {
-        SHORTEST
-    } else {
-        crew.pace()
-    };
     let mut left = turns;
     let mut burst = turns;
     let at_once = if turns > FIRST_TURNS || crew.is_lone() {
@@ -198,6 +194,11 @@ fn work<R: Wait, G: Gate>(
     };
     let mut pauses = if turns > FIRST_TURNS { 0 } else { PAUSES };
     while left > 0 {
+        let pace = if turns > FIRST_TURNS {
+            SHORTEST
+        } else {
+            crew.pace()
+        };
         if pauses > 0 {
             pauses = pauses
                 .saturating_sub(SHORTEST)
@@ -206,6 +207,7 @@ fn work<R: Wait, G: Gate>(
         let most = Most {
             burst,
             turns: at_once,
+            workers: crew.workers(),
         };
         let Some(taken) = go(rt, alloc, shared, gate, crew, pace, seat, most) else {
             return;
@@ -333,10 +335,11 @@ fn share<R: Threads + Wait + Sync, G: Gate + Sync>(
 /// log for as many. In turn come sweeps, in which each processor has a turn that is not idle, and rounds, until a sweep takes no turn or there are
 /// `limit` turns. The workers of a round begin together. Each takes steps until it took 4,096 turns, in later rounds up to 1,048,576; while its
 /// processor is idle it looks again and again, some thousand times at most, until no other worker has anything to do. A step is a burst where a
-/// virtual CPU acts and can be leased: instructions up to the end of its quantum, which run on copies of up to 16 frames beside the other
-/// processors, and then count as so many turns. Else, and where a burst comes to nothing, it is one turn, and after a plain step up to 4,095 plain
-/// steps that come next, but of these none in the first round where there are several workers. Before each step and each look the worker calls the
-/// gate, with the processor and how many turns of it there were.
+/// virtual CPU acts, can be leased, and has 256 turns of its quantum left, or 4,096 where there is one worker: instructions up to the end of its
+/// quantum, and no more than its worker's share of the turns that may follow. They run on copies of up to 16 frames beside the other processors, and
+/// then count as so many turns. Else, and where a burst comes to nothing, it is one turn, and after a plain step up to 4,095 plain steps that come
+/// next, but of these none in the first round where there are several workers. Before each step and each look the worker calls the gate, with the
+/// processor and how many turns of it there were.
 ///
 /// Whatever the workers did, there is one order of turns, and what comes is the run over it. It ends quiet or has `limit` turns. The only error is
 /// `Memory`, where memory is refused. It may wait; what it promises holds if it returns.

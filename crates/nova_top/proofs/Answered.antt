@@ -7,8 +7,8 @@ use Rattle.nova_io.specs.Faults.{IsShared, OthersStay, Rose, Stay}
 use Rattle.nova_io.specs.Files.{with_appended}
 use Rattle.nova_top.specs.Exit.{IsUnwritten}
 use Rattle.nova_top.specs.Fetches.{AllOthersStay, Appends, Calls, Fetches, FetchesLines, FetchesOfRun, FetchesSecond, HasFiles, IsSharedByAny, LinesNamed, OtherFetchesStay, appended_before}
-use Rattle.nova_top.specs.Made.{IsMade}
-use Rattle.nova_top.specs.Main.{Answers, HasOrderFailed, IsOrderOut, IsOrderCut}
+use Rattle.nova_top.specs.Made.{IsOutcome}
+use Rattle.nova_top.specs.Main.{IsAnswer, HasOrderFailed, IsOrderOut, IsOrderCut}
 use Rattle.nova_top.specs.Names.{appended_names, names_of, names_in}
 use Rattle.nova_top.specs.Outside.{Depots, Sinks}
 use Rattle.nova_top.specs.Sent.{IsSent}
@@ -202,13 +202,13 @@ module _ {D : Type 0} (d : Depots D) where
   others_after command e old between new f stayed = others_stay command old between new (others_of command e old between f) stayed
 
 module _ {D O : Type 0} (d : Depots D) (o : Sinks O) (command : Command) (made : Outcome) (old between new : D) (before after : O) where
-  pub answered : (e : Exit) → IsMade d command old between made.is_complete made.order.items made.text.items → Stay (d.append_faults old) (d.append_faults between) →
-      IsSent d o command made e between new before after → Answers d o command e old new before after
+  pub answered : (e : Exit) → IsOutcome d command old between made.is_complete made.order.items made.text.items → Stay (d.append_faults old) (d.append_faults between) →
+      IsSent d o command made e between new before after → IsAnswer d o command e old new before after
   answered exit.Done m stayed s = record {
     bytes = made.order.items;
     text = made.text.items;
     between = between;
-    made = subst (λ c. IsMade d command old between c made.order.items made.text.items) s.0 m;
+    made = subst (λ c. IsOutcome d command old between c made.order.items made.text.items) s.0 m;
     order = s.1.order;
     went = s.1.went;
     written = s.1.written;
@@ -217,7 +217,7 @@ module _ {D O : Type 0} (d : Depots D) (o : Sinks O) (command : Command) (made :
     bytes = made.order.items;
     text = made.text.items;
     between = between;
-    made = subst (λ c. IsMade d command old between c made.order.items made.text.items) s.0 m;
+    made = subst (λ c. IsOutcome d command old between c made.order.items made.text.items) s.0 m;
     order = s.1.order;
     went = s.1.went;
     written = s.1.written;

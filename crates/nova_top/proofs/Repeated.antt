@@ -24,7 +24,7 @@ use Rattle.nova_scenario.specs.Scenario.{scenario}
 use Rattle.nova_scenario.specs.declared.scenario.Scenario.{Scenario as ScenarioText}
 use Rattle.nova_scenario.proofs.SoundLemmas.{scenario_sound}
 use Rattle.nova_top.specs.Causes.{ScenarioRefused, OrderRefused, NoOrderCame, IsRefusedAfter, IsUnread}
-use Rattle.nova_top.specs.Main.{Answers, IsWritten, IsTextCut, IsCut}
+use Rattle.nova_top.specs.Main.{IsAnswer, IsWritten, IsTextCut, IsCut}
 use Rattle.nova_top.specs.Names.{most_of_order, most_of_scenario}
 use Rattle.nova_top.specs.Orders.{OrderCame}
 use Rattle.nova_top.specs.Outside.{Depots, Sinks, FileCame}
@@ -152,7 +152,7 @@ module _ {D O : Type 0} (d : Depots D) (o : Sinks O) (name order name_again orde
       scenario_same order_same in
       (both.1, record { text = ran.text; first = ran.written; again = it.written ∙ ap (append_known (o.written before_again)) both.0 })
 
-  pub repeated : (e : Exit) → Answers d o (Solo name_again (Some order_again) most) e old_again new_again before_again after_again →
+  pub repeated : (e : Exit) → IsAnswer d o (Solo name_again (Some order_again) most) e old_again new_again before_again after_again →
       IsRepeated o complete e before after before_again after_again
   repeated exit.Done it = let both = wrote true it in inr (ap exit_of_run both.0, both.1)
   repeated exit.Limit it = let both = wrote false it in inr (ap exit_of_run both.0, both.1)

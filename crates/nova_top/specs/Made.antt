@@ -10,7 +10,7 @@ use Rattle.nova_scenario.specs.declared.scenario.Scenario.{Scenario}
 use Rattle.nova_top.specs.Came.{ScenarioCame}
 use Rattle.nova_top.specs.Compared.{AreCompared}
 use Rattle.nova_top.specs.Outside.{Depots}
-use Rattle.nova_top.specs.Runs.{IsDone}
+use Rattle.nova_top.specs.Runs.{IsOutcomeFrom}
 
 -- the scenario of a command: it was read, or is that of a bench
 abbrev pub IsScenarioOf : {D : Type 0} → Depots D → Command → D → Scenario → D → Type 0
@@ -21,16 +21,16 @@ IsScenarioOf d (Bench number most) old from new = (scenario (generated number) �
 IsScenarioOf d (Twin name most) old from new = ⊥
 
 -- first the scenario came, and then the command was done from its boot state: the bytes that are to be appended, and the text
-pub record IsMadeOfOne {D : Type 0} (d : Depots D) (command : Command) (old new : D) (complete : Bool) (bytes text : List ℕ) : Type 0 where
+pub record IsOutcomeOfOne {D : Type 0} (d : Depots D) (command : Command) (old new : D) (complete : Bool) (bytes text : List ℕ) : Type 0 where
   pub from : Scenario
   pub between : D
   pub came : IsScenarioOf d command old from between
-  pub done : IsDone d command (boot (scenario_of from)) between new complete bytes text
+  pub done : IsOutcomeFrom d command (boot (scenario_of from)) between new complete bytes text
 
 -- what a command makes: of one scenario, or of two guests
-abbrev pub IsMade : {D : Type 0} → Depots D → Command → D → D → Bool → List ℕ → List ℕ → Type 0
-IsMade d (Run name order most) old new complete bytes text = IsMadeOfOne d (Run name order most) old new complete bytes text
-IsMade d (Solo name order most) old new complete bytes text = IsMadeOfOne d (Solo name order most) old new complete bytes text
-IsMade d (Check name) old new complete bytes text = IsMadeOfOne d (Check name) old new complete bytes text
-IsMade d (Bench number most) old new complete bytes text = IsMadeOfOne d (Bench number most) old new complete bytes text
-IsMade d (Twin name most) old new complete bytes text = (complete ≡ true) × (bytes ≡ []) × AreCompared d name most old new text
+abbrev pub IsOutcome : {D : Type 0} → Depots D → Command → D → D → Bool → List ℕ → List ℕ → Type 0
+IsOutcome d (Run name order most) old new complete bytes text = IsOutcomeOfOne d (Run name order most) old new complete bytes text
+IsOutcome d (Solo name order most) old new complete bytes text = IsOutcomeOfOne d (Solo name order most) old new complete bytes text
+IsOutcome d (Check name) old new complete bytes text = IsOutcomeOfOne d (Check name) old new complete bytes text
+IsOutcome d (Bench number most) old new complete bytes text = IsOutcomeOfOne d (Bench number most) old new complete bytes text
+IsOutcome d (Twin name most) old new complete bytes text = (complete ≡ true) × (bytes ≡ []) × AreCompared d name most old new text

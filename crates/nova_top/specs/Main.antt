@@ -6,7 +6,7 @@ use Rattle.nova_command.specs.declared.command.Command.TheVariants.{Run, Solo, C
 use Rattle.nova_io.specs.Faults.{Rose}
 use Rattle.nova_io.specs.Taken.{WentWhole, WentInPart}
 use Rattle.nova_top.specs.Causes.{IsReadFault, IsScenarioFault, IsOrderFault, IsTwinFault}
-use Rattle.nova_top.specs.Made.{IsMade}
+use Rattle.nova_top.specs.Made.{IsOutcome}
 use Rattle.nova_top.specs.Outside.{Depots, Sinks, HasFailedToAppend, WereAppended, WereCut}
 use Rattle.nova_top.specs.declared.exit.Exit.{Exit}
 use Rattle.nova_top.specs.declared.exit.Exit.TheVariants.{Done, Usage, ReadFault, Scenario, OrderFault, Twin as TwinFault, WriteFault, Limit, Memory}
@@ -40,7 +40,7 @@ pub record IsWritten {D O : Type 0} (d : Depots D) (o : Sinks O) (command : Comm
   pub bytes : List ℕ
   pub text : List ℕ
   pub between : D
-  pub made : IsMade d command old between complete bytes text
+  pub made : IsOutcome d command old between complete bytes text
   pub order : IsOrderOut d command bytes between new
   pub went : WentWhole o.took text before after
   pub written : o.written after ≡ append_known (o.written before) text
@@ -51,7 +51,7 @@ pub record IsTextCut {D O : Type 0} (d : Depots D) (o : Sinks O) (command : Comm
   pub bytes : List ℕ
   pub text : List ℕ
   pub between : D
-  pub made : IsMade d command old between complete bytes text
+  pub made : IsOutcome d command old between complete bytes text
   pub order : IsOrderOut d command bytes between new
   pub went : WentInPart o.took o.write_failed text before after
   pub count : ℕ
@@ -65,19 +65,19 @@ pub record IsCut {D O : Type 0} (d : Depots D) (command : Command) (old new : D)
   pub bytes : List ℕ
   pub text : List ℕ
   pub between : D
-  pub made : IsMade d command old between complete bytes text
+  pub made : IsOutcome d command old between complete bytes text
   pub order : IsOrderCut d command bytes between new
   pub failed : HasOrderFailed d command old new
   pub unwritten : after ≡ before
 
 -- the answer to a command, with its cause
-abbrev pub Answers : {D O : Type 0} → Depots D → Sinks O → Command → Exit → D → D → O → O → Type 0
-Answers d o command Usage old new before after = ⊥
-Answers d o command ReadFault old new before after = IsReadFault d command old new
-Answers d o command (Scenario line why) old new before after = IsScenarioFault d command line why old new
-Answers d o command (OrderFault line why) old new before after = IsOrderFault d command line why old new
-Answers d o command WriteFault old new before after = IsTextCut d o command old new before after ⊎ IsCut d command old new before after
-Answers d o command Done old new before after = IsWritten d o command true old new before after
-Answers d o command Limit old new before after = IsWritten d o command false old new before after
-Answers d o command Memory old new before after = Unit {0}
-Answers d o command (TwinFault line why) old new before after = IsTwinFault d command line why old new
+abbrev pub IsAnswer : {D O : Type 0} → Depots D → Sinks O → Command → Exit → D → D → O → O → Type 0
+IsAnswer d o command Usage old new before after = ⊥
+IsAnswer d o command ReadFault old new before after = IsReadFault d command old new
+IsAnswer d o command (Scenario line why) old new before after = IsScenarioFault d command line why old new
+IsAnswer d o command (OrderFault line why) old new before after = IsOrderFault d command line why old new
+IsAnswer d o command WriteFault old new before after = IsTextCut d o command old new before after ⊎ IsCut d command old new before after
+IsAnswer d o command Done old new before after = IsWritten d o command true old new before after
+IsAnswer d o command Limit old new before after = IsWritten d o command false old new before after
+IsAnswer d o command Memory old new before after = Unit {0}
+IsAnswer d o command (TwinFault line why) old new before after = IsTwinFault d command line why old new

@@ -15,7 +15,7 @@ use Rattle.nova_scenario.specs.declared.scenario.Scenario.{Scenario as ScenarioT
 use Rattle.nova_top.specs.Came.{Followed, ScenarioCame, SubjectsCame}
 use Rattle.nova_top.specs.Causes.{IsReadFault, IsScenarioFault, IsOrderFault, IsTwinFault, IsUnread, IsUnfollowed, IsRefusedAfter, ScenarioRefused, SubjectsRefused, TextRefused}
 use Rattle.nova_top.specs.Compared.{line_of}
-use Rattle.nova_top.specs.Made.{IsMade}
+use Rattle.nova_top.specs.Made.{IsOutcome}
 use Rattle.nova_top.specs.Orders.{OrderCame}
 use Rattle.nova_top.specs.Outside.{Depots, HasFailed}
 use Rattle.nova_run.specs.Finished.{IsIdleLine}
@@ -135,7 +135,7 @@ IsIdleFault k order _ = ⊥
 
 -- what a command makes, or why it makes nothing
 abbrev pub IsPrepared : {D : Type 0} → Depots D → Command → D → D → Result Outcome Exit → Type 0
-IsPrepared d command old new (Ok made) = IsMade d command old new made.is_complete made.order.items made.text.items
+IsPrepared d command old new (Ok made) = IsOutcome d command old new made.is_complete made.order.items made.text.items
 IsPrepared d command old new (Err ReadFault) = IsReadFault d command old new
 IsPrepared d command old new (Err (Scenario line why)) = IsScenarioFault d command line why old new
 IsPrepared d command old new (Err (OrderFault line why)) = IsOrderFault d command line why old new

@@ -5,8 +5,8 @@ use Rattle.nova_command.specs.Limit.{IsLimit}
 use Rattle.nova_command.specs.declared.command.Command.TheVariants.{Run, Solo}
 use Rattle.nova_io.specs.Faults.{Rose}
 use Rattle.nova_io.specs.Files.{Files, bytes_of}
-use Rattle.nova_top.specs.Main.{Answers, IsWritten}
-use Rattle.nova_top.specs.Made.{IsMade}
+use Rattle.nova_top.specs.Main.{IsAnswer, IsWritten}
+use Rattle.nova_top.specs.Made.{IsOutcome}
 use Rattle.nova_top.specs.Names.{most_of_order, most_of_scenario}
 use Rattle.nova_top.specs.Outside.{Depots, Sinks, HasFailed, FileCame, TooManyCame}
 use Rattle.nova_top.specs.declared.exit.Exit.{Exit}
@@ -47,7 +47,7 @@ IsRepeated o complete exit before after before_again after_again =
 abbrev pub AreShort : {D : Type 0} → Depots D → Type 0
 AreShort {D} d =
     (scenario order : List ℕ) (most : ℕ) (old new : D) (complete : Bool) (bytes text : List ℕ) → IsLimit most →
-    IsMade d (Run scenario order most) old new complete bytes text → length bytes ≤ most_of_order
+    IsOutcome d (Run scenario order most) old new complete bytes text → length bytes ≤ most_of_order
 
 -- where `run` was Done or Limit, and what `solo` with the same limit is given is the same scenario and what was appended, and nothing fails, `solo` repeats it
 abbrev pub AreRepeated : {D O : Type 0} → Depots D → Sinks O → Type 0
@@ -57,7 +57,7 @@ AreRepeated {D} {O} d o =
     (ran : IsWritten d o (Run scenario order most) complete old new before after) →
     AreGiven d scenario_again order_again ran.made.came.bytes ran.bytes old_again new_again →
     IsUndisturbed d o scenario_again order_again old_again new_again before_again after_again →
-    Answers d o (Solo scenario_again (Some order_again) most) exit old_again new_again before_again after_again →
+    IsAnswer d o (Solo scenario_again (Some order_again) most) exit old_again new_again before_again after_again →
     IsRepeated o complete exit before after before_again after_again
 
 -- where the depot tells its files, and the name of the order had no bytes, so it is with the files that `run` left, whatever else holds of the depot then
@@ -67,5 +67,5 @@ AreRepeatedFromFiles {D} {O} d o =
     (before after before_again after_again : O) → IsLimit most → d.files old ≡ Some held → bytes_of held order ≡ [] → scenario ≢ order →
     (ran : IsWritten d o (Run scenario order most) complete old new before after) → d.files old_again ≡ d.files new →
     IsUndisturbed d o scenario order old_again new_again before_again after_again →
-    Answers d o (Solo scenario (Some order) most) exit old_again new_again before_again after_again →
+    IsAnswer d o (Solo scenario (Some order) most) exit old_again new_again before_again after_again →
     IsRepeated o complete exit before after before_again after_again

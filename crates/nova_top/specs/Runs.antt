@@ -65,9 +65,9 @@ pub record IsRun {D : Type 0} (d : Depots D) (command : Command) (k : KernelStat
   pub sources : AreSourcesTold k order
 
 -- what a command of one scenario makes of the boot state: check says that the scenario is valid, and any other runs it
-abbrev pub IsDone : {D : Type 0} → Depots D → Command → KernelState → D → D → Bool → List ℕ → List ℕ → Type 0
-IsDone d (Run scenario order most) k old new complete bytes text = IsRun d (Run scenario order most) k old new complete bytes text
-IsDone d (Solo scenario order most) k old new complete bytes text = IsRun d (Solo scenario order most) k old new complete bytes text
-IsDone d (Check scenario) k old new complete bytes text = (complete ≡ true) × (text ≡ codes "ok\n") × (new ≡ old) × (bytes ≡ [])
-IsDone d (Bench number most) k old new complete bytes text = IsRun d (Bench number most) k old new complete bytes text
-IsDone d (Twin name most) k old new complete bytes text = ⊥
+abbrev pub IsOutcomeFrom : {D : Type 0} → Depots D → Command → KernelState → D → D → Bool → List ℕ → List ℕ → Type 0
+IsOutcomeFrom d (Run scenario order most) k old new complete bytes text = IsRun d (Run scenario order most) k old new complete bytes text
+IsOutcomeFrom d (Solo scenario order most) k old new complete bytes text = IsRun d (Solo scenario order most) k old new complete bytes text
+IsOutcomeFrom d (Check scenario) k old new complete bytes text = (complete ≡ true) × (text ≡ codes "ok\n") × (new ≡ old) × (bytes ≡ [])
+IsOutcomeFrom d (Bench number most) k old new complete bytes text = IsRun d (Bench number most) k old new complete bytes text
+IsOutcomeFrom d (Twin name most) k old new complete bytes text = ⊥

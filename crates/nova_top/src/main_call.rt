@@ -2,7 +2,7 @@ ghost use Rattle.std.specs.Prelude.{◌≡◌, ◌⊎◌, map, string_bytes, Non
 ghost use Rattle.nova_command.specs.Command.{command, HasBounds};
 ghost use Rattle.nova_top.specs.Exit.{IsUnwritten};
 ghost use Rattle.nova_top.specs.Fetches.{Calls, HasFiles, AllOthersStay, OtherFetchesStay, appended_before};
-ghost use Rattle.nova_top.specs.Main.{Answers};
+ghost use Rattle.nova_top.specs.Main.{IsAnswer};
 ghost use Rattle.nova_top.specs.Outside.{depots, sinks};
 ghost use Rattle.nova_top.specs.Servable.{IsServable, IsDoneOrStopped};
 
@@ -26,7 +26,7 @@ fn serve<R: Threads + Wait + Sync, D: Depot, O: Sink, G: Gate + Sync>(
     gate: &G,
 ) -> Exit
     requires { HasBounds command.now }
-    ensures answer { Answers (depots D.files D.gave D.fetch_failed D.fetch_faults D.took D.append_failed D.append_faults) (sinks O.written O.took O.write_failed O.faults) command.now result depot.old depot.new out.old out.new }
+    ensures answer { IsAnswer (depots D.files D.gave D.fetch_failed D.fetch_faults D.took D.append_failed D.append_faults) (sinks O.written O.took O.write_failed O.faults) command.now result depot.old depot.new out.old out.new }
     ensures complete { IsServable (depots D.files D.gave D.fetch_failed D.fetch_faults D.took D.append_failed D.append_faults) (sinks O.written O.took O.write_failed O.faults) command.now depot.old depot.new out.old out.new
         → IsDoneOrStopped result }
     ensures unwritten { IsUnwritten result → out.new ≡ out.old }
@@ -98,7 +98,7 @@ pub fn nova_main<R: Threads + Wait + Sync, D: Depot, O: Sink, G: Gate + Sync>(
     ensures untouched { command (map string_bytes words.now) ≡ None → (depot.new ≡ depot.old) × (out.new ≡ out.old) }
     ensures unwritten { IsUnwritten result → out.new ≡ out.old }
     ensures answer { IfSome (command (map string_bytes words.now)) (λ command.
-        Answers (depots D.files D.gave D.fetch_failed D.fetch_faults D.took D.append_failed D.append_faults) (sinks O.written O.took O.write_failed O.faults) command result depot.old depot.new out.old out.new) }
+        IsAnswer (depots D.files D.gave D.fetch_failed D.fetch_faults D.took D.append_failed D.append_faults) (sinks O.written O.took O.write_failed O.faults) command result depot.old depot.new out.old out.new) }
     ensures complete { IfSome (command (map string_bytes words.now)) (λ command.
         IsServable (depots D.files D.gave D.fetch_failed D.fetch_faults D.took D.append_failed D.append_faults) (sinks O.written O.took O.write_failed O.faults) command depot.old depot.new out.old out.new
         → IsDoneOrStopped result) }

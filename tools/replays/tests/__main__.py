@@ -54,7 +54,7 @@ class Replays(unittest.TestCase):
             program, order = Path(folder, "program"), Path(folder, "order")
             program.write_text(text, "ascii")
             program.chmod(0o755)
-            return replay(str(program), Path(folder, "scenario"), order, 5)
+            return replay(str(program), Path(folder, "scenario"), order, 5, 1)
 
     def test_a_run_that_is_not_its_order_is_found(self) -> None:
         for run, said in CASES:
@@ -72,6 +72,9 @@ class Replays(unittest.TestCase):
         appended = self.replayed(REFUSING.replace("{run}", '[ "$1" = solo ] || echo 0 1 >"$3"'))
         self.assertEqual((appended.verdict, appended.said), (Verdict.DIFFERENT, "an order of no run"))
 
+    def test_a_run_that_hangs_is_found(self) -> None:
+        one = self.replayed(PROGRAM.replace("{run}", "exec sleep 60"))
+        self.assertEqual((one.verdict, one.said), (Verdict.DIFFERENT, "not done after 1 s"))
 
     def test_runs_that_are_not_by_threads_are_found(self) -> None:
         one, mixed, rounds = (Replay(Verdict.SAME, blocks, 9, by_rounds) for blocks, by_rounds in ((1, False), (4, False), (9, True)))
@@ -82,6 +85,9 @@ class Replays(unittest.TestCase):
             ([(1, one), (1, one), (8, refused)], ""),
             ([(1, one), (2, one), (8, one)], "scenarios with several processors: 2, orders of several blocks: 0"),
             ([(2, rounds), (4, rounds), (2, one)], "orders of several blocks: 2, and each is that of rounds"),
+            ([(2, mixed), *[(4, rounds)] * 4], ""),
+            ([(2, mixed), *[(4, rounds)] * 5], "4 processors: orders of several blocks: 5, and each is that of rounds"),
+            ([(2, mixed), *[(8, one)] * 5], "8 processors: scenarios with several processors: 5, orders of several blocks: 0"),
         ):
             with self.subTest(said):
                 self.assertEqual(not_by_threads(seen), said)
@@ -90,6 +96,17 @@ class Replays(unittest.TestCase):
         rounds = "printf '0 1\\n1 1\\n0 1\\n' >\"$3\"; cat \"$3\""
         self.assertTrue(self.replayed(PROGRAM.replace("{run}", rounds)).is_by_rounds)
         self.assertFalse(self.replayed(PROGRAM.replace("{run}", 'cat "$3"')).is_by_rounds)
+
+    def test_each_scenario_is_run_so_many_times(self) -> None:
+        with tempfile.TemporaryDirectory() as folder:
+            program = Path(folder, "program")
+            program.write_text("#!/bin/sh\n[ $1 = solo ] || echo 0 7 >>$3\necho run quiet 7\n", "ascii")
+            program.chmod(0o755)
+            Path(folder, "small.nova").write_text("cpus 1\n", "ascii")
+            words = [sys.executable, str(TOP), "--times", "3", "--program", str(program), "--keep", f"{folder}/kept", folder]
+            answer = subprocess.run(words, capture_output=True, text=True, check=False)
+            self.assertEqual(answer.stdout, "3 same, 0 different, 0 refused; 0 orders of several blocks, at most 1; 21 turns\n")
+            self.assertEqual(len(list(Path(folder, "kept").glob("small*.order"))), 3)
 
     def test_processors_are_counted(self) -> None:
         for text, cpus in (("ram 0\n cpus 0x4 # four\n", 4), ("cpus 008\n", 8), ("# cpus 2\nram 1\n", 0)):

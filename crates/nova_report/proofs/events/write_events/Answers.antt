@@ -1,4 +1,4 @@
-use Rattle.std.proofs.Common.{rules, arith, ◌∙◌, ◌++◌, ◌+◌, ◌<◌, ap, sym, string_bytes, List, ℕ, length, drop, slice_index_or}
+use Rattle.std.proofs.Common.{rules, arith, ◌∙◌, ◌++◌, ◌+◌, ◌<◌, ap, sym, List, ℕ, length, drop, slice_index_or}
 use Rattle.nova_trace.specs.Traces.{events_of}
 use Rattle.nova_report.specs.Report.{lines_from}
 use Rattle.nova_report.proofs.EventLemmas.{at_entry, no_more}
@@ -30,10 +30,10 @@ loop-entry-preserved c =
     let at = at_entry entries i blank more in
     let all = c.loop-entry.invariant.1 in (
       ap (λ (ls : List ℕ). ls ++ lines_from (place + (slice_index_or entries i blank).count + 1) (events_of (drop (i + 1) entries))) (search rules)
-          ∙ sym (at.lines (string_bytes c.loop-entry.out) place)
+          ∙ sym (at.lines c.loop-entry.out.items place)
           ∙ c.loop-entry.invariant.0,
       omega (arith, at.len, all),
     )
 
 pub returns : goal.returns
-returns c = sym (no_more (string_bytes c.loop-entry.out) (c.loop-entry.place + 1) c.entries-entries.result.now c.loop-entry.entry-index (search rules)) ∙ c.loop-entry.invariant.0
+returns c = sym (no_more c.loop-entry.out.items (c.loop-entry.place + 1) c.entries-entries.result.now c.loop-entry.entry-index (search rules)) ∙ c.loop-entry.invariant.0

@@ -1,7 +1,6 @@
-use Rattle.std.proofs.Common.{◌≡◌, ◌∙◌, ap, sym, subst, List}
-use Rattle.std.specs.List.{AllByRecursion}
-use Rattle.nova_recording.specs.Recordings.{IsKept, order_of}
-use Rattle.nova_recording.specs.declared.recording.Kept.{Kept}
+use Rattle.std.proofs.Common.{◌≡◌, ◌∙◌, ap}
+use Rattle.nova_recording.specs.Recordings.{order_of}
+use Rattle.nova_recording.proofs.Copied.{none_kept}
 use Rattle.nova_recording.proofs.Turns.{are_turns, at_start}
 use Rattle.nova_recording.proofs.recording.Recording.new.Goals as goal
 
@@ -14,6 +13,6 @@ invariant_of-result c =
       are_turns k events c.requires.order same c.requires.processors c.requires.few,
       (
         at_start k c.in-Ok.field-0.kernel.state events c.in-Ok.ensures.kernel,
-        subst (λ (kept : List Kept). AllByRecursion (IsKept k events) kept) (sym c.new.ensures.items) tt,
+        none_kept k events c.none.result c.none.ensures,
       ),
     )

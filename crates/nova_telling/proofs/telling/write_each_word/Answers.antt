@@ -1,8 +1,8 @@
 use Rattle.std.proofs.Common.{rules, arith, ◌≡◌, ◌++◌, ℕ, string_bytes}
 use Rattle.nova_utcb.specs.Messages.{word}
-use Rattle.nova_debug.specs.Answers.{word_text}
+use Rattle.nova_telling.specs.Told.{word_text}
 use Rattle.nova_report.proofs.Ranges.{range_more, range_end}
-use Rattle.nova_debug.proofs.telling.write_each_word.Goals as goal
+use Rattle.nova_telling.proofs.telling.write_each_word.Goals as goal
 
 pub loop-i-preserved : goal.loop-i-preserved
 loop-i-preserved c =

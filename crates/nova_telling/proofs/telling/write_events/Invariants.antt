@@ -1,7 +1,7 @@
 use Rattle.std.proofs.Common.{◌≡◌, ◌++◌, string_bytes, flat_map, drop}
 use Rattle.std.specs.List.{enumerate_from}
-use Rattle.nova_debug.specs.Answers.{event_after, events_text}
-use Rattle.nova_debug.proofs.telling.write_events.Given as goal
+use Rattle.nova_telling.specs.Told.{event_after, events_text}
+use Rattle.nova_telling.proofs.telling.write_events.Given as goal
 
 abbrev pub invariant-loop-i : goal.invariant-loop-i
 invariant-loop-i l =

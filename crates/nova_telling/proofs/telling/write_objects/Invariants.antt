@@ -1,7 +1,7 @@
 use Rattle.std.proofs.Common.{◌≡◌, ◌++◌, string_bytes, flat_map, drop}
 use Rattle.std.specs.List.{enumerate_from}
-use Rattle.nova_debug.specs.Answers.{object_line, object_lines}
-use Rattle.nova_debug.proofs.telling.write_objects.Given as goal
+use Rattle.nova_telling.specs.Told.{object_line, object_lines}
+use Rattle.nova_telling.proofs.telling.write_objects.Given as goal
 
 abbrev pub invariant-loop-i : goal.invariant-loop-i
 invariant-loop-i l =

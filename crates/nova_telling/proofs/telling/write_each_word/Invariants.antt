@@ -1,8 +1,8 @@
 use Rattle.std.proofs.Common.{◌≡◌, ◌++◌, ◌-◌, ℕ, string_bytes, flat_map}
 use Rattle.std.specs.List.{range_with_len}
 use Rattle.nova_utcb.specs.Messages.{word}
-use Rattle.nova_debug.specs.Answers.{word_text, words_text}
-use Rattle.nova_debug.proofs.telling.write_each_word.Given as goal
+use Rattle.nova_telling.specs.Told.{word_text, words_text}
+use Rattle.nova_telling.proofs.telling.write_each_word.Given as goal
 
 abbrev pub invariant-loop-i : goal.invariant-loop-i
 invariant-loop-i l =

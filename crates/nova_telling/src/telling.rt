@@ -1,9 +1,11 @@
 ghost use Rattle.std.specs.Prelude.{◌≡◌, ◌++◌, ◌<◌, ◌^◌, codes, length, OnOk, string_bytes, option_map, slice_get, Some};
 ghost use Rattle.nova_report.specs.Words.{line_feed, parent_word};
 ghost use Rattle.nova_model.specs.State.{context_at, entry};
-ghost use Rattle.nova_debug.specs.Answers.{awaited, bytes_text, caller_of, context_line, event_line, events_between, events_text, frame_line, instruction_line, numbers_text, object_line, object_lines, page_line, place_line, queue_line, told, word_text, words_line, words_text};
+ghost use Rattle.rv_model.specs.Codes.{instr_of};
+ghost use Rattle.nova_telling.specs.Told.{awaited, bytes_text, caller_of, code_line, context_line, event_line, events_between, events_text, frame_line, instruction_line, numbers_text, object_line, object_lines, page_line, place_line, queue_line, told_at, word_text, words_line, words_text};
 
-use crate::command::Reading;
+use crate::reading::Reading;
+use crate::slices::write_slices;
 use nova_kernel::{EcState, Event, Kernel, Object, State, Utcb};
 use nova_recording::{Next, Recording};
 use nova_report::{
@@ -14,11 +16,9 @@ use rv_asm::print;
 use rv_core::decode;
 use std::alloc::{AllocError, Global};
 
-fn write_place(out: &mut String, recording: &Recording) -> Result<(), AllocError>
-    ensures { OnOk result (string_bytes out.new ≡ string_bytes out.old ++ place_line recording.now) }
+fn write_place(out: &mut String, turn: usize, turns: usize) -> Result<(), AllocError>
+    ensures { OnOk result (string_bytes out.new ≡ string_bytes out.old ++ place_line turn turns) }
 {
-    let turn = recording.turn();
-    let turns = recording.events().len();
     writeln!(out, "turn {turn} of {turns}")
 }
 
@@ -171,7 +171,7 @@ fn write_word_after_space(out: &mut String, word: u32) -> Result<(), AllocError>
     write_word(out, word)
 }
 
-#[tactic(auto, unfolding(crate::specs::Answers::words_text))]
+#[tactic(auto, unfolding(crate::specs::Told::words_text))]
 fn write_each_word(out: &mut String, words: &Utcb) -> Result<(), AllocError>
     ensures { OnOk result (string_bytes out.new ≡ string_bytes out.old ++ words_text words.now) }
 {
@@ -240,7 +240,9 @@ pub fn write_page(out: &mut String, page: Option<(u32, u8)>) -> Result<(), Alloc
 }
 
 /// The text of an instruction's word, as the assembler has it.
-pub fn write_code(alloc: Global, out: &mut String, word: u32) -> Result<(), AllocError> {
+pub fn write_code(alloc: Global, out: &mut String, word: u32) -> Result<(), AllocError>
+    ensures { OnOk result (string_bytes out.new ≡ string_bytes out.old ++ code_line (instr_of word)) }
+{
     match decode(word) {
         Some(instr) => {
             let text = print(alloc, &instr)?;
@@ -250,30 +252,20 @@ pub fn write_code(alloc: Global, out: &mut String, word: u32) -> Result<(), Allo
     }
 }
 
-fn write_range(
-    out: &mut String,
-    recording: &Recording,
-    from: usize,
-    to: usize,
-) -> Result<(), AllocError>
-    requires { from < 2 ^ 32 }
-    ensures { OnOk result (string_bytes out.new ≡ string_bytes out.old ++ events_text from (events_between recording.now.events from to)) }
-{
-    write_events(out, from, events_between(recording.events(), from, to))
-}
-
-/// Tells something of the present state. It refuses for want of memory alone.
+/// Tells something of a run in its present state, which is that after the first so many entries of its order. It refuses for want of
+/// memory alone.
 pub fn tell(
     alloc: Global,
     out: &mut String,
     recording: &Recording,
     reading: Reading,
 ) -> Result<(), AllocError>
-    ensures { OnOk result (string_bytes out.new ≡ string_bytes out.old ++ told recording.now reading) }
+    ensures { OnOk result (string_bytes out.new ≡ string_bytes out.old ++ told_at recording.now reading) }
 {
     let kernel = recording.kernel();
+    let events = recording.events();
     match reading {
-        Reading::Place => write_place(out, recording),
+        Reading::Place => write_place(out, recording.turn(), events.len()),
         Reading::Instruction => write_instruction(out, recording.next()),
         Reading::Contexts => write_contexts(out, kernel),
         Reading::Semaphores => write_semaphores(out, kernel),
@@ -282,7 +274,14 @@ pub fn tell(
         Reading::Objects => write_objects(out, kernel),
         Reading::Words(ec) => write_words(out, kernel.words(ec)),
         Reading::Frame(frame) => write_frame(out, kernel, frame),
-        Reading::Events(from, to) => write_range(out, recording, from as usize, to as usize),
+        Reading::Events(from, to) => {
+            let (from, to) = (from as usize, to as usize);
+            write_events(out, from, events_between(events, from, to))
+        }
+        Reading::Slices(from, to) => {
+            let (from, to) = (from as usize, to as usize);
+            write_slices(out, from, events_between(events, from, to))
+        }
         Reading::Queue(sm) => write_queue(out, &kernel.queue(alloc, sm)?),
     }
 }

@@ -1,0 +1,139 @@
+ghost use Rattle.std.specs.Prelude.{◌≡◌, ◌+◌, ◌/◌, ◌<◌, ◌≤◌, ◌++◌, ◌∷◌, [], vec_len, Contains, IfSome};
+ghost use Rattle.nova_recording.specs.Copies.{AreAmong, IsMore};
+
+use nova_kernel::Kernel;
+use std::alloc::{AllocError, Global};
+use std::marker::Model;
+
+/// The state after so many turns of a run, to go on from.
+#[derive(Drop)]
+pub(crate) struct Kept {
+    pub(crate) turn: usize,
+    pub(crate) kernel: Kernel,
+}
+
+/// States that are kept on the way, by rising turn, one each so many turns. They take at most so many bytes, where each is taken to be as
+/// large as the largest. Where one more would be too many, every second one is let go, and from then on they are kept half as often.
+#[derive(Drop)]
+pub(crate) struct Copies {
+    kept: Vec<Kept>,
+    /// The most bytes of all.
+    most: usize,
+    /// The most bytes of one so far.
+    each: usize,
+    /// How many turns one is after another.
+    spacing: usize,
+    /// The turn of which the next is kept.
+    next: usize,
+}
+
+impl Model for Copies {
+    ghost use Rattle.std.specs.Prelude.{◌<◌, ◌≤◌, ◌/◌, List, length};
+    ghost use Rattle.nova_recording.specs.declared.copies.Kept.{Kept};
+
+    ghost Value = { List Kept };
+
+    ghost view = { λ c. c.kept.items };
+
+    ghost invariant = { λ c. (0 < c.each) × (length c.kept.items ≤ c.most / c.each) };
+}
+
+/// Lets every second one go, from the second on.
+fn thin(kept: &mut Vec<Kept>)
+    ensures among { AreAmong kept.new.items kept.old.items }
+    ensures half { vec_len kept.new ≡ (vec_len kept.old + 1) / 2 }
+{
+    let half = kept.len().div_ceil(2);
+    for i in 1..half {
+        kept.swap(i, 2 * i);
+    }
+    kept.truncate(half);
+}
+
+/// Lets every second one go until there are at most so many, and at least one may be; and how far they are from one another then.
+fn fit(kept: &mut Vec<Kept>, most: usize, spacing: usize) -> usize
+    requires { 0 < most }
+    ensures among { AreAmong kept.new.items kept.old.items }
+    ensures most { vec_len kept.new ≤ most }
+{
+    let mut spacing = spacing;
+    while kept.len() > most {
+        thin(kept);
+        spacing = spacing.saturating_mul(2);
+    }
+    spacing
+}
+
+/// Makes room for one more where there may be so many; and how far they are from one another then.
+#[tactic(auto, using(crate::proofs::Copied::none_among))]
+fn make_room(kept: &mut Vec<Kept>, most: usize, spacing: usize) -> usize
+    ensures among { AreAmong kept.new.items kept.old.items }
+    ensures most { vec_len kept.new ≤ most }
+{
+    if most < 2 {
+        kept.clear();
+        return spacing.saturating_mul(2);
+    }
+    fit(kept, most - 1, spacing)
+}
+
+impl Copies {
+    /// None, and none is kept.
+    pub(crate) fn none(alloc: Global) -> Copies
+        ensures { result ≡ [] }
+    {
+        Copies {
+            kept: Vec::new(alloc),
+            most: 0,
+            each: 1,
+            spacing: 1,
+            next: usize::MAX,
+        }
+    }
+
+    /// Lets all go, and keeps states in at most `most` bytes from a turn on, at first each `spacing` turns; none for 0 bytes.
+    pub(crate) fn begin(&mut self, most: usize, spacing: usize, turn: usize)
+        ensures { self.new ≡ [] }
+    {
+        self.kept.clear();
+        self.most = most;
+        self.spacing = spacing;
+        self.next = turn;
+    }
+
+    /// Whether a state is to be kept of a turn: its turn has come, and one is not thought to be larger than all may be.
+    pub(crate) fn is_due(&self, turn: usize) -> bool {
+        turn >= self.next && self.each <= self.most
+    }
+
+    /// Makes room for one more that takes so many bytes.
+    pub(crate) fn make_room(&mut self, bytes: usize)
+        ensures { AreAmong self.new self.old }
+    {
+        self.each = self.each.max(bytes);
+        let spacing = make_room(&mut self.kept, self.most / self.each, self.spacing);
+        self.spacing = spacing;
+        if let Some(last) = self.kept.last() {
+            self.next = last.turn.saturating_add(spacing);
+        }
+    }
+
+    /// Keeps the state of a turn, where there is room for it, and the next one so many turns later. It refuses for want of memory alone.
+    pub(crate) fn add(&mut self, kept: Kept) -> Result<(), AllocError>
+        ensures { IsMore self.old kept self.new }
+    {
+        self.next = kept.turn.saturating_add(self.spacing);
+        if self.kept.len() < self.most / self.each {
+            self.kept.push(kept)?;
+        }
+        Ok(())
+    }
+
+    /// The newest that is kept of the turns up to one.
+    pub(crate) fn newest(&self, to: usize) -> Option<&Kept>
+        ensures kept { IfSome result (λ k. Contains self.now k.now) }
+        ensures before { IfSome result (λ k. k.now.turn ≤ to) }
+    {
+        self.kept.iter().rev().find(|kept| kept.turn <= to)
+    }
+}

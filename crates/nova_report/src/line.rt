@@ -1,0 +1,70 @@
+ghost use Rattle.std.specs.Prelude.{◌≡◌, ◌+◌, ◌≤◌, ◌++◌, length, decimal};
+ghost use Rattle.nova_report.specs.Words.{line_feed};
+
+use itoa::write_digits;
+use std::marker::Model;
+
+/// How many bytes a line has at most.
+const LONGEST: usize = 128;
+
+/// A line of text that is written from its end: what is put into it stands before what was put before.
+#[derive(Drop)]
+pub(crate) struct Line {
+    bytes: [u8; LONGEST],
+    start: usize,
+}
+
+impl Model for Line {
+    ghost use Rattle.std.specs.Prelude.{◌≡◌, ◌≤◌, length, drop};
+    ghost use Rattle.nova_report.specs.Lines.{LineView};
+
+    ghost Value = { LineView };
+
+    ghost view = { λ l. record { text = drop l.start l.bytes; room = l.start } };
+
+    ghost invariant = { λ l. l.start ≤ 128 };
+}
+
+impl Line {
+    /// A line with its line feed alone.
+    pub(crate) fn new() -> Line
+        ensures text { result.text ≡ line_feed }
+        ensures room { result.room ≡ 127 }
+    {
+        let mut bytes = [0; LONGEST];
+        bytes[LONGEST - 1] = b'\n';
+        Line {
+            bytes,
+            start: LONGEST - 1,
+        }
+    }
+
+    /// The line as far as it is written.
+    pub(crate) fn text(&self) -> &[u8]
+        ensures { result.now ≡ self.now.text }
+    {
+        &self.bytes[self.start..]
+    }
+
+    /// A text comes before the rest of the line.
+    #[inline(always)]
+    pub(crate) fn put(&mut self, text: &[u8])
+        requires { length text.now ≤ self.old.room }
+        ensures text { self.new.text ≡ text.now ++ self.old.text }
+        ensures room { self.new.room + length text.now ≡ self.old.room }
+    {
+        let start = self.start - text.len();
+        self.bytes[start..self.start].copy_from_slice(text);
+        self.start = start;
+    }
+
+    /// A number comes before the rest of the line.
+    #[tactic(auto, using(crate::proofs::Numerals::few_digits))]
+    pub(crate) fn put_number(&mut self, number: u64)
+        requires { 20 ≤ self.old.room }
+        ensures text { self.new.text ≡ decimal number ++ self.old.text }
+        ensures room { self.old.room ≤ self.new.room + 20 }
+    {
+        self.start = write_digits(number, &mut self.bytes, self.start);
+    }
+}
