@@ -3,8 +3,8 @@
 python3 tools/changes [--tables] [FOLDER]
 
 Fails where a file has a row for most hypercalls, deeds, kinds of events or states and the page doesn't list it; where the page lists one
-that has not; and where it names a file, or a function in brackets behind one, that isn't there. `--tables` writes the tables as the page is
-to have them.
+that has not; where a proof that cites the rows of hypercalls isn't named in their section; and where it names a file, or a function in
+brackets behind one, that isn't there. `--tables` writes the tables as the page is to have them.
 """
 
 from __future__ import annotations
@@ -14,8 +14,8 @@ import sys
 from itertools import groupby
 from pathlib import Path
 
-from page import gone, listed, named
-from tables import ENUMERATIONS, Enumeration, tables
+from page import gone, listed, named, section
+from tables import CITED, ENUMERATIONS, Enumeration, citing, tables
 
 TOP = Path(__file__).resolve().parents[2]
 PAGE = "docs/ARCHITECTURE.md"
@@ -36,6 +36,13 @@ def stale(text: str, top: Path, of: Enumeration) -> list[str]:
     return faults + [f'"{of.heading}" lists {file}, which has few of them' for file in said if file not in there]
 
 
+def unnamed(text: str, top: Path, heading: str, name: str, module: str) -> list[str]:
+    """The proofs that cite a definition and aren't named under a heading, a line each."""
+    there = section(text, heading)
+    said = {*listed(text, heading), *(file for file, _ in named(there))}
+    return [f'"{heading}" doesn\'t name {file}, which cites {name}' for file in citing(top, name, module) if file not in said]
+
+
 def written(files: list[str]) -> str:
     """The rows of a table of files, a crate each."""
     crates = groupby((file.partition("/")[::2] for file in files), key=lambda pair: pair[0])
@@ -49,6 +56,7 @@ def main(words: argparse.Namespace) -> int:
         return 0
     text = (words.top / PAGE).read_text("utf-8")
     faults = [fault for of in ENUMERATIONS for fault in stale(text, words.top, of)] + gone(text, words.top)
+    faults += [fault for cited in CITED for fault in unnamed(text, words.top, *cited)]
     for fault in faults:
         print(f"{PAGE}: {fault}", file=sys.stderr)
     files = sum(len(listed(text, of.heading)) for of in ENUMERATIONS)

@@ -57,3 +57,14 @@ def tables(top: Path, of: Enumeration) -> list[str]:
         for file in sources(top)
         if names and named(file.read_text("utf-8"), names) >= of.share * len(names)
     ]
+
+
+# Where else a further variant shows: a heading, a definition, and the module that it is imported from.
+CITED = (("A hypercall", "rows", "Rattle.nova_calls.specs.Hypercalls"),)
+
+
+def citing(top: Path, name: str, module: str) -> list[str]:
+    """The proofs that import a definition from a module, by path below the crates."""
+    line = re.compile(rf"^use {re.escape(module)}\.\{{[^}}]*\b{name}\b", re.MULTILINE)
+    proofs = [file for file in sources(top) if "proofs" in file.relative_to(top / "crates").parts]
+    return [file.relative_to(top / "crates").as_posix() for file in proofs if line.search(file.read_text("utf-8"))]

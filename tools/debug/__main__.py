@@ -60,11 +60,10 @@ def serve(words: list[str]) -> int:
     asked = parser(False).parse_args(words)
     signal.signal(signal.SIGINT, signal.SIG_IGN)
     back = BackEnd(asked.program, asked.scenario, asked.order, asked.limit)
-    spacing = back.keep(asked.keep)
-    back.go(0)
+    back.keep(asked.keep)
     log = asked.log.open("w") if asked.log else None
     try:
-        Target(Line(0, 1), back, spacing, asked.one).serve(log)
+        Target(Line(0, 1), back, asked.one).serve(log)
     except Closed:
         back.close()
     return 0

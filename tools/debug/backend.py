@@ -3,18 +3,20 @@
 from __future__ import annotations
 
 import subprocess
-from collections.abc import Iterable
+from collections.abc import Iterable, Iterator, Sequence
 from dataclasses import dataclass, field
 from pathlib import Path
-
-from access import Access
 
 PAGE = 4096
 OWN_PAGE = 0xFFFFF
 WORDS = 512
 MOST = 10_000_000
-# What states that are kept on the way may take, and about how much one takes beside RAM: a table's entries, and what each list has spare.
-BYTES, AN_ENTRY, A_STATE = 64 << 20, 600, 16384
+# What states that are kept on the way may take, in bytes.
+BYTES = 64 << 20
+# With what the last line of an answer may begin: ok, memory, no and idle; or there is none.
+LAST = ("o", "m", "n", "i", "")
+# Of so many turns slices are asked for at a time.
+PART = 200_000
 
 
 class Refused(Exception):
@@ -48,6 +50,27 @@ class Event:
     b: int
 
 
+@dataclass(frozen=True, slots=True)
+class Slice:
+    """Turns of a processor from one on, counted from 0, to another one, with no other turn of it between: how many they are, the scheduling
+    context that pays and the execution context that acts, where there is one."""
+
+    cpu: int
+    first: int
+    last: int
+    turns: int
+    payer: int | None
+    actor: int | None
+
+    def goes_on(self, other: Slice) -> bool:
+        """Whether another one, which comes next on its processor, is of the same contexts."""
+        return (self.payer, self.actor) == (other.payer, other.actor)
+
+    def with_next(self, other: Slice) -> Slice:
+        """Both as one."""
+        return Slice(self.cpu, self.first, other.last, self.turns + other.turns, self.payer, self.actor)
+
+
 @dataclass(slots=True)
 class Seen:
     """What was read in the present state."""
@@ -64,6 +87,17 @@ def number_of(text: str) -> int | None:
     return None if text == "-" else int(text)
 
 
+def context_of(line: str) -> tuple[int, str, str, tuple[int, ...]]:
+    """The number, the kind, the state and the registers of an execution context, by a line of a report."""
+    _, number, kind, state, pc, *changed = line.split()
+    registers = [0] * 33
+    registers[32] = int(pc, 16)
+    for word in changed:
+        name, _, value = word.partition("=")
+        registers[int(name[1:])] = int(value, 16)
+    return int(number), kind, state, tuple(registers)
+
+
 class BackEnd:
     """A run in the state after some of its turns."""
 
@@ -72,24 +106,40 @@ class BackEnd:
         pipe = subprocess.PIPE
         self._child = subprocess.Popen(command, stdin=pipe, stdout=pipe, text=True, bufsize=-1, start_new_session=True)
         self.turn = 0
+        self.keeps = True
         self._seen = Seen()
         self.end = int(self.ask("at")[0].split()[3])
 
     def ask(self, *lines: str) -> list[str]:
         """The answer to the last line. Those before it are settings, whose answers tell nothing."""
+        return self.ask_all(lines)[-1]
+
+    def ask_all(self, lines: Sequence[str]) -> list[list[str]]:
+        """The answers to some lines, which together fit into a pipe: the program isn't waited for between them. Where one is refused, that is
+        raised when all have been read."""
         assert self._child.stdin and self._child.stdout
         self._child.stdin.write("".join(line + "\n" for line in lines))
         self._child.stdin.flush()
-        answer: list[str] = []
+        answers, refused = [], None
         for line in lines:
-            answer = self._answer(line)
-        return answer
+            try:
+                answers.append(self._answer(line))
+            except Refused as why:
+                refused = refused or why
+        if refused is not None:
+            raise refused
+        return answers
 
     def _answer(self, line: str) -> list[str]:
         assert self._child.stdout
+        readline = self._child.stdout.readline
         answer: list[str] = []
         while True:
-            said = self._child.stdout.readline().rstrip("\n")
+            said = readline()
+            if said[:1] not in LAST:
+                answer.append(said[:-1])
+                continue
+            said = said.rstrip("\n")
             word, _, rest = said.partition(" ")
             if word in ("ok", "memory") and rest:
                 self._stand(int(rest))
@@ -119,20 +169,6 @@ class BackEnd:
 
     # Going
 
-    def go_on(self, stored: Access | None, actor: Context) -> None:
-        """Goes on by the turn of an instruction, which stores no more than this: what was read otherwise still holds."""
-        seen = self._seen
-        self.ask(f"go {self.turn + 1}")
-        self._seen = Seen(domains=seen.domains, pages=seen.pages, frames=seen.frames, words=seen.words)
-        if stored is None:
-            return
-        page = stored.address // PAGE
-        if page == OWN_PAGE:
-            seen.words.pop(actor.number, None)
-        led = self.page(actor.domain, page)
-        if led is not None:
-            seen.frames.pop(led[0], None)
-
     def go(self, turn: int) -> None:
         """Goes to a turn, or to the end where the run has fewer."""
         if turn != self.turn:
@@ -147,24 +183,10 @@ class BackEnd:
         (answer,) = self.ask("clear", *looked_for, f"last {to}")
         return None if answer == "none" else int(answer.split()[1])
 
-    def keep(self, size: int) -> int:
-        """Keeps states on the way, in about so many bytes, and gives each how many turns; 0 bytes for none."""
-        if not size:
-            return 0
-        here = self.turn
-        self.go(self.end)
-        entries = len(self.contexts()) + len(self.delegations()) + len(self.ask("semaphores"))
-        shown = sum(len(line.split()[2]) for line in self.ask("consoles"))
-        memory = sum(PAGE << int(order) for kind, order in self._root_ranges() if kind == "mem")
-        one = A_STATE + memory + entries * AN_ENTRY + shown * 4
-        spacing = max(1, -(-self.end * one // size))
-        self.go(0)
-        self.ask(f"keep {spacing}")
-        self.go(here)
-        return spacing
-
-    def _root_ranges(self) -> Iterable[tuple[str, str]]:
-        return [(w[4], w[6]) for w in map(str.split, self.delegations()) if w[2] == "-"]
+    def keep(self, size: int) -> None:
+        """Keeps states on the way, in at most so many bytes; 0 for none."""
+        self.ask(f"keep {size}")
+        self.keeps = size > 0
 
     # Reading
 
@@ -173,16 +195,11 @@ class BackEnd:
         if self._seen.contexts is None:
             objects = self._objects()
             self._seen.contexts = {}
-            for words in map(str.split, self.ask("contexts")):
-                registers = [0] * 33
-                registers[32] = int(words[4], 16)
-                for word in words[5:]:
-                    name, _, value = word.partition("=")
-                    registers[int(name[1:])] = int(value, 16)
-                number = int(words[1])
+            for line in self.ask("contexts"):
+                number, kind, state, registers = context_of(line)
                 domain, cpu, caller, awaited = objects[number]
                 self._seen.contexts[number] = Context(
-                    number, words[2], words[3], tuple(registers), int(domain), int(cpu), number_of(caller), number_of(awaited)
+                    number, kind, state, registers, int(domain), int(cpu), number_of(caller), number_of(awaited)
                 )
         return self._seen.contexts
 
@@ -239,6 +256,22 @@ class BackEnd:
             found.append(Event(place, cpu, payer, actor, words[5], int(words[6]), int(words[7])))
         return found
 
+    def slices(self, first: int, last: int) -> Iterator[Slice]:
+        """Who pays and who acts in the turns from one on, before another: what goes on, in one piece. They come by processor in their order.
+        Raises Refused where the program doesn't tell it."""
+        held: dict[int, Slice] = {}
+        for start in range(first, last, PART):
+            for words in map(str.split, self.ask(f"slices {start} {min(start + PART, last)}")):
+                cpu, begins, ends, turns = map(int, words[1:5])
+                found = Slice(cpu, begins, ends, turns, number_of(words[5]), number_of(words[6]))
+                before = held.get(cpu)
+                if before is not None and before.goes_on(found):
+                    found = before.with_next(found)
+                elif before is not None:
+                    yield before
+                held[cpu] = found
+        yield from held.values()
+
     def next(self) -> tuple[int, int, int] | None:
         """The execution context, its domain and the address of the instruction that is next; none where something else is."""
         words = self.ask("next")[0].split()[1:]
@@ -251,7 +284,13 @@ class BackEnd:
     def semaphores(self) -> list[str]:
         """The semaphores, each with its number, its counter and who waits, in order."""
         told = []
-        for words in map(str.split, self.ask("semaphores")):
-            waiting = self.ask(f"queue {words[1]}")[0].split()[1:]
+        lines = [line.split() for line in self.ask("semaphores")]
+        queues = self.ask_all([f"queue {words[1]}" for words in lines])
+        for words, (queue,) in zip(lines, queues, strict=True):
+            waiting = queue.split()[1:]
             told.append(f"sm {words[1]} {words[2]} {' '.join(waiting) or '-'}")
         return told
+
+    def domains(self) -> dict[int, int]:
+        """The domain of each execution context."""
+        return {number: int(words[0]) for number, words in self._objects().items()}

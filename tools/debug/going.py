@@ -8,7 +8,8 @@ from dataclasses import dataclass
 from access import access_of
 from backend import PAGE, BackEnd, Context, Event, Refused
 
-SLICE = 200_000
+# How many turns are gone through at most before an interrupt is looked for, and how many at first on the way back.
+SLICE, FIRST = 200_000, 4096
 
 
 @dataclass(frozen=True, slots=True)
@@ -56,13 +57,12 @@ class Watchpoint:
 class Going:
     """A run, what is looked for in it, and the way to it."""
 
-    def __init__(self, back: BackEnd, interrupted: Callable[[], bool], spacing: int) -> None:
+    def __init__(self, back: BackEnd, interrupted: Callable[[], bool]) -> None:
         self.back = back
         self.points: list[Breakpoint | Watchpoint] = []
         self.until: int | None = None
         self.kinds: set[str] = set()
         self._interrupted = interrupted
-        self.spacing = spacing
 
     def watch(self, context: Context, address: int, length: int, kind: str) -> Watchpoint:
         """The bytes at an address of a domain, as a frame has them."""
@@ -201,8 +201,10 @@ class Going:
             back.go(turn)
             return back.contexts()[number].registers if number in back.contexts() else None
 
+        if first >= last:
+            return False
         now = registers(last)
-        if first >= last or registers(first) in (now, None):
+        if registers(first) in (now, None):
             back.go(stand)
             return False
         while first + 1 < last:
@@ -216,7 +218,7 @@ class Going:
         is -1 where one stopped for another reason, where others are looked for. None where there is none; then one is at the
         beginning, or where an interrupt came."""
         here = end = self.back.turn
-        span = max(self.spacing, 1)
+        span = FIRST
         floor = self.until if others and self.until is not None and self.until < here else 0
         while end > floor:
             start = max(end - span, floor)
@@ -234,7 +236,8 @@ class Going:
             if self._interrupted():
                 self.back.go(here)
                 return None
-            end, span = start, min(span * 2, SLICE)
+            # To where no state is kept on the way one goes from the beginning, so that few parts are best.
+            end, span = start, min(span * 2, SLICE) if self.back.keeps else span * 16
         self.back.go(floor)
         return -1 if floor else None
 

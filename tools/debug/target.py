@@ -10,6 +10,9 @@ from going import Breakpoint, Going, Stop
 from packets import Closed, Line
 
 REGISTERS = 33
+# A register that isn't there, and where an execution context is that isn't made yet: gdb goes on only if it knows where the selected
+# thread is, and steps off a breakpoint first if one is there. So it is an address that no instruction has.
+UNKNOWN, NOWHERE = "x" * 8, "f" * 8
 WATCHES = {"2": "watch", "3": "rwatch", "4": "awatch"}
 HELP = """turn        the present turn, and how many the run has
 event       what the last turn came to
@@ -35,11 +38,11 @@ SIGNALS = {"interrupt": 2, "birth": 0}
 class Target:
     """A run, as gdb sees it."""
 
-    def __init__(self, line: Line, back: BackEnd, spacing: int, one: bool) -> None:
+    def __init__(self, line: Line, back: BackEnd, one: bool) -> None:
         self._line = line
         self._back = back
         self._one = one
-        self._going = Going(back, line.interrupted, spacing)
+        self._going = Going(back, line.interrupted)
         self._multi = False
         # Those that were there at some turn: gdb doesn't take back the last thread of an inferior.
         self._ever: dict[int, Context] = {}
@@ -179,14 +182,16 @@ class Target:
     def _registers(self, _said: str) -> str:
         context = self._look().get(self._general)
         if context is None:
-            return "x" * 8 * REGISTERS
+            return UNKNOWN * (REGISTERS - 1) + NOWHERE
         return "".join(value.to_bytes(4, "little").hex() for value in context.registers)
 
     def _register(self, said: str) -> str:
         number, context = int(said, 16), self._look().get(self._general)
         if number >= REGISTERS:
             return "E01"
-        return "x" * 8 if context is None else context.registers[number].to_bytes(4, "little").hex()
+        if context is None:
+            return NOWHERE if number == REGISTERS - 1 else UNKNOWN
+        return context.registers[number].to_bytes(4, "little").hex()
 
     def _read(self, said: str) -> str:
         address, length = (int(n, 16) for n in said.split(","))

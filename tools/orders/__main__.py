@@ -5,7 +5,7 @@ python3 tools/orders expect SCENARIO --never PATTERN | --always PATTERN ..
 python3 tools/orders shrink SCENARIO ORDER --keep PATTERN [--open] [--search N] [--output FILE]
 
 Which orders the first two try: [--switches K] [--random N] [--seed S] [--weights W,..] [--lengths A-B]
-All take [--turns N] [--jobs N] [--program FILE] [--stays FILE] [--progress].
+They take [--executor dask:ADDRESS]. All take [--turns N] [--jobs N] [--program FILE] [--stays FILE] [--progress].
 """
 
 from __future__ import annotations
@@ -13,20 +13,27 @@ from __future__ import annotations
 import signal
 import sys
 import tempfile
+from collections.abc import Callable
+from functools import partial
 from pathlib import Path
+from typing import TypeVar
 
 from asking import Ask, parser
 from choice import Choice, Wanted
 from longest import Scout
-from outcome import Outcome, outcome_of
+from outcome import Outcome, broken, outcome_of
 from pool import Pool
 from program import DONE, End, Program, Stopped, Trouble, find_program, find_staying
+from remote import Job
 from sample import Habits
+from sending import DASK, Dask, Sending, processes
 from shared import Fault, counted, read_order, read_report, read_settings
 from shrinking import Shrinker, search_simpler
 from tally import Tally
 from telling import Progress, outcome_texts, size_of, write_orders
 from turns import Block, Blocks, text_of, turns_of
+
+Verdict = TypeVar("Verdict")
 
 BROKEN, REFUSED, INTERRUPTED = 1, 3, 130
 RESTS = "run quiet"
@@ -40,7 +47,8 @@ class Work:
         self.ask = ask
         self.program = Program(path, ask.scenario, folder, ask.jobs, find_staying(ask.stays, ask.program))
         self.scout = Scout(self.program, read_settings(ask.scenario.read_text(errors="replace")))
-        self.pool = Pool(ask.jobs)
+        self.sent: str | None = None
+        self.pool = self.open_pool()
         self.progress = Progress(sys.stderr, ask.progress)
         self.rests = False
 
@@ -59,6 +67,30 @@ class Work:
             self.pool.close()
             self.progress.end()
 
+    def open_pool(self) -> Pool:
+        """Threads, or where a program stays, processes or the workers of an executor, to which work is sent."""
+        stays = find_staying(self.ask.stays, self.ask.program)
+        if self.ask.executor is None:
+            if stays is None or self.ask.command == "shrink" or self.ask.jobs == 1:
+                return Pool(self.ask.jobs)
+            self.sent = str(stays)
+            return Pool(self.ask.jobs, processes(self.ask.jobs))
+        if stays is None:
+            raise Trouble("--executor: the workers are sent nova_debug, which is not built, nor named by --stays")
+        dask = Dask(self.ask.executor.removeprefix(DASK), stays)
+        self.sent = dask.program
+        return Pool(dask.workers, dask)
+
+    def choice(self, judge: Callable[[str], Verdict]) -> Choice[Verdict]:
+        """The orders that are to be tried, and what is asked of each report."""
+        wanted = self.wanted()
+        sending = None
+        if self.sent is not None:
+            text = self.ask.scenario.read_text(errors="replace")
+            job = Job(self.sent, text, wanted.turns, wanted.changes or 0, wanted.seed, wanted.habits, judge)
+            sending = Sending(self.pool, job, self.scout, self.program)
+        return Choice(wanted, self.scout, self.pool, judge, sending)
+
     def wanted(self) -> Wanted:
         """Which orders are to be tried: all with at most three changes, where nothing is said."""
         ask = self.ask
@@ -71,7 +103,7 @@ class Work:
     def explore(self) -> int:
         """Groups the orders by outcome. At an interrupt all is told that was found so far."""
         tally: Tally[Outcome] = Tally()
-        choice = Choice(self.wanted(), self.scout, self.pool, lambda report: outcome_of(report, self.ask.aspects))
+        choice = self.choice(partial(outcome_of, aspects=self.ask.aspects))
         status = DONE
         try:
             for tried in choice.orders():
@@ -90,7 +122,7 @@ class Work:
 
     def expect(self) -> int:
         """Tries orders until one breaks what is expected, and writes that one."""
-        choice = Choice(self.wanted(), self.scout, self.pool, self.broken)
+        choice = self.choice(partial(broken, never=self.ask.never, always=self.ask.always))
         number = 0
         status = DONE
         try:
@@ -108,16 +140,6 @@ class Work:
         self.progress.end()
         print("\n".join(choice.account()), file=sys.stderr)
         return status
-
-    def broken(self, report: str) -> str | None:
-        """Which expectation the report breaks."""
-        for pattern in self.ask.never:
-            if pattern.search(report):
-                return f"{pattern.pattern!r} is there"
-        for pattern in self.ask.always:
-            if not pattern.search(report):
-                return f"{pattern.pattern!r} is not there"
-        return None
 
     def shrink(self) -> int:
         """Writes the simpler order. At an interrupt that is the simplest so far."""

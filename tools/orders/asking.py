@@ -9,6 +9,7 @@ from dataclasses import dataclass
 from pathlib import Path
 from typing import Any
 
+from sending import DASK
 from outcome import DEFAULT, PLAIN, Aspect, aspects_of, pattern_of
 
 MOST_TURNS = 1_000_000
@@ -38,6 +39,7 @@ class Ask:
     keep: re.Pattern[str] = re.compile("")
     search: int = SEARCH
     stays: Path | None = None
+    executor: str | None = None
     open: bool = False
 
     @staticmethod
@@ -87,6 +89,13 @@ def weights(text: str) -> tuple[float, ...]:
     if not all(0 < weight < float("inf") for weight in found):
         raise argparse.ArgumentTypeError(f"{text!r} is not a positive number for each processor, with commas between")
     return found
+
+
+def executor(text: str) -> str:
+    """Reads where an executor is."""
+    if not text.removeprefix(DASK) or not text.startswith(DASK):
+        raise ValueError(f"{text!r} is not of the form dask:ADDRESS")
+    return text
 
 
 def refusing(read: Any) -> Any:
@@ -139,6 +148,8 @@ def add_choice(command: argparse.ArgumentParser) -> None:
     command.add_argument("--seed", type=int, default=1, metavar="S", help="what they are drawn from (1)")
     often = "how often each processor has a block of these (1 for each)"
     command.add_argument("--weights", type=weights, default=(), metavar="W,..", help=often)
+    workers = "send the work to the workers of a scheduler of python3-distributed, dask:ADDRESS"
+    command.add_argument("--executor", type=refusing(executor), metavar="dask:ADDRESS", help=workers)
     command.add_argument("--lengths", type=lengths, default=LENGTHS, metavar="A-B", help="how long their blocks are (1-8)")
 
 

@@ -5,19 +5,20 @@ from __future__ import annotations
 import time
 from collections.abc import Callable, Iterator
 from dataclasses import dataclass
+from itertools import chain
 from typing import Generic, TypeVar
 
 from longest import Scout
-from pool import Pool
-from program import End
+from pool import Pool, pieces_of
 from sample import Habits, Sampler, Stops
 from search import Coverage, Search, Tried
+from sending import Sending
 from shared import counted
 
 Verdict = TypeVar("Verdict")
 
-# How many orders at random are drawn before anything is taken for likely.
-FIRST = 32
+# How many orders at random are drawn before anything is taken for likely, and how many a thread draws at most at a time.
+FIRST, DRAWS = 32, 16
 
 
 @dataclass(frozen=True, slots=True)
@@ -34,12 +35,16 @@ class Wanted:
 class Choice(Generic[Verdict]):
     """The orders that were asked for, and the count of those that were tried."""
 
-    def __init__(self, wanted: Wanted, scout: Scout, pool: Pool, judge: Callable[[str], Verdict]) -> None:
+    def __init__(
+        self, wanted: Wanted, scout: Scout, pool: Pool, judge: Callable[[str], Verdict], sending: Sending[Verdict] | None = None
+    ) -> None:
         self.wanted = wanted
         self.scout = scout
         self.pool = pool
         self.judge = judge
-        self.search = None if wanted.changes is None else Search(scout, pool, wanted.turns, wanted.changes, judge)
+        self.sending = sending
+        harvests = sending.harvests if sending else None
+        self.search = None if wanted.changes is None else Search(scout, pool, wanted.turns, wanted.changes, judge, harvests)
         self.drawn = 0
         self._began = 0.0
 
@@ -55,17 +60,25 @@ class Choice(Generic[Verdict]):
     def _drawn(self) -> Iterator[Tried[Verdict]]:
         """Orders at random. What the first ones show of where processors are idle makes the others cheaper."""
         self._began = time.monotonic()
-        sampler = Sampler(self.scout, self.wanted.habits, self.wanted.turns, self.wanted.seed)
+        draws = self.sending.draws if self.sending else self._draws()
         stops: Stops = {}
         for numbers in (range(min(FIRST, self.wanted.random)), range(FIRST, self.wanted.random)):
-            for tried in self.pool.map(lambda number: self._draw(sampler, number, stops), numbers):
+            for tried in draws(numbers, stops):
                 self.drawn += 1
                 yield tried
             stops = self.scout.stops()
 
-    def _draw(self, sampler: Sampler, number: int, stops: Stops) -> Tried[Verdict]:
-        run = sampler.draw(number, stops)
-        return Tried(run.blocks, run.end is End.QUIET, self.judge(run.report))
+    def _draws(self) -> Callable[[range, Stops], Iterator[Tried[Verdict]]]:
+        """What draws orders here, by their numbers."""
+        sampler = Sampler(self.scout, self.wanted.habits, self.wanted.turns, self.wanted.seed)
+
+        def draw(numbers: range, stops: Stops) -> list[Tried[Verdict]]:
+            return [Tried.of(sampler.draw(number, stops), self.judge) for number in numbers]
+
+        def draws(numbers: range, stops: Stops) -> Iterator[Tried[Verdict]]:
+            return chain.from_iterable(self.pool.map(lambda piece: draw(piece, stops), pieces_of(numbers, self.pool.workers, DRAWS)))
+
+        return draws
 
     def left(self) -> str:
         """How many orders at random were tried, of how many, and in about how long the others will be; nothing before the first."""

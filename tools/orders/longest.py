@@ -4,10 +4,12 @@ from __future__ import annotations
 
 from bisect import bisect_left, bisect_right, insort
 from collections import defaultdict
+from collections.abc import Mapping
 from dataclasses import dataclass
 from enum import Enum
+from typing import Protocol
 
-from program import End, Program, Run
+from program import End, Run
 from shared import CREATE_SC, ROOT, SM_CTRL, Kind, Report, Settings, read_report
 from turns import Block, Blocks, turns_of, turns_on
 
@@ -88,10 +90,19 @@ class Bracket:
         return count
 
 
+class Runs(Protocol):
+    """What runs orders, and counts the runs."""
+
+    starts: int
+
+    def run(self, blocks: Blocks) -> Run:
+        """The run over an order."""
+
+
 class Scout:
     """Finds reaches. What it learns of some makes the next ones cheaper, and never other."""
 
-    def __init__(self, program: Program, settings: Settings) -> None:
+    def __init__(self, program: Runs, settings: Settings) -> None:
         self.program = program
         self.settings = settings
         self.cpus = settings.cpus
@@ -100,6 +111,12 @@ class Scout:
     def stops(self) -> dict[int, tuple[int, ...]]:
         """After how many turns of its own each processor was found idle, in rising order."""
         return {cpu: tuple(sorted(set(ends))) for cpu, ends in self._ends.items()}
+
+    def learn(self, stops: Mapping[int, tuple[int, ...]]) -> None:
+        """Takes over what another one has found out."""
+        for cpu, ends in stops.items():
+            for turns in ends:
+                self._learn(cpu, turns)
 
     def idle_of(self, report: Report) -> frozenset[int]:
         """Processors that are sure to be idle at the end of a report."""

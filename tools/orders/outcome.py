@@ -3,60 +3,80 @@
 from __future__ import annotations
 
 import re
-from collections.abc import Callable, Iterable, Iterator
+from collections.abc import Iterable, Iterator
+from dataclasses import dataclass
 
 from shared import Kind
 
 # An outcome: the lines that were asked for, taken out of a report.
 Outcome = tuple[str, ...]
-Aspect = Callable[[str], Iterator[str]]
 
 DEFAULT = "end,states,consoles,semaphores"
-PLAIN = ("end", "states", "registers", "consoles", "semaphores", "caps")
 
 
-def _lines(report: str, word: str) -> Iterator[str]:
-    """The lines that begin with a word."""
-    return (line for line in report.splitlines() if line.startswith(f"{word} "))
+@dataclass(frozen=True, slots=True)
+class Lines:
+    """The lines that begin with a word; of each so many words, where that is said."""
+
+    word: str
+    count: int | None = None
+
+    def __call__(self, report: str) -> Iterator[str]:
+        found = (line for line in report.splitlines() if line.startswith(f"{self.word} "))
+        return found if self.count is None else (" ".join(line.split(" ", self.count)[: self.count]) for line in found)
 
 
-def _words(report: str, word: str, count: int) -> Iterator[str]:
-    """The first words of the lines that begin with a word."""
-    return (" ".join(line.split(" ", count)[:count]) for line in _lines(report, word))
+@dataclass(frozen=True, slots=True)
+class Events:
+    """The events of some kinds, without their turns."""
+
+    kinds: frozenset[str]
+
+    def __call__(self, report: str) -> Iterator[str]:
+        for line in Lines("at")(report):
+            at, _, rest = line.split(" ", 2)
+            if rest.split(" ", 3)[2] in self.kinds:
+                yield f"{at} - {rest}"
+
+
+@dataclass(frozen=True, slots=True)
+class Matches:
+    """All that matches; where the pattern has groups, what is in these."""
+
+    pattern: re.Pattern[str]
+
+    def __call__(self, report: str) -> Iterator[str]:
+        for found in self.pattern.finditer(report):
+            yield " ".join(group or "" for group in found.groups()) if self.pattern.groups else found[0]
+
+
+# What an outcome is made of. They are values, so that they can be sent to another process.
+Aspect = Lines | Events | Matches
+
+PLAIN: dict[str, Aspect] = {
+    "end": Lines("run", 2),
+    "states": Lines("ec", 4),
+    "registers": Lines("ec"),
+    "consoles": Lines("console"),
+    "semaphores": Lines("sm"),
+    "caps": Lines("cap"),
+}
 
 
 def _plain(name: str) -> Aspect:
     """One of the aspects that are named by a word alone."""
-    match name:
-        case "end":
-            return lambda report: _words(report, "run", 2)
-        case "states":
-            return lambda report: _words(report, "ec", 4)
-        case "registers":
-            return lambda report: _lines(report, "ec")
-        case "consoles":
-            return lambda report: _lines(report, "console")
-        case "semaphores":
-            return lambda report: _lines(report, "sm")
-        case "caps":
-            return lambda report: _lines(report, "cap")
-    raise ValueError(f"there is no {name!r}: one of {', '.join(PLAIN)}, events:KIND,.. or match:REGEX is wanted")
+    if name not in PLAIN:
+        raise ValueError(f"there is no {name!r}: one of {', '.join(PLAIN)}, events:KIND,.. or match:REGEX is wanted")
+    return PLAIN[name]
 
 
 def _events(kinds: str) -> Aspect:
-    """The events of some kinds, without their turns."""
+    """The events of some kinds."""
     known = {kind.value for kind in Kind}
     wanted = frozenset(kinds.split(","))
     if not wanted <= known:
         raise ValueError(f"there is no event {min(wanted - known)!r}")
-
-    def of(report: str) -> Iterator[str]:
-        for line in _lines(report, "at"):
-            at, _, rest = line.split(" ", 2)
-            if rest.split(" ", 3)[2] in wanted:
-                yield f"{at} - {rest}"
-
-    return of
+    return Events(wanted)
 
 
 def pattern_of(text: str) -> re.Pattern[str]:
@@ -67,27 +87,27 @@ def pattern_of(text: str) -> re.Pattern[str]:
         raise ValueError(f"{text!r} is no pattern: {error}") from error
 
 
-def _matches(text: str) -> Aspect:
-    """All that matches; where the pattern has groups, what is in these."""
-    pattern = pattern_of(text)
-
-    def of(report: str) -> Iterator[str]:
-        for found in pattern.finditer(report):
-            yield " ".join(group or "" for group in found.groups()) if pattern.groups else found[0]
-
-    return of
-
-
 def aspects_of(text: str) -> list[Aspect]:
     """The aspects that one `--by` names: plain ones with commas between, events of some kinds, or a pattern. Raises ValueError."""
     name, colon, rest = text.partition(":")
     if colon and name == "events":
         return [_events(rest)]
     if colon and name == "match":
-        return [_matches(rest)]
+        return [Matches(pattern_of(rest))]
     return [_plain(word) for word in text.split(",")]
 
 
 def outcome_of(report: str, aspects: Iterable[Aspect]) -> Outcome:
     """The outcome of a run."""
     return tuple(line for aspect in aspects for line in aspect(report))
+
+
+def broken(report: str, never: Iterable[re.Pattern[str]], always: Iterable[re.Pattern[str]]) -> str | None:
+    """Which expectation a report breaks."""
+    for pattern in never:
+        if pattern.search(report):
+            return f"{pattern.pattern!r} is there"
+    for pattern in always:
+        if not pattern.search(report):
+            return f"{pattern.pattern!r} is not there"
+    return None

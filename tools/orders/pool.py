@@ -4,33 +4,43 @@ from __future__ import annotations
 
 from collections import deque
 from collections.abc import Callable, Iterable, Iterator
-from concurrent.futures import Future, ThreadPoolExecutor
-from typing import TypeVar
+from concurrent.futures import Executor, Future, ThreadPoolExecutor
+from typing import Any, TypeVar
 
 Item = TypeVar("Item")
 Found = TypeVar("Found")
 
-# How many pieces of work wait for each thread.
+# How many pieces of work wait for each worker.
 AHEAD = 4
 
 
-class Pool:
-    """Threads that do pieces of work. What they do is mostly to wait for a program, so threads are enough for several processors."""
+def pieces_of(numbers: range, workers: int, most: int) -> Iterator[range]:
+    """Numbers in pieces of at most so many, and of fewer where some workers would have none."""
+    size = max(1, min(most, len(numbers) // (workers * AHEAD)))
+    return (numbers[at : at + size] for at in range(0, len(numbers), size))
 
-    def __init__(self, threads: int) -> None:
-        self._executor = ThreadPoolExecutor(threads)
-        self._ahead = threads * AHEAD
+
+class Pool:
+    """Workers that do pieces of work: threads, or those of another executor, to which work is sent. Where each order is a start of the program, a
+    thread does little but wait for that, so threads are enough for several processors of one machine."""
+
+    def __init__(self, workers: int, executor: Executor | None = None) -> None:
+        self.workers = workers
+        self._executor = executor or ThreadPoolExecutor(workers)
+        self._waiting: deque[Future[Any]] = deque()
 
     def map(self, work: Callable[[Item], Found], items: Iterable[Item]) -> Iterator[Found]:
         """What comes of the work for each item, in the order of the items. Items are taken as they are needed."""
-        waiting: deque[Future[Found]] = deque()
+        waiting = self._waiting = deque()
         for item in items:
             waiting.append(self._executor.submit(work, item))
-            if len(waiting) >= self._ahead:
+            if len(waiting) >= self.workers * AHEAD:
                 yield waiting.popleft().result()
         while waiting:
             yield waiting.popleft().result()
 
     def close(self) -> None:
         """Waits for the work that has begun; no other begins."""
-        self._executor.shutdown(wait=True, cancel_futures=True)
+        for future in self._waiting:
+            future.cancel()
+        self._executor.shutdown(wait=True)

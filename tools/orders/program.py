@@ -43,6 +43,16 @@ class Run:
     line: int = 0
 
 
+def run_of(blocks: Blocks, answer: tuple[str, str] | None) -> Run | None:
+    """The run over an order, by the answer of a program that stays; none where it didn't take the order."""
+    if answer is None or answer[1].split()[0] in ("no", "memory"):
+        return None
+    report, said = answer
+    if said != "ok":
+        return Run(blocks, End.IDLE, line=int(said.split()[1]))
+    return Run(blocks, End.QUIET if report.startswith("run quiet") else End.OPEN, report)
+
+
 class Program:
     """The program and a scenario. Several threads may run it at a time; each start has a file of the folder for its order."""
 
@@ -64,16 +74,11 @@ class Program:
 
     def _ask(self, staying: Staying, blocks: Blocks) -> Run | None:
         """The run over an order by a program that stays; none where it doesn't take it, so that one that is started says why."""
-        answer = staying.ask(blocks)
+        run = run_of(blocks, staying.ask(blocks))
         if self._stopped:
             raise Stopped
-        if answer is None or answer[1].split()[0] in ("no", "memory"):
-            return None
-        self.starts += 1
-        report, said = answer
-        if said != "ok":
-            return Run(blocks, End.IDLE, line=int(said.split()[1]))
-        return Run(blocks, End.QUIET if report.startswith("run quiet") else End.OPEN, report)
+        self.starts += run is not None
+        return run
 
     def run_text(self, order: str, blocks: Blocks = ()) -> Run:
         """The run over the text of an order, which need not be one; the blocks are kept with the run."""

@@ -118,6 +118,8 @@ class Sampler:
 
         Those of the stand were left out from there on, and the others after their last turn; `ended` are known to be idle at the end.
         """
+        if run.end is End.QUIET:
+            return Stand(run.blocks, frozenset(range(self.scout.cpus)))
         report = read_report(run.report)
         sure = self.scout.idle_of(report) | ended
         begun = turns_of(stand.blocks)

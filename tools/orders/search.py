@@ -16,7 +16,7 @@ from typing import Generic, TypeVar
 
 from longest import Reach, Scout
 from pool import Pool
-from program import End
+from program import End, Run
 from turns import Block, Blocks, turns_of
 
 Verdict = TypeVar("Verdict")
@@ -29,6 +29,11 @@ class Tried(Generic[Verdict]):
     blocks: Blocks
     is_quiet: bool
     verdict: Verdict
+
+    @staticmethod
+    def of(run: Run, judge: Callable[[str], Verdict]) -> Tried[Verdict]:
+        """What a run shows."""
+        return Tried(run.blocks, run.end is End.QUIET, judge(run.report))
 
 
 @dataclass(frozen=True, slots=True)
@@ -68,6 +73,10 @@ class Harvest(Generic[Verdict]):
     stems: list[Stem] = field(default_factory=list)
 
 
+# What runs families, and hands out what came of each.
+Harvests = Callable[[Iterator[Family]], Iterator[Harvest[Verdict]]]
+
+
 @dataclass(slots=True)
 class Coverage:
     """What a search has tried: by the number of changes the orders that came to rest, and how many orders took all turns."""
@@ -80,9 +89,11 @@ class Coverage:
 class Search(Generic[Verdict]):
     """Runs a scenario over the orders with at most `changes` changes of processor, of at most `turns` turns."""
 
-    def __init__(self, scout: Scout, pool: Pool, turns: int, changes: int, judge: Callable[[str], Verdict]) -> None:
+    def __init__(
+        self, scout: Scout, pool: Pool, turns: int, changes: int, judge: Callable[[str], Verdict], harvests: Harvests[Verdict] | None = None
+    ) -> None:
         self.scout = scout
-        self.pool = pool
+        self.harvests = harvests or (lambda families: pool.map(self.harvest, families))
         self.turns = turns
         self.changes = changes
         self.judge = judge
@@ -102,7 +113,7 @@ class Search(Generic[Verdict]):
             for harvest in harvests:
                 yield self._count(harvest.tried, changes)
                 stems += harvest.stems
-            harvests = self.pool.map(self._harvest, self._families(stems, changes + 1 == self.changes))
+            harvests = self.harvests(self._families(stems, changes + 1 == self.changes))
         self.coverage.is_all = True
 
     def _count(self, tried: list[Tried[Verdict]], changes: int) -> Iterator[Tried[Verdict]]:
@@ -127,7 +138,7 @@ class Search(Generic[Verdict]):
             self._take(harvest, self.scout.reach((), cpu, self.turns))
         return harvest
 
-    def _harvest(self, family: Family) -> Harvest[Verdict]:
+    def harvest(self, family: Family) -> Harvest[Verdict]:
         """Runs a family. How far the processor goes after one beginning is tried first after the next one."""
         harvest: Harvest[Verdict] = Harvest()
         guess = None
@@ -160,6 +171,6 @@ class Search(Generic[Verdict]):
             return
         whole = run.end is End.QUIET or turns_of(run.blocks) == self.turns
         if whole:
-            harvest.tried.append(Tried(run.blocks, run.end is End.QUIET, self.judge(run.report)))
+            harvest.tried.append(Tried.of(run, self.judge))
         if len(run.blocks) <= self.changes:
             harvest.stems.append(Stem(run.blocks, whole, frozenset() if whole else self.scout.idle_after(run)))

@@ -4,19 +4,20 @@ from __future__ import annotations
 
 import subprocess
 import threading
+from contextlib import suppress
 from pathlib import Path
-from queue import SimpleQueue
+from queue import LifoQueue
 
 from turns import Blocks
 
 
 class Staying:
-    """Several of them, of one scenario. One is started when it is first needed."""
+    """Several of them, of one scenario. One is started when all others are asked something."""
 
     def __init__(self, path: Path, scenario: Path, at_a_time: int) -> None:
         # The run that they make for themselves isn't wanted.
         self._command = [str(path), str(scenario), "0"]
-        self._free: SimpleQueue[subprocess.Popen[bytes] | None] = SimpleQueue()
+        self._free: LifoQueue[subprocess.Popen[bytes] | None] = LifoQueue()
         for _ in range(at_a_time):
             self._free.put(None)
         self._lock = threading.Lock()
@@ -60,4 +61,9 @@ class Staying:
             for child in self._children:
                 child.kill()
                 child.wait()
+                for pipe in (child.stdin, child.stdout):
+                    # What was to be asked is not heard any more.
+                    with suppress(OSError):
+                        if pipe is not None:
+                            pipe.close()
             self._children.clear()

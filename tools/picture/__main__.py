@@ -2,7 +2,9 @@
 
 python3 tools/picture run REPORT [--order FILE] [--scenario FILE] [--from TURN] [--to TURN] [--all] [--fold N] [--page] [--output FILE]
 python3 tools/picture delegations REPORT [--from TURN] [--to TURN] [--all] [--fold N] [--page] [--output FILE]
-python3 tools/picture trace REPORT [--from TURN] [--to TURN] [--output FILE.json.gz]
+python3 tools/picture trace REPORT [--order FILE] [--scenario FILE] [--from TURN] [--to TURN] [--output FILE.json.gz]
+
+With a scenario, run and trace ask nova_debug what the report doesn't tell, where that is built; [--program FILE] names another one.
 """
 
 from __future__ import annotations
@@ -11,25 +13,33 @@ import argparse
 import gc
 import gzip
 import sys
-from collections.abc import Callable
+import tempfile
+from collections.abc import Callable, Iterator
+from contextlib import AbstractContextManager, contextmanager, nullcontext
+from itertools import islice
 from pathlib import Path
-from typing import TypeVar
+from typing import IO, BinaryIO, TypeVar
 
 from clocks import Firing, find_firings, misfit, mistimed
 from drawing import page, svg
+from exact import PROGRAM, Exact
+from exact import Refused as NotAsked
+from history import Wakes
 from order import Order, read_order
 from report import Fault, Report, read_report
 from run_picture import draw_run
 from scenario import read_settings
 from skim import LARGE, Events, find_events, shorten, turns_of
 from timeline import Window
-from trace_events import text_of, trace_events, within
+from trace_events import text_of, trace_events
 from tree_picture import draw_delegations
 
 # The greatest picture that is drawn without being asked for, in bytes. With more events than SURE none is within it.
 GREATEST, SURE = 5_000_000, 20_000
 # What is drawn without being cut short: turns without an event, and ranges that nothing was given from.
 TURNS, RANGES = 12, 40
+# How many trace events are written at a time.
+AT_ONCE = 10_000
 
 
 Read = TypeVar("Read")
@@ -44,13 +54,18 @@ def parser() -> argparse.ArgumentParser:
     top = argparse.ArgumentParser(prog="picture", description="Draws a picture of a run from its report.")
     pictures = top.add_subparsers(dest="picture", required=True, metavar="PICTURE")
     run = pictures.add_parser("run", help="what happened in each turn, with a lane for each execution context")
-    run.add_argument("--order", type=Path, metavar="FILE", help="the order of turns of the run: the turns of each processor are shown")
-    run.add_argument("--scenario", type=Path, metavar="FILE", help="the scenario of the run: how late its sources fire is shown")
     run.add_argument("--fold", type=int, default=TURNS, metavar="N", help=f"draw more than N turns without an event short ({TURNS})")
     trees = pictures.add_parser("delegations", help="which capability range was given from which")
     trees.add_argument("--fold", type=int, default=RANGES, metavar="N", help=f"cut lists of more than N ranges ({RANGES})")
-    trees.set_defaults(order=None, scenario=None)
+    trees.set_defaults(order=None, scenario=None, program=None)
     trace = pictures.add_parser("trace", help="the run as trace events, for Perfetto and the viewers of Chrome; with gzip where the name ends so")
+    run.add_argument("--order", type=Path, metavar="FILE", help="the order of turns of the run: the turns of each processor are shown")
+    run.add_argument("--scenario", type=Path, metavar="FILE", help="the scenario of the run: how late its sources fire is shown")
+    trace.add_argument("--order", type=Path, metavar="FILE", help="the order of turns of the run")
+    trace.add_argument("--scenario", type=Path, metavar="FILE", help="the scenario of the run: who acts and who pays in each turn is written")
+    for picture in (run, trace):
+        program = "what is asked of the scenario's run, if the report doesn't tell it (nova_debug of the repository, if it is built)"
+        picture.add_argument("--program", type=Path, metavar="FILE", help=program)
     for picture in (run, trees, trace):
         picture.add_argument("report", type=Path, metavar="REPORT", help="the report of the run")
         picture.add_argument("--from", dest="first", type=int, metavar="TURN", help="the first turn to draw (1)")
@@ -116,7 +131,8 @@ def draw_window(words: argparse.Namespace, text: str, events: Events, window: Wi
         if words.order is not None:
             order = faultless(words.order, lambda: read_order(read_text(words.order), report.turns, events.turns, events.cpus()))
         firings = firings_of(words.scenario, report, events, order) if words.scenario is not None else {}
-        scene = draw_run(words.report.stem, report, order, window, words.fold, firings)
+        with asked(words, report) as ask:
+            scene = draw_run(words.report.stem, report, order, window, words.fold, firings, ask)
     return (page(scene) if words.page else svg(scene)).encode("utf-8", "replace")
 
 
@@ -138,20 +154,76 @@ def faultless(path: Path, read: Callable[[], Read]) -> Read:
         raise Refused(f"{path}: {fault}") from fault
 
 
-def trace(words: argparse.Namespace) -> bytes:
+@contextmanager
+def asked(words: argparse.Namespace, report: Report) -> Iterator[Wakes]:
+    """Who is asked in which turn a waiting execution context was woken. The program is started when it is first asked."""
+    exact: list[Exact | None] = []
+
+    def ask(context: int, places: list[int]) -> int | None:
+        if not exact:
+            exact.append(open_exact(words, report))
+        return exact[0].woken(context, places) if exact[0] else None
+
+    try:
+        yield ask
+    finally:
+        for one in exact:
+            if one is not None:
+                one.close()
+
+
+def open_exact(words: argparse.Namespace, report: Report) -> Exact | None:
+    """The program that makes the run of the scenario again, if there is one. Where one that isn't named makes another run, that is said."""
+    if words.scenario is None or not (words.program or PROGRAM.exists()):
+        return None
+    try:
+        return Exact(words.program or PROGRAM, words.scenario, words.order, report)
+    except NotAsked as why:
+        if words.program:
+            raise Refused(str(why)) from why
+        print(f"picture: {why}: what the report doesn't tell stays open", file=sys.stderr)
+        return None
+
+
+def trace(words: argparse.Namespace) -> Iterator[str]:
     """The trace events that the words ask for, as the text of a file."""
     report = faultless(words.report, lambda: read_report(read_text(words.report)))
     window = window_of(report.turns, words)
-    text = "".join(text_of(event for event in trace_events(report) if within(event, window.first, window.last)))
-    compress = words.output is not None and words.output.suffix == ".gz"
-    return gzip.compress(text.encode("ascii")) if compress else text.encode("ascii")
+    exact = open_exact(words, report)
+    slices = list(exact.slices(window.first, window.last)) if exact else []
+    yield from text_of(trace_events(report, window, slices, exact.woken if exact else None))
+    if exact:
+        exact.close()
+
+
+def write_trace(words: argparse.Namespace) -> None:
+    """Writes a trace, to a file that is there only when all of it is written."""
+    if words.output is None:
+        for text in trace(words):
+            sys.stdout.write(text)
+        return
+    with tempfile.TemporaryDirectory(dir=words.output.parent) as folder:
+        fresh = Path(folder, "trace")
+        with fresh.open("wb") as raw, packed(raw, words.output.suffix == ".gz") as file:
+            texts = trace(words)
+            while piece := "".join(islice(texts, AT_ONCE)):
+                file.write(piece.encode("ascii"))
+        fresh.replace(words.output)
+
+
+def packed(raw: BinaryIO, compress: bool) -> AbstractContextManager[IO[bytes]]:
+    """A file, or what compresses into it: the same bytes for the same trace."""
+    return gzip.GzipFile("", "wb", 6, raw, 0) if compress else nullcontext(raw)
 
 
 def main(arguments: list[str]) -> int:
     """Draws one picture, or writes one trace. The status is 1, and nothing is written, where a file can't be read or is not of its form."""
     words = parser().parse_args(arguments)
     try:
-        picture = trace(words) if words.picture == "trace" else draw(words)
+        if words.picture == "trace":
+            write_trace(words)
+            return 0
+        picture = draw(words)
         if words.output is None:
             sys.stdout.buffer.write(picture)
         else:

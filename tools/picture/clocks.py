@@ -26,24 +26,25 @@ class Ticks:
         self.order = order
         self.most = _unpaid(report) - sum(event.kind in UNPAID for event in report.events)
         self.cpus = sorted({payer.cpu for payer in report.payers} | {source.cpu for source in report.sources})
-        runs: dict[int, list[tuple[int, int]]] = defaultdict(list)
+        runs: dict[Doing, dict[int, list[tuple[int, int]]]] = {doing: defaultdict(list) for doing in (Doing.RUNS, Doing.UNTOLD)}
         began = _began(report)
         for span in history.spans:
             cpu = history.processors.get(span.context)
             start = max(span.start, began.get(span.context, span.end))
-            if span.doing is Doing.RUNS and cpu is not None and start < span.end:
-                runs[cpu].append((start, span.end))
-        self.runs = {cpu: _joined(spans) for cpu, spans in runs.items()}
+            if span.doing in runs and cpu is not None and start < span.end:
+                runs[span.doing][cpu].append((start, span.end))
+        self.runs, self.untold = ({cpu: _joined(spans) for cpu, spans in runs[doing].items()} for doing in runs)
 
     def within(self, first: int, last: int) -> int | None:
         """How many of these turns, of which none has an event, are ticks; None where that is not told."""
         if self.most <= 0:
             return 0
         turns = self._turns(first, last)
-        idle = [cpu for cpu in turns or self.cpus if not self._executes(cpu, first)]
-        if turns is not None:
-            return sum(turns[cpu] for cpu in idle)
-        return last - first + 1 if len(idle) == len(self.cpus) else None
+        busy = [cpu for cpu in turns or self.cpus if _has(self.runs, cpu, first)]
+        untold = [cpu for cpu in turns or self.cpus if cpu not in busy and _has(self.untold, cpu, first)]
+        if untold or (turns is None and busy):
+            return None
+        return last - first + 1 if turns is None else sum(count for cpu, count in turns.items() if cpu not in busy)
 
     def _turns(self, first: int, last: int) -> Counter[int] | None:
         """How many of these turns each processor has, where that is told."""
@@ -54,11 +55,12 @@ class Ticks:
             found[cpu] += end - start + 1
         return found
 
-    def _executes(self, cpu: int, turn: int) -> bool:
-        """Whether somebody on the processor may execute an instruction in that turn."""
-        starts, ends = self.runs.get(cpu, ([], []))
-        at = bisect_left(ends, turn)
-        return at < len(ends) and starts[at] < turn
+
+def _has(stretches: dict[int, tuple[list[int], list[int]]], cpu: int, turn: int) -> bool:
+    """Whether a turn is in one of the stretches of a processor."""
+    starts, ends = stretches.get(cpu, ([], []))
+    at = bisect_left(ends, turn)
+    return at < len(ends) and starts[at] < turn
 
 
 def _unpaid(report: Report) -> int:

@@ -4,6 +4,7 @@ from __future__ import annotations
 
 from bisect import bisect_left, bisect_right
 from collections import defaultdict
+from collections.abc import Callable
 from dataclasses import dataclass, field
 from enum import Enum
 
@@ -22,6 +23,7 @@ class Doing(Enum):
     HELPED = "is helped by another"
     GIVES = "gives or takes items"
     REVOKES = "revokes"
+    UNTOLD = "waits, or was woken: not told"
     DEAD = "dead"
 
 
@@ -58,6 +60,18 @@ class Arrow:
     target: int
     lead: Lead
     sure: bool = True
+
+
+# Finds out in which of some turns a context that waits at a semaphore was woken; None where that is not told.
+Wakes = Callable[[int, list[int]], int | None]
+
+
+@dataclass(slots=True)
+class Woken:
+    """Who is woken by the events of a report, by their numbers: with whether no other can have done it, and who is awake for certain."""
+
+    by: dict[int, list[tuple[int, bool]]] = field(default_factory=lambda: defaultdict(list))
+    awake: dict[int, list[int]] = field(default_factory=lambda: defaultdict(list))
 
 
 @dataclass(slots=True)
@@ -118,12 +132,13 @@ def _close_at_end(report: Report, found: Transfers, called: dict[int, int], last
     found.taken |= {at for context, at in called.items() if states[context] == "granting"}
 
 
-def find_wakes(report: Report) -> dict[int, list[tuple[int, bool]]]:
-    """By the number of an event that may be an up: who it wakes, and whether no other can have done it."""
+def find_wakes(report: Report, ask: Wakes | None = None) -> Woken:
+    """Which events may have woken whom. Where several may have done it, it is the first of them, unless one can ask; after the last who was
+    woken is awake."""
     ups = [at for at, event in enumerate(report.events) if _is_sm_ctrl(event)]
     following: dict[int, int] = {}
     states = {context.number: context.state for context in report.contexts}
-    wakes: dict[int, list[tuple[int, bool]]] = defaultdict(list)
+    woken = Woken()
     for at in reversed(range(len(report.events))):
         event = report.events[at]
         after = following.get(event.context)
@@ -133,9 +148,14 @@ def find_wakes(report: Report) -> dict[int, list[tuple[int, bool]]]:
         if after is not None and report.events[after].kind in (Kind.LATE, Kind.IRQ):
             continue  # That event ends the wait, whatever ups there are before it.
         first, end = bisect_right(ups, at), len(ups) if after is None else bisect_left(ups, after)
-        if first < end:
-            wakes[ups[first]].append((event.context, end - first == 1))
-    return wakes
+        able = ups[first:end]
+        if len(able) > 1 and ask is not None:
+            place = ask(event.context, [report.events[up].place for up in able])
+            able = [up for up in able if place in (None, report.events[up].place)]
+        if able:
+            woken.by[able[0]].append((event.context, len(able) == 1))
+            woken.awake[able[-1]].append(event.context)
+    return woken
 
 
 def _is_sm_ctrl(event: Event) -> bool:
@@ -145,7 +165,7 @@ def _is_sm_ctrl(event: Event) -> bool:
 class Replay:
     """Follows the events and keeps what each context does, and whom it waits for."""
 
-    def __init__(self, report: Report) -> None:
+    def __init__(self, report: Report, ask: Wakes | None = None) -> None:
         self.report = report
         objects = find_objects(report)
         processors = find_processors(report)
@@ -155,7 +175,7 @@ class Replay:
             if owner is not None:
                 processors.setdefault(owner, payer.cpu)
         self.transfers = find_transfers(report)
-        self.wakes = find_wakes(report)
+        self.woken = find_wakes(report, ask)
         self.paid_by = {owner: payer for payer, owner in self.history.owners.items()}
         self.doing: dict[int, tuple[Doing, int]] = {}
         self.waits_for: dict[int, int] = {}
@@ -233,9 +253,11 @@ class Replay:
         made = self.history.objects.made_in.get(event.place)
         if event.a == CREATE_EC and made is not None:
             self.lead(event, event.context, made, Lead.MAKE)
-        for waiter, sure in self.wakes.get(at, ()):
-            self.turn_to(waiter, Doing.RUNS, event.place)
+        for waiter, sure in self.woken.by.get(at, ()):
+            self.turn_to(waiter, Doing.RUNS if sure else Doing.UNTOLD, event.place)
             self.lead(event, event.context, waiter, Lead.WAKE, sure)
+        for waiter in self.woken.awake.get(at, ()):
+            self.turn_to(waiter, Doing.RUNS, event.place)
 
     def interrupt(self, event: Event) -> None:
         """A source fired, and woke who waits at its semaphore, if anybody does."""
@@ -329,8 +351,8 @@ class Replay:
             self.history.spans.append(Span(handler, Doing.HELPED, since, place))
 
 
-def find_history(report: Report) -> History:
-    """What the events of the report mean together."""
-    replay = Replay(report)
+def find_history(report: Report, ask: Wakes | None = None) -> History:
+    """What the events of the report mean together; who was woken when is asked, where one can ask and the report doesn't tell."""
+    replay = Replay(report, ask)
     replay.follow()
     return replay.close()

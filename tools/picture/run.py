@@ -6,7 +6,7 @@ from collections import defaultdict
 from dataclasses import dataclass
 
 from clocks import Firing, Ticks
-from history import Arrow, Doing, History, Lead, Span, find_history
+from history import Arrow, Doing, History, Lead, Span, Wakes, find_history
 from order import Order
 from report import UNPAID, CapRange, Event, Kind, Report, Space
 from signs import ranks_of
@@ -41,9 +41,9 @@ class Run:
         return self.window == Window(1, self.report.turns)
 
 
-def gather(report: Report, order: Order | None, window: Window, firings: dict[int, Firing]) -> Run:
+def gather(report: Report, order: Order | None, window: Window, firings: dict[int, Firing], ask: Wakes | None) -> Run:
     """The window of the run."""
-    history = find_history(report)
+    history = find_history(report, ask)
     events = [(event, paid) for event, paid in zip(report.events, history.payers) if window.has(event.place)]
     arrows: dict[int, list[Arrow]] = defaultdict(list)
     for arrow in history.arrows:

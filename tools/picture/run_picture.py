@@ -8,7 +8,7 @@ from dataclasses import dataclass, field
 
 import scene
 from clocks import Firing
-from history import Arrow, Doing, Lead, Span
+from history import Arrow, Doing, Lead, Span, Wakes
 from legend import place_legend, place_title
 from objects import ROOT
 from order import Order
@@ -45,11 +45,17 @@ class Lanes:
 
 
 def draw_run(
-    name: str, report: Report, order: Order | None, window: Window, fold: int, firings: dict[int, Firing] | None = None
+    name: str,
+    report: Report,
+    order: Order | None,
+    window: Window,
+    fold: int,
+    firings: dict[int, Firing] | None = None,
+    ask: Wakes | None = None,
 ) -> Scene:
     """The picture of the turns of the window; a stretch of more than `fold` turns without an event is drawn short, and so is one of ticks
-    alone. `firings` are those of the sources by their turns, where it is told when they were due."""
-    run = gather(report, order, window, firings or {})
+    alone. `firings` are those of the sources by their turns, where it is told when they were due. Who was woken when is asked, where one can."""
+    run = gather(report, order, window, firings or {}, ask)
     lanes = _place_lanes(run)
     texts = [row_text(event, run) for event, _ in run.events]
     text_x = lanes.right + BETWEEN

@@ -52,7 +52,7 @@ LEADS = {
 }
 # What is told from a call by an open head.
 OPEN_HEADS = frozenset({Lead.EXIT, Lead.ABORT, Lead.MAKE})
-LINES = {Doing.RUNS: "runs", Doing.PARKED: "parked", Doing.WAITS: "waits", Doing.HELPS: "helps"}
+LINES = {Doing.RUNS: "runs", Doing.PARKED: "parked", Doing.WAITS: "waits", Doing.HELPS: "helps", Doing.UNTOLD: "runs unsure"}
 # The colour of a mark that nobody pays for, and the bar of a firing that is due and has not come yet.
 NOBODY, DUE = ("head-full",), "bar unknown"
 BARS = {Doing.GIVES: "gives", Doing.REVOKES: "revokes", Doing.HELPED: "helped"}

@@ -14,7 +14,7 @@ TOP = Path(__file__).resolve().parents[1]
 sys.path.insert(0, str(TOP))
 
 from page import gone, listed, named, section  # noqa: E402
-from tables import Enumeration, sources, tables, variants  # noqa: E402
+from tables import Enumeration, citing, sources, tables, variants  # noqa: E402
 
 CALLS = """/// What is asked for. It was Never.
 pub enum Call {
@@ -101,6 +101,11 @@ class Changes(unittest.TestCase):
 
     def test_a_table_has_a_row_for_most_variants(self) -> None:
         self.assertEqual(tables(self.top, OF), FOUND)
+
+    def test_proofs_that_import_a_definition_cite_it(self) -> None:
+        self.assertEqual(citing(self.top, "Make", "Rattle.nova_a"), ["nova_b/proofs/Told.antt"])
+        self.assertEqual(citing(self.top, "Mak", "Rattle.nova_a"), [])
+        self.assertEqual(citing(self.top, "Make", "Rattle.nova_b"), [])
 
     def test_the_first_table_of_files_of_a_section_is_meant(self) -> None:
         self.assertEqual(listed(PAGE, "A call"), FOUND)

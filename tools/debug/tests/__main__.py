@@ -1,8 +1,10 @@
 """The tests of a run that is gone through.
 
 python3 tools/debug/tests [--program FILE] [--nova FILE] [--random N] [--write] [NAME..]
+python3 tools/debug/tests --times [--program FILE] [--nova FILE]
 
-They compare `nova_debug` with the reports of `nova solo`, and what gdb says with what stands beside this file; --write writes that anew.
+They compare `nova_debug` with the reports of `nova solo`, and what gdb says with what stands beside this file; --write writes that anew. With
+--times a table is printed of how long things take, on a machine that has nothing else to do.
 """
 
 from __future__ import annotations
@@ -15,6 +17,7 @@ import subprocess
 import sys
 import tempfile
 import unittest
+from collections import Counter
 from itertools import groupby
 from pathlib import Path
 from random import Random
@@ -26,8 +29,9 @@ sys.path.insert(0, str(TOOL))
 sys.path.insert(1, str(TOP / "tools" / "replays"))
 
 from access import Access, access_of  # noqa: E402
-from backend import BackEnd, Refused  # noqa: E402
+from backend import BYTES, BackEnd, Event, Refused, Slice  # noqa: E402
 from scenarios import random_scenario  # noqa: E402
+from times import print_times  # noqa: E402
 
 # What the tests are made with, and how many random scenarios there are; each may take so many turns.
 PROGRAM, NOVA, COUNT, LIMIT = TOP / "crates/nova_debug/out/nova_debug", TOP / "nova", 40, 2000
@@ -52,6 +56,28 @@ def told_of(report: list[str]) -> list[str]:
     return [line for line in report if line.split()[0] in TOLD]
 
 
+def ticks_of(report: list[str]) -> dict[int, int]:
+    """How many turns each scheduling context was charged for, by a report."""
+    ticks = {int(line.split()[1]): int(line.split()[3]) for line in report if line.startswith("sc ")}
+    return {payer: turns for payer, turns in ticks.items() if turns}
+
+
+def paid_of(events: list[Event]) -> dict[int, int]:
+    """The same by the events of turns."""
+    return dict(sorted(Counter(event.payer for event in events if event.payer).items()))
+
+
+def slices_of(events: list[Event]) -> list[Slice]:
+    """Turns of processors one after another that one pays for and one acts in, by the events of turns."""
+    found = []
+    for cpu in sorted({event.cpu for event in events}):
+        own = [event for event in events if event.cpu == cpu]
+        for (payer, actor), same in groupby(own, key=lambda event: (event.payer or None, event.payer and event.actor or None)):
+            turns = list(same)
+            found.append(Slice(cpu, turns[0].place, turns[-1].place, len(turns), payer, actor))
+    return found
+
+
 class Told(unittest.TestCase):
     """What is told is what reports have."""
 
@@ -68,6 +94,7 @@ class Told(unittest.TestCase):
                 report = report_of(str(scenario), str(order))
             back.go(turn)
             self.assertEqual(state_of(back), told_of(report), f"{scenario} after {turn} turns")
+            self.assertEqual(paid_of(events), ticks_of(report), f"{scenario}: what each scheduling context paid in {turn} turns")
             seen = [f"at {e.place + 1} {e.cpu} {e.actor} {e.kind} {e.a} {e.b}" for e in events if e.kind not in ("step", "tick")]
             self.assertEqual(seen, [line for line in report if line.startswith("at ")], str(scenario))
             self.assertEqual(back.ask("order " + " ".join(f"{cpu} {count}" for cpu, count in blocks)), report, str(scenario))
@@ -77,7 +104,7 @@ class Told(unittest.TestCase):
 
     def back_and_forth(self, back: BackEnd, scenario: Path, random: Random) -> None:
         """A turn that is gone to by way of others tells what it tells from the beginning."""
-        back.ask(f"keep {random.randrange(1, 50)}")
+        back.keep(random.choice((0, 1, 50_000, 200_000, BYTES)))
         for _ in range(6):
             back.go(random.randrange(back.end + 1))
         turn = back.turn
@@ -109,6 +136,21 @@ class Told(unittest.TestCase):
                 back.ask(line)
             self.assertEqual(back.ask("at"), ["turn 7 of 54"])
         back.close()
+
+    def test_who_pays_and_who_acts(self) -> None:
+        with tempfile.TemporaryDirectory() as folder:
+            scenario = Path(folder, "scenario.nova")
+            for seed in range(1, 1 + given.random // 4):
+                scenario.write_text(random_scenario(seed))
+                back = BackEnd(given.program, scenario, None, LIMIT)
+                try:
+                    told = sorted(back.slices(0, back.end), key=lambda it: (it.cpu, it.first))
+                except Refused:
+                    self.skipTest("the program tells no slices")
+                else:
+                    self.assertEqual(told, slices_of(back.events(0, back.end)), f"seed {seed}")
+                finally:
+                    back.close()
 
     def test_searches(self) -> None:
         """A search finds what going through the turns one by one finds."""
@@ -182,6 +224,9 @@ class Gdb(unittest.TestCase):
     def test_a_guest_and_its_monitor(self) -> None:
         self.compare("guest", ["tools/c/build.sh", "--debug", "--guest", "tools/c/words.c", "WORK/guest.nova"])
 
+    def test_again_from_the_beginning_with_several_inferiors(self) -> None:
+        self.compare("again", ["tools/c/build.sh", "--debug", "--guest", "tools/c/words.c", "WORK/guest.nova"])
+
 
 def main() -> None:
     """Runs the tests that are named, or all."""
@@ -190,7 +235,11 @@ def main() -> None:
     words.add_argument("--nova", type=Path, default=NOVA, metavar="FILE")
     words.add_argument("--random", type=int, default=COUNT, metavar="N")
     words.add_argument("--write", action="store_true")
+    words.add_argument("--times", action="store_true")
     _, rest = words.parse_known_args(namespace=given)
+    if given.times:
+        print_times(given)
+        return
     unittest.main(argv=[sys.argv[0], *rest], verbosity=1)
 
 

@@ -12,29 +12,23 @@ import tempfile
 import time
 import unittest
 from collections.abc import Iterator
-from contextlib import contextmanager, redirect_stderr
+from contextlib import redirect_stderr
 from dataclasses import dataclass
 from io import StringIO
 from pathlib import Path
 from random import Random
 
-HERE = Path(__file__).resolve().parent
-TOOL = HERE.parent
-EXAMPLES = TOOL.parents[1] / "examples"
-PICTURE = TOOL.parent / "picture"
-sys.path.insert(0, str(TOOL))
+from running import EXAMPLES, HERE, MEANS, PICTURE, TOOL, explored, opened, orders
+from sent import AnyExecutor, Cluster
 
-from asking import parser  # noqa: E402
-from longest import Scout  # noqa: E402
-from outcome import aspects_of, outcome_of  # noqa: E402
-from pool import Pool  # noqa: E402
-from program import End, Program, find_program  # noqa: E402
-from search import Search  # noqa: E402
-from shared import Settings, read_settings  # noqa: E402
-from turns import Block, Blocks, Parting, first_turns, last_turn, merged, parting, plainness, text_of, turns_of  # noqa: E402
-
-# The words of `--program`, for each start of the tool.
-MEANS: list[str] = []
+from asking import parser
+from longest import Scout
+from outcome import aspects_of, outcome_of
+from pool import Pool
+from program import End, Program
+from search import Search
+from shared import Settings
+from turns import Block, Blocks, Parting, first_turns, last_turn, merged, parting, plainness, text_of, turns_of
 
 DEAD = ("run quiet", "ec 1 global dead")
 
@@ -101,32 +95,6 @@ CASES = (
 )
 
 
-def orders(*words: str) -> subprocess.CompletedProcess[str]:
-    """A run of the tool."""
-    return subprocess.run([sys.executable, str(TOOL), words[0], *MEANS, *words[1:]], capture_output=True, text=True, check=False)
-
-
-class Told:
-    """What `explore` wrote: the orders of each outcome by its lines, and how many orders it is said to be of."""
-
-    def __init__(self, answer: subprocess.CompletedProcess[str], folder: Path) -> None:
-        self.answer = answer
-        self.outcomes: dict[tuple[str, ...], str] = {}
-        self.counts: list[int] = []
-        parts = answer.stdout.split("\noutcome ")
-        for number, part in enumerate(parts[1:], 1):
-            head, *lines = part.splitlines()
-            self.counts.append(int(head.split(": ")[1].split(" ")[0].replace(",", "")))
-            found = tuple(line.strip() for line in lines if not line.startswith("  parts from"))
-            self.outcomes[found] = (folder / f"{number}.order").read_text()
-
-
-def explored(*words: str) -> Told:
-    """A run of `explore`."""
-    with tempfile.TemporaryDirectory() as folder:
-        return Told(orders("explore", *words, "--output", folder), Path(folder))
-
-
 class Examples(unittest.TestCase):
     """Small scenarios whose outcomes are known."""
 
@@ -153,14 +121,6 @@ class Examples(unittest.TestCase):
                 words = [sys.executable, str(PICTURE), "run", str(text), "--order", str(order)]
                 drawn = subprocess.run(words, capture_output=True, encoding="utf-8", check=True).stdout
                 self.assertEqual(drawn, (TOOL / "pictures" / f"{name}.svg").read_text(encoding="utf-8"))
-
-
-@contextmanager
-def opened(scenario: Path) -> Iterator[tuple[Program, Settings]]:
-    """The program with a scenario, and the settings of that."""
-    with tempfile.TemporaryDirectory() as folder:
-        path = find_program(Path(MEANS[1]) if MEANS else None, scenario)
-        yield Program(path, scenario, Path(folder), 2), read_settings(scenario.read_text())
 
 
 def by_hand(program: Program, cpus: int, changes: int, turns: int, before: Blocks = ()) -> Iterator[Blocks]:
@@ -355,6 +315,8 @@ class Parts(unittest.TestCase):
             with self.subTest(text):
                 self.assertEqual(outcome_of(report, aspects_of(text)), wanted)
 
+
+__all__ = ["AnyExecutor", "Cluster"]
 
 if __name__ == "__main__":
     for word in ("--program", "--stays"):

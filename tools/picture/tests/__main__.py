@@ -1,7 +1,7 @@
 """The tests of the pictures.
 
-python3 tools/picture/tests            compares the pictures of the reports in this folder with the SVGs beside them
-python3 tools/picture/tests --write    writes those SVGs, to be looked at before they are kept
+python3 tools/picture/tests [--program FILE] compares the pictures of the reports in this folder with the SVGs beside them; with --write it writes
+those, to be looked at before they are kept. The program is one to ask, in place of nova_debug of the repository.
 """
 
 from __future__ import annotations
@@ -28,8 +28,9 @@ from run_picture import draw_run  # noqa: E402
 from scenario import Moments, Settings, read_settings  # noqa: E402
 from skim import find_events, shorten  # noqa: E402
 from timeline import Stretch, Timeline, Window  # noqa: E402
-from traces import Traces  # noqa: E402, F401
+from traces import Asked, Traces, take_program  # noqa: E402, F401
 from tree_picture import draw_delegations  # noqa: E402
+from untold import Untold  # noqa: E402, F401
 
 
 @dataclass(frozen=True)
@@ -62,8 +63,7 @@ CASES = (
 )
 
 # A report and its parts, from which the reports with a fault are made.
-HEAD = "run quiet 9\n"
-EVENT = "at 4 0 1 answer 3 0\n"
+HEAD, EVENT = "run quiet 9\n", "at 4 0 1 answer 3 0\n"
 END = "ec 1 global dead 00000000\nsc 2 0 9\ncap 0 - 0 mem 0 0 7 0\n"
 SOURCE = "ec 1 global dead 00000000\nsc 2 0 8\nsm 3 1 0\nsource 0 0 3 1 0\n"
 FAULTS = (
@@ -119,7 +119,6 @@ SCENARIO_FAULTS = (
     ("cpus x\n", "line 1: 1 number is wanted"),
     ("cpus 1\nsource 0 1 1\n", "line 2: 4 numbers are wanted"),
 )
-
 
 # Reports of whole runs, whose orders, and scenarios where they have sources, stand beside them; and with those that were written by hand, all.
 EXAMPLES = (HERE / "time.report", *sorted(TOP.parents[1].glob("examples/*.report")))
@@ -393,6 +392,7 @@ class Meaning(unittest.TestCase):
 
 
 if __name__ == "__main__":
+    take_program(sys.argv)
     if sys.argv[1:] == ["--write"]:
         for each in CASES:
             (HERE / f"{each.name}.svg").write_text(drawn(each), encoding="utf-8")
