@@ -17,7 +17,7 @@ from pathlib import Path
 TOP = Path(__file__).resolve().parents[2]
 WIDTH, SIDE, ROW, GAP, LETTER = 880, 200, 30, 10, 7.2
 BELOW = ("Vectors", "Tests")
-FIRST = ("nova_model", "nova_integrity", "nova_kernel", "nova_run", "nova_top")
+FIRST = ("nova_model", "law_integrity", "nova_kernel", "nova_run", "nova_top")
 PAPER, INK, QUIET, LAYER, CRATE, LAW = "#ffffff", "#1f2328", "#59636e", "#f1f4f8", "#dbe7f7", "#e9f3de"
 
 

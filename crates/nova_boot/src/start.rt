@@ -35,7 +35,7 @@ fn lay(kernel: &mut Kernel, images: &[Image])
     }
 }
 
-/// Makes sources in a kernel that has taken no turn. It refuses for want of memory alone.
+/// Makes sources in a kernel that has taken no turn.
 fn make(kernel: &mut Kernel, sources: &[SourceRow]) -> Result<(), AllocError>
     requires turns { kernel.old.state.turns ≡ 0 }
     requires sources { AllByRecursion (IsSourceOf kernel.old.state.cpus) sources.now }

@@ -16,16 +16,16 @@ use Rattle.nova_model.specs.Delegations.{reach}
 use Rattle.nova_model.specs.State.{KernelState, context, pd_of}
 use Rattle.nova_model.specs.Times.{until_due}
 use Rattle.nova_model.specs.Views.{guest_state, maps_of, view}
-use Rattle.nova_isolation.proofs.OtherTurns.{view_cells}
-use Rattle.nova_isolation.proofs.Seen.{maps_at, view_is}
-use Rattle.nova_isolation.proofs.Spaces.{cell_covered, found_covered, page_same}
-use Rattle.nova_leases.specs.Commits.{IsReached, lesser, stirs_now}
-use Rattle.nova_leases.specs.Advances.{IsLeasable}
-use Rattle.nova_leases.specs.Leases.{IsOfGuest, LeaseState, copy_at, lease_steps}
-use Rattle.nova_leases.specs.Paging.{IsRun}
-use Rattle.nova_leases.specs.declared.steps.Page.{Page}
-use Rattle.nova_leases.proofs.Leased.{some_is}
-use Rattle.nova_leases.proofs.Leasing.{runs}
+use Rattle.law_isolation.proofs.OtherTurns.{view_cells}
+use Rattle.law_isolation.proofs.Seen.{maps_at, view_is}
+use Rattle.law_isolation.proofs.Spaces.{cell_covered, found_covered, page_same}
+use Rattle.law_leases.specs.Commits.{IsReached, lesser, stirs_now}
+use Rattle.law_leases.specs.Advances.{IsLeasable}
+use Rattle.law_leases.specs.Leases.{IsOfGuest, LeaseState, copy_at, lease_steps}
+use Rattle.law_leases.specs.Paging.{IsRun}
+use Rattle.law_leases.specs.declared.steps.Page.{Page}
+use Rattle.law_leases.proofs.Leased.{some_is}
+use Rattle.law_leases.proofs.Leasing.{runs}
 use Rattle.nova_burst.specs.Copies.{CopiesState, known_in}
 use Rattle.nova_burst.specs.Found.{IsFound}
 use Rattle.nova_burst.specs.Gathered.{AreGathered, HasPage, IsLedTo}

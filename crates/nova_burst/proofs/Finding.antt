@@ -15,9 +15,9 @@ use Rattle.nova_model.specs.declared.budget.Budget.{Budget}
 use Rattle.nova_model.specs.declared.context.EcState.{EcState}
 use Rattle.nova_model.specs.declared.context.State.{State}
 use Rattle.nova_model.specs.declared.context.State.TheVariants.{Fresh, Ready, Parked, Calling, Helping, Exiting, Sending, Granting, Replying, Revoking, Blocked, Dead}
-use Rattle.nova_laws.proofs.Candidates.{HasSchedule, schedule_of, the_chosen}
-use Rattle.nova_isolation.specs.Sound.{IsVirtual}
-use Rattle.nova_leases.specs.Commits.{IsReached, lesser, stirs_now}
+use Rattle.law_turns.proofs.Candidates.{HasSchedule, schedule_of, the_chosen}
+use Rattle.law_isolation.specs.Sound.{IsVirtual}
+use Rattle.law_leases.specs.Commits.{IsReached, lesser, stirs_now}
 use Rattle.nova_burst.specs.Found.{IsFound}
 use Rattle.nova_burst.specs.Lending.{domain_of_virtual, has_code, is_leasable, is_ready, is_to_step, regs_to_step, turns_before, turns_left}
 use Rattle.nova_kernel.specs.Views.{left_of}

@@ -7,9 +7,9 @@ use Rattle.nova_range.specs.declared.rights.Rights.{Rights}
 use Rattle.nova_guest.specs.declared.page.Page.{Page as Place}
 use Rattle.nova_model.specs.Delegations.{reach}
 use Rattle.nova_model.specs.State.{KernelState}
-use Rattle.nova_leases.specs.Leases.{copy_at}
-use Rattle.nova_leases.specs.declared.steps.Page.{Page}
-use Rattle.nova_leases.proofs.Leased.{some_is}
+use Rattle.law_leases.specs.Leases.{copy_at}
+use Rattle.law_leases.specs.declared.steps.Page.{Page}
+use Rattle.law_leases.proofs.Leased.{some_is}
 use Rattle.nova_burst.specs.Copies.{CopiesState, known_in, place_of}
 use Rattle.nova_burst.specs.Gathered.{AreGathered, HasCopy, HasPage, HaveGrown, HaveGrownBy, IsLedTo, IsNoRamPage}
 use Rattle.nova_kernel.specs.Views.{KernelView}

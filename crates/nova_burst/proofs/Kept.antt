@@ -5,8 +5,8 @@ use Rattle.byteorder.specs.Endian.{little_bytes}
 use Rattle.nova_guest.specs.Conditions.{IsStore}
 use Rattle.nova_guest.specs.Frames.{replaced}
 use Rattle.nova_guest.proofs.Kept.{store_whole}
-use Rattle.nova_leases.specs.Leases.{cell_of, stored_in_page}
-use Rattle.nova_leases.specs.declared.steps.Page.{Page}
+use Rattle.law_leases.specs.Leases.{cell_of, stored_in_page}
+use Rattle.law_leases.specs.declared.steps.Page.{Page}
 
 pub page_whole : (frame offset width value : ℕ) (p : Page) → IsStore offset width → length p.bytes ≡ 4096 → length (stored_in_page frame offset width value p).bytes ≡ 4096
 page_whole frame offset width value p place whole = by_test (p.frame == frame) (store_whole frame offset width value (cell_of p) place whole)

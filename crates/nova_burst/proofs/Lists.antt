@@ -5,9 +5,9 @@ use Rattle.std.specs.List.{AllByRecursion, find}
 use Rattle.std.proofs.lemmas.Bool.{cases_eq}
 use Rattle.std.proofs.lemmas.Option.{same_Some}
 use Rattle.nova_guest.specs.declared.page.Page.{Page as Place}
-use Rattle.nova_leases.specs.Leases.{copy_at}
-use Rattle.nova_leases.specs.Paging.{AreFresh, AreOnce}
-use Rattle.nova_leases.specs.declared.steps.Page.{Page}
+use Rattle.law_leases.specs.Leases.{copy_at}
+use Rattle.law_leases.specs.Paging.{AreFresh, AreOnce}
+use Rattle.law_leases.specs.declared.steps.Page.{Page}
 use Rattle.nova_burst.specs.Copies.{known_in, place_of}
 use Rattle.nova_burst.specs.declared.copies.Known.{Known}
 

@@ -9,9 +9,9 @@ use Rattle.byteorder.specs.Endian.{little_bytes}
 use Rattle.nova_guest.specs.Conditions.{IsStore}
 use Rattle.nova_guest.specs.Frames.{frame_from, frame_with, read_in, replaced}
 use Rattle.nova_guest.specs.declared.page.Page.{Page as Place}
-use Rattle.nova_leases.specs.Leases.{copy_at, read_copy, stored_in_page, stored_in_pages}
-use Rattle.nova_leases.specs.Paging.{AreOnce}
-use Rattle.nova_leases.specs.declared.steps.Page.{Page}
+use Rattle.law_leases.specs.Leases.{copy_at, read_copy, stored_in_page, stored_in_pages}
+use Rattle.law_leases.specs.Paging.{AreOnce}
+use Rattle.law_leases.specs.declared.steps.Page.{Page}
 use Rattle.nova_burst.specs.Copies.{IsCopyFor, IsRecent, known_in}
 use Rattle.nova_burst.specs.declared.copies.Known.{Known}
 use Rattle.nova_burst.proofs.Kept.{page_whole}

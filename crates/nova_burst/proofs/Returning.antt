@@ -5,17 +5,17 @@ use Rattle.std.proofs.lemmas.Option.{same_Some}
 use Rattle.nova_model.specs.Choice.{Candidate, choice}
 use Rattle.nova_model.specs.Runs.{after, run, trace}
 use Rattle.nova_model.specs.State.{KernelState}
-use Rattle.nova_laws.proofs.Processors.{run_cpus}
-use Rattle.nova_laws.specs.Stirs.{stirs_of}
-use Rattle.nova_isolation.specs.Sound.{IsVirtual}
-use Rattle.nova_isolation.proofs.Runs.{turn_virtual}
-use Rattle.nova_leases.specs.Advances.{step_of}
-use Rattle.nova_leases.specs.Commits.{IsCommitted, LeaseRun, MayAdvance, MayCommit, by_actor, commit_done, number_of, same_counts, stirs_now}
-use Rattle.nova_leases.specs.declared.commit.CommitDone.{CommitDone}
-use Rattle.nova_leases.specs.declared.commit.CommitDone.TheVariants.{Dropped, Away, NoRoom, Committed}
-use Rattle.nova_leases.proofs.Committed.{commit_traced, committed, may_commit}
+use Rattle.law_turns.proofs.Processors.{run_cpus}
+use Rattle.law_turns.specs.Stirs.{stirs_of}
+use Rattle.law_isolation.specs.Sound.{IsVirtual}
+use Rattle.law_isolation.proofs.Runs.{turn_virtual}
+use Rattle.law_leases.specs.Advances.{step_of}
+use Rattle.law_leases.specs.Commits.{IsCommitted, LeaseRun, MayAdvance, MayCommit, by_actor, commit_done, number_of, same_counts, stirs_now}
+use Rattle.law_leases.specs.declared.commit.CommitDone.{CommitDone}
+use Rattle.law_leases.specs.declared.commit.CommitDone.TheVariants.{Dropped, Away, NoRoom, Committed}
+use Rattle.law_leases.proofs.Committed.{commit_traced, committed, may_commit}
 use Rattle.nova_deeds.specs.Stirs.{stir_of}
-use Rattle.nova_running.specs.Guests.{count_in}
+use Rattle.nova_deeds.specs.StirCounts.{count_in}
 use Rattle.nova_burst.specs.Lending.{ComesAfter, LeaseView, answer_by, answer_to, turns_of}
 use Rattle.nova_burst.specs.Taken.{MayTakeOver}
 

@@ -8,13 +8,13 @@ use Rattle.nova_guest.specs.declared.page.Page.{Page as Place}
 use Rattle.nova_model.specs.State.{KernelState, context}
 use Rattle.nova_model.specs.Views.{guest_state, view}
 use Rattle.nova_model.specs.declared.context.State.TheVariants.{Ready}
-use Rattle.nova_isolation.proofs.Seen.{view_is}
-use Rattle.nova_leases.specs.Leases.{IsOfGuest, LeaseState, lease_step, lease_steps}
-use Rattle.nova_leases.specs.Paging.{IsRun}
-use Rattle.nova_leases.specs.declared.steps.Steps.{Steps}
-use Rattle.nova_leases.proofs.Copying.{IsStep, step_leased}
-use Rattle.nova_leases.proofs.Leasing.{runs}
-use Rattle.nova_leases.proofs.Stops.{stops}
+use Rattle.law_isolation.proofs.Seen.{view_is}
+use Rattle.law_leases.specs.Leases.{IsOfGuest, LeaseState, lease_step, lease_steps}
+use Rattle.law_leases.specs.Paging.{IsRun}
+use Rattle.law_leases.specs.declared.steps.Steps.{Steps}
+use Rattle.law_leases.proofs.Copying.{IsStep, step_leased}
+use Rattle.law_leases.proofs.Leasing.{runs}
+use Rattle.law_leases.proofs.Stops.{stops}
 use Rattle.nova_burst.specs.Copies.{known_in}
 use Rattle.nova_burst.specs.Lending.{IsSameLease, LeaseView, MustStop, StemsFrom, lease_state_of}
 use Rattle.nova_burst.specs.declared.copies.Known.{Known}

@@ -12,9 +12,9 @@ use Rattle.rv_model.specs.Step.{Store, Once, Raised, Went, one}
 use Rattle.nova_guest.specs.Frames.{frame_from, replaced}
 use Rattle.nova_guest.specs.declared.page.Page.{Page as Place}
 use Rattle.nova_range.specs.Rights.{write_right}
-use Rattle.nova_leases.specs.Leases.{LeaseState, copied_space, copy_at, lease_by, lease_put, lease_step, lease_steps, lease_written, stored_in_page, stored_in_pages}
-use Rattle.nova_leases.specs.declared.steps.Page.{Page}
-use Rattle.nova_leases.proofs.Taken.{IsTaken, one_taken}
+use Rattle.law_leases.specs.Leases.{LeaseState, copied_space, copy_at, lease_by, lease_put, lease_step, lease_steps, lease_written, stored_in_page, stored_in_pages}
+use Rattle.law_leases.specs.declared.steps.Page.{Page}
+use Rattle.law_leases.proofs.Taken.{IsTaken, one_taken}
 use Rattle.nova_burst.specs.Copies.{CopiesState, HasFewStores, fetched, known_in, lease_of, loaded, put, put_at, takes}
 
 -- what a step came to: on, as the lease's, or a stop where the lease has none

@@ -6,9 +6,9 @@ use Rattle.rv_model.specs.Step.{Store}
 use Rattle.nova_guest.specs.Frames.{frame_from, frame_with}
 use Rattle.nova_guest.specs.declared.page.Page.{Page as Place}
 use Rattle.nova_range.specs.Rights.{execute_right, read_right, write_right}
-use Rattle.nova_leases.specs.Leases.{LeaseState, copied_space, stored_in_pages}
-use Rattle.nova_leases.specs.Paging.{AreOnce}
-use Rattle.nova_leases.specs.declared.steps.Page.{Page}
+use Rattle.law_leases.specs.Leases.{LeaseState, copied_space, stored_in_pages}
+use Rattle.law_leases.specs.Paging.{AreOnce}
+use Rattle.law_leases.specs.declared.steps.Page.{Page}
 use Rattle.nova_burst.specs.declared.copies.Known.{Known}
 
 pub record CopiesState : Type 0 where

@@ -4,8 +4,8 @@ use Rattle.nova_model.specs.Choice.{Candidate}
 use Rattle.nova_model.specs.State.{KernelState, context, pd_of}
 use Rattle.nova_model.specs.Times.{until_due}
 use Rattle.nova_model.specs.declared.budget.Budget.{Budget}
-use Rattle.nova_leases.specs.Advances.{IsLeasable}
-use Rattle.nova_leases.specs.Commits.{IsReached, lesser, stirs_now}
+use Rattle.law_leases.specs.Advances.{IsLeasable}
+use Rattle.law_leases.specs.Commits.{IsReached, lesser, stirs_now}
 use Rattle.nova_burst.specs.declared.leasing.Leasable.{Leasable}
 
 -- whom a processor's next turn lets step

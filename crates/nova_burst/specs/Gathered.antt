@@ -3,9 +3,9 @@ use Rattle.std.specs.Prelude.{◌≡◌, ◌≤◌, ◌<◌, ℕ, ◌∷◌, [],
 use Rattle.nova_guest.specs.declared.page.Page.{Page as Place}
 use Rattle.nova_model.specs.Delegations.{reach}
 use Rattle.nova_model.specs.State.{KernelState}
-use Rattle.nova_leases.specs.Leases.{copy_at}
-use Rattle.nova_leases.specs.Paging.{AreFresh}
-use Rattle.nova_leases.specs.declared.steps.Page.{Page}
+use Rattle.law_leases.specs.Leases.{copy_at}
+use Rattle.law_leases.specs.Paging.{AreFresh}
+use Rattle.law_leases.specs.declared.steps.Page.{Page}
 use Rattle.nova_burst.specs.Copies.{CopiesState, known_in, place_of}
 use Rattle.nova_burst.specs.declared.copies.Known.{Known}
 

@@ -19,15 +19,15 @@ use Rattle.nova_model.specs.Views.{view}
 use Rattle.nova_model.specs.declared.context.EcState.{EcState}
 use Rattle.nova_model.specs.declared.context.State.{State}
 use Rattle.nova_model.specs.declared.context.State.TheVariants.{Ready}
-use Rattle.nova_leases.specs.Advances.{step_of}
-use Rattle.nova_leases.specs.Commits.{LeaseRun, Stems, by_room, same_counts}
-use Rattle.nova_leases.specs.Leases.{IsOfGuest, LeaseState, copy_at, lease_steps, put_back}
-use Rattle.nova_leases.specs.Paging.{AreFresh, AreOnce}
-use Rattle.nova_leases.specs.Stops.{HoldsOfTouched, IsCopiedAt, IsRaise}
-use Rattle.nova_leases.specs.declared.commit.CommitDone.{CommitDone}
-use Rattle.nova_leases.specs.declared.commit.CommitDone.TheVariants.{Away, Committed, Dropped}
-use Rattle.nova_leases.specs.declared.steps.Page.{Page}
-use Rattle.nova_leases.specs.declared.steps.Steps.{Steps}
+use Rattle.law_leases.specs.Advances.{step_of}
+use Rattle.law_leases.specs.Commits.{LeaseRun, Stems, by_room, same_counts}
+use Rattle.law_leases.specs.Leases.{IsOfGuest, LeaseState, copy_at, lease_steps, put_back}
+use Rattle.law_leases.specs.Paging.{AreFresh, AreOnce}
+use Rattle.law_leases.specs.Stops.{HoldsOfTouched, IsCopiedAt, IsRaise}
+use Rattle.law_leases.specs.declared.commit.CommitDone.{CommitDone}
+use Rattle.law_leases.specs.declared.commit.CommitDone.TheVariants.{Away, Committed, Dropped}
+use Rattle.law_leases.specs.declared.steps.Page.{Page}
+use Rattle.law_leases.specs.declared.steps.Steps.{Steps}
 use Rattle.nova_burst.specs.Copies.{known_in}
 use Rattle.nova_burst.specs.declared.copies.Known.{Known}
 

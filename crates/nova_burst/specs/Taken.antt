@@ -1,9 +1,9 @@
 -- What a commit that goes through asks of the state.
 use Rattle.std.specs.Prelude.{◌≡◌, ◌≤◌, ℕ, ◌+◌, ◌^◌}
 use Rattle.nova_model.specs.State.{KernelState}
-use Rattle.nova_leases.specs.Commits.{LeaseRun, MayAdvance}
-use Rattle.nova_leases.specs.declared.commit.CommitDone.{CommitDone}
-use Rattle.nova_leases.specs.declared.commit.CommitDone.TheVariants.{Committed}
+use Rattle.law_leases.specs.Commits.{LeaseRun, MayAdvance}
+use Rattle.law_leases.specs.declared.commit.CommitDone.{CommitDone}
+use Rattle.law_leases.specs.declared.commit.CommitDone.TheVariants.{Committed}
 
 -- the lease's steps may be laid over it, as so many turns
 pub record IsToBeTaken (k : KernelState) (l : LeaseRun) (n : ℕ) : Type 0 where

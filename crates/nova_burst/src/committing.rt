@@ -1,12 +1,12 @@
 ghost use Rattle.std.specs.Prelude.{◌≡◌, ◌≤◌, ◌+◌, ◌^◌, nat_le, replicate};
 ghost use Rattle.nova_model.specs.Runs.{run};
 ghost use Rattle.nova_burst.specs.Taken.{MayTakeOver};
-ghost use Rattle.nova_leases.specs.Commits.{by_room, commit_done};
+ghost use Rattle.law_leases.specs.Commits.{by_room, commit_done};
 ghost use Rattle.nova_burst.specs.Lending.{AreItsTurns, ComesAfter, answer_by, answer_to, turns_of};
 
 use crate::lent::Lease;
+use law_leases::CommitDone;
 use nova_kernel::Kernel;
-use nova_leases::CommitDone;
 
 /// The answer where nothing came between and the leased one acts again.
 fn by_room(count: u64, left: u64) -> CommitDone

@@ -3,13 +3,13 @@ ghost use Rattle.std.specs.List.{All, find};
 ghost use Rattle.nova_guest.specs.Conditions.{IsStore, IsWidth};
 ghost use Rattle.nova_guest.specs.Frames.{frame_from, read_in, replaced};
 ghost use Rattle.byteorder.specs.Endian.{little_bytes};
-ghost use Rattle.nova_leases.specs.Leases.{copy_at, read_copy, stored_in_page, stored_in_pages};
-ghost use Rattle.nova_leases.specs.Paging.{AreOnce};
+ghost use Rattle.law_leases.specs.Leases.{copy_at, read_copy, stored_in_page, stored_in_pages};
+ghost use Rattle.law_leases.specs.Paging.{AreOnce};
 ghost use Rattle.nova_range.specs.Rights.{execute_right, read_right, write_right};
 ghost use Rattle.nova_burst.specs.Copies.{HasRoom, IsCopyFor, IsCopyOf, known_in};
 
 use bitflags::Flags;
-use nova_leases::Page;
+use law_leases::Page;
 use nova_range::Rights;
 use rv_core::Bus;
 use std::alloc::AllocError;
@@ -103,7 +103,7 @@ impl Copies {
         self.pages.len()
     }
 
-    /// Another page is known, after the others. It refuses for want of memory alone.
+    /// Another page is known, after the others.
     pub fn know(&mut self, known: Known) -> Result<(), AllocError>
         ensures { OnOk result (self.new ≡ record self.old { known = self.old.known ++ known ∷ [] }) }
     {
@@ -111,8 +111,7 @@ impl Copies {
         Ok(())
     }
 
-    /// Another copy, after the others, of a frame that isn't copied yet. It refuses for want of memory
-    /// alone.
+    /// Another copy, after the others, of a frame that isn't copied yet.
     pub fn add(&mut self, page: Page) -> Result<(), AllocError>
         requires whole { length page.bytes ≡ 4096 }
         requires new { copy_at self.old.pages page.frame ≡ None }

@@ -1,12 +1,12 @@
 ghost use Rattle.std.specs.Prelude.{◌≡◌, ◌≤◌, ◌<◌, ◌/◌, IfOk, IfSome, OnOk, None, Some, length, nat_le};
 ghost use Rattle.nova_model.specs.Delegations.{reach};
-ghost use Rattle.nova_leases.specs.Leases.{copy_at};
+ghost use Rattle.law_leases.specs.Leases.{copy_at};
 ghost use Rattle.nova_burst.specs.Copies.{known_in, place_of};
 ghost use Rattle.nova_burst.specs.Gathered.{AreGathered, HasCopy, HasPage, HaveGrown, HaveGrownBy, IsNoRamPage, IsRamPage};
 
 use crate::copies::{Copies, Known};
+use law_leases::{Bytes, Page};
 use nova_kernel::Kernel;
-use nova_leases::{Bytes, Page};
 use rv_core::Regs;
 use std::alloc::{AllocError, Global};
 
@@ -152,8 +152,7 @@ fn look_after(
 }
 
 /// Pages of a protection domain, with copies of at most so many RAM frames: that of pc, those to which
-/// registers point, and those that follow that of pc. The kernel stays as it was. It refuses for want of
-/// memory alone.
+/// registers point, and those that follow that of pc. The kernel stays as it was.
 pub fn gather(
     kernel: &mut Kernel,
     alloc: Global,

@@ -2,8 +2,8 @@
 
 ghost use Rattle.std.specs.Prelude.{◌≡◌, ◌≢◌, ℕ, ◌<◌, ◌≤◌, Some, None};
 ghost use Rattle.nova_burst.specs.Lending.{turns_of};
-ghost use Rattle.nova_leases.specs.Commits.{LeaseRun, commit_done, stirs_now};
-ghost use Rattle.nova_leases.specs.declared.commit.CommitDone.TheVariants.{Away, Committed, Dropped, NoRoom};
+ghost use Rattle.law_leases.specs.Commits.{LeaseRun, commit_done, stirs_now};
+ghost use Rattle.law_leases.specs.declared.commit.CommitDone.TheVariants.{Away, Committed, Dropped, NoRoom};
 ghost use Rattle.nova_model.specs.Choice.{Candidate, choice};
 ghost use Rattle.nova_model.specs.State.{KernelState};
 

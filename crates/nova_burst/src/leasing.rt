@@ -139,7 +139,7 @@ fn lease_of(
 /// A lease of the virtual CPU that acts next on a processor, with copies of at most `pages` RAM frames, at
 /// least one: the page of pc, and others of its choice. None exactly where no such one acts there, or it
 /// isn't Ready, its recall flag is set, or its pc isn't a multiple of 4 or lies in no page with execute.
-/// The kernel stays as it was. It refuses for want of memory alone.
+/// The kernel stays as it was.
 pub fn lease(
     kernel: &mut Kernel,
     alloc: Global,

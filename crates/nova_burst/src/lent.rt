@@ -1,13 +1,13 @@
 ghost use Rattle.std.specs.Prelude.{◌≡◌, ◌≤◌, ◌<◌, ◌+◌, ◌^◌, ℕ, None, Some, length, min};
 ghost use Rattle.std.specs.List.{All};
 ghost use Rattle.nova_model.specs.State.{KernelState};
-ghost use Rattle.nova_leases.specs.Leases.{lease_step, lease_steps};
+ghost use Rattle.law_leases.specs.Leases.{lease_step, lease_steps};
 ghost use Rattle.nova_burst.specs.Copies.{known_in};
 ghost use Rattle.nova_burst.specs.Lending.{AreCounted, IsSameLease, MustStop, StemsFrom, left_in, lease_state_of};
 
 use crate::copies::{Copies, Known};
 use crate::run::Burst;
-use nova_leases::{Page, Steps};
+use law_leases::{Page, Steps};
 use rv_core::{Readings, Regs};
 use std::marker::Model;
 use std::mem;

@@ -1,6 +1,6 @@
 ghost use Rattle.std.specs.Prelude.{ℕ, ◌≡◌, ◌+◌, ◌<◌, ◌≤◌, ◌-◌, ◌^◌, None, Some};
 ghost use Rattle.std.specs.Bool.{OnFalse, OnTrue};
-ghost use Rattle.nova_leases.specs.Leases.{lease_step, lease_steps};
+ghost use Rattle.law_leases.specs.Leases.{lease_step, lease_steps};
 ghost use Rattle.nova_burst.specs.Copies.{HasFewStores, HasRoom, known_in, lease_of};
 
 use crate::copies::Copies;

@@ -1,5 +1,5 @@
--- Each call that registers are read as stands in the row of its number.
-use Rattle.std.proofs.Common.{◌≡◌, ℕ, zero, suc, ◌+◌, List, [], ◌∷◌, slice_get, Option, Some, None, Ok, IfSome, refl, ap, arith}
+-- Each call that registers are read as stands in the row of its number, so that a law on calls looks at their rows alone.
+use Rattle.std.proofs.Common.{◌≡◌, ℕ, zero, suc, ◌+◌, List, [], ◌∷◌, slice_get, Option, Some, None, Ok, IfSome, refl, ap, subst, ◌∙◌, arith}
 use Rattle.std.proofs.lemmas.Bool.Decides.{nat_tests}
 use Rattle.rv_model.specs.Registers.{Registers, reg}
 use Rattle.nova_calls.specs.Hypercalls.{call_row, create_pd_row, create_ec_row, create_sc_row, create_pt_row, create_sm_row, revoke_row, lookup_row, ec_ctrl_row, sc_ctrl_row, pt_ctrl_row, sm_ctrl_row, rows, read_row, call_of}
@@ -62,3 +62,18 @@ unfolding call_of
 read_numbered r c e =
     let numbered = found (rows r) 0 (reg r 17) (call_numbered r, (refl, (create_pd_numbered r, (create_ec_numbered r, (create_sc_numbered r, (create_pt_numbered r, (create_sm_numbered r, (revoke_numbered r, (lookup_numbered r, (ec_ctrl_numbered r, (sc_ctrl_numbered r, (pt_ctrl_numbered r, (sm_ctrl_numbered r, tt))))))))))))) c e in
     omega (arith, numbered)
+
+read_some : (o : Option (Option Call)) (c : Call) → read_row o ≡ Ok c → o ≡ Some (Some c)
+read_some (Some (Some asked)) c e = let same : asked ≡ c = cc in ap (λ x. Some (Some x)) same
+read_some (Some None) c e = absurd cc
+read_some None c e = absurd cc
+
+-- it is what its own row gives
+pub read_in_row : (r : Registers) (c : Call) → call_of r ≡ Ok c → slice_get (rows r) (number_of c) ≡ Some (Some c)
+unfolding call_of
+read_in_row r c e = ap (slice_get (rows r)) (read_numbered r c e) ∙ read_some (slice_get (rows r) (reg r 17)) c e
+
+-- what holds of whatever a row gives holds of it
+pub holds_by_row : (P : Call → Type 0) (row : Option Call) (c : Call) → Some row ≡ Some (Some c) → IfSome row P → P c
+holds_by_row P (Some asked) c at holds = let same : asked ≡ c = cc in subst P same holds
+holds_by_row P None c at holds = absurd cc

@@ -1,5 +1,5 @@
 -- Each call that registers are read as has arguments in their ranges.
-use Rattle.std.proofs.Common.{◌≡◌, ◌<◌, ℕ, zero, suc, ◌^◌, List, [], ◌∷◌, slice_get, Option, Some, None, option_map, option_and_then, Result, Ok, Err, IfSome, IfOk, subst, arith}
+use Rattle.std.proofs.Common.{◌≡◌, ◌<◌, ℕ, ◌^◌, slice_get, Option, Some, None, option_map, option_and_then, Result, Ok, Err, IfSome, IfOk, refl, subst, arith}
 use Rattle.std.proofs.lemmas.Bool.Decides.{nat_tests}
 use Rattle.rv_model.specs.Registers.{Registers, reg}
 use Rattle.nova_range.specs.Ranges.{IsRange}
@@ -8,9 +8,13 @@ use Rattle.nova_range.specs.declared.range.Range.{Range}
 use Rattle.nova_range.specs.declared.rights.Rights.{Rights}
 use Rattle.nova_range.specs.declared.word.WordFault.{WordFault}
 use Rattle.nova_range.proofs.Words.{sound}
-use Rattle.nova_calls.specs.Hypercalls.{readable, range_of, call_row, create_pd_row, create_ec_row, create_sc_row, create_pt_row, create_sm_row, revoke_row, lookup_row, ec_ctrl_row, sc_ctrl_row, pt_ctrl_row, sm_ctrl_row, rows, read_row, call_of}
+use Rattle.nova_calls.specs.Hypercalls.{readable, range_of, call_row, create_pd_row, create_ec_row, create_sc_row, create_pt_row, create_sm_row, revoke_row, lookup_row, ec_ctrl_row, sc_ctrl_row, pt_ctrl_row, sm_ctrl_row, rows, call_of}
+use Rattle.nova_range.specs.declared.status.Status.{Status}
+use Rattle.nova_calls.specs.Numbers.{number_of}
 use Rattle.nova_calls.specs.SoundCalls.{IsSoundCall}
 use Rattle.nova_calls.specs.declared.call.Call.{Call}
+use Rattle.nova_calls.specs.declared.call.Call.TheVariants as call
+use Rattle.nova_calls.proofs.Numbered.{holds_by_row, read_in_row}
 
 -- a row gives sound calls
 abbrev Gives : Option Call → Type 0
@@ -70,40 +74,24 @@ pt_ctrl_sound r = grind (arith, nat_tests)
 sm_ctrl_sound : (r : Registers) → Gives (sm_ctrl_row r)
 sm_ctrl_sound r = grind (arith, nat_tests)
 
--- each of some rows gives sound calls
-abbrev AllGive : List (Option Call) → Type 0
-AllGive [] = Unit {0}
-AllGive (row ∷ rows) = Gives row × AllGive rows
-
-found : (rows : List (Option Call)) → AllGive rows → (n : ℕ) → IfOk (read_row (slice_get rows n)) IsSoundCall
-found [] all n = tt
-found (Some c ∷ rows) all zero = all.0
-found (None ∷ rows) all zero = tt
-found (row ∷ rows) all (suc n) = found rows all.1 n
-
 pub read_sound : (r : Registers) → reg r 13 < 2 ^ 32 → IfOk (call_of r) IsSoundCall
-unfolding call_of
-read_sound r word =
-    found (rows r) (
-      call_sound r,
-      (
-        tt,
-        (
-          create_pd_sound r,
-          (
-            create_ec_sound r,
-            (
-              create_sc_sound r word,
-              (
-                create_pt_sound r,
-                (
-                  create_sm_sound r,
-                  (revoke_sound r, (lookup_sound r, (ec_ctrl_sound r, (sc_ctrl_sound r, (pt_ctrl_sound r, (sm_ctrl_sound r, tt)))))),
-                ),
-              ),
-            ),
-          ),
-        ),
-      ),
-    )
-    (reg r 17)
+read_sound r word = by_read (call_of r) refl
+  where
+    by_call : (c : Call) → slice_get (rows r) (number_of c) ≡ Some (Some c) → IsSoundCall c
+    by_call (call.Call portal flag) at = holds_by_row IsSoundCall (call_row r) _ at (call_sound r)
+    by_call (call.CreatePd target pd first) at = holds_by_row IsSoundCall (create_pd_row r) _ at (create_pd_sound r)
+    by_call (call.CreateEc target pd cpu kind sp event) at = holds_by_row IsSoundCall (create_ec_row r) _ at (create_ec_sound r)
+    by_call (call.CreateSc target pd ec quantum priority) at = holds_by_row IsSoundCall (create_sc_row r) _ at (create_sc_sound r word)
+    by_call (call.CreatePt target pd ec mtd ip) at = holds_by_row IsSoundCall (create_pt_row r) _ at (create_pt_sound r)
+    by_call (call.CreateSm target pd count) at = holds_by_row IsSoundCall (create_sm_row r) _ at (create_sm_sound r)
+    by_call (call.Revoke range own) at = holds_by_row IsSoundCall (revoke_row r) _ at (revoke_sound r)
+    by_call (call.Lookup range) at = holds_by_row IsSoundCall (lookup_row r) _ at (lookup_sound r)
+    by_call (call.EcCtrl ec) at = holds_by_row IsSoundCall (ec_ctrl_row r) _ at (ec_ctrl_sound r)
+    by_call (call.ScCtrl sc) at = holds_by_row IsSoundCall (sc_ctrl_row r) _ at (sc_ctrl_sound r)
+    by_call (call.PtCtrl pt identifier) at = holds_by_row IsSoundCall (pt_ctrl_row r) _ at (pt_ctrl_sound r)
+    by_call (call.SmCtrl sm action) at = holds_by_row IsSoundCall (sm_ctrl_row r) _ at (sm_ctrl_sound r)
+    by_call other at = tt
+
+    by_read : (read : Result Call Status) → call_of r ≡ read → IfOk read IsSoundCall
+    by_read (Ok c) is = by_call c (read_in_row r c is)
+    by_read (Err status) is = tt

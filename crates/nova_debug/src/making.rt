@@ -7,7 +7,6 @@ ghost use Rattle.nova_recording.specs.Recordings.{order_of};
 ghost use Rattle.nova_scenario.specs.Sound.{IsSound};
 
 use nova_boot::boot;
-use nova_laws::{a_trace_has_an_event_a_turn, round_robin_runs_out};
 use nova_order::Order;
 use nova_recording::Recording;
 use nova_run::{RunFault, round_robin, run_order};
@@ -21,8 +20,8 @@ pub fn run_rounds(alloc: Global, scenario: &Scenario, limit: u32) -> Result<Reco
     ensures opening { IfOk result (λ r. r.opening ≡ boot (scenario_of scenario.now)) }
     ensures order { IfOk result (λ r. order_of r.events ≡ rounds (boot (scenario_of scenario.now)) limit) }
 {
-    round_robin_runs_out();
-    a_trace_has_an_event_a_turn();
+    law_turns::round_robin_runs_out();
+    law_turns::a_trace_has_an_event_a_turn();
     let most = u64::from(limit);
     let kernel = boot(alloc, scenario, most)?;
     let run = round_robin(alloc, kernel, most)?;
@@ -42,7 +41,7 @@ pub fn run_along(
     ensures opening { IfOk result (λ r. r.opening ≡ boot (scenario_of scenario.now)) }
     ensures order { IfOk result (λ r. order_of r.events ≡ turns order.now.blocks) }
 {
-    a_trace_has_an_event_a_turn();
+    law_turns::a_trace_has_an_event_a_turn();
     let most = u64::from(limit);
     let kernel = boot(alloc, scenario, most)?;
     let run = run_order(alloc, kernel, order, most)?;

@@ -27,7 +27,7 @@ pub enum Reply {
     Refused(usize),
 }
 
-/// Looks for what a command asks one to look for, beside what is looked for, or for nothing. It refuses for want of memory alone.
+/// Looks for what a command asks one to look for, beside what is looked for, or for nothing.
 fn look_for(search: &mut Search, command: Command) -> Result<(), AllocError>
     ensures wants { OnOk result (search.new.wants.items ≡ wants_after command search.old.wants.items) }
     ensures watches { OnOk result (search.new.watches.items ≡ watches_after command search.old.watches.items) }
@@ -168,7 +168,7 @@ impl Session {
         }
     }
 
-    /// Does what a line asks, and answers it. Where it refuses, for want of memory alone, one is in the state of a turn of the same run.
+    /// Does what a line asks, and answers it. Where memory runs out, one is in the state of a turn of the same run.
     pub fn serve(
         &mut self,
         alloc: Global,

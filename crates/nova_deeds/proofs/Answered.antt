@@ -12,10 +12,10 @@ use Rattle.nova_model.specs.declared.context.State.TheVariants.{Calling, Grantin
 use Rattle.nova_ec.specs.Changes.{with_both}
 use Rattle.nova_ec.proofs.Acting.{acts_alone}
 use Rattle.nova_ec.proofs.Changes.{completing_keeps, sending_keeps}
-use Rattle.nova_laws.specs.Links.{AreServed, caller_at, state_at}
-use Rattle.nova_laws.proofs.Links.{place}
-use Rattle.nova_laws.proofs.Serving.{IsReached, actor_of, awaited, number_in, reached_apart, reached_there, resumed_is, of_there}
-use Rattle.nova_laws.proofs.Setting.{entry_itself, entry_other}
+use Rattle.law_turns.specs.Links.{AreServed, caller_at, state_at}
+use Rattle.law_turns.proofs.Links.{place}
+use Rattle.law_turns.proofs.Serving.{IsReached, actor_of, awaited, number_in, reached_apart, reached_there, resumed_is, of_there}
+use Rattle.law_turns.proofs.Setting.{entry_itself, entry_other}
 use Rattle.nova_choice.proofs.Serving.{IsServing}
 
 -- SENT

@@ -5,10 +5,10 @@ use Rattle.std.proofs.lemmas.List.{length-replicate}
 use Rattle.nova_model.specs.State.{budget_at, entry, transfer_at}
 use Rattle.nova_model.specs.Boot.{bare}
 use Rattle.nova_model.specs.declared.root.Root.{Root}
-use Rattle.nova_laws.specs.Keeping.{IsKept}
+use Rattle.law_turns.specs.Keeping.{IsKept}
 use Rattle.nova_deeds.specs.Counted.{IsAtItem, IsCounted, IsGivenWithin, IsPaidWithin}
 use Rattle.nova_deeds.specs.Stirs.{IsStirredWithin}
-use Rattle.nova_forest.proofs.Boots.{bare_forest}
+use Rattle.law_forest.proofs.Boots.{bare_forest}
 
 zeros : (n i : ℕ) → slice_index (replicate n 0) i ≤ 0
 zeros zero i = omega arith

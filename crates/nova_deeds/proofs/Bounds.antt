@@ -17,7 +17,7 @@ use Rattle.nova_model.specs.declared.budget.Budget.{Budget}
 use Rattle.nova_deeds.specs.Acts.{IsSequel}
 use Rattle.nova_deeds.specs.Counted.{IsAtItem, IsGivenWithin, IsPaidWithin}
 use Rattle.nova_deeds.specs.Stirs.{IsStirredWithin}
-use Rattle.nova_running.specs.Guests.{risen, risen_from}
+use Rattle.nova_deeds.specs.StirCounts.{risen, risen_from}
 
 -- tables
 

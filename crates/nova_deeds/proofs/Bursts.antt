@@ -1,7 +1,7 @@
 -- Turns charged one after another.
 use Rattle.std.proofs.Common.{◌≡◌, ◌<◌, ℕ, ◌+◌, ◌^◌, refl, arith}
 use Rattle.std.specs.Prelude.{slice_get, Option, Some, None, IsSome}
-use Rattle.nova_laws.proofs.Setting.{entry_itself}
+use Rattle.law_turns.proofs.Setting.{entry_itself}
 use Rattle.nova_model.specs.State.{KernelState, budget_at, entry}
 use Rattle.nova_model.specs.Turn.{charged, counted, paid_by, quantum_in}
 use Rattle.nova_model.specs.declared.budget.Budget.{Budget}

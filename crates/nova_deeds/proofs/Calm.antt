@@ -3,8 +3,8 @@ use Rattle.std.proofs.Common.{◌≡◌, ℕ, List, ap, sym}
 use Rattle.std.specs.Prelude.{Bool, true, false, Option}
 use Rattle.std.specs.Bool.{OnFalse}
 use Rattle.nova_model.specs.State.{KernelState}
-use Rattle.nova_running.specs.Guests.{risen_from}
-use Rattle.nova_running.proofs.GuestTables.{risen_calm}
+use Rattle.nova_deeds.specs.StirCounts.{risen_from}
+use Rattle.nova_deeds.proofs.StirTables.{risen_calm}
 
 -- where none is stirred nothing changes
 abbrev pub with_guests : KernelState → List (Option ℕ) → KernelState

@@ -6,7 +6,7 @@ use Rattle.nova_model.specs.Forest.{IsForest}
 use Rattle.nova_model.specs.State.{KernelState, budget_at, transfer_at, entry}
 use Rattle.nova_model.specs.Turn.{charged, is_spent, budget_after, stamp_after, quantum_in, counted, paid_by}
 use Rattle.nova_model.specs.declared.budget.Budget.{Budget}
-use Rattle.nova_laws.specs.Keeping.{IsKept}
+use Rattle.law_turns.specs.Keeping.{IsKept}
 use Rattle.nova_deeds.proofs.Bounds.{inputs-risen, length-risen}
 use Rattle.nova_deeds.specs.Stirs.{IsStirredWithin, risen_in}
 use Rattle.nova_deeds.specs.Counted.{AreTables, IsAtItem, IsCharged, IsToBeCharged, IsToBeStirred, IsCounted, IsGivenWithin, IsNumbered, IsPaidWithin, KeepsCounts}

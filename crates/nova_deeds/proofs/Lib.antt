@@ -15,3 +15,4 @@ pub mod Granted
 pub mod Told
 pub mod Bursts
 pub mod Passing
+pub mod StirTables

@@ -28,9 +28,9 @@ use Rattle.nova_ec.specs.Changes.{KeepsSound, goes_on}
 use Rattle.nova_ec.proofs.Acting.{deeds_keep_chases}
 use Rattle.nova_ec.proofs.Changes.{deeds_keep}
 use Rattle.nova_ec.proofs.Tables.{edges_set}
-use Rattle.nova_laws.proofs.Serving.{IsReached, exit_reaches, send_reaches}
-use Rattle.nova_laws.specs.Links.{AreServed}
-use Rattle.nova_laws.specs.Waiting.{AreBlocked}
+use Rattle.law_turns.proofs.Serving.{IsReached, exit_reaches, send_reaches}
+use Rattle.law_turns.specs.Links.{AreServed}
+use Rattle.law_turns.specs.Waiting.{AreBlocked}
 use Rattle.nova_sched.specs.Queues.{Schedule}
 use Rattle.nova_deeds.specs.Acts.{DeedFits, IsSequel}
 use Rattle.nova_deeds.specs.Counted.{IsCounted}

@@ -17,8 +17,8 @@ use Rattle.nova_model.specs.declared.context.EcState.{EcState}
 use Rattle.nova_model.specs.declared.semaphore.Overflow.{Overflow}
 use Rattle.nova_model.specs.declared.times.Due.{Due}
 use Rattle.nova_model.specs.declared.times.Due.TheVariants as due
-use Rattle.nova_laws.specs.Keeping.{IsKept}
-use Rattle.nova_laws.specs.Waiting.{AreBlocked}
+use Rattle.law_turns.specs.Keeping.{IsKept}
+use Rattle.law_turns.specs.Waiting.{AreBlocked}
 use Rattle.nova_sched.specs.Queues.{Schedule}
 use Rattle.nova_choice.specs.Schedules.{AreQueued, AreQueuedBut}
 use Rattle.nova_choice.proofs.Choosing.{turn_due}

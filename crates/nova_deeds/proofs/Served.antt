@@ -14,7 +14,7 @@ use Rattle.nova_model.specs.declared.context.State.{State}
 use Rattle.nova_model.specs.declared.context.State.TheVariants.{Blocked}
 use Rattle.nova_model.specs.declared.semaphore.Overflow.{Overflow}
 use Rattle.nova_ec.proofs.Tables.{there_below}
-use Rattle.nova_laws.specs.Waiting.{AreBlocked}
+use Rattle.law_turns.specs.Waiting.{AreBlocked}
 use Rattle.nova_sem.specs.Sound.{IsFree}
 use Rattle.nova_deeds.specs.Counted.{AreTables}
 use Rattle.nova_choice.proofs.Waits.{there_at, there_by_cpu}

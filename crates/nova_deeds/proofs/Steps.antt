@@ -19,8 +19,8 @@ use Rattle.nova_model.specs.declared.transfer.Job.{Job}
 use Rattle.nova_model.specs.declared.transfer.Reason.{Reason}
 use Rattle.nova_model.specs.declared.transfer.Skip.{Skip}
 use Rattle.nova_model.specs.declared.transfer.Transfer.{Transfer}
-use Rattle.nova_forest.specs.Made.{TakesFree}
-use Rattle.nova_forest.proofs.Allowed.{deed_free}
+use Rattle.law_forest.specs.Made.{TakesFree}
+use Rattle.law_forest.proofs.Allowed.{deed_free}
 use Rattle.nova_deeds.specs.Acts.{outcome_of, begun, is_executing, is_done_when_decided, is_step}
 use Rattle.nova_choice.specs.Schedules.{is_ready}
 

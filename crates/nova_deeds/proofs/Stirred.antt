@@ -17,7 +17,7 @@ use Rattle.nova_model.specs.declared.deed.Deed.TheVariants.{Steps, Raises, Dies,
 use Rattle.nova_model.specs.declared.transfer.Sequel.TheVariants.{Replied}
 use Rattle.nova_deeds.proofs.Calm.{with_guests}
 use Rattle.nova_deeds.specs.Stirs.{frame_at, is_seen, is_stirring, stirs_itself, stirs_other, written_frame}
-use Rattle.nova_running.specs.Guests.{risen, risen_from}
+use Rattle.nova_deeds.specs.StirCounts.{risen, risen_from}
 
 -- an input from outside
 abbrev from_outside : Option Input → Bool

@@ -20,12 +20,12 @@ use Rattle.nova_choice.specs.Choices.{chosen_of}
 use Rattle.nova_choice.specs.Schedules.{actor_of, leads}
 use Rattle.nova_deeds.specs.Stirs.{is_stirring, risen_in, written_frame}
 use Rattle.nova_deeds.proofs.Counts.{IsCounted-charged}
-use Rattle.nova_running.proofs.GuestTables.{risen_calm, risen_same}
+use Rattle.nova_deeds.proofs.StirTables.{risen_calm, risen_same}
 use Rattle.nova_deeds.proofs.Calm.{with_guests}
-use Rattle.nova_running.specs.Guests.{numbers_from}
+use Rattle.nova_deeds.specs.StirCounts.{numbers_from}
 use Rattle.nova_deeds.specs.Counted.{IsCounted, KeepsCounts}
-use Rattle.nova_laws.specs.Keeping.{IsKept}
-use Rattle.nova_forest.proofs.Changes.{done_forest}
+use Rattle.law_turns.specs.Keeping.{IsKept}
+use Rattle.law_forest.proofs.Changes.{done_forest}
 use Rattle.nova_deeds.proofs.Stirred.{risen_stirred}
 use Rattle.nova_choice.specs.declared.choice.Chosen.{Chosen}
 use Rattle.nova_choice.proofs.Choosing.{told_by, turn_told}

@@ -21,7 +21,7 @@ use Rattle.nova_model.specs.declared.transfer.Sequel.{Sequel}
 use Rattle.nova_model.specs.declared.transfer.Sequel.TheVariants.{Item, Replied}
 use Rattle.nova_model.specs.Transfers.{Part, next_part, given}
 use Rattle.nova_range.specs.Ranges.{IsRange}
-pub use Rattle.nova_forest.specs.Made.{TakesFree}
+pub use Rattle.law_forest.specs.Made.{TakesFree}
 use Rattle.nova_choice.specs.Schedules.{IsPlacedIn, is_ready}
 use Rattle.nova_model.specs.declared.transfer.Job.{Job}
 use Rattle.nova_model.specs.declared.transfer.Transfer.{Transfer}

@@ -2,7 +2,7 @@
 use Rattle.std.specs.Prelude.{IsSome, slice_get, slice_index, ℕ, ◌+◌, ◌*◌, ◌^◌, ◌<◌, ◌≤◌, ◌≡◌, length, Option, Some, None}
 use Rattle.nova_model.specs.Forest.{IsForest}
 use Rattle.nova_model.specs.State.{KernelState, context_at, budget_at, entry, transfer_at}
-use Rattle.nova_laws.specs.Keeping.{IsKept}
+use Rattle.law_turns.specs.Keeping.{IsKept}
 use Rattle.nova_model.specs.declared.budget.Budget.{Budget}
 use Rattle.nova_model.specs.declared.transfer.Transfer.{Transfer}
 use Rattle.nova_deeds.specs.Stirs.{IsStirredWithin}

@@ -11,7 +11,7 @@ use Rattle.nova_model.specs.declared.context.Mark.TheVariants as mark
 use Rattle.nova_model.specs.declared.deed.Deed.{Deed}
 use Rattle.nova_model.specs.declared.deed.Deed.TheVariants.{Steps, Dies, Sends, Recalls, Gives, Removes, Finishes, Replies, Aborts}
 use Rattle.nova_model.specs.declared.transfer.Sequel.TheVariants.{Replied}
-use Rattle.nova_running.specs.Guests.{count_in, risen_from}
+use Rattle.nova_deeds.specs.StirCounts.{count_in, risen_from}
 
 -- the frame, also of a console, that the instruction of an execution context stores to
 abbrev pub frame_at : KernelState → ℕ → Store → Option ℕ

@@ -3,10 +3,11 @@ ghost use Rattle.nova_model.specs.Boot.{root_objects, root_context};
 ghost use Rattle.nova_model.specs.State.{no_transfer};
 
 use crate::births::NO_TRANSFER;
+use crate::stir_counts::StirCounts;
 use nova_ec::Ecs;
 use nova_model::{EcKind, EcState, Object, Root, State, Transfer};
 use nova_objects::Objects;
-use nova_running::{Guests, Revokes};
+use nova_revoke::Revokes;
 use nova_sem::Sems;
 use nova_times::Times;
 use rv_core::Regs;
@@ -105,10 +106,10 @@ pub fn root_semaphores(alloc: Global) -> Result<Sems, AllocError>
 }
 
 /// No stir counts of virtual CPUs: an entry for each of the root's objects, which has none.
-pub fn root_guests(alloc: Global) -> Result<Guests, AllocError>
+pub fn root_guests(alloc: Global) -> Result<StirCounts, AllocError>
     ensures { IfOk result (λ g. g.counts ≡ None ∷ None ∷ None ∷ []) }
 {
-    let mut guests = Guests::new(alloc);
+    let mut guests = StirCounts::new(alloc);
     guests.reserve(3)?;
     guests.add(None);
     guests.add(None);

@@ -12,8 +12,8 @@ use Rattle.nova_range.specs.declared.rights.Rights.{Rights}
 use Rattle.nova_model.specs.Transfers.{common_rights}
 use Rattle.nova_model.specs.Translations.{smaller, seen_through}
 use Rattle.nova_model.specs.declared.delegation.Derivation.{Derivation}
-use Rattle.nova_forest.proofs.Multiples.{nested}
-use Rattle.nova_forest.proofs.Transfers.{child_rights}
+use Rattle.law_forest.proofs.Multiples.{nested}
+use Rattle.law_forest.proofs.Transfers.{child_rights}
 use Rattle.nova_delegate.specs.Answered.{IsCommon, LeadsAlike, AreCommon}
 use Rattle.nova_delegate.specs.Translations.{IsSeen}
 use Rattle.nova_delegate.proofs.Seen.{seen_range}

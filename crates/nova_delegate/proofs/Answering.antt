@@ -18,7 +18,7 @@ use Rattle.nova_model.specs.Lines.{line}
 use Rattle.nova_model.specs.Transfers.{read_as, common_rights}
 use Rattle.nova_model.specs.Translations.{nearest, smaller, seen_through, within, translation, translated}
 use Rattle.nova_model.specs.declared.delegation.Derivation.{Derivation}
-use Rattle.nova_forest.proofs.Members.{found_in, in_from_contains, contains_from_in}
+use Rattle.law_forest.proofs.Members.{found_in, in_from_contains, contains_from_in}
 use Rattle.nova_nodes.specs.NodesStates.{IsPlaced, IsSound}
 use Rattle.nova_nodes.proofs.Found.{find_none, not_found}
 use Rattle.nova_nodes.proofs.Indexed.{kind_itself, same_kinds}

@@ -9,8 +9,8 @@ use Rattle.nova_model.specs.Transfers.{is_left, next_source, child_of, judged}
 use Rattle.nova_model.specs.declared.delegation.Derivation.{Derivation}
 use Rattle.nova_model.specs.declared.transfer.Job.{Job}
 use Rattle.nova_model.specs.declared.transfer.Reason.{Reason}
-use Rattle.nova_forest.proofs.Lines.{member_found}
-use Rattle.nova_forest.proofs.Transfers.{child_is_range, child_targets, child_fits, next_facts}
+use Rattle.law_forest.proofs.Lines.{member_found}
+use Rattle.law_forest.proofs.Transfers.{child_is_range, child_targets, child_fits, next_facts}
 use Rattle.nova_delegate.specs.Parts.{IsUnderWay, IsReady}
 use Rattle.nova_nodes.specs.NodesStates.{IsPlaced, IsSound}
 

@@ -10,7 +10,7 @@ use Rattle.nova_model.specs.Forest.{IsForest}
 use Rattle.nova_model.specs.Lines.{line}
 use Rattle.nova_model.specs.Translations.{nearest}
 use Rattle.nova_model.specs.declared.delegation.Derivation.{Derivation}
-use Rattle.nova_forest.proofs.Members.{in_from_contains}
+use Rattle.law_forest.proofs.Members.{in_from_contains}
 use Rattle.nova_nodes.proofs.Found.{find_only}
 use Rattle.nova_nodes.proofs.Indexed.{in_space, passes_space, meeting}
 use Rattle.nova_delegate.specs.Answered.{Holds, IsNearest}

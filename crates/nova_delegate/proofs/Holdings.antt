@@ -7,7 +7,7 @@ use Rattle.nova_range.specs.declared.range.Range.{Range}
 use Rattle.nova_model.specs.Delegations.{range_of, meets, is_held_in, first_from}
 use Rattle.nova_model.specs.declared.delegation.Derivation.{Derivation}
 use Rattle.nova_nodes.proofs.Indexed.{in_space, passes_space}
-use Rattle.nova_forest.proofs.Extremes.{any_in, any_from}
+use Rattle.law_forest.proofs.Extremes.{any_in, any_from}
 use Rattle.nova_delegate.proofs.Sources.{IsOf, IsFrom, from_facts, none_from}
 
 record IsMeeting (pd : ℕ) (range : Range) (a : Derivation) : Type 0 where

@@ -5,8 +5,8 @@ use Rattle.std.specs.List.{filter}
 use Rattle.std.proofs.lemmas.Bool.{false_from_ne_true, leb-true}
 use Rattle.nova_model.specs.Delegations.{least_by}
 use Rattle.nova_model.specs.declared.delegation.Derivation.{Derivation}
-use Rattle.nova_forest.proofs.Members.{IsIn}
-use Rattle.nova_forest.proofs.Extremes.{before_facts, least, none_before, none_kept}
+use Rattle.law_forest.proofs.Members.{IsIn}
+use Rattle.law_forest.proofs.Extremes.{before_facts, least, none_before, none_kept}
 
 pub none_filtered : {T : Type 0} (p : T → Bool) (xs : List T) → ((x : T) → IsIn xs x → p x ≡ true → ⊥) → filter p xs ≡ []
 none_filtered p xs none = none_kept p xs (λ x i. false_from_ne_true (p x) (none x i))

@@ -14,9 +14,9 @@ use Rattle.nova_model.specs.Delegations.{Delegations, range_of, covers, has_plac
 use Rattle.nova_model.specs.Forest.{IsAligned, IsAlignedFor}
 use Rattle.nova_model.specs.Translations.{nearest, smaller}
 use Rattle.nova_model.specs.declared.delegation.Derivation.{Derivation}
-use Rattle.nova_forest.specs.Within.{StaysWithin}
-use Rattle.nova_forest.proofs.Members.{all_at, found_in}
-use Rattle.nova_forest.proofs.Multiples.{sum_of, difference_of, nested}
+use Rattle.law_forest.specs.Within.{StaysWithin}
+use Rattle.law_forest.proofs.Members.{all_at, found_in}
+use Rattle.law_forest.proofs.Multiples.{sum_of, difference_of, nested}
 use Rattle.nova_nodes.specs.NodesStates.{IsPlaced, IsSound}
 use Rattle.nova_nodes.proofs.Indexed.{in_space}
 use Rattle.nova_delegate.specs.Translations.{IsSeen}

@@ -10,8 +10,8 @@ use Rattle.nova_model.specs.Forest.{AreApart, IsForest}
 use Rattle.nova_model.specs.Transfers.{is_left, next_source}
 use Rattle.nova_model.specs.declared.delegation.Derivation.{Derivation}
 use Rattle.nova_model.specs.declared.transfer.Job.{Job}
-use Rattle.nova_forest.proofs.Members.{IsIn, filtered_in, in_filtered}
-use Rattle.nova_forest.proofs.Transfers.{IsLeft, left_facts}
+use Rattle.law_forest.proofs.Members.{IsIn, filtered_in, in_filtered}
+use Rattle.law_forest.proofs.Transfers.{IsLeft, left_facts}
 use Rattle.nova_nodes.proofs.Found.{pairs_at, least_only}
 use Rattle.nova_nodes.proofs.Indexed.{in_space, passes_space}
 use Rattle.nova_delegate.specs.Parts.{is_ahead, first_ahead}

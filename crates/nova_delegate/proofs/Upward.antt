@@ -7,9 +7,9 @@ use Rattle.nova_model.specs.Forest.{IsForest}
 use Rattle.nova_model.specs.Lines.{line_by, line}
 use Rattle.nova_model.specs.Translations.{nearest}
 use Rattle.nova_model.specs.declared.delegation.Derivation.{Derivation}
-use Rattle.nova_forest.specs.Within.{StaysWithin, line_from}
-use Rattle.nova_forest.proofs.Lines.{parent_facts, line_is, forest_within}
-use Rattle.nova_forest.proofs.Members.{IsIn, found_in, contains_from_in}
+use Rattle.law_forest.specs.Within.{StaysWithin, line_from}
+use Rattle.law_forest.proofs.Lines.{parent_facts, line_is, forest_within}
+use Rattle.law_forest.proofs.Members.{IsIn, found_in, contains_from_in}
 use Rattle.nova_nodes.specs.NodesStates.{IsPlaced}
 
 -- one of the line, from which the search has the same end

@@ -161,8 +161,7 @@ pub fn next_part<I: Index, G: Guarded>(
     }
 }
 
-/// Adds a child of a derivation, in room that is made for it, so that room that was there stays. It
-/// refuses for want of memory alone, and then no derivation has changed.
+/// Adds a child of a derivation, in room that is made for it, so that room that was there stays.
 fn add<I: Index>(
     nodes: &mut Nodes<I>,
     source: &Derivation,
@@ -221,8 +220,8 @@ fn done<I: Index>(
 
 /// Does the next part of a delegation: of the derivations of the giver that are left the one of least
 /// base is given or skipped, and the cursor moves past it. Where none is left nothing changes. Room
-/// that was made before stays, also the receiver's. It refuses for want of memory alone, only where a
-/// child is to be made, and then delegations and job stay.
+/// that was made before stays, also the receiver's. Memory can run out only where a child is to be
+/// made.
 pub fn part<I: Index, G: Guarded>(
     nodes: &mut Nodes<I>,
     job: &mut Job,

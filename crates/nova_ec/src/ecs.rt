@@ -63,8 +63,7 @@ impl Ecs {
         }
     }
 
-    /// Makes room for `n` more entries, counted from those that are there. It refuses for want of
-    /// memory alone, and then nothing has changed.
+    /// Makes room for `n` more entries, counted from those that are there.
     pub fn reserve(&mut self, n: usize) -> Result<(), AllocError>
         ensures ok { OnOk result (self.new ≡ record self.old { spare = max self.old.spare n }) }
         ensures enough { n ≤ self.old.spare → IsOk result }
@@ -75,8 +74,7 @@ impl Ecs {
         Ok(())
     }
 
-    /// The same entries in memory of their own, with no spare room. It refuses for want of memory
-    /// alone.
+    /// The same entries in memory of their own, with no spare room.
     pub fn copy(&self) -> Result<Ecs, AllocError>
         ensures { IfOk result (λ copy. copy ≡ record { items = self.now.items; spare = 0 }) }
     {

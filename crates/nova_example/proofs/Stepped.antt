@@ -8,7 +8,7 @@ use Rattle.nova_model.specs.Runs.{after, run}
 use Rattle.nova_model.specs.declared.event.Turn.{Turn}
 use Rattle.nova_model.specs.declared.event.Turn.TheVariants.{Stepped, Idle}
 use Rattle.nova_kernel.specs.Views.{turns_taken}
-use Rattle.nova_laws.proofs.Passes.{run_append}
+use Rattle.law_turns.proofs.Passes.{run_append}
 
 -- one more
 pub one_more : (k s t : KernelState) (n cpu : ℕ) → s ≡ run k (replicate n cpu) → t ≡ after s cpu → t ≡ run k (replicate (n + 1) cpu)

@@ -6,7 +6,7 @@ use nova_kernel::{Kernel, Turn};
 use std::alloc::{AllocError, Global};
 
 /// Takes turns of a processor until a console has said a word, which is looked at before each turn: at most `most` turns, and
-/// fewer where the processor is idle. The answer is whether the word was said. It refuses for want of memory alone.
+/// fewer where the processor is idle. The answer is whether the word was said.
 pub fn run_until_said(
     alloc: Global,
     kernel: &mut Kernel,

@@ -40,8 +40,8 @@ impl Model for Frames {
 
 impl Frames {
     /// `2^ram_order` RAM frames of zeros, so many consoles, and an empty log that takes `log_room`
-    /// bytes. The order is at most 14, and there are at most 16 consoles. It refuses for want of
-    /// memory alone, also where the room is more than an allocation can hold.
+    /// bytes. The order is at most 14, and there are at most 16 consoles. More room than an
+    /// allocation can hold counts as out of memory.
     pub fn new(
         alloc: Global,
         ram_order: u8,
@@ -69,7 +69,6 @@ impl Frames {
     }
 
     /// The same RAM, consoles and log in memory of their own. The copy's log has no room for more bytes.
-    /// It refuses for want of memory alone.
     pub fn copy(&self) -> Result<Frames, AllocError>
         ensures memory { IfOk result (λ copy. copy.memory ≡ self.now.memory) }
         ensures consoles { IfOk result (λ copy. copy.consoles ≡ self.now.consoles) }
@@ -109,8 +108,7 @@ impl Frames {
         self.room as u64
     }
 
-    /// Makes room for `bytes` more bytes in the log. Room that was made before stays. It refuses for want
-    /// of memory alone, and then nothing has changed.
+    /// Makes room for `bytes` more bytes in the log. Room that was made before stays.
     pub fn reserve_log(&mut self, bytes: usize) -> Result<(), AllocError>
         ensures ok { OnOk result (self.new ≡ record self.old { room = max self.old.room bytes }) }
         ensures err { OnErr result (self.new ≡ self.old) }

@@ -38,7 +38,7 @@ fn write_revoke(out: &mut String) -> Result<(), AllocError>
 }
 
 /// The text of a scenario in which the root makes so many domains, gives each a page to read, and then takes the page back from all. The number is from
-/// 1 to 90,000. It refuses for want of memory alone.
+/// 1 to 90,000.
 pub fn generate(alloc: Global, number: u32) -> Result<Vec<u8>, AllocError>
     requires some { 0 < number }
     requires most { number ≤ 90000 }

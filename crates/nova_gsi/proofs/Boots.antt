@@ -7,9 +7,9 @@ use Rattle.nova_model.specs.State.{KernelState}
 use Rattle.nova_model.specs.Times.{Times, clock}
 use Rattle.nova_model.specs.declared.times.Alarm.{Alarm}
 use Rattle.nova_model.specs.declared.times.AlarmState.{AlarmState}
-use Rattle.nova_forest.proofs.Boots.{sources_keep}
-use Rattle.nova_laws.proofs.Setting.{joined_length}
-use Rattle.nova_laws.proofs.TablesFit.{boot_fits}
+use Rattle.law_forest.proofs.Boots.{sources_keep}
+use Rattle.law_turns.proofs.Setting.{joined_length}
+use Rattle.law_turns.proofs.TablesFit.{boot_fits}
 use Rattle.nova_gsi.specs.Firings.{alarms_from, alarms_of, unrung}
 use Rattle.nova_gsi.proofs.Places.{IsAt}
 

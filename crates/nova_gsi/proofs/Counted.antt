@@ -8,7 +8,7 @@ use Rattle.nova_model.specs.Times.{Entry, before_rest, comes_before, deadline_en
 use Rattle.nova_model.specs.declared.times.AlarmState.{AlarmState}
 use Rattle.nova_model.specs.declared.times.Deadline.{Deadline}
 use Rattle.nova_range.specs.declared.status.Status.{Status}
-use Rattle.nova_forest.specs.Effects.{clears_by, deadlines_with}
+use Rattle.law_forest.specs.Effects.{clears_by, deadlines_with}
 use Rattle.nova_gsi.specs.Deadlines.{all_rings_left, entry_of, rings_left}
 use Rattle.nova_gsi.specs.Firings.{moment}
 

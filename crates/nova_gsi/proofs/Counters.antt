@@ -16,11 +16,11 @@ use Rattle.nova_model.specs.declared.semaphore.Down.TheVariants as down
 use Rattle.nova_model.specs.declared.semaphore.Overflow.{Overflow}
 use Rattle.nova_model.specs.declared.times.Due.{Due}
 use Rattle.nova_model.specs.declared.times.Due.TheVariants as due
-use Rattle.nova_forest.specs.Effects.{Falls, Passing, Ticks, alarm_up, joined, passing_semaphore, semaphore_by, semaphores_with}
-use Rattle.nova_forest.specs.Turns.{Acts, Idles, IsPassing, IsTurning, Passes, Takes, Turning, acting, turned}
-use Rattle.nova_forest.proofs.Turning.{acts_chosen, comes, idle_none, nothing_due, passing_none}
-use Rattle.nova_laws.proofs.Referring.{Asks, deed_asks}
-use Rattle.nova_laws.proofs.Setting.{entry_itself, entry_kept, entry_other}
+use Rattle.law_forest.specs.Effects.{Falls, Passing, Ticks, alarm_up, joined, passing_semaphore, semaphore_by, semaphores_with}
+use Rattle.law_forest.specs.Turns.{Acts, Idles, IsPassing, IsTurning, Passes, Takes, Turning, acting, turned}
+use Rattle.law_forest.proofs.Turning.{acts_chosen, comes, idle_none, nothing_due, passing_none}
+use Rattle.law_turns.proofs.Referring.{Asks, deed_asks}
+use Rattle.law_turns.proofs.Setting.{entry_itself, entry_kept, entry_other}
 use Rattle.nova_gsi.specs.Counters.{Ends, ends_at, ends_by, ends_by_deed, no_ends, total, woken_ends}
 
 -- the semaphore is there after it, and its counter with the downs is what it was with the ups and the alarms

@@ -11,15 +11,15 @@ use Rattle.nova_model.specs.Runs.{run}
 use Rattle.nova_model.specs.State.{Contexts, KernelState, budget_at, entry, processor_of}
 use Rattle.nova_model.specs.declared.budget.Budget.{Budget}
 use Rattle.nova_model.specs.declared.context.EcState.{EcState}
-use Rattle.nova_forest.proofs.Turning.{acts_chosen}
-use Rattle.nova_laws.specs.Keeping.{IsKept}
-use Rattle.nova_laws.specs.Tables.{HasTables, Refers, cpu_of, tag, tag_of}
-use Rattle.nova_laws.proofs.Candidates.{schedule_of, the_chosen}
-use Rattle.nova_laws.proofs.Deadlines.{at_home}
-use Rattle.nova_laws.proofs.Donation.{ended_chase, reached_kept}
-use Rattle.nova_laws.proofs.Serving.{actor_of}
-use Rattle.nova_laws.proofs.TablesFit.{chosen_acts}
-use Rattle.nova_laws.proofs.TablesKept.{all_get, tags_at}
+use Rattle.law_forest.proofs.Turning.{acts_chosen}
+use Rattle.law_turns.specs.Keeping.{IsKept}
+use Rattle.law_turns.specs.Tables.{HasTables, Refers, cpu_of, tag, tag_of}
+use Rattle.law_turns.proofs.Candidates.{schedule_of, the_chosen}
+use Rattle.law_turns.proofs.Deadlines.{at_home}
+use Rattle.law_turns.proofs.Donation.{ended_chase, reached_kept}
+use Rattle.law_turns.proofs.Serving.{actor_of}
+use Rattle.law_turns.proofs.TablesFit.{chosen_acts}
+use Rattle.law_turns.proofs.TablesKept.{all_get, tags_at}
 
 -- an execution context has the processor of its object
 home_by : (n cpu : ℕ) (o : Option Object) (c : Option (Option EcState)) → option_map tag c ≡ option_map (tag_of n) o → cpu_of o ≡ Some cpu →

@@ -14,13 +14,13 @@ use Rattle.nova_model.specs.declared.event.EventKind.TheVariants.{Irq}
 use Rattle.nova_model.specs.declared.times.Alarm.{Alarm}
 use Rattle.nova_model.specs.declared.times.AlarmState.{AlarmState}
 use Rattle.nova_model.specs.declared.times.Due.TheVariants as due
-use Rattle.nova_forest.specs.Effects.{Falls, Passing, Ticks}
-use Rattle.nova_forest.specs.Turns.{Acts, IsPassing, IsTurning, Passes, Turning, acting, is_passing, passing, passing_event, turned}
-use Rattle.nova_forest.proofs.Turning.{acting_kind, acts_chosen, event_at, outcome}
-use Rattle.nova_laws.specs.Moments.{IsEarly}
-use Rattle.nova_laws.proofs.Moments.{early_far}
-use Rattle.nova_laws.proofs.Dues.{due_is}
-use Rattle.nova_laws.proofs.Setting.{get_other, index_itself, index_other, set_length}
+use Rattle.law_forest.specs.Effects.{Falls, Passing, Ticks}
+use Rattle.law_forest.specs.Turns.{Acts, IsPassing, IsTurning, Passes, Turning, acting, is_passing, passing, passing_event, turned}
+use Rattle.law_forest.proofs.Turning.{acting_kind, acts_chosen, event_at, outcome}
+use Rattle.law_turns.specs.Moments.{IsEarly}
+use Rattle.law_turns.proofs.Moments.{early_far}
+use Rattle.law_turns.proofs.Dues.{due_is}
+use Rattle.law_turns.proofs.Setting.{get_other, index_itself, index_other, set_length}
 use Rattle.nova_gsi.specs.Firings.{clock_at, count_of, fired_before, is_firing, is_irq, is_on, moment, was_due}
 
 -- alarm `n` is that of a source, has rung so often, and its processor's clock is so far; each moment that it has rung at has come

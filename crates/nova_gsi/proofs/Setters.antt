@@ -17,15 +17,15 @@ use Rattle.nova_model.specs.declared.event.EventKind.TheVariants.{Late}
 use Rattle.nova_model.specs.declared.event.Turn.TheVariants.{Stepped}
 use Rattle.nova_model.specs.declared.times.Deadline.{Deadline}
 use Rattle.nova_model.specs.declared.times.Due.TheVariants as due
-use Rattle.nova_forest.specs.Effects.{Falls, Passing, Ticks}
-use Rattle.nova_forest.specs.Turns.{IsPassing, is_passing, passing, passing_event, turned}
-use Rattle.nova_forest.proofs.Turning.{acting_kind, of_events}
-use Rattle.nova_laws.specs.Keeping.{IsKept}
-use Rattle.nova_laws.proofs.Deadlines.{cleared}
-use Rattle.nova_laws.proofs.Donation.{keeps, reached_kept}
-use Rattle.nova_laws.proofs.Dues.{due_is}
-use Rattle.nova_laws.proofs.Serving.{actor_of, is_blocked}
-use Rattle.nova_laws.proofs.TablesFit.{chosen_acts}
+use Rattle.law_forest.specs.Effects.{Falls, Passing, Ticks}
+use Rattle.law_forest.specs.Turns.{IsPassing, is_passing, passing, passing_event, turned}
+use Rattle.law_forest.proofs.Turning.{acting_kind, of_events}
+use Rattle.law_turns.specs.Keeping.{IsKept}
+use Rattle.law_turns.proofs.Deadlines.{cleared}
+use Rattle.law_turns.proofs.Donation.{keeps, reached_kept}
+use Rattle.law_turns.proofs.Dues.{due_is}
+use Rattle.law_turns.proofs.Serving.{actor_of, is_blocked}
+use Rattle.law_turns.proofs.TablesFit.{chosen_acts}
 use Rattle.nova_gsi.specs.Deadlines.{HadDeadline, SetsOwn}
 use Rattle.nova_gsi.proofs.Homes.{actor_home}
 use Rattle.nova_gsi.proofs.Standing.{IsSet, was_or_set}

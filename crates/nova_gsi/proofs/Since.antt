@@ -7,9 +7,9 @@ use Rattle.nova_model.specs.Sources.{Source, with_source}
 use Rattle.nova_model.specs.State.{KernelState, deadline_of, entry}
 use Rattle.nova_model.specs.Times.{Times}
 use Rattle.nova_model.specs.declared.times.Deadline.{Deadline}
-use Rattle.nova_forest.proofs.Boots.{sources_keep}
-use Rattle.nova_laws.proofs.Passes.{run_append}
-use Rattle.nova_laws.proofs.Setting.{entry_joined}
+use Rattle.law_forest.proofs.Boots.{sources_keep}
+use Rattle.law_turns.proofs.Passes.{run_append}
+use Rattle.law_turns.proofs.Setting.{entry_joined}
 use Rattle.nova_gsi.specs.Deadlines.{HasStood}
 use Rattle.nova_gsi.proofs.Boots.{images_alarms, joined_all, nothing_more}
 use Rattle.nova_gsi.proofs.Setters.{sets_own}

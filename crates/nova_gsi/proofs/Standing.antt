@@ -16,17 +16,17 @@ use Rattle.nova_model.specs.declared.times.AlarmState.{AlarmState}
 use Rattle.nova_model.specs.declared.times.Deadline.{Deadline}
 use Rattle.nova_model.specs.declared.times.Due.{Due}
 use Rattle.nova_model.specs.declared.times.Due.TheVariants as due
-use Rattle.nova_forest.specs.Effects.{Falls, Passing, Ticks, alarms_with, clears_by, deadline_by, deadlines_with, joined, made_by, no_deadline, passing_ends, passing_rings}
-use Rattle.nova_forest.specs.Turns.{Acts, Idles, IsPassing, IsTurning, Passes, Takes, Turning, acting, passing, turned}
-use Rattle.nova_forest.proofs.Turning.{acts_chosen, comes}
-use Rattle.nova_forest.proofs.Walk.{IsDeadlineOf}
-use Rattle.nova_laws.specs.Moments.{HasAlarm, HasDeadline, IsDueOn, IsFirstEntry, IsOnTime}
-use Rattle.nova_laws.proofs.Deadlines.{cleared}
-use Rattle.nova_laws.proofs.Dues.{due_is}
-use Rattle.nova_laws.proofs.Links.{place}
-use Rattle.nova_laws.proofs.Moments.{early_far, first_entry, has_entries}
-use Rattle.nova_laws.proofs.Referring.{Asks, deed_asks}
-use Rattle.nova_laws.proofs.Setting.{entry_joined, entry_set}
+use Rattle.law_forest.specs.Effects.{Falls, Passing, Ticks, alarms_with, clears_by, deadline_by, deadlines_with, joined, made_by, no_deadline, passing_ends, passing_rings}
+use Rattle.law_forest.specs.Turns.{Acts, Idles, IsPassing, IsTurning, Passes, Takes, Turning, acting, passing, turned}
+use Rattle.law_forest.proofs.Turning.{acts_chosen, comes}
+use Rattle.law_forest.proofs.Walk.{IsDeadlineOf}
+use Rattle.law_turns.specs.Moments.{HasAlarm, HasDeadline, IsDueOn, IsFirstEntry, IsOnTime}
+use Rattle.law_turns.proofs.Deadlines.{cleared}
+use Rattle.law_turns.proofs.Dues.{due_is}
+use Rattle.law_turns.proofs.Links.{place}
+use Rattle.law_turns.proofs.Moments.{early_far, first_entry, has_entries}
+use Rattle.law_turns.proofs.Referring.{Asks, deed_asks}
+use Rattle.law_turns.proofs.Setting.{entry_joined, entry_set}
 use Rattle.nova_gsi.specs.Deadlines.{all_rings_left, deadlines_before, entry_of, turns_before}
 use Rattle.nova_gsi.specs.Firings.{moment}
 use Rattle.nova_gsi.proofs.Counted.{alarms_once, cleared_counted, cleared_fewer, counted, counted_one, ends_fewer, joined_entries, one_if, rings_now, set_fewer}

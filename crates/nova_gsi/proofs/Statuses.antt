@@ -23,14 +23,14 @@ use Rattle.nova_model.specs.declared.times.Alarm.{Alarm}
 use Rattle.nova_model.specs.declared.times.AlarmState.{AlarmState}
 use Rattle.nova_model.specs.declared.times.Due.{Due}
 use Rattle.nova_model.specs.declared.times.Due.TheVariants as due
-use Rattle.nova_forest.specs.Effects.{Falls, Passing, Ticks, alarm_up, joined, made_by, semaphore_by, semaphores_with}
-use Rattle.nova_forest.specs.Turns.{Acts, IsPassing, IsTurning, Passes, Turning, is_passing, passing_event}
-use Rattle.nova_forest.proofs.Boots.{sources_keep}
-use Rattle.nova_forest.proofs.Turning.{acting_kind, after_keeps, chosen_turn, event_at}
-use Rattle.nova_laws.proofs.Alarms.{turned_same}
-use Rattle.nova_laws.proofs.Dues.{due_is}
-use Rattle.nova_laws.proofs.Setting.{entry_kept, get_joined, get_last}
-use Rattle.nova_laws.proofs.TablesFit.{TablesFit, boot_run_fits, image_fits, source_fits}
+use Rattle.law_forest.specs.Effects.{Falls, Passing, Ticks, alarm_up, joined, made_by, semaphore_by, semaphores_with}
+use Rattle.law_forest.specs.Turns.{Acts, IsPassing, IsTurning, Passes, Turning, is_passing, passing_event}
+use Rattle.law_forest.proofs.Boots.{sources_keep}
+use Rattle.law_forest.proofs.Turning.{acting_kind, after_keeps, chosen_turn, event_at}
+use Rattle.law_turns.proofs.Alarms.{turned_same}
+use Rattle.law_turns.proofs.Dues.{due_is}
+use Rattle.law_turns.proofs.Setting.{entry_kept, get_joined, get_last}
+use Rattle.law_turns.proofs.TablesFit.{TablesFit, boot_run_fits, image_fits, source_fits}
 use Rattle.nova_gsi.specs.Counters.{Ends, ends_by, ends_by_deed}
 use Rattle.nova_gsi.specs.Firings.{alarms_of, is_irq, unrung}
 use Rattle.nova_gsi.proofs.Boots.{boot_alarms, get_map, images_alarms}

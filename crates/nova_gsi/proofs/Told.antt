@@ -8,11 +8,11 @@ use Rattle.nova_model.specs.State.{KernelState}
 use Rattle.nova_model.specs.Times.{clock, due_on, goes_on, next_moment}
 use Rattle.nova_model.specs.declared.event.Event.{Event}
 use Rattle.nova_model.specs.declared.times.Alarm.{Alarm}
-use Rattle.nova_forest.proofs.Turning.{none_chosen}
-use Rattle.nova_laws.specs.Moments.{IsEarly}
-use Rattle.nova_laws.proofs.Idleness.{quiet_idle}
-use Rattle.nova_laws.proofs.Moments.{early_far}
-use Rattle.nova_laws.proofs.TablesFit.{boot_run_fits}
+use Rattle.law_forest.proofs.Turning.{none_chosen}
+use Rattle.law_turns.specs.Moments.{IsEarly}
+use Rattle.law_turns.proofs.Idleness.{quiet_idle}
+use Rattle.law_turns.proofs.Moments.{early_far}
+use Rattle.law_turns.proofs.TablesFit.{boot_run_fits}
 use Rattle.nova_gsi.specs.Firings.{alarms_of, clock_at, count_of, fired, fired_before, is_firing, is_on, moment, moments_until, was_due}
 use Rattle.nova_gsi.specs.Laws.{AreOfMoments}
 use Rattle.nova_gsi.proofs.Boots.{boot_at}

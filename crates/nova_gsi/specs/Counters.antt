@@ -12,7 +12,7 @@ use Rattle.nova_model.specs.declared.deed.Deed.TheVariants.{Downs, Ups}
 use Rattle.nova_model.specs.declared.semaphore.Overflow.{Overflow}
 use Rattle.nova_model.specs.declared.times.Due.{Due}
 use Rattle.nova_model.specs.declared.times.Due.TheVariants as due
-use Rattle.nova_forest.specs.Effects.{alarm_up}
+use Rattle.law_forest.specs.Effects.{alarm_up}
 
 pub record Ends : Type 0 where
   pub ups : ℕ

@@ -12,7 +12,7 @@ use Rattle.nova_model.specs.declared.event.Event.{Event}
 use Rattle.nova_model.specs.declared.times.AlarmState.{AlarmState}
 use Rattle.nova_model.specs.declared.times.Deadline.{Deadline}
 use Rattle.nova_model.specs.declared.times.Due.TheVariants as due
-use Rattle.nova_laws.specs.Waiting.{IsAwaiting}
+use Rattle.law_turns.specs.Waiting.{IsAwaiting}
 use Rattle.nova_gsi.specs.Firings.{moment}
 
 -- the deadline of an execution context, among the entries of its processor

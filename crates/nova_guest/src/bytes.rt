@@ -43,7 +43,7 @@ impl Bytes {
         self.items.as_slice()
     }
 
-    /// The same bytes in memory of their own. It refuses for want of memory alone.
+    /// The same bytes in memory of their own.
     pub fn copy(&self) -> Result<Bytes, AllocError>
         ensures { IfOk result (λ copy. copy ≡ self.now) }
     {

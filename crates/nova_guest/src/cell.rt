@@ -47,7 +47,7 @@ impl Keyed for Cell {
 }
 
 impl Cell {
-    /// The same frame with the same bytes in memory of their own. It refuses for want of memory alone.
+    /// The same frame with the same bytes in memory of their own.
     pub fn copy(&self) -> Result<Cell, AllocError>
         ensures { IfOk result (λ copy. copy ≡ self.now) }
     {
@@ -70,7 +70,7 @@ impl Cell {
 }
 
 /// The cell of the `i`-th frame from `frame` on, whose bytes stand in the contents after those of the
-/// frames before it. It refuses for want of memory alone.
+/// frames before it.
 fn piece(alloc: Global, frame: u32, contents: &[u8], i: usize) -> Result<Cell, AllocError>
     requires there { i < length contents.now / PAGE_SIZE }
     requires frame { frame + i < 2 ^ 32 }
@@ -115,7 +115,7 @@ impl Cells {
         self.items.as_slice()
     }
 
-    /// The same cells in memory of their own. It refuses for want of memory alone.
+    /// The same cells in memory of their own.
     pub fn copy(&self) -> Result<Cells, AllocError>
         ensures { IfOk result (λ copy. copy ≡ self.now) }
     {
@@ -167,8 +167,7 @@ impl Cells {
         }
     }
 
-    /// A cell for each frame from `frame` on, whose bytes stand one after another in the contents. It
-    /// refuses for want of memory alone.
+    /// A cell for each frame from `frame` on, whose bytes stand one after another in the contents.
     fn pieces(&self, frame: u32, contents: &[u8]) -> Result<Vec<Cell>, AllocError>
         requires { frame + length contents.now / PAGE_SIZE ≤ 2 ^ 32 }
         ensures { IfOk result (λ cells. cells.items ≡ pieces PAGE_SIZE (length contents.now / PAGE_SIZE) frame contents.now) }
@@ -189,8 +188,7 @@ impl Cells {
         given.retain(|cell| !self.has(cell.frame));
     }
 
-    /// A cell comes for each frame from `frame` on that has none, with its bytes from the contents. It
-    /// refuses for want of memory alone, and then nothing has changed.
+    /// A cell comes for each frame from `frame` on that has none, with its bytes from the contents.
     #[tactic(auto, unfolding(crate::specs::Cells::page_size))]
     pub(crate) fn add(&mut self, frame: u32, contents: &[u8]) -> Result<(), AllocError>
         requires { frame + length contents.now / PAGE_SIZE ≤ 2 ^ 32 }

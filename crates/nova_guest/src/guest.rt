@@ -49,7 +49,7 @@ const STARTUP: u32 = 0;
 const RECALL: u32 = 8;
 
 impl Guest {
-    /// The same guest in memory of its own. It refuses for want of memory alone.
+    /// The same guest in memory of its own.
     pub fn copy(&self) -> Result<Guest, AllocError>
         ensures { IfOk result (λ copy. copy ≡ self.now) }
     {
@@ -63,14 +63,12 @@ impl Guest {
     }
 
     /// What an input makes of the guest, and what it puts out then. An input that the guest's state
-    /// doesn't admit changes nothing and puts out nothing. It refuses for want of memory alone, where a
-    /// map that is given overlaps none, and then nothing has changed.
-    ///
-    /// Of each map, and of one that is given, base and order are those of a range of pages, the first
-    /// frame is a multiple of `2^order`, and the last is below 2^32. Maps don't overlap. Each cell has
-    /// 4,096 bytes. Base and order of a map that is taken are those of a range. The contents of a map that
-    /// is given are those of all its frames, or empty. What another stores has 1, 2 or 4 bytes and an
-    /// offset that is a multiple of that, below 4,096.
+    /// doesn't admit changes nothing and puts out nothing. Memory can run out only where a map that is
+    /// given overlaps none. Of each map, and of one that is given, base and order are those of a range of
+    /// pages, the first frame is a multiple of `2^order`, and the last is below 2^32. Maps don't overlap.
+    /// Each cell has 4,096 bytes. Base and order of a map that is taken are those of a range. The contents
+    /// of a map that is given are those of all its frames, or empty. What another stores has 1, 2 or 4
+    /// bytes and an offset that is a multiple of that, below 4,096.
     #[tactic(auto, unfolding(crate::specs::Alone::applied))]
     pub fn apply(&mut self, input: &Input) -> Result<Option<Out>, AllocError>
         requires guest { IsGuest self.old }
@@ -209,7 +207,7 @@ impl Guest {
         }
     }
 
-    /// A map is given. It refuses for want of memory alone, and then nothing has changed.
+    /// A map is given.
     fn give(&mut self, map: Map, contents: &[u8]) -> Result<(), AllocError>
         requires guest { IsGuest self.old }
         requires map { IsMap map }

@@ -42,7 +42,7 @@ pub(crate) fn place<T: Keyed + Drop>(items: &mut Vec<T>, item: T)
     }
 }
 
-/// Puts items at their places. It refuses for want of memory alone, and then nothing has changed.
+/// Puts items at their places.
 #[tactic(auto, using(crate::proofs::Placing::placed_last))]
 pub(crate) fn place_all<T: Keyed + Drop>(
     items: &mut Vec<T>,

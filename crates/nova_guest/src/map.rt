@@ -130,7 +130,7 @@ impl Maps {
         self.items.as_slice()
     }
 
-    /// The same maps in memory of their own. It refuses for want of memory alone.
+    /// The same maps in memory of their own.
     pub fn copy(&self) -> Result<Maps, AllocError>
         ensures { IfOk result (λ copy. copy ≡ self.now) }
     {
@@ -174,7 +174,7 @@ impl Maps {
             .any(|map| map.base == base && map.order == order)
     }
 
-    /// The maps with one more at its place, in memory of their own. It refuses for want of memory alone.
+    /// The maps with one more at its place, in memory of their own.
     pub(crate) fn with(&self, map: Map) -> Result<Maps, AllocError>
         ensures { IfOk result (λ maps. maps ≡ placed base_of map self.now) }
     {

@@ -7,9 +7,8 @@ use crate::guest::Guest;
 use crate::input::{Input, Out};
 use std::alloc::{AllocError, Global};
 
-/// What inputs one after another make of a guest, and what it puts out, in order. It refuses for want of
-/// memory alone, where a map is given that overlaps none then, or something is put out. What `apply` asks of a guest and an input holds of the guest at the start and of each
-/// input.
+/// What inputs one after another make of a guest, and what it puts out, in order. Memory can run out only where a map is given that overlaps none then, or something is put
+/// out. What `apply` asks of a guest and an input holds of the guest at the start and of each input.
 pub fn alone(alloc: Global, start: Guest, inputs: &[Input]) -> Result<(Guest, Vec<Out>), AllocError>
     requires guest { IsGuest start }
     requires inputs { All IsInput inputs.now }

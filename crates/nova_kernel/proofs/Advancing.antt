@@ -17,31 +17,31 @@ use Rattle.nova_model.specs.declared.budget.Budget.{Budget}
 use Rattle.nova_model.specs.declared.context.EcState.{EcState}
 use Rattle.nova_model.specs.declared.transfer.Transfer.{Transfer}
 use Rattle.nova_model.specs.Views.{view}
-use Rattle.nova_laws.specs.Keeping.{IsKept}
+use Rattle.law_turns.specs.Keeping.{IsKept}
 use Rattle.nova_ec.specs.Tables.{EcTable, with_items}
 use Rattle.nova_ec.proofs.Tables.{ec_in-set_other, ec_in-set_same}
-use Rattle.nova_leases.specs.Commits.{IsReached, MayAdvance}
-use Rattle.nova_leases.specs.Paging.{AreFrames, charged_at_once, charged_times, laid_counts, laid_pages, laid_regs, laid_steps, pages_written, seen_from, stored_to, stores_seen}
-use Rattle.nova_leases.specs.declared.steps.Page.{Page}
-use Rattle.nova_leases.specs.declared.steps.Steps.{Steps}
-use Rattle.nova_leases.proofs.Committed.{run_reached}
-use Rattle.nova_leases.proofs.Paid.{charged_all}
-use Rattle.nova_leases.proofs.Parts.{laid_advance}
-use Rattle.nova_leases.proofs.Stored.{few_seen, pages_whole}
-use Rattle.nova_parts.specs.Runners.{RevokesState}
+use Rattle.law_leases.specs.Commits.{IsReached, MayAdvance}
+use Rattle.law_leases.specs.Paging.{AreFrames, charged_at_once, charged_times, laid_counts, laid_pages, laid_regs, laid_steps, pages_written, seen_from, stored_to, stores_seen}
+use Rattle.law_leases.specs.declared.steps.Page.{Page}
+use Rattle.law_leases.specs.declared.steps.Steps.{Steps}
+use Rattle.law_leases.proofs.Committed.{run_reached}
+use Rattle.law_leases.proofs.Paid.{charged_all}
+use Rattle.law_leases.proofs.Parts.{laid_advance}
+use Rattle.law_leases.proofs.Stored.{few_seen, pages_whole}
+use Rattle.nova_turn.specs.Runners.{RevokesState}
 use Rattle.nova_sched.specs.Queues.{Schedule}
 use Rattle.nova_choice.specs.Choices.{chosen_of}
 use Rattle.nova_choice.specs.Schedules.{AreQueued}
 use Rattle.nova_choice.specs.declared.choice.Chosen.{Chosen}
 use Rattle.nova_choice.proofs.Waits.{KeepsQueued, kept_steady, queued_kept, there_at}
-use Rattle.nova_parts.specs.Counted.{IsCharged, IsCounted, IsGivenWithin}
-use Rattle.nova_parts.specs.Stirs.{IsStirredWithin}
-pub use Rattle.nova_parts.proofs.Bursts.{to_be_charged}
-use Rattle.nova_parts.proofs.Counts.{IsCharged-paid}
-use Rattle.nova_parts.specs.Reach.{ReachState}
-use Rattle.nova_parts.specs.Parts.{state_of}
-use Rattle.nova_parts.specs.Revoking.{AreRunning}
-use Rattle.nova_parts.specs.declared.parts.Parts.{Parts}
+use Rattle.nova_turn.specs.Counted.{IsCharged, IsCounted, IsGivenWithin}
+use Rattle.nova_turn.specs.Stirs.{IsStirredWithin}
+pub use Rattle.nova_turn.proofs.Bursts.{to_be_charged}
+use Rattle.nova_turn.proofs.Counts.{IsCharged-paid}
+use Rattle.nova_turn.specs.Reach.{ReachState}
+use Rattle.nova_turn.specs.Parts.{state_of}
+use Rattle.nova_turn.specs.Revoking.{AreRunning}
+use Rattle.nova_turn.specs.declared.parts.Parts.{Parts}
 use Rattle.nova_kernel.proofs.Stores.{entry_seen, length_seen, less_for, stores_for}
 use Rattle.nova_kernel.proofs.Views.{virtual_there}
 

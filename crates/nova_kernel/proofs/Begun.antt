@@ -16,10 +16,10 @@ use Rattle.nova_model.specs.declared.times.Alarm.{Alarm}
 use Rattle.nova_model.specs.declared.times.AlarmState.{AlarmState}
 use Rattle.nova_objects.specs.declared.object.Object.{Object}
 use Rattle.nova_objects.specs.declared.object.Object.TheVariants.{Sm}
-use Rattle.nova_forest.specs.Turns.{Comes, Idles, Takes}
-use Rattle.nova_forest.proofs.Turning.{after_keeps, comes}
-use Rattle.nova_laws.proofs.Alarms.{source_more, turned_same}
-use Rattle.nova_laws.proofs.Setting.{more_at}
+use Rattle.law_forest.specs.Turns.{Comes, Idles, Takes}
+use Rattle.law_forest.proofs.Turning.{after_keeps, comes}
+use Rattle.law_turns.proofs.Alarms.{source_more, turned_same}
+use Rattle.law_turns.proofs.Setting.{more_at}
 use Rattle.nova_times.specs.Kept.{IsAlarm}
 use Rattle.nova_kernel.specs.Begun.{AreCalm, IsAtBoot, IsBegun, sources_of}
 

@@ -4,7 +4,7 @@ use Rattle.std.specs.Prelude.{nat_le, filter, Option, Some, None, IfSome}
 use Rattle.std.specs.List.{AllByRecursion, list_all}
 use Rattle.nova_model.specs.Delegations.{id_of, is_from, from_id}
 use Rattle.nova_model.specs.declared.delegation.Derivation.{Derivation}
-use Rattle.nova_forest.proofs.Members.{all_at, filtered_in, found_in}
+use Rattle.law_forest.proofs.Members.{all_at, filtered_in, found_in}
 
 pub from_id_below : (next most id : ℕ) (list : List Derivation) (o : Option Derivation) → o ≡ from_id list id → AllByRecursion (λ a. a.id < next) list → next ≤ most →
     IfSome o (λ d. d.id < most)

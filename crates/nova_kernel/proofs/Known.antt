@@ -20,19 +20,19 @@ use Rattle.nova_model.specs.declared.deed.Deed.{Deed}
 use Rattle.nova_model.specs.declared.deed.Deed.TheVariants.{Rests, Steps, Finishes, Replies}
 use Rattle.nova_model.specs.declared.event.Turn.{Turn}
 use Rattle.nova_model.specs.declared.transfer.ItemEnd.TheVariants.{Given, Skipped, Translated}
-use Rattle.nova_forest.specs.Effects.{Falls, Passing, Ticks}
-use Rattle.nova_forest.specs.Turns.{Acts, Idles, Passes, Takes, passing_event}
+use Rattle.law_forest.specs.Effects.{Falls, Passing, Ticks}
+use Rattle.law_forest.specs.Turns.{Acts, Idles, Passes, Takes, passing_event}
 use Rattle.nova_model.specs.declared.event.Turn.TheVariants.{Stepped}
 use Rattle.nova_model.specs.declared.times.Due.TheVariants as due
-use Rattle.nova_forest.proofs.Actors.{chosen_answers}
-use Rattle.nova_forest.proofs.Turning.{acting_is, acts_chosen, chosen_turn, comes}
+use Rattle.law_forest.proofs.Actors.{chosen_answers}
+use Rattle.law_forest.proofs.Turning.{acting_is, acts_chosen, chosen_turn, comes}
 use Rattle.nova_choice.proofs.Nexts.{chosen_acts}
 use Rattle.nova_choice.proofs.Waits.{there_at}
 use Rattle.nova_choice.specs.Choices.{chosen_of}
 use Rattle.nova_choice.specs.Schedules.{actor_of}
 use Rattle.nova_choice.specs.declared.choice.Chosen.{Chosen}
-use Rattle.nova_parts.proofs.Taken.{told_acts}
-use Rattle.nova_parts.specs.Known.{AreKnown, IsKnown}
+use Rattle.nova_turn.proofs.Taken.{told_acts}
+use Rattle.nova_turn.specs.Known.{AreKnown, IsKnown}
 use Rattle.nova_kernel.specs.Known.{known_after, known_by}
 
 -- ALL THAT IS KNOWN

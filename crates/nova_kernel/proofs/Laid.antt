@@ -1,2 +1,2 @@
 -- Bytes that are laid leave the number of frames.
-pub use Rattle.nova_parts.proofs.Laid.{laid_length}
+pub use Rattle.nova_turn.proofs.Laid.{laid_length}

@@ -6,24 +6,24 @@ use Rattle.rv_model.specs.Step.{Once, Raised, Went}
 use Rattle.nova_model.specs.Deeds.{deed, done, instruction, stepped}
 use Rattle.nova_model.specs.State.{KernelState}
 use Rattle.nova_model.specs.declared.deed.Deed.TheVariants.{Steps}
-use Rattle.nova_parts.specs.Acts.{outcome_of}
+use Rattle.nova_turn.specs.Acts.{outcome_of}
 use mathlib.Core.Path.{fun_ext}
 use Rattle.std.proofs.lemmas.Option.{same_Some}
 use Rattle.std.specs.List.{AllByRecursion}
 use Rattle.nova_model.specs.declared.context.State.TheVariants.{Ready}
-use Rattle.nova_parts.specs.Guests.{numbers_from}
-use Rattle.nova_parts.specs.Views.{left_of}
-use Rattle.nova_leases.specs.Commits.{IsReached}
+use Rattle.nova_turn.specs.StirCounts.{numbers_from}
+use Rattle.nova_turn.specs.Views.{left_of}
+use Rattle.law_leases.specs.Commits.{IsReached}
 use Rattle.std.proofs.lemmas.List.{length-set}
 use Rattle.nova_model.specs.Revokes.{Revocation}
 use Rattle.nova_model.specs.Running.{running, running_of}
-use Rattle.nova_laws.specs.Keeping.{IsKept}
-use Rattle.nova_parts.specs.Runners.{RevokesState}
+use Rattle.law_turns.specs.Keeping.{IsKept}
+use Rattle.nova_turn.specs.Runners.{RevokesState}
 use Rattle.std.specs.List.{filter_map, range_with_len}
 use Rattle.nova_model.specs.Choice.{Candidate, choice, next_to_act}
-use Rattle.nova_forest.proofs.Turning.{acts_chosen}
-use Rattle.nova_laws.specs.Moments.{IsEarly}
-use Rattle.nova_laws.proofs.Moments.{early_fewer}
+use Rattle.law_forest.proofs.Turning.{acts_chosen}
+use Rattle.law_turns.specs.Moments.{IsEarly}
+use Rattle.law_turns.proofs.Moments.{early_fewer}
 use Rattle.nova_model.specs.Runs.{after, run, trace}
 use Rattle.nova_model.specs.Turn.{charged, counted, paid_by, quantum_in}
 use Rattle.nova_model.specs.declared.budget.Budget.{Budget}
@@ -32,26 +32,26 @@ use Rattle.nova_model.specs.declared.event.Event.{Event}
 use Rattle.nova_ec.specs.Tables.{actor_in}
 use Rattle.nova_ec.proofs.Donors.{same_state_keeps_chases}
 use Rattle.nova_ec.proofs.Untouched.{same_actor}
-use Rattle.nova_leases.specs.Advances.{step_of}
-use Rattle.nova_parts.specs.Beside.{with_regs}
-use Rattle.nova_parts.specs.Known.{AreKnown}
-use Rattle.nova_leases.proofs.Advanced.{set_there}
+use Rattle.law_leases.specs.Advances.{step_of}
+use Rattle.nova_turn.specs.Beside.{with_regs}
+use Rattle.nova_turn.specs.Known.{AreKnown}
+use Rattle.law_leases.proofs.Advanced.{set_there}
 use Rattle.nova_kernel.proofs.Known.{AreLedOn, known_along, known_on, paid_on}
-use Rattle.nova_parts.specs.Revoking.{AreRunning}
-use Rattle.nova_parts.specs.Stirs.{is_stirring, risen_in, written_frame}
-use Rattle.nova_parts.proofs.Keeps.{done-keeps}
-use Rattle.nova_parts.proofs.Taken.{IsSettled, settled_counts, settled_state}
+use Rattle.nova_turn.specs.Revoking.{AreRunning}
+use Rattle.nova_turn.specs.Stirs.{is_stirring, risen_in, written_frame}
+use Rattle.nova_turn.proofs.Keeps.{done-keeps}
+use Rattle.nova_turn.proofs.Taken.{IsSettled, settled_counts, settled_state}
 use Rattle.nova_choice.specs.Choices.{chosen_of}
 use Rattle.nova_model.specs.State.{Contexts, budget_at, context, context_at, entry, pd_of, with_ec}
 use Rattle.nova_choice.specs.Schedules.{AreQueued, budgets_of}
 use Rattle.nova_choice.specs.declared.choice.Chosen.{Chosen}
 use Rattle.nova_choice.proofs.Waits.{LeadsBut, kept_steady, queued_kept, there_at}
-use Rattle.nova_parts.specs.Counted.{IsCharged, IsCounted, IsToBeCharged}
+use Rattle.nova_turn.specs.Counted.{IsCharged, IsCounted, IsToBeCharged}
 use Rattle.nova_sched.specs.Queues.{Schedule, queued_at}
 use Rattle.nova_sched.specs.declared.queued.Queued.{Queued}
-use Rattle.nova_leases.specs.Paging.{charged_times}
-use Rattle.nova_leases.specs.Rides.{ride, rides, rides_by}
-use Rattle.nova_leases.proofs.Riding.{IsRidden, kept_along, ridden, rode}
+use Rattle.law_leases.specs.Paging.{charged_times}
+use Rattle.law_leases.specs.Rides.{ride, rides, rides_by}
+use Rattle.law_leases.proofs.Riding.{IsRidden, kept_along, ridden, rode}
 use Rattle.nova_kernel.specs.Rides.{AreOnly, MayRide}
 use Rattle.nova_kernel.proofs.Advancing.{revoke_set, to_be_charged}
 use Rattle.nova_kernel.proofs.Spending.{left_queued}

@@ -15,18 +15,18 @@ use Rattle.nova_model.specs.declared.delegation.Derivation.{Derivation}
 use Rattle.nova_model.specs.declared.new_object.NewObject.TheVariants as new
 use Rattle.nova_model.specs.declared.transfer.Transfer.{Transfer}
 use Rattle.nova_objects.specs.declared.object.Object.TheVariants.{Sm}
-use Rattle.nova_forest.proofs.Boots.{IsRooted, boot_rooted, source_rooted}
-use Rattle.nova_laws.specs.Keeping.{IsKept}
-use Rattle.nova_laws.proofs.Setting.{more_at}
+use Rattle.law_forest.proofs.Boots.{IsRooted, boot_rooted, source_rooted}
+use Rattle.law_turns.specs.Keeping.{IsKept}
+use Rattle.law_turns.proofs.Setting.{more_at}
 use Rattle.nova_choice.proofs.Joins.{queued_joined}
 use Rattle.nova_choice.specs.Schedules.{AreQueued}
 use Rattle.nova_deeds.proofs.Bounds.{length-more}
 use Rattle.nova_deeds.specs.Counted.{IsAtItem, IsCounted, IsGivenWithin, IsPaidWithin}
 use Rattle.nova_deeds.specs.Stirs.{IsStirredWithin}
 use Rattle.nova_sched.specs.Queues.{Schedule}
-use Rattle.nova_parts.specs.Revoking.{AreRunning}
-use Rattle.nova_parts.specs.Runners.{RevokesState}
-use Rattle.nova_leases.specs.Commits.{IsReached}
+use Rattle.nova_turn.specs.Revoking.{AreRunning}
+use Rattle.nova_turn.specs.Runners.{RevokesState}
+use Rattle.law_leases.specs.Commits.{IsReached}
 use Rattle.nova_model.specs.Boot.{Scenario, boot}
 use Rattle.nova_model.specs.Runs.{run}
 use Rattle.nova_model.specs.declared.context.EcState.{EcState}

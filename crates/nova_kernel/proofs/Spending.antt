@@ -5,15 +5,15 @@ use Rattle.std.proofs.lemmas.List.{set-get_or, set-set, get_or-set_same}
 use Rattle.nova_model.specs.State.{KernelState, budget_at, entry}
 use Rattle.nova_model.specs.declared.budget.Budget.{Budget}
 use Rattle.nova_model.specs.Turn.{charged, counted, paid_by, quantum_in}
-use Rattle.nova_leases.specs.Paging.{charged_times}
+use Rattle.law_leases.specs.Paging.{charged_times}
 use Rattle.nova_choice.specs.Schedules.{AreQueued, budgets_of}
 use Rattle.nova_sched.specs.Queues.{Schedule, charged_by, charged_schedule, charged_schedules, queued_at}
 use Rattle.nova_sched.specs.declared.queued.Queued.{Queued}
 use Rattle.nova_sched.proofs.Stamps.{set_same}
 use Rattle.nova_choice.proofs.Budgets.{budget_queued}
-use Rattle.nova_parts.specs.Counted.{IsToBeCharged}
-use Rattle.nova_parts.proofs.Bursts.{still_charged}
-use Rattle.nova_parts.proofs.Charges.{charged_there, paid_shown}
+use Rattle.nova_turn.specs.Counted.{IsToBeCharged}
+use Rattle.nova_turn.proofs.Bursts.{still_charged}
+use Rattle.nova_turn.proofs.Charges.{charged_there, paid_shown}
 
 pay_some : (s : Schedule) (sc : ℕ) (o : Option Queued) → queued_at s sc ≡ o → IsSome o → IsSome (queued_at (charged_by s sc o) sc)
 pay_some s sc None is there = absurd cc

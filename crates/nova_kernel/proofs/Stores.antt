@@ -6,10 +6,10 @@ use Rattle.std.proofs.lemmas.Bool.{eqb-true, ne_eqb}
 use Rattle.std.proofs.lemmas.List.{drop_more}
 use Rattle.nova_model.specs.Inputs.{is_covered_for}
 use Rattle.nova_model.specs.State.{KernelState, entry, pd_of}
-use Rattle.nova_leases.specs.Paging.{seen_count, seen_from, stores_seen}
-use Rattle.nova_leases.specs.declared.steps.Page.{Page}
-use Rattle.nova_parts.specs.Guests.{count_in, numbers_from, raised_at, raised_by}
-use Rattle.nova_parts.proofs.GuestTables.{once}
+use Rattle.law_leases.specs.Paging.{seen_count, seen_from, stores_seen}
+use Rattle.law_leases.specs.declared.steps.Page.{Page}
+use Rattle.nova_turn.specs.StirCounts.{count_in, numbers_from, risen_by, risen_by_in}
+use Rattle.nova_turn.proofs.StirTables.{once}
 
 -- each count rises by the number for it
 abbrev pub grown : (ℕ → ℕ) → ℕ → List (Option ℕ) → List (Option ℕ)
@@ -71,12 +71,12 @@ numbers_now more counts now at = ap (numbers_from 0) at ∙ numbers_grown more 0
 
 -- ONE RISES
 
-raised_past : (i x : ℕ) (o e : Option ℕ) (counts : List (Option ℕ)) → raised_by (suc i) x (o ∷ counts) e ≡ o ∷ raised_by i x counts e
+raised_past : (i x : ℕ) (o e : Option ℕ) (counts : List (Option ℕ)) → risen_by_in (suc i) x (o ∷ counts) e ≡ o ∷ risen_by_in i x counts e
 raised_past i x o None counts = refl
 raised_past i x o (Some c) counts = refl
 
 raised_grown : (a b : ℕ → ℕ) (n i x : ℕ) (counts : List (Option ℕ)) → b (n + i) ≡ a (n + i) + x → ((m : ℕ) → m ≢ n + i → a m ≡ b m) →
-    raised_at i x (grown a n counts) ≡ grown b n counts
+    risen_by i x (grown a n counts) ≡ grown b n counts
 raised_grown a b n i x [] here others = refl
 raised_grown a b n zero x (None ∷ counts) here others =
     ap (λ (cs : List (Option ℕ)). None ∷ cs) (grown_from a b (n + 1) counts (λ m h. others m (λ same. absurd (omega (arith, h, same)))))
@@ -120,13 +120,13 @@ left_at counts ns i is low = ap (drop i) (sym is) ∙ drop_more ns i 0 low ∙ a
 
 pub next_raised : (more : ℕ → ℕ) (counts now : List (Option ℕ)) (ns : List ℕ) (i x : ℕ) → ns ≡ numbers_from 0 counts → i < length ns →
     now ≡ grown (but more (drop i (numbers_from 0 counts))) 0 counts → x ≡ more (slice_index_or ns i 0) →
-    raised_at (slice_index_or ns i 0) x now ≡ grown (but more (drop (i + 1) (numbers_from 0 counts))) 0 counts
+    risen_by (slice_index_or ns i 0) x now ≡ grown (but more (drop (i + 1) (numbers_from 0 counts))) 0 counts
 next_raised more counts now ns i x is low at same =
     let m = slice_index_or ns i 0 in
     let rest = drop (i + 1) (numbers_from 0 counts) in
     let left = left_at counts ns i is low in
     let none = once 0 i m rest counts left in
-    ap (raised_at m x) (at ∙ ap (λ (l : List ℕ). grown (but more l) 0 counts) left)
+    ap (risen_by m x) (at ∙ ap (λ (l : List ℕ). grown (but more l) 0 counts) left)
     ∙ raised_grown (but more (m ∷ rest)) (but more rest) 0 m x counts
     (let here : but more rest m ≡ x = ap (λ (t : Bool). if t then 0 else more m) none ∙ sym same in
     let before = next_here more m rest in

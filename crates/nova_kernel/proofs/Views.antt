@@ -5,7 +5,7 @@ use Rattle.nova_model.specs.Capabilities.{is_vcpu}
 use Rattle.nova_model.specs.State.{Contexts, KernelState, context_at, entry}
 use Rattle.nova_objects.specs.declared.object.Object.{Object}
 use Rattle.nova_objects.specs.declared.object.Object.TheVariants.{Ec, Pd, Pt, Sc, Sm}
-use Rattle.nova_laws.specs.Tables.{HasTables, IsOf, tag, tags_from}
+use Rattle.law_turns.specs.Tables.{HasTables, IsOf, tag, tags_from}
 
 -- where the object is a virtual CPU, its execution context is there
 there_from : (n : ℕ) (cs : Contexts) (os : List Object) (e : ℕ) → map tag cs ≡ tags_from n os → IsOf os is_vcpu e → IsSome (entry (slice_get cs e))

@@ -7,10 +7,10 @@ pub use Rattle.nova_model.specs.Turn
 pub use Rattle.nova_model.specs.Runs
 pub use Rattle.nova_model.specs.Boot
 pub use Rattle.nova_choice.specs.Schedules
-pub use Rattle.nova_parts.specs.Stirs
-pub use Rattle.nova_parts.specs.Counted
-pub use Rattle.nova_parts.specs.Parts
-pub use Rattle.nova_parts.specs.Revoking
+pub use Rattle.nova_turn.specs.Stirs
+pub use Rattle.nova_turn.specs.Counted
+pub use Rattle.nova_turn.specs.Parts
+pub use Rattle.nova_turn.specs.Revoking
 pub mod Views
 pub mod Known
 pub mod Rides

@@ -6,8 +6,8 @@ use Rattle.nova_model.specs.State.{KernelState}
 use Rattle.nova_model.specs.declared.budget.Budget.{Budget}
 use Rattle.nova_choice.specs.Choices.{chosen_of}
 use Rattle.nova_choice.specs.declared.choice.Chosen.{Chosen}
-use Rattle.nova_laws.specs.Moments.{IsEarly}
-use Rattle.nova_leases.specs.Rides.{IsRideable}
+use Rattle.law_turns.specs.Moments.{IsEarly}
+use Rattle.law_leases.specs.Rides.{IsRideable}
 
 -- there are no other numbers than this one
 abbrev pub AreOnly : ℕ → List ℕ → Type 0

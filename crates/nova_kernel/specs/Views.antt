@@ -4,7 +4,7 @@ use Rattle.nova_model.specs.Delegations.{from_id}
 use Rattle.nova_model.specs.State.{KernelState}
 use Rattle.nova_model.specs.declared.delegation.Derivation.{Derivation}
 -- of budgets, semaphores and turns
-pub use Rattle.nova_parts.specs.Views.{ticks_of, left_of, semaphore_at, turns_taken, HasMade, IsMaking}
+pub use Rattle.nova_turn.specs.Views.{ticks_of, left_of, semaphore_at, turns_taken, HasMade, IsMaking}
 
 -- the state, and how many more bytes the console log takes
 pub record KernelView : Type 0 where

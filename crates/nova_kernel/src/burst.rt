@@ -3,16 +3,16 @@ ghost use Rattle.nova_model.specs.Inputs.{is_covered_for};
 ghost use Rattle.nova_model.specs.Runs.{run};
 ghost use Rattle.nova_model.specs.State.{entry};
 ghost use Rattle.nova_sched.specs.Queues as queues;
-ghost use Rattle.nova_leases.specs.Commits.{IsReached, MayAdvance};
-ghost use Rattle.nova_leases.specs.Paging.{AreFrames, charged_times, pages_written, seen_from, stored_to, stores_seen};
-ghost use Rattle.nova_parts.specs.Parts.{state_of};
-ghost use Rattle.nova_parts.specs.Revoking.{AreRunning};
-ghost use Rattle.nova_parts.specs.Counted.{IsCounted, IsToBeCharged};
+ghost use Rattle.law_leases.specs.Commits.{IsReached, MayAdvance};
+ghost use Rattle.law_leases.specs.Paging.{AreFrames, charged_times, pages_written, seen_from, stored_to, stores_seen};
+ghost use Rattle.nova_turn.specs.Parts.{state_of};
+ghost use Rattle.nova_turn.specs.Revoking.{AreRunning};
+ghost use Rattle.nova_turn.specs.Counted.{IsCounted, IsToBeCharged};
 ghost use Rattle.nova_choice.specs.Schedules.{AreQueued};
 ghost use Rattle.nova_kernel.specs.Begun.{IsBegun};
 
-use nova_leases::{Page, Steps};
-use nova_parts::{Parts, Reach};
+use law_leases::{Page, Steps};
+use nova_turn::{Parts, Reach};
 
 /// The bytes of copied frames take the place of those of the frames, where a store went to the copy.
 fn write_pages(reach: &mut Reach, pages: &[Page])
@@ -53,7 +53,7 @@ fn count_stores(parts: &mut Parts, ec: u32, pages: &[Page])
         let guest = parts.guests.numbers()[i];
         if guest != ec {
             let count = stores_seen(parts, parts.pd(guest), pages);
-            parts.guests.raise(guest, count);
+            parts.guests.rise_by(guest, count);
         }
     }
 }

@@ -3,13 +3,13 @@ ghost use Rattle.nova_model.specs.Choice.{next_to_act};
 ghost use Rattle.nova_model.specs.State.{context_at};
 ghost use Rattle.nova_choice.specs.Choices.{chosen_of};
 ghost use Rattle.nova_choice.specs.Schedules.{AreQueued};
-ghost use Rattle.nova_parts.specs.Known.{AreKnown};
-ghost use Rattle.nova_parts.specs.Parts.{state_of};
+ghost use Rattle.nova_turn.specs.Known.{AreKnown};
+ghost use Rattle.nova_turn.specs.Parts.{state_of};
 ghost use Rattle.nova_kernel.specs.Known.{known_after};
 
 use nova_choice::Chosen;
 use nova_model::{EventKind, Turn};
-use nova_parts::Parts;
+use nova_turn::Parts;
 
 /// What is known after a turn: an instruction that went on leaves all choices, and its own is known then. Any
 /// other deed may lead turns elsewhere, so that nothing is known.

@@ -12,27 +12,25 @@ ghost use Rattle.nova_model.specs.Turn.{turn, state_after, answer_of};
 ghost use Rattle.nova_model.specs.Runs.{run, trace};
 ghost use Rattle.nova_model.specs.Boot.{bare, laid};
 ghost use Rattle.nova_model.specs.Forest.{IsForest};
-ghost use Rattle.nova_laws.specs.Tables.{IsOf};
+ghost use Rattle.law_turns.specs.Tables.{IsOf};
 ghost use Rattle.nova_model.specs.Capabilities.{is_vcpu};
 ghost use Rattle.nova_model.specs.Guests.{input};
 ghost use Rattle.nova_model.specs.Views.{view};
-ghost use Rattle.nova_parts.specs.Given.{BringsBytes};
-ghost use Rattle.nova_parts.specs.Stirs.{stir_of};
-ghost use Rattle.nova_leases.specs.Advances.{step_of};
-ghost use Rattle.nova_leases.specs.Commits.{IsReached, MayAdvance};
+ghost use Rattle.nova_turn.specs.Given.{BringsBytes};
+ghost use Rattle.nova_turn.specs.Stirs.{stir_of};
+ghost use Rattle.law_leases.specs.Advances.{step_of};
+ghost use Rattle.law_leases.specs.Commits.{IsReached, MayAdvance};
 ghost use Rattle.nova_kernel.specs.Views.{ticks_of, left_of, semaphore_at, derivation_from, turns_taken, IsMaking};
 
 use crate::burst::advance;
 use crate::choices::{keep, next_to_act};
 use crate::riding::{StepsTaken, plain_step, rides_alone, steps, turns_before};
 use crate::view::guest_of;
+use law_leases::Steps;
 use nova_choice::Chosen;
 use nova_guest::{Guest, Input};
-use nova_laws::turns_keep_what_they_find;
-use nova_leases::Steps;
-use nova_leases::laws::what_bursts_stand_on_is_kept;
 use nova_model::{Alarm, Derivation, EcState, LogByte, Object, Rights, Root, Turn};
-use nova_parts::Parts;
+use nova_turn::Parts;
 use std::alloc::{AllocError, Global};
 use std::marker::Model;
 
@@ -49,15 +47,15 @@ impl Model for Kernel {
 
     ghost Value = { KernelView };
 
-    ghost use Rattle.nova_parts.specs.Parts.{state_of};
-    ghost use Rattle.nova_parts.specs.Counted.{IsCounted};
+    ghost use Rattle.nova_turn.specs.Parts.{state_of};
+    ghost use Rattle.nova_turn.specs.Counted.{IsCounted};
 
     ghost view = { λ k. record { state = state_of k.parts; room = k.parts.reach.room } };
 
     ghost use Rattle.nova_choice.specs.Schedules.{AreQueued};
-    ghost use Rattle.nova_parts.specs.Revoking.{AreRunning};
-    ghost use Rattle.nova_leases.specs.Commits.{IsReached};
-    ghost use Rattle.nova_parts.specs.Known.{AreKnown};
+    ghost use Rattle.nova_turn.specs.Revoking.{AreRunning};
+    ghost use Rattle.law_leases.specs.Commits.{IsReached};
+    ghost use Rattle.nova_turn.specs.Known.{AreKnown};
     ghost use Rattle.nova_kernel.specs.Begun.{IsBegun};
 
     ghost invariant = { λ k. IsCounted (state_of k.parts) × (AreQueued (state_of k.parts) k.parts.queues.all × (AreRunning (state_of k.parts) k.parts.revokes × (IsReached (state_of k.parts) × (AreKnown (state_of k.parts) k.known × IsBegun (state_of k.parts))))) };
@@ -79,8 +77,8 @@ impl Kernel {
         requires consoles { consoles ≤ 16 }
         ensures { IfOk result (λ k. k ≡ record { state = bare cpus ram consoles root; room = log_room }) }
     {
-        turns_keep_what_they_find();
-        what_bursts_stand_on_is_kept();
+        law_turns::turns_keep_what_they_find();
+        law_leases::laws::what_bursts_stand_on_is_kept();
         let parts = Parts::new(alloc, cpus, ram, consoles, root, log_room)?;
         Ok(Kernel {
             parts,
@@ -89,7 +87,7 @@ impl Kernel {
     }
 
     /// The same state in memory of its own. The copy's console log has no room for more bytes, so that it
-    /// takes no turn until `reserve_log` makes some. It refuses for want of memory alone.
+    /// takes no turn until `reserve_log` makes some.
     pub fn copy(&self) -> Result<Kernel, AllocError>
         ensures state { IfOk result (λ k. k.state ≡ self.now.state) }
         ensures room { IfOk result (λ k. k.room ≡ 0) }
@@ -110,16 +108,15 @@ impl Kernel {
         ensures laid { self.new ≡ record self.old { state = record self.old.state { memory = laid self.old.state.memory address bytes.now } } }
         ensures frames { length self.new.state.memory.ram ≡ length self.old.state.memory.ram }
     {
-        turns_keep_what_they_find();
-        what_bursts_stand_on_is_kept();
+        law_turns::turns_keep_what_they_find();
+        law_leases::laws::what_bursts_stand_on_is_kept();
         self.parts.reach.put(address, bytes);
     }
 
-    /// One turn of an existing processor: what is due there comes; else the execution context to which the turns of the chosen
-    /// scheduling context lead acts, and the scheduling context is charged; else the clock alone goes on, where something is to
-    /// come. Idle, with nothing changed, exactly where nothing is to come and no scheduling context of the processor is runnable. It refuses for want of memory alone, only in
-    /// a turn that makes an object or a derivation, and then nothing has changed. Needs spare log, of which a turn
-    /// uses at most one place, and fewer than 2^31 turns taken before.
+    /// One turn of an existing processor: what is due there comes; else the execution context to which the turns of the chosen scheduling context lead acts, and the
+    /// scheduling context is charged; else the clock alone goes on, where something is to come. Idle, with nothing changed, exactly where nothing is to come and no scheduling
+    /// context of the processor is runnable. Memory can run out only in a turn that makes an object or a derivation. Needs spare log, of which a turn uses at most one place,
+    /// and fewer than 2^31 turns taken before.
     pub fn turn(&mut self, cpu: u32) -> Result<Turn, AllocError>
         requires cpu { cpu < self.old.state.cpus }
         requires room { 0 < self.old.room }
@@ -133,7 +130,7 @@ impl Kernel {
         ensures counted { IfOk result (λ t. self.new.state.turns ≡ self.old.state.turns + turns_taken t) }
         ensures cpus { self.new.state.cpus ≡ self.old.state.cpus }
     {
-        what_bursts_stand_on_is_kept();
+        law_leases::laws::what_bursts_stand_on_is_kept();
         let turn = self.parts.turn(cpu, &self.known)?;
         keep(&mut self.known, &turn);
         Ok(turn)
@@ -281,7 +278,7 @@ impl Kernel {
     }
 
     /// The view of a virtual CPU: its registers, what it does next, whether a recall is asked for, and the
-    /// memory that it reaches, with the bytes. It refuses for want of memory alone.
+    /// memory that it reaches, with the bytes.
     #[tactic(auto, using(crate::proofs::Views::virtual_there))]
     pub fn view(&self, alloc: Global, ec: u32) -> Result<Guest, AllocError>
         requires { IsOf self.now.state.objects is_vcpu ec }
@@ -291,8 +288,8 @@ impl Kernel {
     }
 
     /// What the processor's next turn is for a virtual CPU; none where the processor is idle, or where the
-    /// turn is nothing for it. It refuses for want of memory alone, only where the turn gives its domain
-    /// memory with bytes, which are copied.
+    /// turn is nothing for it. Memory can run out only where the turn gives its domain memory with bytes,
+    /// which are copied.
     pub fn input(&self, alloc: Global, cpu: u32, ec: u32) -> Result<Option<Input>, AllocError>
         requires cpu { cpu < self.now.state.cpus }
         requires guest { IsOf self.now.state.objects is_vcpu ec }
@@ -331,7 +328,7 @@ impl Kernel {
     }
 
     /// Makes a source: a semaphore of counter 0, as the next object, that an alarm ups, with a capability of the root's to it at the
-    /// selector of its number. No turn was taken yet. It refuses for want of memory alone, and then nothing has changed.
+    /// selector of its number. No turn was taken yet.
     pub fn add_source(
         &mut self,
         cpu: u32,
@@ -348,8 +345,8 @@ impl Kernel {
         ensures room { self.new.room ≡ self.old.room }
         ensures memory { OnErr result (self.new ≡ self.old) }
     {
-        turns_keep_what_they_find();
-        what_bursts_stand_on_is_kept();
+        law_turns::turns_keep_what_they_find();
+        law_leases::laws::what_bursts_stand_on_is_kept();
         let number = self.parts.add_source(cpu, first, period, count)?;
         self.known = [None; 8];
         Ok(number)

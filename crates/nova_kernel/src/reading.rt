@@ -9,7 +9,7 @@ use std::alloc::{AllocError, Global};
 
 impl Kernel {
     /// Makes room for `bytes` more bytes in the console log, so for as many turns. Room that was made before stays. The state
-    /// stays as it was, and it refuses for want of memory alone.
+    /// stays as it was.
     pub fn reserve_log(&mut self, bytes: usize) -> Result<(), AllocError>
         ensures ok { OnOk result (self.new ≡ record self.old { room = max self.old.room bytes }) }
         ensures err { OnErr result (self.new ≡ self.old) }
@@ -24,8 +24,7 @@ impl Kernel {
         self.parts.reach.words(ec)
     }
 
-    /// Who waits at a semaphore, in the order in which it came; nobody where no semaphore has the number. It refuses for want
-    /// of memory alone.
+    /// Who waits at a semaphore, in the order in which it came; nobody where no semaphore has the number.
     pub fn queue(&self, alloc: Global, sm: u32) -> Result<Vec<u32>, AllocError>
         ensures { IfOk result (λ queue. queue.items ≡ (semaphore self.now.state.semaphores sm).waiting) }
     {

@@ -1,27 +1,26 @@
 ghost use Rattle.std.specs.Prelude.{◌≡◌, ◌+◌, ◌^◌, ◌<◌, ◌≤◌, List, Option, replicate, [], false, Some, IsSome, IfSome};
 ghost use Rattle.std.specs.Bool.{OnTrue};
-ghost use Rattle.nova_parts.specs.Guests.{numbers_from};
+ghost use Rattle.nova_turn.specs.StirCounts.{numbers_from};
 ghost use Rattle.nova_model.specs.Choice.{Candidate, choice};
 ghost use Rattle.nova_model.specs.Runs.{run, trace};
 ghost use Rattle.nova_choice.specs.declared.choice.Chosen.{Chosen};
-ghost use Rattle.nova_leases.specs.Advances.{step_of};
-ghost use Rattle.nova_parts.specs.Known.{AreKnown};
+ghost use Rattle.law_leases.specs.Advances.{step_of};
+ghost use Rattle.nova_turn.specs.Known.{AreKnown};
 ghost use Rattle.nova_sched.specs.Queues.{queued_at};
 ghost use Rattle.nova_choice.specs.Choices.{chosen_of};
 ghost use Rattle.nova_choice.specs.Schedules.{AreQueued};
-ghost use Rattle.nova_parts.specs.Counted.{IsCounted};
+ghost use Rattle.nova_turn.specs.Counted.{IsCounted};
 ghost use Rattle.nova_kernel.specs.Rides.{AreOnly, MayRide};
 ghost use Rattle.nova_model.specs.State.{context, context_at};
-ghost use Rattle.nova_leases.specs.Rides.{rides};
-ghost use Rattle.nova_parts.specs.Beside.{IsEntered, with_regs};
-ghost use Rattle.nova_parts.specs.Parts.{state_of};
-ghost use Rattle.nova_parts.specs.Revoking.{AreRunning};
+ghost use Rattle.law_leases.specs.Rides.{rides};
+ghost use Rattle.nova_turn.specs.Beside.{IsEntered, with_regs};
+ghost use Rattle.nova_turn.specs.Parts.{state_of};
+ghost use Rattle.nova_turn.specs.Revoking.{AreRunning};
 
 use crate::burst::charge_times;
 use nova_choice::Chosen;
-use nova_laws::turns_keep_what_they_find;
 use nova_model::{Event, EventKind, State};
-use nova_parts::Parts;
+use nova_turn::Parts;
 use rv_core::Regs;
 use rv_core::outcome::Outcome;
 
@@ -141,7 +140,7 @@ pub(crate) fn steps(parts: &mut Parts, cpu: u32, chosen: Chosen, most: u64) -> u
     ensures running { AreRunning (state_of parts.new) parts.new.revokes }
     ensures log { parts.old.reach.room ≤ parts.new.reach.room + result }
 {
-    turns_keep_what_they_find();
+    law_turns::turns_keep_what_they_find();
     let count = ride(parts, chosen.actor, most);
     charge_times(parts, cpu, chosen.sc, count);
     count

@@ -1,11 +1,11 @@
 ghost use Rattle.std.specs.Prelude.{◌≡◌, IfOk, IsSome};
 ghost use Rattle.nova_model.specs.State.{context_at};
 ghost use Rattle.nova_model.specs.Views.{guest_state, view};
-ghost use Rattle.nova_parts.specs.Parts.{state_of};
+ghost use Rattle.nova_turn.specs.Parts.{state_of};
 
 use nova_guest::{Cells, Guest, GuestState, Maps};
 use nova_model::State;
-use nova_parts::Parts;
+use nova_turn::Parts;
 use std::alloc::{AllocError, Global};
 
 /// The state of a virtual CPU, as a guest has it: an exit that is raised and not sent is the same whether
@@ -24,8 +24,7 @@ fn guest_state(state: State) -> GuestState
     }
 }
 
-/// The view of an execution context: the guest that the state has in it. It refuses for want of memory
-/// alone.
+/// The view of an execution context: the guest that the state has in it.
 #[tactic(auto, unfolding(nova_model::specs::Views::view))]
 pub fn guest_of(parts: &Parts, alloc: Global, ec: u32) -> Result<Guest, AllocError>
     requires { IsSome (context_at (state_of parts.now) ec) }

@@ -11,11 +11,11 @@ use Rattle.nova_model.specs.Forest.{IsAligned, IsForest}
 use Rattle.nova_model.specs.Transfers.{source_of, dest_of, next_source, child_of, judged, Part, part_of, next_part, joined, given}
 use Rattle.nova_model.specs.declared.transfer.Job.{Job}
 use Rattle.nova_model.specs.declared.transfer.Reason.{Reason}
-use Rattle.nova_forest.proofs.Members.{IsIn, all_at, all_from, all_more, filtered_in, found_in}
+use Rattle.law_forest.proofs.Members.{IsIn, all_at, all_from, all_more, filtered_in, found_in}
 use Rattle.nova_nodes.specs.NodesStates.{IsPlaced, IsSound}
 use Rattle.nova_nodes.proofs.Found.{find_only}
 use Rattle.nova_nodes.proofs.Indexed.{meeting}
-use Rattle.nova_forest.proofs.Transfers.{left_facts, next_facts, judged_facts, child_targets}
+use Rattle.law_forest.proofs.Transfers.{left_facts, next_facts, judged_facts, child_targets}
 use Rattle.nova_model.specs.declared.delegation.Derivation.{Derivation}
 use Rattle.nova_memory.specs.Reach.{IsFound, LeadsToFrames, LeadToFrames}
 

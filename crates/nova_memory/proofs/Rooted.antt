@@ -6,7 +6,7 @@ use Rattle.nova_range.specs.declared.rights.Rights.{Rights}
 use Rattle.nova_model.specs.Boot.{rights_of, console_derivation, object_derivation}
 use Rattle.nova_model.specs.Delegations.{Delegations, added, derived}
 use Rattle.nova_model.specs.Forest.{IsFitting}
-use Rattle.nova_forest.proofs.Boots.{pages, console_fits, pages_more}
+use Rattle.law_forest.proofs.Boots.{pages, console_fits, pages_more}
 use Rattle.nova_memory.specs.Reach.{page_range, selector_range}
 
 -- a console's page

@@ -17,7 +17,7 @@ use Rattle.nova_model.specs.Delegations as derivation
 use Rattle.nova_model.specs.Forest.{ArePairs, IsForest}
 use Rattle.nova_model.specs.Views.{cells_from, is_memory_of, map_in, map_of, maps_of}
 use Rattle.nova_model.specs.declared.delegation.Derivation.{Derivation}
-use Rattle.nova_forest.proofs.Members.{IsIn, all_at, all_from, filtered_in, found_in, in_filtered}
+use Rattle.law_forest.proofs.Members.{IsIn, all_at, all_from, filtered_in, found_in, in_filtered}
 use Rattle.nova_nodes.proofs.Found.{not_found}
 use Rattle.nova_nodes.proofs.Indexed.{meeting}
 use Rattle.nova_nodes.proofs.Sorted.{filter_all, filter_none}

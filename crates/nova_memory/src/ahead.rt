@@ -6,14 +6,13 @@ ghost use Rattle.nova_model.specs.Memory.{read};
 ghost use Rattle.nova_model.specs.Revokes.{next_leaf};
 ghost use Rattle.nova_model.specs.Transfers.{next_part};
 ghost use Rattle.nova_nodes.specs.NodesStates.{IsPlaced};
-ghost use Rattle.nova_running.specs.Runners.{busy_under};
+ghost use Rattle.nova_revoke.specs.Runners.{busy_under};
 ghost use Rattle.nova_utcb.specs.Pages.{IsWidth};
 
 use crate::reach::{Reach, page_in};
 use nova_delegate::next_part;
 use nova_model::{Derivation, Job, Kind, Page, Reason};
-use nova_revoke::{Revoke, next_leaf};
-use nova_running::Running;
+use nova_revoke::{Revoke, Running, next_leaf};
 
 // What is only looked at.
 impl Reach {

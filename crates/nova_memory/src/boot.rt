@@ -123,7 +123,7 @@ fn root_nodes(alloc: Global, order: u8, consoles: u32) -> Result<Nodes<Space>, A
 
 impl Reach {
     /// What a machine boots with: `2^ram` frames of zeros, what the root holds, and the message words of its thread.
-    /// The log has room for `log_room` bytes. It refuses for want of memory alone.
+    /// The log has room for `log_room` bytes.
     pub fn new(alloc: Global, ram: u8, consoles: u32, log_room: u64) -> Result<Reach, AllocError>
         requires ram { ram ≤ 14 }
         requires consoles { consoles ≤ 16 }

@@ -55,8 +55,7 @@ impl Reach {
         self.frames.log()
     }
 
-    /// Makes room for the message words of one more object. Where there is room, this succeeds. It refuses
-    /// for want of memory alone, and then nothing has changed.
+    /// Makes room for the message words of one more object. Where there is room, this succeeds.
     pub fn reserve_message(&mut self) -> Result<(), AllocError>
         ensures room { OnOk result (self.new ≡ record self.old { messages = record self.old.messages { spare = max self.old.messages.spare 1 } }) }
         ensures enough { 0 < self.old.messages.spare → IsOk result }

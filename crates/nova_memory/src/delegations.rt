@@ -8,19 +8,18 @@ ghost use Rattle.nova_model.specs.Translations.{translated};
 ghost use Rattle.nova_nodes.specs.NodesStates.{IsPlaced, room};
 ghost use Rattle.nova_delegate.specs.Parts.{HasChild, IsUnderWay, MakesChild, done_of};
 ghost use Rattle.nova_memory.specs.Reach.{selector_range};
-ghost use Rattle.nova_running.specs.Runners.{busy_under};
+ghost use Rattle.nova_revoke.specs.Runners.{busy_under};
 
 use crate::reach::Reach;
 use crate::recent::NONE;
 use nova_delegate::{PartDone, part, translate};
 use nova_model::{Derivation, Job, Kind, Rights};
 use nova_range::Range;
-use nova_running::Running;
+use nova_revoke::Running;
 use std::alloc::AllocError;
 
 impl Reach {
-    /// Makes room for one more derivation of a protection domain. Where there is room, this succeeds. It
-    /// refuses for want of memory alone, and then no derivation has changed.
+    /// Makes room for one more derivation of a protection domain. Where there is room, this succeeds.
     pub fn reserve(&mut self, pd: u32) -> Result<(), AllocError>
         ensures room { OnOk result (0 < room self.new.nodes pd) }
         ensures enough { 0 < room self.old.nodes pd → IsOk result }
@@ -33,7 +32,7 @@ impl Reach {
         self.nodes.reserve(pd, 1)
     }
 
-    /// Makes the space of a new protection domain. It refuses for want of memory alone.
+    /// Makes the space of a new protection domain.
     pub fn add_domain(&mut self, pd: u32) -> Result<(), AllocError>
         ensures room { (other : ℕ) → room self.old.nodes other ≤ room self.new.nodes other }
         ensures delegations { self.new.nodes.delegations ≡ self.old.nodes.delegations }

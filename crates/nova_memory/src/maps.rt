@@ -46,7 +46,7 @@ fn end_of(derivation: &Derivation) -> u32
 }
 
 impl Reach {
-    /// The memory derivations of a protection domain as maps, by base. It refuses for want of memory alone.
+    /// The memory derivations of a protection domain as maps, by base.
     pub fn maps(&self, alloc: Global, pd: u32) -> Result<Vec<Map>, AllocError>
         ensures maps { IfOk result (λ maps. maps.items ≡ maps_of pd self.now.nodes.delegations.list) }
         ensures orders { IfOk result (λ maps. All (λ m. m.order ≤ 20) maps.items) }
@@ -60,8 +60,7 @@ impl Reach {
         Ok(maps)
     }
 
-    /// The RAM frames that maps lead to, each once, by frame, with their bytes. It refuses for want of
-    /// memory alone.
+    /// The RAM frames that maps lead to, each once, by frame, with their bytes.
     pub fn cells(&self, alloc: Global, maps: &[Map]) -> Result<Vec<Cell>, AllocError>
         requires { All (λ m. m.order ≤ 20) maps.now }
         ensures { IfOk result (λ cells. cells.items ≡ cells_of maps.now self.now.memory.ram) }

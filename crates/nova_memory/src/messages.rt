@@ -61,8 +61,7 @@ impl Messages {
     }
 
     /// Makes room for `n` more entries, counted from those that are there. Room that was made before
-    /// stays, and where it is enough, this succeeds. It refuses for want of memory alone, and then
-    /// nothing has changed.
+    /// stays, and where it is enough, this succeeds.
     pub fn reserve(&mut self, n: usize) -> Result<(), AllocError>
         ensures ok { OnOk result (self.new ≡ record self.old { spare = max self.old.spare n }) }
         ensures enough { n ≤ self.old.spare → IsOk result }
@@ -73,8 +72,7 @@ impl Messages {
         Ok(())
     }
 
-    /// The same entries in memory of their own, with no spare room. It refuses for want of memory
-    /// alone.
+    /// The same entries in memory of their own, with no spare room.
     pub fn copy(&self) -> Result<Messages, AllocError>
         ensures { IfOk result (λ copy. copy ≡ record { items = self.now.items; spare = 0 }) }
     {

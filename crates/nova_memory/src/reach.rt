@@ -131,8 +131,7 @@ impl Reach {
         self.written.is_some()
     }
 
-    /// The same in memory of its own. The copy's log has no room for more bytes. It refuses for want of
-    /// memory alone.
+    /// The same in memory of its own. The copy's log has no room for more bytes.
     pub fn copy(&self) -> Result<Reach, AllocError>
         ensures delegations { IfOk result (λ r. r.nodes.delegations ≡ self.now.nodes.delegations) }
         ensures memory { IfOk result (λ r. r.memory ≡ self.now.memory) }

@@ -6,8 +6,7 @@ use nova_utcb::Utcb;
 use std::alloc::AllocError;
 
 impl Reach {
-    /// Makes room for `bytes` more bytes in the console log. Room that was made before stays. It refuses for
-    /// want of memory alone, and then nothing has changed.
+    /// Makes room for `bytes` more bytes in the console log. Room that was made before stays.
     pub fn reserve_log(&mut self, bytes: usize) -> Result<(), AllocError>
         ensures ok { OnOk result (self.new ≡ record self.old { room = max self.old.room bytes }) }
         ensures err { OnErr result (self.new ≡ self.old) }

@@ -35,7 +35,7 @@ impl Model for Sights {
 }
 
 impl Sights {
-    /// Nothing is known of so many frames. It refuses for want of memory alone.
+    /// Nothing is known of so many frames.
     pub fn new(alloc: Global, frames: u32) -> Result<Sights, AllocError>
         ensures { IfOk result IsBlank }
     {
@@ -48,7 +48,7 @@ impl Sights {
         Ok(Sights { sights, version: 0 })
     }
 
-    /// The same in memory of its own. It refuses for want of memory alone.
+    /// The same in memory of its own.
     pub fn copy(&self) -> Result<Sights, AllocError>
         ensures { IfOk result (λ copy. copy ≡ self.now) }
     {

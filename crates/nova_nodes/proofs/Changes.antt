@@ -7,7 +7,7 @@ use Rattle.slab.specs.Slab.{Slab}
 use Rattle.nova_model.specs.Delegations.{id_of, is_id, newest_child, older_child, with_id}
 use Rattle.nova_model.specs.Forest.{ArePairs}
 use Rattle.nova_model.specs.declared.delegation.Derivation.{Derivation}
-use Rattle.nova_forest.proofs.Members.{IsIn, all_at, all_from, contains_from_in, found_in}
+use Rattle.law_forest.proofs.Members.{IsIn, all_at, all_from, contains_from_in, found_in}
 use Rattle.nova_nodes.specs.declared.node.Node.{Node}
 use Rattle.nova_nodes.specs.declared.node.Place.{Place}
 use Rattle.nova_nodes.specs.Links.{AreLinked, IsSmall, changed_at, derivation_of, derivations, link, passes_in}

@@ -5,9 +5,9 @@ use Rattle.std.specs.List.{find, list_all}
 use Rattle.nova_model.specs.Delegations.{with_id, least_by, greatest_by, id_of}
 use Rattle.nova_model.specs.Forest.{ArePairs}
 use Rattle.nova_model.specs.declared.delegation.Derivation.{Derivation}
-use Rattle.nova_forest.proofs.Lines.{member_found}
-use Rattle.nova_forest.proofs.Members.{IsIn}
-pub use Rattle.nova_forest.proofs.Pairs.{pairs_at, same_id}
+use Rattle.law_forest.proofs.Lines.{member_found}
+use Rattle.law_forest.proofs.Members.{IsIn}
+pub use Rattle.law_forest.proofs.Pairs.{pairs_at, same_id}
 
 -- the only one that passes is found, and none where none passes
 pub find_only : {T : Type 0} (p : T → Bool) (xs : List T) (x : T) → IsIn xs x → p x ≡ true → ((y : T) → IsIn xs y → p y ≡ true → y ≡ x) → find p xs ≡ Some x

@@ -14,7 +14,7 @@ use Rattle.nova_range.specs.Indices.{IsSorted, key_of, ends_after, begins_before
 use Rattle.nova_model.specs.Delegations.{Delegations, covers, has_place, holds_from, first_from, is_same_kind, range_of, base_of, with_id}
 use Rattle.nova_model.specs.Forest.{AreApart, IsForest}
 use Rattle.nova_model.specs.declared.delegation.Derivation.{Derivation}
-use Rattle.nova_forest.proofs.Members.{IsIn, all_at, all_from, filtered_in, in_filtered, found_in, in_from_contains}
+use Rattle.law_forest.proofs.Members.{IsIn, all_at, all_from, filtered_in, in_filtered, found_in, in_from_contains}
 use Rattle.nova_nodes.specs.Spaces.{SpaceState, IsIndexed, IsEntryOf, entries_at, entry_of}
 use Rattle.nova_nodes.proofs.Found.{find_only, not_found, pairs_at, with_its_id, least_only}
 pub use Rattle.nova_range.proofs.Members.{in_left}

@@ -5,8 +5,8 @@ use Rattle.std.proofs.lemmas.List.Elements.{All-filter, All-push}
 use Rattle.nova_model.specs.Delegations.{Delegations, added, without, with_id, parent_of, id_of}
 use Rattle.nova_model.specs.Forest.{IsForest, IsFitting, IsChildless, HasParentIn}
 use Rattle.nova_model.specs.declared.delegation.Derivation.{Derivation}
-use Rattle.nova_forest.proofs.Forests.{forest_add, forest_without}
-use Rattle.nova_forest.proofs.Members.{IsIn, all_at, all_from, in_from_contains}
+use Rattle.law_forest.proofs.Forests.{forest_add, forest_without}
+use Rattle.law_forest.proofs.Members.{IsIn, all_at, all_from, in_from_contains}
 use Rattle.nova_nodes.specs.NodesStates.{IsPlaced, IsSound}
 use Rattle.nova_nodes.proofs.Found.{with_its_id, not_found}
 use Rattle.nova_nodes.proofs.Sorted.{filter_all}

@@ -5,7 +5,7 @@ use Rattle.std.specs.List.{AllByRecursion}
 use Rattle.nova_model.specs.Delegations.{id_of, is_child_of, is_id, newest_child, with_id}
 use Rattle.nova_model.specs.Forest.{IsChildless}
 use Rattle.nova_model.specs.declared.delegation.Derivation.{Derivation}
-use Rattle.nova_forest.proofs.Members.{IsIn, all_at, all_more, found_in}
+use Rattle.law_forest.proofs.Members.{IsIn, all_at, all_more, found_in}
 use Rattle.nova_nodes.specs.declared.node.Node.{Node}
 use Rattle.nova_nodes.specs.Links.{AreLinked, changed_at, derivations, is_child_in, joined, link, or_else}
 use Rattle.nova_nodes.proofs.Indexed.{in_either}

@@ -4,7 +4,7 @@ use Rattle.std.specs.Prelude.{Bool, true, false, nat_lt, Option, Some, None, opt
 use Rattle.std.proofs.lemmas.Bool.{and_parts, eqb-true}
 use Rattle.nova_model.specs.Delegations.{id_of, is_child_of, is_id, is_older_child, newest_child, older_child}
 use Rattle.nova_model.specs.declared.delegation.Derivation.{Derivation}
-use Rattle.nova_forest.proofs.Members.{IsIn, all_at}
+use Rattle.law_forest.proofs.Members.{IsIn, all_at}
 use Rattle.nova_nodes.specs.declared.node.Node.{Node}
 use Rattle.nova_nodes.specs.Links.{AreLinked, derivations, derivation_of, is_child_in, is_younger_child, link, younger_child}
 use Rattle.nova_nodes.proofs.Found.{same_id}

@@ -5,8 +5,8 @@ use Rattle.std.specs.List.{find}
 use Rattle.nova_model.specs.Delegations.{Delegations, id_of, is_child_of, is_id, newest_child, with_id}
 use Rattle.nova_model.specs.Forest.{HasParentIn, IsChildless, IsForest}
 use Rattle.nova_model.specs.declared.delegation.Derivation.{Derivation}
-use Rattle.nova_forest.proofs.Extremes.{none_kept}
-use Rattle.nova_forest.proofs.Members.{IsIn, all_at, all_from, contains_from_in, found_in, in_from_contains}
+use Rattle.law_forest.proofs.Extremes.{none_kept}
+use Rattle.law_forest.proofs.Members.{IsIn, all_at, all_from, contains_from_in, found_in, in_from_contains}
 use Rattle.nova_nodes.specs.NodesStates.{IsPlaced, IsSound}
 use Rattle.nova_nodes.proofs.Found.{with_its_id}
 

@@ -5,8 +5,8 @@ use Rattle.std.proofs.lemmas.Bool.{eqb-true}
 use Rattle.nova_model.specs.Delegations.{id_of, least_by, greatest_by}
 use Rattle.nova_model.specs.Forest.{ArePairs}
 use Rattle.nova_model.specs.declared.delegation.Derivation.{Derivation}
-use Rattle.nova_forest.proofs.Extremes.{before_facts, greatest, least, none_before, none_kept, none_passes}
-use Rattle.nova_forest.proofs.Members.{IsIn, all_at, all_from, filtered_in, in_filtered}
+use Rattle.law_forest.proofs.Extremes.{before_facts, greatest, least, none_before, none_kept, none_passes}
+use Rattle.law_forest.proofs.Members.{IsIn, all_at, all_from, filtered_in, in_filtered}
 use Rattle.nova_nodes.specs.Links.{past}
 use Rattle.nova_nodes.proofs.Found.{greatest_only, least_only, same_id}
 use Rattle.nova_nodes.proofs.Indexed.{in_either, in_left, last_in}

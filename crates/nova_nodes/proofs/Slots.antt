@@ -4,8 +4,8 @@ use Rattle.std.specs.Prelude.{Bool, true, false, not, length, map, filter, zero,
 use Rattle.std.specs.List.{AllByRecursion, filter_map, find}
 use Rattle.std.proofs.lemmas.List.Elements.{filter_map-append}
 use Rattle.nova_model.specs.Forest.{ArePairs}
-use Rattle.nova_forest.proofs.Members.{IsIn, all_at, all_from, all_more, filtered_in}
-pub use Rattle.nova_forest.proofs.Pairs.{pairs_filter, pairs_more}
+use Rattle.law_forest.proofs.Members.{IsIn, all_at, all_from, all_more, filtered_in}
+pub use Rattle.law_forest.proofs.Pairs.{pairs_filter, pairs_more}
 use Rattle.nova_nodes.specs.declared.node.Node.{Node}
 use Rattle.nova_nodes.specs.Stores.{AreRising, is_after, is_number, node_id, of_id, put}
 use Rattle.nova_nodes.proofs.Found.{not_found}

@@ -7,7 +7,7 @@ use Rattle.nova_range.specs.declared.index.Entry.{Entry}
 use Rattle.nova_range.specs.Ranges.{end_of}
 use Rattle.nova_range.specs.Indices.{IsRising, ends_after}
 pub use Rattle.nova_range.proofs.Sorted.{filter_all, filter_none, held, key_held}
-use Rattle.nova_forest.proofs.Members.{IsIn, all_at}
+use Rattle.law_forest.proofs.Members.{IsIn, all_at}
 
 -- the first that has a place at or after this one is the one of least base that does
 pub first_least : (place : ℕ) (es : List Entry) (e f : Entry) → IsRising es → find (ends_after place) es ≡ Some e → IsIn es f → ends_after place f ≡ true → e.range.base ≤ f.range.base

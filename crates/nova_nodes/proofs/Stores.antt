@@ -5,7 +5,7 @@ use Rattle.std.specs.List.{AllByRecursion, find}
 use Rattle.std.proofs.lemmas.Bool.{eqb-true}
 use Rattle.std.proofs.lemmas.List.{length-map, map-append}
 use Rattle.slab.specs.Slab.{Slab, Updates, get}
-use Rattle.nova_forest.proofs.Members.{IsIn, all_at, all_from, filtered_in}
+use Rattle.law_forest.proofs.Members.{IsIn, all_at, all_from, filtered_in}
 use Rattle.nova_nodes.specs.declared.node.Node.{Node}
 use Rattle.nova_nodes.specs.declared.node.Place.{Place}
 use Rattle.nova_nodes.specs.Stores.{AreInOrder, AreRising, is_after, is_number, node_at, node_id, nodes_at, of_id, place_id, put}

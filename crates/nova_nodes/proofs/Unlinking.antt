@@ -5,7 +5,7 @@ use Rattle.std.specs.List.{AllByRecursion}
 use Rattle.std.proofs.lemmas.Bool.{eqb-true}
 use Rattle.nova_model.specs.Delegations.{is_child_of, is_id}
 use Rattle.nova_model.specs.declared.delegation.Derivation.{Derivation}
-use Rattle.nova_forest.proofs.Members.{IsIn, filtered_in}
+use Rattle.law_forest.proofs.Members.{IsIn, filtered_in}
 use Rattle.nova_nodes.specs.declared.node.Node.{Node}
 use Rattle.nova_nodes.specs.Links.{AreLinked, changed_at, derivations, left, link, past}
 use Rattle.nova_nodes.specs.Stores.{is_number, node_id}

@@ -6,10 +6,10 @@ use Rattle.nova_model.specs.Delegations.{Delegations, id_of, is_child_of, is_id,
 use Rattle.nova_model.specs.Forest.{IsChildless, IsForest}
 use Rattle.nova_model.specs.Revokes.{leaf_by, onward}
 use Rattle.nova_model.specs.declared.delegation.Derivation.{Derivation}
-use Rattle.nova_forest.proofs.Leaves.{child_of_newest}
-use Rattle.nova_forest.proofs.Lines.{parent_facts}
-use Rattle.nova_forest.proofs.Members.{IsIn, all_at, filtered_in, found_in}
-use Rattle.nova_forest.proofs.Scopes.{child_found}
+use Rattle.law_forest.proofs.Leaves.{child_of_newest}
+use Rattle.law_forest.proofs.Lines.{parent_facts}
+use Rattle.law_forest.proofs.Members.{IsIn, all_at, filtered_in, found_in}
+use Rattle.law_forest.proofs.Scopes.{child_found}
 use Rattle.nova_nodes.specs.Links.{past}
 use Rattle.nova_nodes.specs.Trails.{Here, IsOnWay, IsTrail, On, or_id, step_back}
 use Rattle.nova_nodes.specs.declared.node.Trail.{Trail}

@@ -135,8 +135,7 @@ impl Linked {
         }
     }
 
-    /// Makes room for `n` more derivations, counted from those that are there. It refuses for want of
-    /// memory alone, and then nothing has changed.
+    /// Makes room for `n` more derivations, counted from those that are there.
     pub(crate) fn reserve(&mut self, n: usize) -> Result<(), AllocError>
         ensures ok { OnOk result (self.new ≡ record self.old { spare = max self.old.spare n }) }
         ensures err { OnErr result (self.new ≡ self.old) }

@@ -76,7 +76,7 @@ impl<I: Index> Nodes<I> {
     }
 
     /// The same derivations in memory of their own, and the same domains with spaces, with no room for
-    /// more. It refuses for want of memory alone.
+    /// more.
     pub fn copy(&self) -> Result<Nodes<I>, AllocError>
         ensures same { IfOk result (λ copy. copy.delegations ≡ self.now.delegations) }
         ensures spaces { IfOk result (λ copy. (pd : ℕ) → HasSpaces self.now pd → HasSpaces copy pd) }
@@ -107,8 +107,7 @@ impl<I: Index> Nodes<I> {
         self.next
     }
 
-    /// Makes the two spaces of a protection domain, with no derivations; those that are there stay. It
-    /// refuses for want of memory alone, and then nothing has changed.
+    /// Makes the two spaces of a protection domain, with no derivations; those that are there stay.
     pub fn add_pd(&mut self, pd: u32) -> Result<(), AllocError>
         ensures there { OnOk result (HasSpaces self.new pd) }
         ensures kept { self.new.delegations ≡ self.old.delegations }
@@ -120,8 +119,8 @@ impl<I: Index> Nodes<I> {
 
     /// Makes room for `n` more derivations of a protection domain, counted from those that are there,
     /// and its spaces where they are wanted for that. Room that was made before stays, for each domain
-    /// its own, and where it is enough, this succeeds. It refuses for want of memory alone, and then no
-    /// derivation and no room has changed; the spaces may have been made.
+    /// its own, and where it is enough, this succeeds. Where memory runs out, no derivation and no room
+    /// has changed; the spaces may have been made.
     pub fn reserve(&mut self, pd: u32, n: usize) -> Result<(), AllocError>
         ensures kept { self.new.delegations ≡ self.old.delegations }
         ensures ok { OnOk result (n ≤ room self.new pd) }
@@ -140,8 +139,8 @@ impl<I: Index> Nodes<I> {
         Ok(())
     }
 
-    /// Makes room for `n` more derivations of a protection domain than there was room for. It refuses
-    /// for want of memory alone, and then no derivation and no room has changed; the spaces may have been made.
+    /// Makes room for `n` more derivations of a protection domain than there was room for. Where memory runs
+    /// out, no derivation and no room has changed; the spaces may have been made.
     pub fn reserve_more(&mut self, pd: u32, n: usize) -> Result<(), AllocError>
         ensures kept { self.new.delegations ≡ self.old.delegations }
         ensures ok { OnOk result (room self.old pd + n ≤ room self.new pd) }

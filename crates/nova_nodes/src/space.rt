@@ -69,8 +69,7 @@ impl<I: Index> Space<I> {
         }
     }
 
-    /// The same ranges in memory of their own, with no room for more. It refuses for want of memory
-    /// alone.
+    /// The same ranges in memory of their own, with no room for more.
     pub(crate) fn copy(&self) -> Result<Space<I>, AllocError>
         ensures { IfOk result (λ copy. copy ≡ record self.now { room = 0 }) }
     {

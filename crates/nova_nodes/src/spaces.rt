@@ -111,8 +111,7 @@ impl<I: Index> Spaces<I> {
         }
     }
 
-    /// The same spaces in memory of their own, with no room for more. It refuses for want of memory
-    /// alone.
+    /// The same spaces in memory of their own, with no room for more.
     pub(crate) fn copy(&self) -> Result<Spaces<I>, AllocError>
         ensures { IfOk result (λ copy. copy ≡ map roomless self.now) }
     {

@@ -155,7 +155,7 @@ impl Store {
         }
     }
 
-    /// The same nodes in memory of their own, with no room for more. It refuses for want of memory alone.
+    /// The same nodes in memory of their own, with no room for more.
     pub(crate) fn copy(&self, alloc: Global) -> Result<Store, AllocError>
         ensures { IfOk result (λ copy. copy ≡ record self.now { spare = 0 }) }
     {
@@ -171,8 +171,7 @@ impl Store {
         })
     }
 
-    /// Makes room for `n` more nodes, counted from those that are there. It refuses for want of memory
-    /// alone, and then nothing has changed.
+    /// Makes room for `n` more nodes, counted from those that are there.
     pub(crate) fn reserve(&mut self, n: usize) -> Result<(), AllocError>
         ensures ok { OnOk result (self.new ≡ record self.old { spare = max self.old.spare n }) }
         ensures err { OnErr result (self.new ≡ self.old) }

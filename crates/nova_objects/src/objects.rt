@@ -35,8 +35,7 @@ impl Objects {
     }
 
     /// Makes room for `n` more objects, counted from those that are there. Room that was made before
-    /// stays, and where it is enough, this succeeds. It refuses for want of memory alone, and then
-    /// nothing has changed.
+    /// stays, and where it is enough, this succeeds.
     pub fn reserve(&mut self, n: usize) -> Result<(), AllocError>
         ensures ok { OnOk result (self.new ≡ record self.old { spare = max self.old.spare n }) }
         ensures enough { n ≤ self.old.spare → IsOk result }
@@ -76,8 +75,7 @@ impl Objects {
         self.items.as_slice()
     }
 
-    /// The same objects in memory of their own, with no spare room. It refuses for want of memory
-    /// alone.
+    /// The same objects in memory of their own, with no spare room.
     pub fn copy(&self) -> Result<Objects, AllocError>
         ensures { IfOk result (λ copy. copy ≡ record { items = self.now.items; spare = 0 }) }
     {

@@ -40,7 +40,7 @@ impl Order {
     }
 
     /// Makes room for blocks, counted from those that are there. Room that was made before stays, and where it is enough, this
-    /// succeeds. It refuses for want of memory alone, and then nothing has changed.
+    /// succeeds.
     pub fn reserve(&mut self, blocks: usize) -> Result<(), AllocError>
         ensures ok { OnOk result (self.new ≡ record self.old { spare = max self.old.spare blocks }) }
         ensures enough { blocks ≤ self.old.spare → IsOk result }
@@ -153,8 +153,7 @@ impl Order {
     }
 
     /// Adds turns of a processor after all others: to the last block where that is of the same processor, and else as a block for
-    /// which it makes room. With these turns there are fewer than 2^64. It refuses for want of memory alone, only where it adds a
-    /// block, and then nothing has changed.
+    /// which it makes room. With these turns there are fewer than 2^64. Memory can run out only where it adds a block.
     #[inline(always)]
     pub fn extend(&mut self, cpu: u32, count: u64) -> Result<(), AllocError>
         requires counted { 0 < count }

@@ -13,7 +13,7 @@ fn write_block(out: &mut String, block: Block) -> Result<(), AllocError>
 }
 
 impl Order {
-    /// The text of the order: a line `cpu count` for each block. It refuses for want of memory alone.
+    /// The text of the order: a line `cpu count` for each block.
     #[tactic(auto, unfolding(crate::specs::Text::text_of))]
     pub fn text(&self) -> Result<Vec<u8>, AllocError>
         ensures { IfOk result (λ text. text.items ≡ text_of self.now.blocks) }

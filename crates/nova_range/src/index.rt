@@ -42,12 +42,11 @@ pub trait Index: Sized + Drop {
         ensures sound { IsSorted (entries self.now) };
 
     /// The same ranges with their keys in memory of their own, in which there may be no room for more.
-    /// It refuses for want of memory alone.
     fn copy(&self) -> Result<Self, AllocError>
         ensures same { IfOk result (λ copy. entries copy ≡ entries self.now) };
 
     /// Makes room for `n` more ranges, counted from those that are there. Room that was made before
-    /// stays. It refuses for want of memory alone, and then nothing has changed.
+    /// stays.
     fn reserve(&mut self, n: usize) -> Result<(), AllocError>
         ensures ok { OnOk result (spare self.new ≡ max (spare self.old) n) }
         ensures err { OnErr result (spare self.new ≡ spare self.old) }

@@ -118,7 +118,7 @@ impl Copies {
         }
     }
 
-    /// Keeps the state of a turn, where there is room for it, and the next one so many turns later. It refuses for want of memory alone.
+    /// Keeps the state of a turn, where there is room for it, and the next one so many turns later.
     pub(crate) fn add(&mut self, kept: Kept) -> Result<(), AllocError>
         ensures { IsMore self.old kept self.new }
     {

@@ -48,8 +48,8 @@ impl Recording {
         Ok(())
     }
 
-    /// Goes to the state after so many turns, which the run has, in either direction. It refuses for want of memory alone, and is
-    /// then in the state of a turn on the way.
+    /// Goes to the state after so many turns, which the run has, in either direction. Where memory runs out, it is in the state
+    /// of a turn on the way.
     pub fn go(&mut self, to: usize) -> Result<(), AllocError>
         requires within { to ≤ length self.old.events }
         ensures turn { OnOk result (self.new.turn ≡ to) }

@@ -6,7 +6,6 @@ use crate::copies::{Copies, Kept};
 use crate::events::listed;
 use crate::sizes::bytes_of;
 use nova_kernel::{Event, Kernel, Rights};
-use nova_laws::a_trace_has_an_event_a_turn;
 use nova_shared::Finished;
 use nova_trace::Trace;
 use std::alloc::{AllocError, Global};
@@ -51,7 +50,7 @@ struct Begun {
     kernel: Kernel,
 }
 
-/// The events of a trace, and a kernel once more. It refuses for want of memory alone.
+/// The events of a trace, and a kernel once more.
 fn begin(alloc: Global, opening: &Kernel, trace: &Trace) -> Result<Begun, AllocError>
     ensures events { IfOk result (λ begun. begun.events.items ≡ trace.now.items) }
     ensures kernel { IfOk result (λ begun. begun.kernel.state ≡ opening.now.state) }
@@ -62,14 +61,14 @@ fn begin(alloc: Global, opening: &Kernel, trace: &Trace) -> Result<Begun, AllocE
 }
 
 impl Recording {
-    /// A run that is over, in the state at its beginning. No state is kept on the way. It refuses for want of memory alone.
+    /// A run that is over, in the state at its beginning. No state is kept on the way.
     pub fn new(alloc: Global, run: Finished) -> Result<Recording, AllocError>
         requires { IsDone run }
         ensures opening { IfOk result (λ r. r.opening ≡ run.opening.state) }
         ensures events { IfOk result (λ r. r.events ≡ run.trace.items) }
         ensures turn { IfOk result (λ r. r.turn ≡ 0) }
     {
-        a_trace_has_an_event_a_turn();
+        law_turns::a_trace_has_an_event_a_turn();
         let Finished {
             opening,
             kernel,
@@ -169,7 +168,7 @@ impl Recording {
         self.copies.add(Kept { turn, kernel })
     }
 
-    /// Goes on by one turn. It refuses for want of memory alone, and then the turn is not taken.
+    /// Goes on by one turn.
     pub(crate) fn step(&mut self) -> Result<(), AllocError>
         requires more { self.old.turn < length self.old.events }
         requires room { 0 < self.old.room }

@@ -20,7 +20,7 @@ impl Recording {
     }
 
     /// Goes on to the first turn that does something that one looks for, the present one included, and at most to a turn; and whether
-    /// there is such a turn before that. It refuses for want of memory alone, and is then in the state of a turn on the way.
+    /// there is such a turn before that. Where memory runs out, it is in the state of a turn on the way.
     pub fn run(&mut self, search: &Search, to: usize) -> Result<bool, AllocError>
         requires ahead { self.old.turn ≤ to }
         requires within { to ≤ length self.old.events }
@@ -38,7 +38,7 @@ impl Recording {
     }
 
     /// Goes on to a turn, and tells the last one before it that does something that one looks for, of the present one and those after it.
-    /// It refuses for want of memory alone, and is then in the state of a turn on the way.
+    /// Where memory runs out, it is in the state of a turn on the way.
     pub fn last(&mut self, search: &Search, to: usize) -> Result<Option<usize>, AllocError>
         requires ahead { self.old.turn ≤ to }
         requires within { to ≤ length self.old.events }

@@ -10,11 +10,11 @@ use Rattle.nova_model.specs.Delegations.{Delegations, range_of, parent_of, is_ch
 use Rattle.nova_model.specs.Forest.{IsForest}
 use Rattle.nova_model.specs.Revokes.{Revocation, is_met, is_made_of, is_own, in_scope, IsInScope, Top, Below, is_child_in, newest_in, is_entry, scope_entry}
 use Rattle.nova_model.specs.declared.delegation.Derivation.{Derivation}
-use Rattle.nova_forest.proofs.Extremes.{any_in, any_from, none_passes, none_kept, before_facts, none_before, least}
-use Rattle.nova_forest.proofs.Leaves.{newest_in_is, no_newest_in}
-use Rattle.nova_forest.proofs.Lines.{parent_facts}
-use Rattle.nova_forest.proofs.Members.{IsIn, filtered_in, in_filtered}
-use Rattle.nova_forest.proofs.Scopes.{child_found, decided}
+use Rattle.law_forest.proofs.Extremes.{any_in, any_from, none_passes, none_kept, before_facts, none_before, least}
+use Rattle.law_forest.proofs.Leaves.{newest_in_is, no_newest_in}
+use Rattle.law_forest.proofs.Lines.{parent_facts}
+use Rattle.law_forest.proofs.Members.{IsIn, filtered_in, in_filtered}
+use Rattle.law_forest.proofs.Scopes.{child_found, decided}
 use Rattle.nova_nodes.proofs.Found.{least_only}
 use Rattle.nova_nodes.proofs.Indexed.{in_space, passes_space, meeting}
 

@@ -6,8 +6,8 @@ use Rattle.nova_model.specs.Delegations.{Delegations, with_id, id_of, is_id, is_
 use Rattle.nova_model.specs.Forest.{IsForest}
 use Rattle.nova_model.specs.Revokes.{Revocation, in_scope, is_child_in, newest_in}
 use Rattle.nova_model.specs.declared.delegation.Derivation.{Derivation}
-use Rattle.nova_forest.proofs.Extremes.{none_passes, none_kept, before_facts, none_before, greatest}
-use Rattle.nova_forest.proofs.Members.{IsIn, filtered_in, in_filtered}
+use Rattle.law_forest.proofs.Extremes.{none_passes, none_kept, before_facts, none_before, greatest}
+use Rattle.law_forest.proofs.Members.{IsIn, filtered_in, in_filtered}
 use Rattle.nova_nodes.proofs.Found.{same_id, with_its_id, greatest_only}
 
 -- how many ids are left, from one down

@@ -8,10 +8,10 @@ use Rattle.nova_model.specs.Delegations.{Delegations, with_id, parent_of, derive
 use Rattle.nova_model.specs.Forest.{IsForest}
 use Rattle.nova_model.specs.Revokes.{Revocation, leads_into, is_made_of, is_own, is_top, in_scope, busy}
 use Rattle.nova_model.specs.declared.delegation.Derivation.{Derivation}
-use Rattle.nova_forest.proofs.Busy.{busy_child}
-use Rattle.nova_forest.proofs.Lines.{parent_facts}
-use Rattle.nova_forest.proofs.Members.{IsIn, in_from_contains, contains_from_in, found_in}
-use Rattle.nova_forest.proofs.Scopes.{child_in_scope, root_in_scope}
+use Rattle.law_forest.proofs.Busy.{busy_child}
+use Rattle.law_forest.proofs.Lines.{parent_facts}
+use Rattle.law_forest.proofs.Members.{IsIn, in_from_contains, contains_from_in, found_in}
+use Rattle.law_forest.proofs.Scopes.{child_in_scope, root_in_scope}
 use Rattle.nova_nodes.specs.NodesStates.{IsPlaced}
 
 -- one of the line, which is in the scope where the derivation is

@@ -5,8 +5,8 @@ use Rattle.nova_model.specs.Delegations.{Delegations, without}
 use Rattle.nova_model.specs.Forest.{IsForest}
 use Rattle.nova_model.specs.Revokes.{Revocation, newest_in, next_leaf, taken_away}
 use Rattle.nova_model.specs.declared.delegation.Derivation.{Derivation}
-use Rattle.nova_forest.proofs.Leaves.{newest_in_is, leaf_facts, part_takes_one}
-use Rattle.nova_forest.proofs.Members.{contains_from_in}
+use Rattle.law_forest.proofs.Leaves.{newest_in_is, leaf_facts, part_takes_one}
+use Rattle.law_forest.proofs.Members.{contains_from_in}
 use Rattle.nova_revoke.specs.Done.{IsPart, Takes}
 use Rattle.nova_revoke.specs.declared.leaves.RevokeDone.TheVariants.{Removed}
 

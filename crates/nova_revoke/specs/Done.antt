@@ -3,7 +3,7 @@ use Rattle.std.specs.Prelude.{◌≡◌, ◌+◌, [], length, Option, Some, None
 use Rattle.nova_model.specs.Delegations.{Delegations, without}
 use Rattle.nova_model.specs.Revokes.{Revocation, scope}
 use Rattle.nova_model.specs.declared.delegation.Derivation.{Derivation}
-use Rattle.nova_forest.specs.Courses.{IsLeaf}
+use Rattle.law_forest.specs.Courses.{IsLeaf}
 use Rattle.nova_revoke.specs.declared.leaves.RevokeDone.{RevokeDone}
 use Rattle.nova_revoke.specs.declared.leaves.RevokeDone.TheVariants.{Removed, Ended}
 

@@ -7,7 +7,7 @@ use Rattle.std.proofs.lemmas.List.Sums.{sum_by-cons, sum_by-append}
 use Rattle.nova_model.specs.State.{KernelState}
 use Rattle.nova_model.specs.Turn.{turn}
 use Rattle.nova_model.specs.Runs.{after, run}
-use Rattle.nova_laws.proofs.Processors.{run_cpus}
+use Rattle.law_turns.proofs.Processors.{run_cpus}
 use Rattle.nova_order.specs.Blocks.{turns, total, is_within}
 use Rattle.nova_order.specs.declared.block.Block.{Block}
 use Rattle.nova_order.proofs.BlockLemmas.{turns_push, length_turns}

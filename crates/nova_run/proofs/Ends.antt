@@ -5,9 +5,9 @@ use Rattle.std.proofs.lemmas.List.{length-append}
 use Rattle.nova_model.specs.State.{KernelState}
 use Rattle.nova_model.specs.Choice.{is_quiet}
 use Rattle.nova_model.specs.Runs.{run, rounds, IsFreeOfIdle}
-use Rattle.nova_laws.specs.Orders.{IsRunOut}
-use Rattle.nova_laws.proofs.Passes.{run_append, rounds_run_out}
-use Rattle.nova_laws.proofs.Processors.{run_cpus}
+use Rattle.law_turns.specs.Orders.{IsRunOut}
+use Rattle.law_turns.proofs.Passes.{run_append, rounds_run_out}
+use Rattle.law_turns.proofs.Processors.{run_cpus}
 use Rattle.nova_order.specs.Blocks.{turns}
 use Rattle.nova_order.proofs.BlockLemmas.{length_turns}
 use Rattle.nova_run.specs.Finished.{IsFinished}

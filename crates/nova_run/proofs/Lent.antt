@@ -5,7 +5,7 @@ use Rattle.std.proofs.lemmas.List.{append-nil}
 use mathlib.Core.List.{IsPrefix}
 use Rattle.nova_model.specs.Runs.{run}
 use Rattle.nova_model.specs.State.{KernelState}
-use Rattle.nova_laws.proofs.Passes.{run_append}
+use Rattle.law_turns.proofs.Passes.{run_append}
 use Rattle.nova_burst.specs.Lending.{ComesAfter, LeaseView, StemsFrom}
 use Rattle.nova_lock.specs.Seats.{SeatView}
 

@@ -5,8 +5,8 @@ use Rattle.std.proofs.lemmas.List.{length-replicate}
 use Rattle.nova_model.specs.State.{KernelState}
 use Rattle.nova_model.specs.Turn.{turn}
 use Rattle.nova_model.specs.Runs.{IsFreeOfIdle, after, run, pass, rounds}
-use Rattle.nova_laws.proofs.Passes.{passes_none}
-use Rattle.nova_laws.proofs.Processors.{run_cpus}
+use Rattle.law_turns.proofs.Passes.{passes_none}
+use Rattle.law_turns.proofs.Processors.{run_cpus}
 use Rattle.nova_run.specs.UnderWay.{Passed, IsUnderWay, left}
 use Rattle.nova_run.proofs.Passes.{left_by, pass-one, pass-zero, rounds_first}
 use Rattle.nova_shared.specs.declared.finished.Finished.{Finished}

@@ -6,7 +6,7 @@ use Rattle.nova_kernel.specs.Views.{KernelView}
 use Rattle.nova_model.specs.State.{KernelState}
 use Rattle.nova_model.specs.Turn.{turn}
 use Rattle.nova_model.specs.Runs.{after, run, pass, passes, rounds}
-use Rattle.nova_laws.proofs.Passes.{passes_none, nothing}
+use Rattle.law_turns.proofs.Passes.{passes_none, nothing}
 use Rattle.nova_order.specs.Blocks.{BlockList, turns, total}
 use Rattle.nova_run.specs.Finished.{IsFinished}
 use Rattle.nova_run.specs.UnderWay.{IsReady, Passed, IsUnderWay, left, taken}

@@ -1,7 +1,7 @@
 -- Steps that were taken at once are plain steps of the one that is chosen.
 use Rattle.std.proofs.Common.{◌≡◌, ℕ, List, sym, ap, ◌∙◌, subst, replicate, Some, None}
 use Rattle.std.specs.Prelude.{Option, IfSome, option_map}
-use Rattle.nova_leases.specs.Advances.{step_of}
+use Rattle.law_leases.specs.Advances.{step_of}
 use Rattle.nova_model.specs.Choice.{Candidate, choice}
 use Rattle.nova_model.specs.Runs.{trace}
 use Rattle.nova_model.specs.State.{KernelState}

@@ -4,9 +4,9 @@ ghost use Rattle.nova_shared.specs.Ran.{IsCpuSeat};
 ghost use Rattle.nova_shared.specs.Seen.{mine};
 
 use crate::gate::Gate;
+use law_leases::CommitDone;
 use nova_burst::{Lease, commit, lease};
 use nova_kernel::Kernel;
-use nova_leases::CommitDone;
 use nova_shared::{Block, CpuSeat, Shared};
 use std::alloc::Global;
 use std::sync::Wait;
@@ -32,8 +32,8 @@ fn has_little_left(kernel: &Kernel, cpu: u32, least: u32) -> bool {
     }
 }
 
-/// A lease of the virtual CPU that acts on a processor, where that can be had and at least so much is left of its quantum. One that is refused for want
-/// of memory is none.
+/// A lease of the virtual CPU that acts on a processor, where that can be had and at least so much is left of its quantum. One for which memory runs
+/// out is none.
 fn leased(kernel: &mut Kernel, alloc: Global, cpu: u32, least: u32) -> Option<Lease>
     ensures stems { IfSome result (λ l. (l.run.cpu ≡ cpu) × StemsFrom l kernel.old.state) }
     ensures kept { kernel.new ≡ kernel.old }

@@ -17,7 +17,7 @@ struct Prepared {
     trace: Trace,
 }
 
-/// A kernel once more, and room for the events of `room` turns. It refuses for want of memory alone.
+/// A kernel once more, and room for the events of `room` turns.
 fn prepare(alloc: Global, kernel: &Kernel, room: u64) -> Result<Prepared, AllocError>
     ensures opening { IfOk result (λ made. made.opening.state ≡ kernel.now.state) }
     ensures trace { IfOk result (λ made. made.trace.items ≡ []) }
@@ -30,8 +30,7 @@ fn prepare(alloc: Global, kernel: &Kernel, room: u64) -> Result<Prepared, AllocE
 /// Lets a value go. A kernel has many fields to drop, which stand here apart from what is promised of others.
 pub(crate) fn let_go<T: Drop>(_value: T) {}
 
-/// A run of at most `limit` turns that has taken none, with room for the events of `room` turns. It refuses for want of memory
-/// alone.
+/// A run of at most `limit` turns that has taken none, with room for the events of `room` turns.
 pub(crate) fn begin(
     alloc: Global,
     kernel: Kernel,
@@ -76,7 +75,7 @@ pub(crate) fn kept(run: Finished, went: Result<(), RunFault>) -> Result<Finished
     }
 }
 
-/// Makes places for the events of so many turns more. It refuses for want of memory alone.
+/// Makes places for the events of so many turns more.
 pub(crate) fn make_places(run: &mut Finished, turns: u64) -> Result<(), AllocError>
     requires ready { IsReady run.old }
     ensures none { OnOk result (Passed run.old [] run.new) }

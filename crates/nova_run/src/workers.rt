@@ -1,6 +1,6 @@
 ghost use Rattle.std.specs.Prelude.{◌≡◌, ◌+◌, ◌^◌, ◌<◌, ◌≤◌, ℕ, length, slice_index_or, All, IfSome, IfOk, IfErr};
 ghost use Rattle.std.specs.List.{AllByRecursion};
-ghost use Rattle.nova_laws.specs.Orders.{IsRunOut};
+ghost use Rattle.law_turns.specs.Orders.{IsRunOut};
 ghost use Rattle.nova_lock.specs.Seats.{SeatView};
 ghost use Rattle.nova_order.specs.Blocks.{turns};
 ghost use Rattle.nova_run.specs.declared.fault.RunFault.TheVariants.{Memory};

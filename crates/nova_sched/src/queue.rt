@@ -33,7 +33,6 @@ impl Queue {
     }
 
     /// Makes room for one more, counted from those that are there. Where there is room, this succeeds.
-    /// It refuses for want of memory alone, and then nothing has changed.
     pub(crate) fn reserve(&mut self) -> Result<(), AllocError>
         ensures ok { OnOk result (self.new ≡ record self.old { spare = max self.old.spare 1 }) }
         ensures enough { 0 < self.old.spare → IsOk result }
@@ -60,7 +59,7 @@ impl Queue {
         self.members.as_slice()
     }
 
-    /// The same members once more, and room for no more. It refuses for want of memory alone.
+    /// The same members once more, and room for no more.
     pub(crate) fn copy(&self, alloc: Global) -> Result<Queue, AllocError>
         ensures { IfOk result (λ q. q ≡ record { members = self.now.members; spare = 0 }) }
     {

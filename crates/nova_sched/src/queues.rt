@@ -42,7 +42,7 @@ impl Model for Queues {
     ghost invariant = { λ q. AreQueues q.queues.items q.entries.items × ((q.reserved ≤ vec_capacity q.entries) × AreReady q.queues.items q.readies.items (record { entries = q.entries.items; next_stamp = q.next_stamp; cpus = length q.queues.items })) };
 }
 
-/// Empty queues, one for each processor. It refuses for want of memory alone.
+/// Empty queues, one for each processor.
 fn empty_queues(alloc: Global, cpus: u32) -> Result<Vec<Queue>, AllocError>
     ensures { IfOk result (λ v. v.items ≡ replicate cpus (record { members = []; spare = 0 })) }
 {
@@ -53,7 +53,7 @@ fn empty_queues(alloc: Global, cpus: u32) -> Result<Vec<Queue>, AllocError>
     Ok(queues)
 }
 
-/// For each processor nobody that may run. It refuses for want of memory alone.
+/// For each processor nobody that may run.
 fn nobody(alloc: Global, cpus: u32) -> Result<Vec<Ready>, AllocError>
     ensures { IfOk result (λ v. v.items ≡ replicate cpus (record { items = []; room = 0 })) }
 {
@@ -89,8 +89,7 @@ fn dismiss(readies: &mut Vec<Ready>, cpu: u32, r: Runnable)
     readies[cpu as usize].remove(r);
 }
 
-/// Makes room for so many of a processor in all. Where it is there, this succeeds. It refuses for want of
-/// memory alone.
+/// Makes room for so many of a processor in all. Where it is there, this succeeds.
 fn make_room(readies: &mut Vec<Ready>, cpu: u32, n: usize) -> Result<(), AllocError>
     requires { cpu < length readies.old.items }
     ensures items { (other : ℕ) → items_at readies.new.items other ≡ items_at readies.old.items other }
@@ -113,7 +112,7 @@ fn first(readies: &[Ready], cpu: u32) -> Option<Runnable>
     }
 }
 
-/// Those that may run once more, with as much room. It refuses for want of memory alone.
+/// Those that may run once more, with as much room.
 fn ready_copies(alloc: Global, readies: &[Ready]) -> Result<Vec<Ready>, AllocError>
     ensures { IfOk result (λ v. v.items ≡ readies.now) }
 {
@@ -179,7 +178,7 @@ fn pad(entries: &mut Vec<Option<Queued>>, n: usize)
     }
 }
 
-/// The queues once more, with the same members. It refuses for want of memory alone.
+/// The queues once more, with the same members.
 fn copies(alloc: Global, queues: &[Queue]) -> Result<Vec<Queue>, AllocError>
     ensures { IfOk result (λ v. v.items ≡ unroomed queues.now) }
 {
@@ -191,8 +190,7 @@ fn copies(alloc: Global, queues: &[Queue]) -> Result<Vec<Queue>, AllocError>
 }
 
 impl Queues {
-    /// No scheduling contexts, on so many processors; the first stamp is 0. It refuses for want of
-    /// memory alone.
+    /// No scheduling contexts, on so many processors; the first stamp is 0.
     pub fn new(alloc: Global, cpus: u32) -> Result<Queues, AllocError>
         ensures { IfOk result (λ q. q.all ≡ record { entries = []; next_stamp = 0; cpus = cpus }) }
     {
@@ -207,7 +205,7 @@ impl Queues {
     }
 
     /// Makes room for a scheduling context of a number and of a processor that is there. Room that was made before stays, and where
-    /// there is room, this succeeds. It refuses for want of memory alone, and then nothing has changed but room.
+    /// there is room, this succeeds. Where memory runs out, nothing has changed but room.
     pub fn reserve(&mut self, sc: u32, cpu: u32) -> Result<(), AllocError>
         requires cpu { cpu < self.old.all.cpus }
         ensures kept { self.new.all ≡ self.old.all }
@@ -372,7 +370,7 @@ impl Queues {
         self.entry(sc).budget.left
     }
 
-    /// The same scheduling contexts once more. It refuses for want of memory alone.
+    /// The same scheduling contexts once more.
     pub fn copy(&self) -> Result<Queues, AllocError>
         ensures { IfOk result (λ q. q.all ≡ self.now.all) }
     {

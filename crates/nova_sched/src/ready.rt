@@ -42,8 +42,7 @@ impl Ready {
         }
     }
 
-    /// Makes room for `n` in all. Where it is there, this succeeds. It refuses for want of memory alone,
-    /// and then nothing has changed.
+    /// Makes room for `n` in all. Where it is there, this succeeds.
     pub(crate) fn reserve(&mut self, n: usize) -> Result<(), AllocError>
         ensures ok { OnOk result (self.new ≡ record self.old { room = max self.old.room n }) }
         ensures enough { n ≤ self.old.room → IsOk result }
@@ -124,7 +123,7 @@ impl Ready {
         }
     }
 
-    /// The same once more, with as much room. It refuses for want of memory alone.
+    /// The same once more, with as much room.
     pub(crate) fn copy(&self, alloc: Global) -> Result<Ready, AllocError>
         ensures { IfOk result (λ r. r ≡ self.now) }
     {

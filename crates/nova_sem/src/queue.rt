@@ -20,8 +20,7 @@ fn in_order(alloc: Global, links: &[u32], first: u32, waiting: u32) -> Result<Ve
 }
 
 impl Sems {
-    /// Who waits at a semaphore, in the order in which it came; nobody where no semaphore has the number. It refuses for want
-    /// of memory alone.
+    /// Who waits at a semaphore, in the order in which it came; nobody where no semaphore has the number.
     pub fn queue(&self, alloc: Global, sm: u32) -> Result<Vec<u32>, AllocError>
         ensures { IfOk result (λ queue. queue.items ≡ (semaphore self.now.all sm).waiting) }
     {

@@ -149,7 +149,7 @@ impl Sems {
     }
 
     /// Makes room for `n` more entries, counted from those that are there. Room that was made before stays, and where it is enough,
-    /// this succeeds. It refuses for want of memory alone, and then nothing has changed.
+    /// this succeeds.
     pub fn reserve(&mut self, n: usize) -> Result<(), AllocError>
         ensures ok { OnOk result (self.new ≡ record self.old { spare = max self.old.spare n }) }
         ensures enough { n ≤ self.old.spare → IsOk result }
@@ -160,8 +160,7 @@ impl Sems {
         Ok(())
     }
 
-    /// Makes room for the execution context of the next number to wait. Where there is room, this succeeds. It refuses for want of
-    /// memory alone, and then nothing has changed.
+    /// Makes room for the execution context of the next number to wait. Where there is room, this succeeds.
     pub fn room_for_ec(&mut self) -> Result<(), AllocError>
         requires few { length self.old.all < 2 ^ 32 - 1 }
         ensures kept { self.new.all ≡ self.old.all }
@@ -315,7 +314,7 @@ impl Sems {
         self.counters[sm as usize] = Some(without_later(counter, before, ec));
     }
 
-    /// The same entries in memory of their own, with the same room to wait and no spare room. It refuses for want of memory alone.
+    /// The same entries in memory of their own, with the same room to wait and no spare room.
     pub fn copy(&self) -> Result<Sems, AllocError>
         ensures { IfOk result (λ s. s ≡ record { all = self.now.all; spare = 0; contexts = self.now.contexts }) }
     {

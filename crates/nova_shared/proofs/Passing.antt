@@ -8,7 +8,7 @@ use Rattle.nova_model.specs.Choice.{in_front}
 use Rattle.nova_model.specs.Turn.{turn, Step}
 use Rattle.nova_model.specs.Runs.{after, run, trace}
 use Rattle.nova_model.specs.declared.event.Event.{Event}
-use Rattle.nova_laws.proofs.Passes.{run_append}
+use Rattle.law_turns.proofs.Passes.{run_append}
 use Rattle.nova_order.specs.Blocks.{turns}
 use Rattle.nova_shared.specs.Finished.{IsFinished}
 use Rattle.nova_shared.specs.UnderWay.{Passed}

@@ -6,7 +6,7 @@ use Rattle.nova_kernel.specs.Views.{KernelView, IsMaking}
 use Rattle.nova_model.specs.State.{KernelState}
 use Rattle.nova_model.specs.Turn.{turn, Step}
 use Rattle.nova_model.specs.Runs.{IsFreeOfIdle, after, run, trace}
-use Rattle.nova_laws.proofs.Processors.{run_cpus}
+use Rattle.law_turns.proofs.Processors.{run_cpus}
 use Rattle.nova_order.specs.Blocks.{turns, total}
 use Rattle.nova_order.specs.declared.block.Block.{Block}
 use Rattle.nova_order.proofs.BlockLemmas.{length_turns}

@@ -3,16 +3,16 @@ use Rattle.std.proofs.Common.{◌≡◌, ℕ, ◌+◌, ◌≤◌, List, [], ◌�
 use Rattle.std.specs.Prelude.{replicate, is_some, true, Option, Some, None, option_map, IfSome}
 use Rattle.std.proofs.lemmas.List.{length-append, length-replicate}
 use Rattle.nova_kernel.specs.Views.{KernelView}
-use Rattle.nova_leases.specs.Advances.{step_of}
+use Rattle.law_leases.specs.Advances.{step_of}
 use Rattle.nova_model.specs.Choice.{Candidate, choice, in_front}
 use Rattle.nova_model.specs.Runs.{IsFreeOfIdle, after, run, trace}
 use Rattle.nova_model.specs.State.{KernelState}
 use Rattle.nova_model.specs.Turn.{Step, answer_of, turn}
 use Rattle.nova_model.specs.declared.event.Event.{Event}
 use Rattle.nova_model.specs.declared.event.Turn.TheVariants.{Idle, Stepped}
-use Rattle.nova_forest.specs.Turns.{Idles, Takes}
-use Rattle.nova_forest.proofs.Turning.{comes}
-use Rattle.nova_laws.proofs.Processors.{run_cpus}
+use Rattle.law_forest.specs.Turns.{Idles, Takes}
+use Rattle.law_forest.proofs.Turning.{comes}
+use Rattle.law_turns.proofs.Processors.{run_cpus}
 use Rattle.nova_order.specs.Blocks.{turns, total}
 use Rattle.nova_shared.specs.Steps.{ArePlainSteps, repeated}
 use Rattle.nova_shared.specs.UnderWay.{IsReady, Passed, left}

@@ -1,6 +1,6 @@
 -- Turns that are plain steps.
 use Rattle.std.specs.Prelude.{◌≡◌, ℕ, List, [], replicate, Option, Some, None}
-use Rattle.nova_leases.specs.Advances.{step_of}
+use Rattle.law_leases.specs.Advances.{step_of}
 use Rattle.nova_model.specs.Choice.{Candidate}
 use Rattle.nova_model.specs.declared.event.Event.{Event}
 

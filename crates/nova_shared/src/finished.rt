@@ -1,6 +1,6 @@
 ghost use Rattle.std.specs.Prelude.{◌≡◌, ◌+◌, ◌^◌, ◌<◌, ◌≤◌, ◌++◌, [], length, replicate, is_some, None, option_map, IfOk, IfErr, OnOk, OnErr};
 ghost use Rattle.nova_kernel.specs.Views.{IsMaking};
-ghost use Rattle.nova_leases.specs.Advances.{step_of};
+ghost use Rattle.law_leases.specs.Advances.{step_of};
 ghost use Rattle.nova_model.specs.Choice.{choice};
 ghost use Rattle.nova_model.specs.Runs.{IsFreeOfIdle};
 ghost use Rattle.nova_model.specs.Turn.{turn};
@@ -53,8 +53,7 @@ fn plain_step(kernel: &Kernel, cpu: u32) -> Option<Event>
 }
 
 impl Finished {
-    /// A run of at most `limit` turns that has taken none, with room for them. It refuses for want of memory alone, and then gives the kernel
-    /// back.
+    /// A run of at most `limit` turns that has taken none, with room for them. Where memory runs out, it gives the kernel back.
     pub(crate) fn begin(alloc: Global, kernel: Kernel, limit: u64) -> Result<Finished, Kernel>
         requires room { limit ≤ kernel.room }
         requires turns { kernel.state.turns + limit ≤ 2 ^ 31 }
@@ -82,8 +81,8 @@ impl Finished {
         })
     }
 
-    /// One turn of a processor in the room that was made for it, and whether it was taken: it is not where the processor is idle. It
-    /// refuses for want of memory alone, only in a turn that makes an object or a derivation, and then nothing has changed.
+    /// One turn of a processor in the room that was made for it, and whether it was taken: it is not where the processor is idle.
+    /// Memory can run out only in a turn that makes an object or a derivation.
     pub(crate) fn turn(&mut self, cpu: u32) -> Result<bool, AllocError>
         requires ready { IsReady self.old }
         requires room { HasRoom self.old }

@@ -166,8 +166,8 @@ impl Model for Shared {
 
 impl Shared {
     /// Shares a kernel among its processors, of which there is one or more, for at most `limit` turns. The seats are in the order of their
-    /// processors. The kernel has room in its log for so many turns; room for their order and events is made here. It refuses for want of
-    /// memory alone, and then gives the kernel back.
+    /// processors. The kernel has room in its log for so many turns; room for their order and events is made here. Where memory runs out,
+    /// it gives the kernel back.
     pub fn new(
         alloc: Global,
         kernel: Kernel,
@@ -214,10 +214,8 @@ impl Shared {
     }
 
     /// One turn of the processor of a seat, where it is not idle and there are fewer turns of all processors than there may be. The order of turns that
-    /// it finds begins with the seat's front and has all turns that the seat ever took; the order that it leaves is the seat's new front. It
-    /// refuses for want of memory alone, only in a turn that makes an object or a derivation, and then no turn was taken.
-    ///
-    /// It may wait for other processors; what it promises holds if it returns.
+    /// it finds begins with the seat's front and has all turns that the seat ever took; the order that it leaves is the seat's new front. Memory can
+    /// run out only in a turn that makes an object or a derivation. It may wait for other processors; what it promises holds if it returns.
     #[tactic(auto, using(crate::proofs::Seats::stepped_mine, crate::proofs::Seats::mine_most))]
     pub fn turn(&self, rt: &impl Wait, seat: &mut CpuSeat) -> Result<SharedTurn, AllocError>
         requires own { IsCpuSeat self.now seat.old }

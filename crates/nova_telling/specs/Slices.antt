@@ -1,6 +1,6 @@
 -- Who paid and who acted in the turns of a part of a run, in slices.
 use Rattle.std.specs.Prelude.{ℕ, ◌+◌, ◌-◌, ◌==◌, ◌&&◌, ◌||◌, not, if◌then◌else◌, Bool, true, false, List, [], ◌∷◌, ◌++◌, codes, decimal, flat_map, length, Option, Some, None, count_by, find, position, reverse, take_while, unwrap_or}
-use Rattle.nova_forest.specs.Turns.{is_passing}
+use Rattle.law_forest.specs.Turns.{is_passing}
 use Rattle.nova_model.specs.declared.event.Event.{Event}
 use Rattle.nova_report.specs.Words.{line_feed}
 use Rattle.nova_telling.specs.declared.slices.Slice.{Slice}

@@ -1,5 +1,5 @@
 ghost use Rattle.std.specs.Prelude.{◌≡◌, ◌+◌, ◌++◌, ◌<◌, ◌≤◌, ◌^◌, count_by, find, length, option_map, position, reverse, take_while, OnOk, string_bytes};
-ghost use Rattle.nova_forest.specs.Turns.{is_passing};
+ghost use Rattle.law_forest.specs.Turns.{is_passing};
 ghost use Rattle.nova_telling.specs.Slices.{begins, goes_on, is_of, is_same, last_of, payer_text, slice_in, slice_line, slice_text_at, slices_text, who};
 
 use nova_kernel::{Event, EventKind};

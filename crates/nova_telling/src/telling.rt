@@ -252,8 +252,7 @@ pub fn write_code(alloc: Global, out: &mut String, word: u32) -> Result<(), Allo
     }
 }
 
-/// Tells something of a run in its present state, which is that after the first so many entries of its order. It refuses for want of
-/// memory alone.
+/// Tells something of a run in its present state, which is that after the first so many entries of its order.
 pub fn tell(
     alloc: Global,
     out: &mut String,

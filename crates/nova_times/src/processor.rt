@@ -47,8 +47,7 @@ impl Processor {
         }
     }
 
-    /// Makes places for alarms and deadlines before such numbers. It refuses for want of memory alone, and then there may be
-    /// more places.
+    /// Makes places for alarms and deadlines before such numbers. Where memory runs out, there may be more places.
     fn reserve(&mut self, alarms: usize, deadlines: usize) -> Result<(), AllocError>
         requires alarms { alarms ≤ 2 ^ 32 }
         requires deadlines { deadlines ≤ 2 ^ 32 }
@@ -121,7 +120,7 @@ impl Processor {
         self.least = least_moment(&self.alarms, &self.deadlines);
     }
 
-    /// The same once more. It refuses for want of memory alone.
+    /// The same once more.
     fn copy(&self, alloc: Global) -> Result<Processor, AllocError>
         ensures { IfOk result (λ p. p ≡ self.now) }
     {
@@ -136,7 +135,7 @@ impl Processor {
     }
 }
 
-/// Processors whose clocks stand at 0, without entries. It refuses for want of memory alone.
+/// Processors whose clocks stand at 0, without entries.
 pub(crate) fn new(alloc: Global, cpus: u32) -> Result<Vec<Processor>, AllocError>
     ensures { IfOk result (λ v. v.items ≡ replicate cpus new_processor) }
 {
@@ -147,8 +146,8 @@ pub(crate) fn new(alloc: Global, cpus: u32) -> Result<Vec<Processor>, AllocError
     Ok(processors)
 }
 
-/// Makes places on each processor for alarms and deadlines before such numbers. It refuses for want of memory alone, and
-/// then there may be more places.
+/// Makes places on each processor for alarms and deadlines before such numbers. Where memory runs out, there may be more
+/// places.
 pub(crate) fn reserve(
     processors: &mut Vec<Processor>,
     alarms: usize,
@@ -186,7 +185,7 @@ pub(crate) fn put_deadline(processors: &mut Vec<Processor>, cpu: u32, ec: u32, e
     }
 }
 
-/// The processors once more. It refuses for want of memory alone.
+/// The processors once more.
 pub(crate) fn copies(alloc: Global, processors: &[Processor]) -> Result<Vec<Processor>, AllocError>
     ensures { IfOk result (λ v. v.items ≡ processors.now) }
 {

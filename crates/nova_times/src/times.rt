@@ -57,7 +57,7 @@ fn rung_once(state: &AlarmState) -> AlarmState
 }
 
 impl Times {
-    /// Clocks at 0 of so many processors, and nothing to come. It refuses for want of memory alone.
+    /// Clocks at 0 of so many processors, and nothing to come.
     pub fn new(alloc: Global, cpus: u32) -> Result<Times, AllocError>
         ensures { IfOk result (λ t. t.all ≡ record { clocks = replicate cpus 0; deadlines = []; alarms = [] }) }
     {
@@ -101,8 +101,7 @@ impl Times {
         self.processors[cpu as usize].pass(count);
     }
 
-    /// Makes room for the deadline of the execution context of the next number. Where there is room, this succeeds. It refuses for
-    /// want of memory alone, and then nothing has changed.
+    /// Makes room for the deadline of the execution context of the next number. Where there is room, this succeeds.
     pub fn room_for_ec(&mut self) -> Result<(), AllocError>
         requires few { length self.old.all.deadlines < 2 ^ 32 - 1 }
         ensures kept { self.new.all ≡ self.old.all }
@@ -172,8 +171,7 @@ impl Times {
         self.put_deadline(ec, deadline.cpu, None);
     }
 
-    /// Makes room for one more alarm. Where there is room, this succeeds. It refuses for want of memory alone, and then nothing has
-    /// changed.
+    /// Makes room for one more alarm. Where there is room, this succeeds.
     pub fn room_for_alarm(&mut self) -> Result<(), AllocError>
         requires few { length self.old.all.alarms < 2 ^ 32 - 1 }
         ensures kept { self.new.all ≡ self.old.all }
@@ -319,7 +317,7 @@ impl Times {
         Some(least.saturating_sub(self.clock(cpu)))
     }
 
-    /// The same once more, with as much room for deadlines. It refuses for want of memory alone.
+    /// The same once more, with as much room for deadlines.
     pub fn copy(&self, alloc: Global) -> Result<Times, AllocError>
         ensures { IfOk result (λ t. (t.all ≡ self.now.all) × (t.contexts ≡ self.now.contexts)) }
     {

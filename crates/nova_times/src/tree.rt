@@ -80,7 +80,7 @@ fn build(inner: &mut Vec<Option<Entry>>, leaves: &[Option<Entry>])
     }
 }
 
-/// So many places with nothing. It refuses for want of memory alone.
+/// So many places with nothing.
 fn places(alloc: Global, count: usize) -> Result<Vec<Option<Entry>>, AllocError>
     ensures { IfOk result (λ v. v.items ≡ replicate count None) }
 {
@@ -115,7 +115,7 @@ impl Tree {
         }
     }
 
-    /// Makes places for the numbers before `count`. It refuses for want of memory alone, and then nothing has changed.
+    /// Makes places for the numbers before `count`.
     pub(crate) fn reserve(&mut self, count: usize) -> Result<(), AllocError>
         requires few { count ≤ 2 ^ 32 }
         ensures same { (n : ℕ) → leaf self.new n ≡ leaf self.old n }
@@ -155,7 +155,7 @@ impl Tree {
         node(self.inner.as_slice(), self.leaves.as_slice(), 1)
     }
 
-    /// The same once more. It refuses for want of memory alone.
+    /// The same once more.
     pub(crate) fn copy(&self, alloc: Global) -> Result<Tree, AllocError>
         ensures { IfOk result (λ t. t ≡ self.now) }
     {

@@ -4,7 +4,7 @@ use Rattle.std.specs.Prelude.{false, Some, None, Result, Ok, Err, IfOk, IfErr}
 use Rattle.nova_model.specs.State.{KernelState}
 use Rattle.nova_model.specs.Boot.{Scenario, boot}
 use Rattle.nova_model.specs.Choice.{is_quiet}
-use Rattle.nova_laws.specs.Orders.{IsRunOut}
+use Rattle.law_turns.specs.Orders.{IsRunOut}
 use Rattle.nova_run.specs.Finished.{IsFinished}
 use Rattle.nova_shared.specs.declared.finished.Finished.{Finished}
 use Rattle.nova_model.specs.Forest.{IsForest}
@@ -25,10 +25,10 @@ use Rattle.nova_top.specs.Came.{ScenarioCame}
 use Rattle.nova_top.specs.Orders.{OrderCame}
 use Rattle.nova_top.specs.Outside.{Depots}
 use Rattle.nova_guest.specs.declared.input.Input.{Input}
-use Rattle.nova_integrity.specs.Integrity.{IsAuthorised}
-use Rattle.nova_origins.specs.Lives.{AreGuestsAlone}
-use Rattle.nova_origins.specs.Whose.{HasRight, IsInputBy}
-use Rattle.nova_revocation.specs.Called.{HasEndedAsCalled}
+use Rattle.law_integrity.specs.Integrity.{IsAuthorised}
+use Rattle.law_origins.specs.Lives.{AreGuestsAlone}
+use Rattle.law_origins.specs.Whose.{HasRight, IsInputBy}
+use Rattle.law_revocation.specs.Called.{HasEndedAsCalled}
 use Rattle.nova_top.specs.Runs.{IsReturned}
 use Rattle.nova_top.specs.Prepared.{IsOrderReadBy, IsReportOf, IsTogether, IsIdleFault, IsPrepared}
 use Rattle.nova_top.specs.declared.exit.Exit.{Exit}

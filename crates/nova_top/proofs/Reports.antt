@@ -7,7 +7,7 @@ use Rattle.nova_model.specs.Choice.{is_quiet}
 use Rattle.nova_model.specs.Runs.{run, trace, rounds}
 use Rattle.nova_model.specs.declared.event.Event.{Event}
 use Rattle.nova_model.specs.Runs.{IsFreeOfIdle}
-use Rattle.nova_laws.specs.Orders.{IsRunOut}
+use Rattle.law_turns.specs.Orders.{IsRunOut}
 use Rattle.nova_order.specs.Blocks.{IsOrder, turns, is_within}
 use Rattle.nova_order.specs.Text.{text_of}
 use Rattle.nova_order.specs.declared.block.Block.{Block}

@@ -6,11 +6,11 @@ use Rattle.nova_model.specs.State.{KernelState}
 use Rattle.nova_model.specs.Choice.{Candidate, choice, is_idle, is_quiet}
 use Rattle.nova_model.specs.Times.{next_moment}
 use Rattle.nova_model.specs.Turn.{turn}
-use Rattle.nova_forest.proofs.Turning.{none_taken}
+use Rattle.law_forest.proofs.Turning.{none_taken}
 use Rattle.nova_model.specs.Runs.{after, run, rounds}
-use Rattle.nova_laws.specs.Orders.{IsRunOut}
-use Rattle.nova_laws.proofs.Passes.{rounds_run_out}
-use Rattle.nova_laws.proofs.Processors.{run_cpus}
+use Rattle.law_turns.specs.Orders.{IsRunOut}
+use Rattle.law_turns.proofs.Passes.{rounds_run_out}
+use Rattle.law_turns.proofs.Processors.{run_cpus}
 
 -- where the one processor has no choice, and nothing is to come there, its turn is idle
 idle_by : (o : Option Candidate) (m : Option ℕ) → ((is_none o && is_none m) && true) ≡ true → (o ≡ None) × (m ≡ None)

@@ -9,7 +9,7 @@ use Rattle.nova_boot.specs.Boot.{scenario_of, source_of}
 use Rattle.nova_command.specs.declared.command.Command.TheVariants.{Solo, Twin}
 use Rattle.nova_io.specs.Faults.{NeverFalls}
 use Rattle.nova_order.specs.Blocks.{turns, BlockList}
-use Rattle.nova_renaming.specs.Verdicts.{IsVerdict}
+use Rattle.law_renaming.specs.Verdicts.{IsVerdict}
 use Rattle.nova_scenario.specs.declared.scenario.Scenario.{Scenario as ScenarioText}
 use Rattle.nova_scenario.specs.Sound.{IsSound}
 use Rattle.nova_scenario.proofs.SoundLemmas.{scenario_sound}

@@ -2,7 +2,7 @@
 use Rattle.std.specs.Prelude.{◌≡◌, ℕ, List, ◌++◌, length, Some, codes, decimal}
 use Rattle.nova_model.specs.Boot.{boot}
 use Rattle.nova_boot.specs.Boot.{scenario_of}
-use Rattle.nova_renaming.specs.Verdicts.{IsVerdict}
+use Rattle.law_renaming.specs.Verdicts.{IsVerdict}
 use Rattle.nova_scenario.specs.declared.scenario.Scenario.{Scenario}
 use Rattle.nova_twin.specs.Comparison.{said, Holds, EndsSo}
 use Rattle.nova_twin.specs.declared.side.Side.{Side}

@@ -7,17 +7,17 @@ use Rattle.nova_model.specs.Forest.{IsForest}
 use Rattle.nova_model.specs.Guests.{input}
 use Rattle.nova_model.specs.Runs.{IsFreeOfIdle, after, run, trace}
 use Rattle.nova_guest.specs.declared.input.Input.{Input}
-use Rattle.nova_isolation.specs.Sound.{IsVirtual}
-use Rattle.nova_integrity.specs.Integrity.{IsAuthorised}
-use Rattle.nova_origins.specs.Giving.{Acts}
-use Rattle.nova_origins.specs.Whose.{HasRight}
+use Rattle.law_isolation.specs.Sound.{IsVirtual}
+use Rattle.law_integrity.specs.Integrity.{IsAuthorised}
+use Rattle.law_origins.specs.Giving.{Acts}
+use Rattle.law_origins.specs.Whose.{HasRight}
 use Rattle.nova_model.specs.declared.event.EventKind.TheVariants.{Answer}
 use Rattle.nova_calls.specs.declared.numbers.TheConstants.{REVOKE}
 use Rattle.nova_range.specs.Statuses.{status_code}
 use Rattle.nova_range.specs.declared.status.Status.TheVariants.{Success}
-use Rattle.nova_origins.specs.Lives.{AreGuestsAlone}
-use Rattle.nova_revocation.specs.Along.{HasEvent}
-use Rattle.nova_revocation.specs.Called.{HasEndedAsCalled}
+use Rattle.law_origins.specs.Lives.{AreGuestsAlone}
+use Rattle.law_revocation.specs.Along.{HasEvent}
+use Rattle.law_revocation.specs.Called.{HasEndedAsCalled}
 use Rattle.nova_command.specs.declared.command.Command.{Command}
 use Rattle.nova_command.specs.declared.command.Command.TheVariants.{Run, Solo, Check, Bench, Twin}
 use Rattle.nova_model.specs.declared.event.Event.{Event}

@@ -10,7 +10,7 @@ use Rattle.nova_command.specs.declared.command.Command.{Command}
 use Rattle.nova_command.specs.declared.command.Command.TheVariants.{Run, Solo, Check, Bench, Twin}
 use Rattle.nova_io.specs.Faults.{Rose}
 use Rattle.nova_io.specs.Files.{Files, bytes_of}
-use Rattle.nova_isolation.specs.Sound.{IsVirtual}
+use Rattle.law_isolation.specs.Sound.{IsVirtual}
 use Rattle.nova_order.specs.Blocks.{turns}
 use Rattle.nova_order.specs.Read.{order_of}
 use Rattle.nova_order.specs.declared.block.Block.{Block}

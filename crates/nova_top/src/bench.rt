@@ -7,7 +7,6 @@ ghost use Rattle.nova_top.specs.Prepared.{IsAlone};
 ghost use Rattle.nova_top.specs.declared.exit.Exit.TheVariants.{Memory};
 
 use crate::exit::Exit;
-use nova_bench::a_bench_is_a_scenario;
 use nova_gen::generate;
 use nova_scenario::{Scenario, ScenarioFault, read};
 use std::alloc::Global;
@@ -20,7 +19,7 @@ pub fn bench_scenario(alloc: Global, number: u32) -> Result<Scenario, Exit>
     ensures alone { IfOk result IsAlone }
     ensures memory { IfErr result (λ exit. exit ≡ Memory) }
 {
-    a_bench_is_a_scenario();
+    law_bench::a_bench_is_a_scenario();
     let text = generate(alloc, number)?;
     match read(alloc, &text) {
         Ok(scenario) => Ok(scenario),

@@ -7,7 +7,7 @@ ghost use Rattle.nova_io.specs.Faults.{NeverFalls, Stay};
 ghost use Rattle.nova_model.specs.Boot.{boot};
 ghost use Rattle.nova_model.specs.Runs.{IsFreeOfIdle};
 ghost use Rattle.nova_order.specs.Blocks.{turns, is_within};
-ghost use Rattle.nova_renaming.specs.Verdicts.{IsVerdict};
+ghost use Rattle.law_renaming.specs.Verdicts.{IsVerdict};
 ghost use Rattle.nova_scenario.specs.Sound.{IsSound};
 ghost use Rattle.nova_top.specs.Came.{IsFoundBy, SubjectsCame};
 ghost use Rattle.nova_top.specs.Compared.{line_of};

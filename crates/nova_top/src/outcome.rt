@@ -1,7 +1,7 @@
 ghost use Rattle.std.specs.Prelude.{◌≡◌, ◌^◌, ◌+◌, ◌≤◌, [], IfOk, IfErr, IsTrue, codes, length, true, false};
 ghost use Rattle.nova_boot.specs.Boot.{scenario_of};
 ghost use Rattle.nova_command.specs.Limit.{IsLimit};
-ghost use Rattle.nova_laws.specs.Orders.{IsRunOut};
+ghost use Rattle.law_turns.specs.Orders.{IsRunOut};
 ghost use Rattle.nova_model.specs.Boot.{boot};
 ghost use Rattle.nova_model.specs.Choice.{is_quiet};
 ghost use Rattle.nova_model.specs.Runs.{rounds};
@@ -16,7 +16,6 @@ ghost use Rattle.nova_top.specs.declared.exit.Exit.TheVariants.{Memory};
 
 use crate::exit::Exit;
 use nova_boot::boot;
-use nova_laws::round_robin_runs_out;
 use nova_order::Order;
 use nova_report::{report, summary};
 use nova_run::{Finished, Gate, round_robin, run_order, run_workers};
@@ -130,7 +129,7 @@ pub fn run_rounds(alloc: Global, scenario: &Scenario, limit: u32) -> Result<Outc
     ensures spent { IfOk result (λ made. made.is_complete ≡ false → length (rounds (boot (scenario_of scenario.now)) limit) ≡ limit) }
     ensures memory { IfErr result (λ exit. exit ≡ Memory) }
 {
-    round_robin_runs_out();
+    law_turns::round_robin_runs_out();
     let most = u64::from(limit);
     let kernel = boot(alloc, scenario, most)?;
     let finished = round_robin(alloc, kernel, most)?;

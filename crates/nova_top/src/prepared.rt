@@ -14,14 +14,10 @@ use crate::outcome::{
     Outcome, run_alone, run_in_order, run_rounds, run_together, summed_up, valid,
 };
 use nova_command::{Command, Name};
-use nova_forest::delegations_stay_a_forest;
 use nova_gsi::{
     alarms_have_room, counters_tell_what_ended, firings_are_of_their_moments, sources_are_alarms,
 };
-use nova_integrity::turns_change_by_right;
 use nova_io::Depot;
-use nova_origins::{inputs_are_by_right, virtual_cpus_are_guests_alone_from_their_birth};
-use nova_revocation::a_returned_revoke_left_nothing;
 use nova_run::Gate;
 use std::alloc::Global;
 use std::sync::Wait;
@@ -53,15 +49,15 @@ fn run<R: Threads + Wait + Sync, D: Depot, G: Gate + Sync>(
     ensures appends { Stay (D.append_faults depot.old) (D.append_faults depot.new) }
     ensures files { D.files depot.new ≡ D.files depot.old }
 {
-    delegations_stay_a_forest();
-    a_returned_revoke_left_nothing();
-    virtual_cpus_are_guests_alone_from_their_birth();
+    law_forest::delegations_stay_a_forest();
+    law_revocation::a_returned_revoke_left_nothing();
+    law_origins::virtual_cpus_are_guests_alone_from_their_birth();
     sources_are_alarms();
     firings_are_of_their_moments();
     counters_tell_what_ended();
     alarms_have_room();
-    turns_change_by_right();
-    inputs_are_by_right();
+    law_integrity::turns_change_by_right();
+    law_origins::inputs_are_by_right();
     let scenario = fetch_scenario(alloc, depot, name)?;
     run_together(rt, alloc, &scenario, limit, gate)
 }
@@ -74,15 +70,15 @@ fn solo<D: Depot>(alloc: Global, depot: &mut D, name: &Name, limit: u32) -> Resu
     ensures appends { Stay (D.append_faults depot.old) (D.append_faults depot.new) }
     ensures files { D.files depot.new ≡ D.files depot.old }
 {
-    delegations_stay_a_forest();
-    a_returned_revoke_left_nothing();
-    virtual_cpus_are_guests_alone_from_their_birth();
+    law_forest::delegations_stay_a_forest();
+    law_revocation::a_returned_revoke_left_nothing();
+    law_origins::virtual_cpus_are_guests_alone_from_their_birth();
     sources_are_alarms();
     firings_are_of_their_moments();
     counters_tell_what_ended();
     alarms_have_room();
-    turns_change_by_right();
-    inputs_are_by_right();
+    law_integrity::turns_change_by_right();
+    law_origins::inputs_are_by_right();
     let scenario = fetch_scenario(alloc, depot, name)?;
     run_rounds(alloc, &scenario, limit)
 }
@@ -101,15 +97,15 @@ fn solo_in_order<D: Depot>(
     ensures appends { Stay (D.append_faults depot.old) (D.append_faults depot.new) }
     ensures files { D.files depot.new ≡ D.files depot.old }
 {
-    delegations_stay_a_forest();
-    a_returned_revoke_left_nothing();
-    virtual_cpus_are_guests_alone_from_their_birth();
+    law_forest::delegations_stay_a_forest();
+    law_revocation::a_returned_revoke_left_nothing();
+    law_origins::virtual_cpus_are_guests_alone_from_their_birth();
     sources_are_alarms();
     firings_are_of_their_moments();
     counters_tell_what_ended();
     alarms_have_room();
-    turns_change_by_right();
-    inputs_are_by_right();
+    law_integrity::turns_change_by_right();
+    law_origins::inputs_are_by_right();
     let scenario = fetch_scenario(alloc, depot, scenario)?;
     let order = fetch_order(alloc, depot, order, scenario.cpus, u64::from(limit))?;
     run_in_order(alloc, &scenario, &order, limit)
@@ -128,15 +124,15 @@ fn bench<R: Threads + Wait + Sync, D: Depot, G: Gate + Sync>(
     requires limit { IsLimit limit }
     ensures { IsPrepared (depots D.files D.gave D.fetch_failed D.fetch_faults D.took D.append_failed D.append_faults) (Command.Bench number limit) depot.now depot.now result }
 {
-    delegations_stay_a_forest();
-    a_returned_revoke_left_nothing();
-    virtual_cpus_are_guests_alone_from_their_birth();
+    law_forest::delegations_stay_a_forest();
+    law_revocation::a_returned_revoke_left_nothing();
+    law_origins::virtual_cpus_are_guests_alone_from_their_birth();
     sources_are_alarms();
     firings_are_of_their_moments();
     counters_tell_what_ended();
     alarms_have_room();
-    turns_change_by_right();
-    inputs_are_by_right();
+    law_integrity::turns_change_by_right();
+    law_origins::inputs_are_by_right();
     let scenario = bench_scenario(alloc, number)?;
     let finished = run_alone(rt, alloc, &scenario, limit, gate)?;
     Ok(summed_up(alloc, finished, number)?)

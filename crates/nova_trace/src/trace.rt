@@ -78,7 +78,7 @@ fn append(entries: &mut Vec<Repeated>, event: Event, count: u64)
 }
 
 impl Trace {
-    /// No events, and room for so many. It refuses for want of memory alone.
+    /// No events, and room for so many.
     pub fn with_capacity(alloc: Global, room: usize) -> Result<Trace, AllocError>
         ensures items { IfOk result (λ t. t.items ≡ []) }
         ensures room { IfOk result (λ t. room ≤ t.capacity) }
@@ -112,7 +112,7 @@ impl Trace {
         self.entries.as_slice()
     }
 
-    /// Makes room for so many events more. It refuses for want of memory alone.
+    /// Makes room for so many events more.
     pub fn reserve(&mut self, count: u64) -> Result<(), AllocError>
         ensures items { self.new.items ≡ self.old.items }
         ensures room { OnOk result (length self.new.items + count ≤ self.new.capacity) }

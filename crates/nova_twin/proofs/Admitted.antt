@@ -4,20 +4,20 @@ use Rattle.std.specs.Prelude.{true, replicate, slice_get, Option, Some, None, op
 use Rattle.std.specs.List.{All}
 use Rattle.std.proofs.lemmas.List.{length-replicate}
 use Rattle.rv_model.specs.Registers.{Registers, with_reg}
-use Rattle.nova_forest.specs.Effects.{all_edited, joined}
-use Rattle.nova_forest.specs.Turns.{Idles, Takes}
-use Rattle.nova_forest.proofs.Turning.{comes, run_keeps}
+use Rattle.law_forest.specs.Effects.{all_edited, joined}
+use Rattle.law_forest.specs.Turns.{Idles, Takes}
+use Rattle.law_forest.proofs.Turning.{comes, run_keeps}
 use Rattle.nova_guest.specs.Alone.{alone, outputs}
 use Rattle.nova_guest.specs.Conditions.{IsGuest, IsInput}
 use Rattle.nova_guest.specs.declared.guest.Guest.{Guest}
-use Rattle.nova_isolation.specs.Shown.{shown}
-use Rattle.nova_isolation.specs.Sound.{AreRanges, IsSound, IsVirtual}
-use Rattle.nova_isolation.proofs.Admitted.{inputs_admitted}
-use Rattle.nova_isolation.proofs.Instructions.{length_reg}
-use Rattle.nova_isolation.proofs.Ranges.{boot_ranges, turn_ranges, view_guest}
-use Rattle.nova_isolation.proofs.Runs.{boot_sound, run_alone, turn_sound}
-use Rattle.nova_isolation.proofs.Showing.{turn_frames}
-use Rattle.nova_laws.proofs.Courses.{edited_length}
+use Rattle.law_isolation.specs.Shown.{shown}
+use Rattle.law_isolation.specs.Sound.{AreRanges, IsSound, IsVirtual}
+use Rattle.law_isolation.proofs.Admitted.{inputs_admitted}
+use Rattle.law_isolation.proofs.Instructions.{length_reg}
+use Rattle.law_isolation.proofs.Ranges.{boot_ranges, turn_ranges, view_guest}
+use Rattle.law_isolation.proofs.Runs.{boot_sound, run_alone, turn_sound}
+use Rattle.law_isolation.proofs.Showing.{turn_frames}
+use Rattle.law_turns.proofs.Courses.{edited_length}
 use Rattle.nova_model.specs.Boot.{Scenario, boot}
 use Rattle.nova_model.specs.Capabilities.{is_vcpu}
 use Rattle.nova_model.specs.Creation.{context_of, object_of}
@@ -28,7 +28,7 @@ use Rattle.nova_model.specs.Views.{view}
 use Rattle.nova_model.specs.declared.new_object.NewObject.{NewObject}
 use Rattle.nova_model.specs.declared.new_object.NewObject.TheVariants as new
 use Rattle.nova_objects.specs.declared.object.Object.{Object}
-use Rattle.nova_origins.specs.Lives.{AreGuestsAlone, IsMade, born}
+use Rattle.law_origins.specs.Lives.{AreGuestsAlone, IsMade, born}
 use Rattle.nova_twin.specs.Comparison.{ram_of}
 use Rattle.nova_twin.specs.Sides.{IsBeginning, IsSide}
 use Rattle.nova_twin.specs.Steps.{AreRegisters, IsAdmitted}

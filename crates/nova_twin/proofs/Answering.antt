@@ -6,16 +6,16 @@ use Rattle.std.proofs.lemmas.List.{take_all}
 use Rattle.nova_guest.specs.Alone.{alone, outputs}
 use Rattle.nova_guest.specs.declared.guest.Guest.{Guest}
 use Rattle.nova_guest.specs.declared.input.Input.{Input}
-use Rattle.nova_isolation.specs.Sound.{AreRanges, IsSound, IsVirtual}
+use Rattle.law_isolation.specs.Sound.{AreRanges, IsSound, IsVirtual}
 use Rattle.nova_model.specs.Guests.{inputs}
 use Rattle.nova_model.specs.State.{KernelState}
 use Rattle.nova_model.specs.Views.{view}
-use Rattle.nova_renaming.specs.Forced.{agree, among, forced, named, once}
-use Rattle.nova_renaming.specs.Renamings.{InputFits, GuestsAgree, InputsAgree, IsOneToOne, OutsAgree}
-use Rattle.nova_renaming.specs.Twins.{IsRenaming}
-use Rattle.nova_renaming.specs.Verdicts.{IsAgreement, IsVerdict}
-use Rattle.nova_renaming.specs.Verdicts as renaming
-use Rattle.nova_renaming.specs.Walks.{walk}
+use Rattle.law_renaming.specs.Forced.{agree, among, forced, named, once}
+use Rattle.law_renaming.specs.Renamings.{InputFits, GuestsAgree, InputsAgree, IsOneToOne, OutsAgree}
+use Rattle.law_renaming.specs.Twins.{IsRenaming}
+use Rattle.law_renaming.specs.Verdicts.{IsAgreement, IsVerdict}
+use Rattle.law_renaming.specs.Verdicts as renaming
+use Rattle.law_renaming.specs.Walks.{walk}
 use Rattle.nova_twin.specs.Comparison.{AreEqual, EndsSo, Holds, HoldsOf, MakesAgree, said}
 use Rattle.nova_twin.specs.declared.side.Side.{Side}
 use Rattle.nova_twin.specs.declared.verdict.Verdict.{Verdict}

@@ -6,9 +6,9 @@ use Rattle.std.proofs.lemmas.Bool.{and_parts, eqb-true}
 use Rattle.nova_guest.specs.declared.guest.Guest.{Guest}
 use Rattle.nova_guest.specs.declared.input.Input.{Input}
 use Rattle.nova_guest.specs.declared.map.Map.{Map}
-use Rattle.nova_renaming.specs.Forced.{alike, alike_map, alike_maps, among, maps_pairs, paired, same_flag, same_registers, same_state}
-use Rattle.nova_renaming.specs.Walks.{can_join, joined, walked}
-use Rattle.nova_renaming.specs.Verdicts.{Differ}
+use Rattle.law_renaming.specs.Forced.{alike, alike_map, alike_maps, among, maps_pairs, paired, same_flag, same_registers, same_state}
+use Rattle.law_renaming.specs.Walks.{can_join, joined, walked}
+use Rattle.law_renaming.specs.Verdicts.{Differ}
 
 -- MAPS
 

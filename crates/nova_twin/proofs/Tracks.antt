@@ -4,18 +4,18 @@ use Rattle.std.specs.Prelude.{Bool, true, false, slice_get, IfSome, Option, Some
 use Rattle.std.specs.List.{All}
 use Rattle.std.proofs.lemmas.List.{append-nil}
 use Rattle.std.proofs.lemmas.Option.{same_Some}
-use Rattle.nova_forest.specs.Effects.{joined}
-use Rattle.nova_forest.specs.Turns.{Idles, Takes}
-use Rattle.nova_forest.proofs.Turning.{comes}
+use Rattle.law_forest.specs.Effects.{joined}
+use Rattle.law_forest.specs.Turns.{Idles, Takes}
+use Rattle.law_forest.proofs.Turning.{comes}
 use Rattle.nova_guest.specs.Alone.{alone, outputs}
 use Rattle.nova_guest.specs.Conditions.{IsGuest, IsInput}
 use Rattle.nova_guest.specs.declared.guest.Guest.{Guest}
 use Rattle.nova_guest.specs.declared.input.Input.{Input}
-use Rattle.nova_isolation.specs.Sound.{IsVirtual}
-use Rattle.nova_isolation.proofs.Admitted.{inputs_admitted}
-use Rattle.nova_isolation.proofs.Ranges.{view_guest}
-use Rattle.nova_isolation.proofs.Runs.{turn_virtual}
-use Rattle.nova_origins.proofs.Births.{none_at_boot}
+use Rattle.law_isolation.specs.Sound.{IsVirtual}
+use Rattle.law_isolation.proofs.Admitted.{inputs_admitted}
+use Rattle.law_isolation.proofs.Ranges.{view_guest}
+use Rattle.law_isolation.proofs.Runs.{turn_virtual}
+use Rattle.law_origins.proofs.Births.{none_at_boot}
 use Rattle.nova_model.specs.Capabilities.{is_vcpu}
 use Rattle.nova_model.specs.Choice.{in_front}
 use Rattle.nova_model.specs.Creation.{object_of}
@@ -24,7 +24,7 @@ use Rattle.nova_model.specs.Runs.{after, run}
 use Rattle.nova_model.specs.State.{KernelState}
 use Rattle.nova_model.specs.Views.{view}
 use Rattle.nova_objects.specs.declared.object.Object.{Object}
-use Rattle.nova_origins.specs.Lives.{IsMade, born}
+use Rattle.law_origins.specs.Lives.{IsMade, born}
 use Rattle.nova_twin.specs.Follows.{Followed, IsClosed, IsTakable, IsTaken, followed, is_there, is_virtual, listed, met, nothing, seen}
 use Rattle.nova_twin.specs.Sides.{IsAlone, IsBeginning, IsFound, IsSide, IsSideOf}
 use Rattle.nova_twin.specs.declared.side.Side.{Side}

@@ -2,10 +2,10 @@
 use Rattle.std.specs.Prelude.{◌≡◌, ◌<◌, ◌≤◌, ◌⊎◌, ℕ, suc, List, [], length, take}
 use Rattle.nova_guest.specs.declared.guest.Guest.{Guest}
 use Rattle.nova_guest.specs.declared.input.Input.{Input}
-use Rattle.nova_renaming.specs.Forced.{among, named, once}
-use Rattle.nova_renaming.specs.Renamings.{GuestsAgree, InputsAgree, OutsAgree}
-use Rattle.nova_renaming.specs.Twins.{IsRenaming}
-use Rattle.nova_renaming.specs.Verdicts as renaming
+use Rattle.law_renaming.specs.Forced.{among, named, once}
+use Rattle.law_renaming.specs.Renamings.{GuestsAgree, InputsAgree, OutsAgree}
+use Rattle.law_renaming.specs.Twins.{IsRenaming}
+use Rattle.law_renaming.specs.Verdicts as renaming
 use Rattle.nova_twin.specs.Sides.{IsSide}
 use Rattle.nova_twin.specs.declared.side.Side.{Side}
 use Rattle.nova_twin.specs.declared.verdict.Verdict.{Verdict}

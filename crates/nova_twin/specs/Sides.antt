@@ -1,8 +1,8 @@
 -- One side of a comparison: a virtual CPU of a run, followed from its birth.
 use Rattle.std.specs.Prelude.{◌≡◌, ℕ, ◌+◌, ◌-◌, ◌^◌, ◌≤◌, List, [], ◌∷◌, ◌++◌, length, Option, Some, None}
 use Rattle.nova_guest.specs.Alone.{alone, outputs}
-use Rattle.nova_isolation.specs.Shown.{shown}
-use Rattle.nova_isolation.specs.Sound.{IsVirtual}
+use Rattle.law_isolation.specs.Shown.{shown}
+use Rattle.law_isolation.specs.Sound.{IsVirtual}
 use Rattle.nova_model.specs.Boot.{Scenario, boot}
 use Rattle.nova_model.specs.Guests.{inputs}
 use Rattle.nova_model.specs.Runs.{IsFreeOfIdle, run}
@@ -10,7 +10,7 @@ use Rattle.nova_model.specs.State.{KernelState}
 use Rattle.nova_model.specs.Views.{view}
 use Rattle.nova_order.specs.Blocks.{turns}
 use Rattle.nova_order.specs.declared.block.Block.{Block}
-use Rattle.nova_origins.specs.Lives.{IsMade, born}
+use Rattle.law_origins.specs.Lives.{IsMade, born}
 use Rattle.nova_twin.specs.declared.side.Side.{Side}
 
 -- what a kernel begins with: the boot state of a scenario of at most 2^14 RAM frames, 16 consoles, and sources of which the root can have as many selectors

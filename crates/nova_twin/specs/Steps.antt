@@ -3,7 +3,7 @@ use Rattle.std.specs.Prelude.{◌≡◌, ℕ, List, Option, Some, None, length, 
 use Rattle.std.specs.List.{All}
 use Rattle.rv_model.specs.Registers.{Registers}
 use Rattle.nova_guest.specs.Conditions.{IsGuest, IsInput}
-use Rattle.nova_renaming.specs.Verdicts.{Verdict, Equal, Differ}
+use Rattle.law_renaming.specs.Verdicts.{Verdict, Equal, Differ}
 use Rattle.nova_twin.specs.declared.side.Side.{Side}
 
 -- the registers of a hart: x0 to x31, of which x0 is 0

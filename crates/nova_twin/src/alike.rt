@@ -1,11 +1,11 @@
 ghost use Rattle.std.specs.Prelude.{◌≡◌, ◌^◌, true, IfOk, if◌then◌else◌, Some, None};
 ghost use Rattle.nova_guest.specs.Conditions.{AreMaps, IsMap};
-ghost use Rattle.nova_renaming.specs.Forced.{alike, alike_maps, maps_pairs, paired, same_registers};
-ghost use Rattle.nova_renaming.specs.Walks.{joined};
+ghost use Rattle.law_renaming.specs.Forced.{alike, alike_maps, maps_pairs, paired, same_registers};
+ghost use Rattle.law_renaming.specs.Walks.{joined};
 ghost use Rattle.nova_twin.specs.Steps.{AreRegisters};
 
+use law_renaming::{alike_maps, join_frames, same_state};
 use nova_guest::{Guest, Map};
-use nova_renaming::{alike_maps, join_frames, same_state};
 use rv_model::Regs;
 use std::alloc::AllocError;
 
@@ -38,8 +38,7 @@ pub(crate) fn alike(u: &Guest, v: &Guest) -> bool
         && alike_maps(u.maps.as_slice(), v.maps.as_slice())
 }
 
-/// The frames of a map and those of its partner join the pairs that were met; it says whether they can. It
-/// refuses for want of memory alone.
+/// The frames of a map and those of its partner join the pairs that were met; it says whether they can.
 fn join_map(
     u: &Guest,
     v: &Guest,
@@ -56,7 +55,6 @@ fn join_map(
 }
 
 /// The frames of maps and those of their partners join the pairs that were met; it says whether they can.
-/// It refuses for want of memory alone.
 pub(crate) fn join_maps(u: &Guest, v: &Guest, met: &mut Vec<(u32, u32)>) -> Result<bool, AllocError>
     requires first { AreMaps u.now.maps }
     requires second { AreMaps v.now.maps }

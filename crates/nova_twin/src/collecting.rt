@@ -10,7 +10,6 @@ use crate::side::Side;
 use crate::trail::Trail;
 use nova_kernel::Kernel;
 use nova_order::Order;
-use nova_origins::virtual_cpus_are_guests_alone_from_their_birth;
 use std::alloc::Global;
 
 /// Runs a kernel, which stays its owner's, along an order of turns, and collects what it shows of a virtual
@@ -32,7 +31,7 @@ fn gather(
     ensures no_idle { OnOk result (IsFreeOfIdle kernel.old.state (turns order.now.blocks)) }
     ensures idle { (line : ℕ) → result ≡ Err (OrderIdle line) → IsIdleLine kernel.old.state order.now.blocks line }
 {
-    virtual_cpus_are_guests_alone_from_their_birth();
+    law_origins::virtual_cpus_are_guests_alone_from_their_birth();
     let mut trail = Trail::new(alloc);
     follow(kernel, &mut trail, order, guest)?;
     Ok(trail.close()?)

@@ -1,8 +1,8 @@
 ghost use Rattle.std.specs.Prelude.{◌≡◌, Some, IfOk, length};
 ghost use Rattle.std.specs.List.{All};
 ghost use Rattle.nova_guest.specs.Conditions.{IsGuest, IsInput};
-ghost use Rattle.nova_renaming.specs.Verdicts.{IsVerdict};
-ghost use Rattle.nova_renaming.specs.Walks.{walk, walked};
+ghost use Rattle.law_renaming.specs.Verdicts.{IsVerdict};
+ghost use Rattle.law_renaming.specs.Walks.{walk, walked};
 ghost use Rattle.nova_twin.specs.Comparison.{EndsSo, Holds, ram_of, said};
 ghost use Rattle.nova_twin.specs.Sides.{IsSide};
 ghost use Rattle.nova_twin.specs.Steps.{IsAdmitted, ended};
@@ -10,15 +10,11 @@ ghost use Rattle.nova_twin.specs.Steps.{IsAdmitted, ended};
 use crate::alike::{alike, join_maps};
 use crate::side::Side;
 use crate::verdict::Verdict;
-use nova_origins::virtual_cpus_are_guests_alone_from_their_birth;
-use nova_renaming::{
-    forced_pairs_take_ram_to_ram, inputs_of_turns_fit, one_pass_compares,
-    renamed_inputs_end_renamed, renamings_are_forced, step, stores_of_others_name_no_pair,
-};
+use law_renaming::step;
 use std::alloc::AllocError;
 
 /// After how many inputs two sides differ, whose guests agree under the pairs that were met; none where
-/// they agree to the end. It refuses for want of memory alone.
+/// they agree to the end.
 fn first_unlike(a: &Side, b: &Side, met: &mut Vec<(u32, u32)>) -> Result<Option<u64>, AllocError>
     requires first { All IsInput a.now.inputs.items }
     requires second { All IsInput b.now.inputs.items }
@@ -39,7 +35,7 @@ fn first_unlike(a: &Side, b: &Side, met: &mut Vec<(u32, u32)>) -> Result<Option<
     }
 }
 
-/// What one pass finds of two sides. It refuses for want of memory alone.
+/// What one pass finds of two sides.
 fn passed(a: &Side, b: &Side) -> Result<Verdict, AllocError>
     requires first { IsAdmitted a.now }
     requires second { IsAdmitted b.now }
@@ -66,7 +62,7 @@ fn passed(a: &Side, b: &Side) -> Result<Verdict, AllocError>
 /// their births and all their inputs agree; or none makes the views agree; or one makes the views and so
 /// many first inputs agree, and none does so for one more, or one side has no more and the other has. With
 /// equal sides the views at the ends agree under the pairs, the exits are equal, and the bytes are but for
-/// their frames. It refuses for want of memory alone.
+/// their frames.
 pub fn compare(a: &Side, b: &Side) -> Result<Verdict, AllocError>
     requires first { IsSide a.now }
     requires second { IsSide b.now }
@@ -74,12 +70,12 @@ pub fn compare(a: &Side, b: &Side) -> Result<Verdict, AllocError>
     ensures renaming { IfOk result (λ v. (x : IsSide a.now) (y : IsSide b.now) → Holds (ram_of a.now x) (ram_of b.now y) a.now b.now v) }
     ensures ends { IfOk result (EndsSo a.now b.now) }
 {
-    virtual_cpus_are_guests_alone_from_their_birth();
-    one_pass_compares();
-    renamings_are_forced();
-    forced_pairs_take_ram_to_ram();
-    stores_of_others_name_no_pair();
-    inputs_of_turns_fit();
-    renamed_inputs_end_renamed();
+    law_origins::virtual_cpus_are_guests_alone_from_their_birth();
+    law_renaming::one_pass_compares();
+    law_renaming::renamings_are_forced();
+    law_renaming::forced_pairs_take_ram_to_ram();
+    law_renaming::stores_of_others_name_no_pair();
+    law_renaming::inputs_of_turns_fit();
+    law_renaming::renamed_inputs_end_renamed();
     passed(a, b)
 }

@@ -37,7 +37,7 @@ fn is_virtual(kernel: &Kernel, guest: u32) -> bool
     }
 }
 
-/// The view of the virtual CPU of a number; none where there is none. It refuses for want of memory alone.
+/// The view of the virtual CPU of a number; none where there is none.
 fn view_of(alloc: Global, kernel: &Kernel, guest: u32) -> Result<Option<Guest>, AllocError>
     ensures { IfOk result (λ v. v ≡ seen kernel.now.state guest) }
 {
@@ -47,8 +47,7 @@ fn view_of(alloc: Global, kernel: &Kernel, guest: u32) -> Result<Option<Guest>, 
     Ok(Some(kernel.view(alloc, guest)?))
 }
 
-/// What a processor's next turn is for the virtual CPU of a number; nothing where there is none. It refuses
-/// for want of memory alone.
+/// What a processor's next turn is for the virtual CPU of a number; nothing where there is none.
 pub(crate) fn input_of(
     alloc: Global,
     kernel: &Kernel,
@@ -80,8 +79,7 @@ impl Trail {
         *self.inputs.allocator()
     }
 
-    /// Notes a turn that was this for it and came to the kernel's state. It refuses for want of memory
-    /// alone.
+    /// Notes a turn that was this for it and came to the kernel's state.
     pub(crate) fn note(
         &mut self,
         kernel: &Kernel,
@@ -97,7 +95,7 @@ impl Trail {
         }
     }
 
-    /// Notes its view, where it is there. It refuses for want of memory alone.
+    /// Notes its view, where it is there.
     fn look(&mut self, kernel: &Kernel, guest: u32) -> Result<(), AllocError>
         ensures { OnOk result (self.new ≡ record self.old { start = seen kernel.now.state guest }) }
     {
@@ -105,7 +103,7 @@ impl Trail {
         Ok(())
     }
 
-    /// Notes one more input, where there is one. It refuses for want of memory alone.
+    /// Notes one more input, where there is one.
     fn add(&mut self, input: Option<Input>) -> Result<(), AllocError>
         ensures { OnOk result (self.new ≡ record self.old { inputs = self.old.inputs ++ listed input }) }
     {
@@ -115,7 +113,7 @@ impl Trail {
         Ok(())
     }
 
-    /// The side that comes of it; none where it was never there. It refuses for want of memory alone.
+    /// The side that comes of it; none where it was never there.
     pub(crate) fn close(self) -> Result<Option<Side>, AllocError>
         requires { IsTakable self }
         ensures { IfOk result (IsClosed self) }

@@ -1,7 +1,7 @@
 use Rattle.std.proofs.Common.{rules, ◌≡◌, ◌<◌, ℕ, ap, ap₂, sym, ◌∙◌, subst}
 use Rattle.std.specs.Prelude.{option_map}
 use Rattle.nova_model.specs.Choice.{choice}
-use Rattle.nova_isolation.specs.Sound.{IsVirtual}
+use Rattle.law_isolation.specs.Sound.{IsVirtual}
 use Rattle.nova_deeds.specs.Stirs.{stir_of}
 use Rattle.nova_burst.proofs.Returning.{answer_is, still_there, still_virtual}
 use Rattle.nova_burst.proofs.committing.decide.Goals as goal

@@ -1,6 +1,6 @@
 use Rattle.std.proofs.Common.{rules, ◌≡◌, ◌<◌, ◌≤◌, length, sym, subst}
 use Rattle.std.specs.Prelude.{false, IsSome, is_some}
-use Rattle.nova_leases.specs.Leases.{copy_at}
+use Rattle.law_leases.specs.Leases.{copy_at}
 use Rattle.nova_burst.specs.Copies.{CopiesState}
 use Rattle.nova_burst.specs.Gathered.{HaveGrownBy}
 use Rattle.nova_burst.proofs.Grown.{copied_entered, entered, full_before}

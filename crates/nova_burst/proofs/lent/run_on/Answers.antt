@@ -1,6 +1,6 @@
 use Rattle.std.proofs.Common.{rules, ◌≡◌, ◌≤◌, ◌+◌, ℕ, List, subst, sym}
 use Rattle.std.specs.List.{All}
-use Rattle.nova_leases.specs.declared.steps.Page.{Page}
+use Rattle.law_leases.specs.declared.steps.Page.{Page}
 use Rattle.nova_burst.specs.Copies.{HasFewStores}
 use Rattle.nova_burst.proofs.lent.run_on.Goals as goal
 

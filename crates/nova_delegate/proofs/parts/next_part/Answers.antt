@@ -1,6 +1,6 @@
 use Rattle.std.proofs.Common.{◌∙◌, sym, ap, ℕ}
 use Rattle.nova_model.specs.Transfers.{child_of, judged}
-use Rattle.nova_forest.proofs.Transfers.{next_facts}
+use Rattle.law_forest.proofs.Transfers.{next_facts}
 use Rattle.nova_delegate.specs.Parts.{busy_by}
 use Rattle.nova_delegate.proofs.Children.{child_is_placed, judged_ready, parent_there}
 use Rattle.nova_delegate.proofs.parts.next_part.Goals as goal

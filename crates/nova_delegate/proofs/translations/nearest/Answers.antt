@@ -1,8 +1,8 @@
 use Rattle.std.proofs.Common.{rules, ◌≡◌, ◌∙◌, false}
 use Rattle.std.specs.Prelude.{Some, None, ◌==◌}
 use Rattle.nova_model.specs.Delegations.{parent_of}
-use Rattle.nova_forest.proofs.Lines.{parent_facts}
-use Rattle.nova_forest.proofs.Members.{in_from_contains}
+use Rattle.law_forest.proofs.Lines.{parent_facts}
+use Rattle.law_forest.proofs.Members.{in_from_contains}
 use Rattle.nova_delegate.proofs.Upward.{at_start, at_root, upward}
 use Rattle.nova_delegate.proofs.translations.nearest.Goals as goal
 

@@ -4,7 +4,7 @@ use Rattle.std.specs.List.{find}
 use Rattle.nova_range.specs.Ranges.{IsRange}
 use Rattle.nova_model.specs.Delegations.{covers, range_of}
 use Rattle.nova_model.specs.Translations.{nearest, smaller}
-use Rattle.nova_forest.proofs.Members.{found_in, contains_from_in}
+use Rattle.law_forest.proofs.Members.{found_in, contains_from_in}
 use Rattle.nova_delegate.specs.Translations.{IsSeen}
 use Rattle.nova_delegate.proofs.Seen.{found_seen}
 use Rattle.nova_delegate.proofs.translations.translation.Goals as goal

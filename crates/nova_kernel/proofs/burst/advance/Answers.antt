@@ -2,14 +2,14 @@ use Rattle.std.proofs.Common.{rules, refl, arith, ◌+◌, ◌≤◌, List, ◌�
 use Rattle.std.specs.Prelude.{IfSome, option_map, replicate, slice_get, true}
 use Rattle.nova_choice.specs.Choices.{chosen_of}
 use Rattle.nova_choice.specs.Schedules.{AreQueued}
-use Rattle.nova_leases.specs.Commits.{IsReached}
-use Rattle.nova_leases.proofs.Committed.{run_reached}
-use Rattle.nova_leases.proofs.Parts.{laid_advance}
-use Rattle.nova_leases.specs.Paging.{AreFrames, stores_seen}
-use Rattle.nova_leases.specs.declared.steps.Page.{Page}
+use Rattle.law_leases.specs.Commits.{IsReached}
+use Rattle.law_leases.proofs.Committed.{run_reached}
+use Rattle.law_leases.proofs.Parts.{laid_advance}
+use Rattle.law_leases.specs.Paging.{AreFrames, stores_seen}
+use Rattle.law_leases.specs.declared.steps.Page.{Page}
 use Rattle.nova_model.specs.State.{KernelState, entry}
-use Rattle.nova_parts.specs.Parts.{state_of}
-use Rattle.nova_parts.specs.declared.parts.Parts.{Parts}
+use Rattle.nova_turn.specs.Parts.{state_of}
+use Rattle.nova_turn.specs.declared.parts.Parts.{Parts}
 use Rattle.nova_kernel.proofs.Advancing.{IsLaid, counted_after, counts_fit, few_stores, is_chosen, lays, paid_times, queued_after, running_after, still_acts, still_frames, to_be_charged}
 use Rattle.nova_kernel.proofs.Spending.{left_queued}
 use Rattle.nova_choice.specs.declared.choice.Chosen.{Chosen}

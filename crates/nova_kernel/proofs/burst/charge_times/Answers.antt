@@ -1,6 +1,6 @@
 use Rattle.std.proofs.Common.{arith, ◌-◌, ◌+◌, ◌≤◌, ◌^◌, sym, subst}
-use Rattle.nova_parts.specs.Counted.{IsToBeCharged}
-use Rattle.nova_parts.specs.Parts.{state_of}
+use Rattle.nova_turn.specs.Counted.{IsToBeCharged}
+use Rattle.nova_turn.specs.Parts.{state_of}
 use Rattle.nova_kernel.proofs.Spending.{to_be_charged_still}
 use Rattle.nova_kernel.proofs.burst.charge_times.Goals as goal
 

@@ -1,12 +1,12 @@
 use Rattle.std.proofs.Common.{arith, ◌≡◌, ◌<◌, ◌≤◌, ◌==◌, ℕ, List, length, refl, ap, sym, ◌∙◌, subst}
 use Rattle.std.specs.Prelude.{drop, slice_index_or, true, false}
-use Rattle.nova_leases.specs.Paging.{stores_seen}
+use Rattle.law_leases.specs.Paging.{stores_seen}
 use Rattle.nova_model.specs.Inputs.{is_covered_for}
 use Rattle.nova_model.specs.State.{KernelState, pd_of}
-use Rattle.nova_parts.specs.Guests.{GuestTable, numbers_from}
-use Rattle.nova_parts.specs.Parts.{state_of}
-use Rattle.nova_parts.specs.declared.parts.Parts.{Parts}
-use Rattle.nova_parts.proofs.Alone.{tables_alone}
+use Rattle.nova_turn.specs.StirCounts.{StirTable, numbers_from}
+use Rattle.nova_turn.specs.Parts.{state_of}
+use Rattle.nova_turn.specs.declared.parts.Parts.{Parts}
+use Rattle.nova_turn.proofs.Alone.{tables_alone}
 use Rattle.nova_kernel.proofs.Stores.{all_seen, but, but_all, but_none, fewer_seen, next_fits, next_left, next_raised, none_for, numbers_now, some_for, stores_for}
 use Rattle.nova_kernel.proofs.burst.count_stores.Goals.{then-guest-ec, else-guest-ec}
 use Rattle.nova_kernel.proofs.burst.count_stores.Goals as goal
@@ -20,8 +20,8 @@ bounds-numbers-i c =
     let before = c.loop-i-test.true in
     grind (arith, same, before)
 
-pub raise-requires : goal.raise-requires
-raise-requires c =
+pub rise_by-requires : goal.rise_by-requires
+rise_by-requires c =
     let all = c.args.parts.now.guests.counts in
     let more = stores_for (state_of c.args.parts.now) c.args.ec c.args.pages.now in
     let seen = stores_seen (λ f. true) c.args.pages.now in
@@ -53,9 +53,9 @@ loop-i-preserved c =
           ∙ (ap (λ (n : ℕ). stores_seen (is_covered_for (state_of c.loop-i.parts) n) c.args.pages.now) w.pd.ensures
           ∙ (ap (λ (p : Parts). stores_seen (is_covered_for (state_of p) (pd_of (state_of p) m)) c.args.pages.now) c.loop-i.invariant.rest ∙ some_for k c.args.ec c.args.pages.now m other)) in
           record {
-            counts = ap (λ (p : Parts). p.guests.counts) w.parts-is ∙ ap (λ (t : GuestTable). t.counts) w.raise.ensures
+            counts = ap (λ (p : Parts). p.guests.counts) w.parts-is ∙ ap (λ (t : StirTable). t.counts) w.rise_by.ensures
                 ∙ next_raised more all c.loop-i.parts.guests.counts c.numbers.result.now c.loop-i.i w.stores_seen-count.result is low c.loop-i.invariant.counts seen;
-            rest = tables_alone c.args.parts.now c.loop-i.parts c.if-guest-ec.parts w.raise.new.self c.loop-i.invariant.rest w.parts-is;
+            rest = tables_alone c.args.parts.now c.loop-i.parts c.if-guest-ec.parts w.rise_by.new.self c.loop-i.invariant.rest w.parts-is;
           }
       | else-guest-ec w ↦
           let test = w.if-guest-ec.false in

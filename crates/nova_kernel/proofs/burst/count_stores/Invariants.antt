@@ -1,7 +1,7 @@
 use Rattle.std.proofs.Common.{◌≡◌}
 use Rattle.std.specs.Prelude.{drop}
-use Rattle.nova_parts.specs.Parts.{state_of}
-use Rattle.nova_parts.specs.Guests.{numbers_from}
+use Rattle.nova_turn.specs.Parts.{state_of}
+use Rattle.nova_turn.specs.StirCounts.{numbers_from}
 use Rattle.nova_kernel.proofs.Stores.{but, grown, stores_for}
 use Rattle.nova_kernel.proofs.burst.count_stores.Given as goal
 

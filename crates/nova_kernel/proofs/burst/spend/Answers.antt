@@ -1,8 +1,8 @@
 use Rattle.std.proofs.Common.{rules, arith, ◌≡◌, ◌+◌, ◌<◌, ◌^◌, ℕ, length, ap, ap₂, sym, subst, refl, ◌∙◌}
 use Rattle.std.specs.Prelude.{IsSome, slice_index, slice_set}
 use Rattle.nova_model.specs.State.{KernelState}
-use Rattle.nova_leases.specs.Paging.{charged_times}
-use Rattle.nova_parts.specs.Parts.{state_of}
+use Rattle.law_leases.specs.Paging.{charged_times}
+use Rattle.nova_turn.specs.Parts.{state_of}
 use Rattle.nova_choice.specs.Schedules.{AreQueued, budgets_of}
 use Rattle.nova_sched.specs.Queues.{Schedule, charged_schedules, queued_at}
 use Rattle.nova_model.specs.Times.{Times}

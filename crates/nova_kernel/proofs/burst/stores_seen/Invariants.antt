@@ -1,7 +1,7 @@
 use Rattle.std.proofs.Common.{◌≡◌, ◌+◌, ◌<◌, ◌^◌, true, drop}
 use Rattle.nova_model.specs.Inputs.{is_covered_for}
-use Rattle.nova_leases.specs.Paging.{stores_seen}
-use Rattle.nova_parts.specs.Parts.{state_of}
+use Rattle.law_leases.specs.Paging.{stores_seen}
+use Rattle.nova_turn.specs.Parts.{state_of}
 use Rattle.nova_kernel.proofs.burst.stores_seen.Given as goal
 
 -- those so far, and those that are left

@@ -1,5 +1,5 @@
 use Rattle.std.proofs.Common.{◌≡◌, length, drop}
-use Rattle.nova_leases.specs.Paging.{AreFrames, pages_written, stored_to}
+use Rattle.law_leases.specs.Paging.{AreFrames, pages_written, stored_to}
 use Rattle.nova_kernel.proofs.burst.write_pages.Given as goal
 
 -- what is written so far, and then the rest, is what is to be written

@@ -2,9 +2,9 @@ use Rattle.std.proofs.Common.{rules, arith, ◌≡◌, ◌+◌, ◌≤◌, ℕ, 
 use Rattle.nova_model.specs.State.{KernelState, context, context_at}
 use Rattle.nova_model.specs.declared.context.EcState.{EcState}
 use Rattle.nova_ec.specs.Tables.{EcTable}
-use Rattle.nova_leases.specs.Rides.{rides}
-use Rattle.nova_parts.specs.Beside.{with_regs}
-use Rattle.nova_parts.specs.Parts.{state_of}
+use Rattle.law_leases.specs.Rides.{rides}
+use Rattle.nova_turn.specs.Beside.{with_regs}
+use Rattle.nova_turn.specs.Parts.{state_of}
 use Rattle.nova_kernel.proofs.Rides.{beside_own}
 use Rattle.nova_kernel.proofs.riding.ride.Goals as goal
 

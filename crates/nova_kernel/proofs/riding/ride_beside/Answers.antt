@@ -1,9 +1,9 @@
 use Rattle.std.proofs.Common.{rules, arith, ◌≡◌, ◌+◌, ◌≤◌, ℕ, suc, Some, IsSome, ap, sym, subst, ◌∙◌}
 use Rattle.nova_model.specs.State.{KernelState, context_at, ec_in}
-use Rattle.nova_leases.specs.Rides.{rides}
+use Rattle.law_leases.specs.Rides.{rides}
 use Rattle.nova_ec.specs.Tables.{EcTable}
-use Rattle.nova_parts.specs.Beside.{with_regs}
-use Rattle.nova_parts.specs.Parts.{state_of}
+use Rattle.nova_turn.specs.Beside.{with_regs}
+use Rattle.nova_turn.specs.Parts.{state_of}
 use Rattle.nova_kernel.proofs.Rides.{raise_leaves, rides_more}
 use Rattle.nova_kernel.proofs.riding.ride_beside.Goals as goal
 

@@ -1,7 +1,7 @@
 use Rattle.std.proofs.Common.{◌≡◌, ◌+◌, ◌≤◌, Some}
-use Rattle.nova_leases.specs.Rides.{rides}
-use Rattle.nova_parts.specs.Beside.{IsEntered, with_regs}
-use Rattle.nova_parts.specs.Parts.{state_of}
+use Rattle.law_leases.specs.Rides.{rides}
+use Rattle.nova_turn.specs.Beside.{IsEntered, with_regs}
+use Rattle.nova_turn.specs.Parts.{state_of}
 use Rattle.nova_kernel.proofs.riding.ride_beside.Given as goal
 
 -- those that went on so far

@@ -4,12 +4,12 @@ use Rattle.nova_model.specs.State.{KernelState, context_at}
 use Rattle.nova_choice.specs.Schedules.{AreQueued}
 use Rattle.nova_sched.specs.Queues.{QueuesState, Schedule, queued_at}
 use Rattle.nova_sched.specs.declared.queued.Queued.{Queued}
-use Rattle.nova_parts.specs.Counted.{IsCounted}
-use Rattle.nova_parts.specs.Known.{AreKnown}
-use Rattle.nova_parts.specs.Parts.{state_of}
-use Rattle.nova_parts.specs.Revoking.{AreRunning}
-use Rattle.nova_parts.specs.Runners.{RevokesState}
-use Rattle.nova_leases.specs.Paging.{charged_times}
+use Rattle.nova_turn.specs.Counted.{IsCounted}
+use Rattle.nova_turn.specs.Known.{AreKnown}
+use Rattle.nova_turn.specs.Parts.{state_of}
+use Rattle.nova_turn.specs.Revoking.{AreRunning}
+use Rattle.nova_turn.specs.Runners.{RevokesState}
+use Rattle.law_leases.specs.Paging.{charged_times}
 use Rattle.nova_kernel.proofs.Rides.{bounds_after, events_rode, known_after_ride, left_for, queued_after_ride, counted_along, running_after_ride, same_cpus, same_turns, turns_rode}
 use Rattle.nova_kernel.proofs.riding.steps.Goals as goal
 

@@ -1,5 +1,5 @@
 use Rattle.std.proofs.Common.{◌∙◌, arith}
-use Rattle.nova_forest.proofs.Boots.{pages, with_pd, with_ec, pd_fits, ec_fits, sc_fits, with_sc_is_all}
+use Rattle.law_forest.proofs.Boots.{pages, with_pd, with_ec, pd_fits, ec_fits, sc_fits, with_sc_is_all}
 use Rattle.nova_memory.proofs.Rooted.{object_joins, object_joined}
 use Rattle.nova_memory.proofs.boot.add_objects.Goals as goal
 

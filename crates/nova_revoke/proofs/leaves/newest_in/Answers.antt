@@ -2,7 +2,7 @@ use Rattle.std.proofs.Common.{rules, ◌≡◌, suc, ap, subst, arith, false, tr
 use Rattle.std.specs.Prelude.{Some, None}
 use Rattle.nova_model.specs.Delegations.{with_id}
 use Rattle.nova_model.specs.Revokes.{in_scope}
-use Rattle.nova_forest.proofs.Members.{contains_from_in}
+use Rattle.law_forest.proofs.Members.{contains_from_in}
 use Rattle.nova_revoke.proofs.Newest.{IsLookedThrough, looked_first, looked_none, child_there, child_is, at_hit, at_miss, older_of, ids_left}
 use Rattle.nova_revoke.proofs.leaves.newest_in.Goals as goal
 

@@ -1,7 +1,7 @@
 use Rattle.std.proofs.Common.{rules, ◌≡◌}
 use Rattle.std.specs.Prelude.{Some}
 use Rattle.nova_model.specs.Revokes.{newest_in, next_leaf}
-use Rattle.nova_forest.proofs.Leaves.{leaf_facts}
+use Rattle.law_forest.proofs.Leaves.{leaf_facts}
 use Rattle.nova_revoke.proofs.Ways.{newest_there}
 use Rattle.nova_revoke.proofs.leaves.next_leaf.Goals as goal
 

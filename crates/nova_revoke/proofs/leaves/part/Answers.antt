@@ -3,7 +3,7 @@ use Rattle.std.specs.Prelude.{Some, None}
 use Rattle.nova_model.specs.Delegations.{without}
 use Rattle.nova_model.specs.Revokes.{next_leaf}
 use Rattle.nova_nodes.specs.NodesStates.{NodesState}
-use Rattle.nova_forest.proofs.Leaves.{leaf_or_none}
+use Rattle.law_forest.proofs.Leaves.{leaf_or_none}
 use Rattle.nova_revoke.specs.Done.{Leaves}
 use Rattle.nova_revoke.proofs.Ways.{part_takes}
 use Rattle.nova_revoke.proofs.leaves.part.Goals as goal

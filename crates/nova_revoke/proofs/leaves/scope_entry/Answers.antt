@@ -3,7 +3,7 @@ use Rattle.std.specs.Prelude.{Some, None}
 use Rattle.nova_range.specs.Ranges.{end_of}
 use Rattle.nova_model.specs.Delegations.{range_of, first_from}
 use Rattle.nova_model.specs.Revokes.{is_entry}
-use Rattle.nova_forest.proofs.Members.{contains_from_in}
+use Rattle.law_forest.proofs.Members.{contains_from_in}
 use Rattle.nova_revoke.proofs.Entries.{next_facts, passed, found, ended, goes_on}
 use Rattle.nova_revoke.proofs.leaves.scope_entry.Goals as goal
 

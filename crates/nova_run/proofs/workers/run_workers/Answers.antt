@@ -1,5 +1,5 @@
 use Rattle.std.proofs.Common.{◌≡◌}
-use Rattle.nova_laws.specs.Orders.{IsRunOut}
+use Rattle.law_turns.specs.Orders.{IsRunOut}
 use Rattle.nova_order.specs.Blocks.{turns}
 use Rattle.nova_run.specs.declared.fault.RunFault.TheVariants.{Memory}
 use Rattle.nova_run.specs.Finished.{IsFinished}

@@ -1,5 +1,5 @@
 use Rattle.std.proofs.Common.{arith, ap₂, ◌∙◌}
-use Rattle.nova_renaming.specs.Forced.{alike_maps}
+use Rattle.law_renaming.specs.Forced.{alike_maps}
 use Rattle.nova_twin.proofs.Passing.{map_fails, map_goes_on, maps_joined, partners}
 use Rattle.nova_twin.proofs.alike.join_maps.Goals as goal
 

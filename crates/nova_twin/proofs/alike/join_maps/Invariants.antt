@@ -1,6 +1,6 @@
 use Rattle.std.proofs.Common.{◌≡◌, drop}
-use Rattle.nova_renaming.specs.Forced.{maps_pairs}
-use Rattle.nova_renaming.specs.Walks.{joined}
+use Rattle.law_renaming.specs.Forced.{maps_pairs}
+use Rattle.law_renaming.specs.Walks.{joined}
 use Rattle.nova_twin.proofs.alike.join_maps.Given as goal
 
 -- the maps that are left join the pairs that are met as all join those of the beginning

@@ -1,5 +1,5 @@
 use Rattle.std.proofs.Common.{sym, subst}
-use Rattle.nova_renaming.specs.Verdicts.{IsVerdict}
+use Rattle.law_renaming.specs.Verdicts.{IsVerdict}
 use Rattle.nova_twin.proofs.Admitted.{admitted, known}
 use Rattle.nova_twin.proofs.Answering.{ok_so, side_ends, side_holds}
 use Rattle.nova_twin.proofs.comparing.compare.Goals as goal

@@ -1,6 +1,6 @@
 use Rattle.std.proofs.Common.{◌≡◌, ◌≢◌, length, ap, sym, ◌∙◌, arith}
 use Rattle.std.specs.Prelude.{min}
-use Rattle.nova_renaming.specs.Verdicts.{Differ}
+use Rattle.law_renaming.specs.Verdicts.{Differ}
 use Rattle.nova_twin.proofs.Passing.{differ_at_end}
 use Rattle.nova_twin.proofs.comparing.first_unlike.Goals as goal
 

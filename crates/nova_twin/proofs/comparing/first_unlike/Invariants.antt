@@ -1,6 +1,6 @@
 use Rattle.std.proofs.Common.{◌≡◌, drop}
 use Rattle.std.specs.Prelude.{Some}
-use Rattle.nova_renaming.specs.Walks.{walked}
+use Rattle.law_renaming.specs.Walks.{walked}
 use Rattle.nova_twin.proofs.comparing.first_unlike.Given as goal
 
 -- the inputs that are left, after those that agree, are walked as all are

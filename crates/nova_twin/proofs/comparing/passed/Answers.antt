@@ -1,5 +1,5 @@
 use Rattle.std.proofs.Common.{rules, ◌≡◌, true}
-use Rattle.nova_renaming.specs.Forced.{alike}
+use Rattle.law_renaming.specs.Forced.{alike}
 use Rattle.nova_twin.proofs.Passing.{maps_alike}
 use Rattle.nova_twin.proofs.comparing.passed.Goals as goal
 

@@ -1,8 +1,8 @@
 use Rattle.std.proofs.Common.{rules, ◌≡◌, ℕ, None, List, length, sym, subst}
 use Rattle.std.specs.List.{All}
-use Rattle.nova_leases.specs.Leases.{copy_at}
-use Rattle.nova_leases.specs.Paging.{AreOnce}
-use Rattle.nova_leases.specs.declared.steps.Page.{Page}
+use Rattle.law_leases.specs.Leases.{copy_at}
+use Rattle.law_leases.specs.Paging.{AreOnce}
+use Rattle.law_leases.specs.declared.steps.Page.{Page}
 use Rattle.nova_burst.specs.Copies.{IsRecent, known_in}
 use Rattle.nova_burst.proofs.Lists.{once_more}
 use Rattle.nova_burst.proofs.Places.{page_later, whole_more}

@@ -1,5 +1,5 @@
 use Rattle.std.proofs.Common.{◌≡◌, drop}
-use Rattle.nova_leases.specs.Leases.{copy_at}
+use Rattle.law_leases.specs.Leases.{copy_at}
 use Rattle.nova_burst.proofs.copies.Copies.copy_of.Given as goal
 
 abbrev pub invariant-loop-i : goal.invariant-loop-i

@@ -2,8 +2,8 @@ use Rattle.std.proofs.Common.{rules, ◌≡◌, ◌<◌, ◌+◌, ℕ, length, L
 use Rattle.std.proofs.lemmas.Option.{same_Some}
 use Rattle.byteorder.specs.Endian.{little_bytes}
 use Rattle.nova_guest.specs.Frames.{replaced}
-use Rattle.nova_leases.specs.Leases.{stored_in_page, stored_in_pages}
-use Rattle.nova_leases.specs.declared.steps.Page.{Page}
+use Rattle.law_leases.specs.Leases.{stored_in_page, stored_in_pages}
+use Rattle.law_leases.specs.declared.steps.Page.{Page}
 use Rattle.nova_burst.specs.Copies.{AreSound, CopiesState, IsCopyOf, known_in}
 use Rattle.nova_burst.proofs.Places.{get_there, once_kept, set_there, store_later, stored_here, whole_kept}
 use Rattle.nova_burst.proofs.copies.Copies.store_to.Goals as goal

@@ -1,8 +1,8 @@
 use Rattle.std.proofs.Common.{rules, ◌≡◌, ◌<◌, ◌/◌, ◌%◌, length, ap, sym, ◌∙◌, subst}
 use Rattle.std.specs.Prelude.{IfSome, None, Option, Some, option_and_then, slice_get}
 use Rattle.nova_guest.specs.Frames.{frame_from, read_in}
-use Rattle.nova_leases.specs.Leases.{copy_at}
-use Rattle.nova_leases.specs.declared.steps.Page.{Page}
+use Rattle.law_leases.specs.Leases.{copy_at}
+use Rattle.law_leases.specs.declared.steps.Page.{Page}
 use Rattle.nova_range.specs.Rights.{read_right}
 use Rattle.nova_burst.specs.Copies.{CopiesState, IsCopyFor, known_in}
 use Rattle.nova_burst.proofs.Places.{none_read, read_there, within}

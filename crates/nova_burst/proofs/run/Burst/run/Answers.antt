@@ -1,5 +1,5 @@
 use Rattle.std.proofs.Common.{rules, arith, ◌≡◌, ◌+◌, ◌^◌, ℕ, List, Some, subst, sym, ◌∙◌}
-use Rattle.nova_leases.specs.Leases.{lease_step}
+use Rattle.law_leases.specs.Leases.{lease_step}
 use Rattle.nova_burst.specs.Copies.{HasFewStores, known_in, lease_of}
 use Rattle.nova_burst.specs.declared.copies.Known.{Known}
 use Rattle.nova_burst.proofs.Steps.{steps_more}

@@ -1,5 +1,5 @@
 use Rattle.std.proofs.Common.{ℕ, ◌≡◌, ◌+◌, ◌^◌, Some}
-use Rattle.nova_leases.specs.Leases.{lease_steps}
+use Rattle.law_leases.specs.Leases.{lease_steps}
 use Rattle.nova_burst.specs.Copies.{HasFewStores, known_in, lease_of}
 use Rattle.nova_burst.proofs.run.Burst.run.Given as goal
 

@@ -1,11 +1,11 @@
 use Rattle.std.proofs.Common.{◌≡◌, ◌<◌, ◌^◌, length, ap, sym, ◌∙◌, subst}
 use Rattle.nova_model.specs.Sources.{Source}
 use Rattle.nova_model.specs.State.{KernelState}
-use Rattle.nova_leases.specs.Commits.{IsReached}
-use Rattle.nova_parts.proofs.Moves.{queued_same}
-use Rattle.nova_parts.specs.Counted.{IsCounted}
-use Rattle.nova_parts.specs.Known.{AreKnown}
-use Rattle.nova_parts.specs.Parts.{state_of}
+use Rattle.law_leases.specs.Commits.{IsReached}
+use Rattle.nova_turn.proofs.Moves.{queued_same}
+use Rattle.nova_turn.specs.Counted.{IsCounted}
+use Rattle.nova_turn.specs.Known.{AreKnown}
+use Rattle.nova_turn.specs.Parts.{state_of}
 use Rattle.nova_times.specs.Kept.{IsAlarm}
 use Rattle.nova_kernel.specs.Begun.{IsBegun}
 use Rattle.nova_kernel.specs.Views.{KernelView}

@@ -1,6 +1,6 @@
 use Rattle.std.proofs.Common.{◌^◌, ◌-◌, ◌≤◌, arith}
 use Rattle.nova_model.specs.State.{KernelState}
-use Rattle.nova_parts.specs.Parts.{state_of}
+use Rattle.nova_turn.specs.Parts.{state_of}
 use Rattle.nova_kernel.proofs.Below.{from_id_below}
 use Rattle.nova_kernel.proofs.kernel.Kernel.derivation_from.Goals as goal
 

@@ -1,10 +1,10 @@
 use Rattle.std.proofs.Common.{◌≡◌, ap, sym, ◌∙◌, subst}
 use Rattle.std.specs.Prelude.{Option, None, IfOk, OnErr}
 use Rattle.nova_guest.specs.declared.input.Input.{Input}
-use Rattle.nova_parts.specs.Given.{BringsBytes}
+use Rattle.nova_turn.specs.Given.{BringsBytes}
 use Rattle.nova_model.specs.Guests.{input}
 use Rattle.nova_model.specs.State.{KernelState}
-use Rattle.nova_parts.specs.Parts.{state_of}
+use Rattle.nova_turn.specs.Parts.{state_of}
 use Rattle.nova_kernel.specs.Views.{KernelView}
 use Rattle.nova_kernel.proofs.Inputs.{input_chosen, input_idle}
 use Rattle.nova_kernel.proofs.kernel.Kernel.input.Goals as goal

@@ -1,12 +1,12 @@
 use Rattle.std.proofs.Common.{ℕ, [], sym, subst}
 use Rattle.nova_model.specs.Boot.{Scenario, bare}
 use Rattle.nova_model.specs.declared.root.Root.{Root}
-use Rattle.nova_leases.specs.Commits.{IsReached}
-use Rattle.nova_parts.specs.Counted.{IsCounted}
-use Rattle.nova_parts.specs.Parts.{state_of}
+use Rattle.law_leases.specs.Commits.{IsReached}
+use Rattle.nova_turn.specs.Counted.{IsCounted}
+use Rattle.nova_turn.specs.Parts.{state_of}
 use Rattle.nova_choice.specs.Schedules.{root_schedule}
-use Rattle.nova_parts.proofs.Booted.{IsCounted_bare}
-use Rattle.nova_parts.proofs.Moves.{queued_same}
+use Rattle.nova_turn.proofs.Booted.{IsCounted_bare}
+use Rattle.nova_turn.proofs.Moves.{queued_same}
 use Rattle.nova_kernel.proofs.Known.{none_known}
 use Rattle.nova_kernel.specs.Begun.{IsBegun}
 use Rattle.nova_kernel.proofs.Begun.{bare_begun}

@@ -4,12 +4,12 @@ use Rattle.nova_model.specs.declared.context.State.TheVariants.{Ready}
 use Rattle.std.specs.Prelude.{Option, IfSome, option_map}
 use Rattle.nova_model.specs.Choice.{choice}
 use Rattle.nova_model.specs.Runs.{trace}
-use Rattle.nova_leases.specs.Advances.{step_of}
-use Rattle.nova_laws.specs.Moments.{IsEarly}
-use Rattle.nova_leases.specs.Commits.{IsReached}
-use Rattle.nova_leases.proofs.Committed.{run_reached}
-use Rattle.nova_parts.specs.Guests.{numbers_from}
-use Rattle.nova_parts.specs.Parts.{state_of}
+use Rattle.law_leases.specs.Advances.{step_of}
+use Rattle.law_turns.specs.Moments.{IsEarly}
+use Rattle.law_leases.specs.Commits.{IsReached}
+use Rattle.law_leases.proofs.Committed.{run_reached}
+use Rattle.nova_turn.specs.StirCounts.{numbers_from}
+use Rattle.nova_turn.specs.Parts.{state_of}
 use Rattle.nova_kernel.specs.Rides.{AreOnly}
 use Rattle.nova_kernel.specs.Views.{KernelView}
 use Rattle.nova_kernel.specs.Begun.{IsBegun}

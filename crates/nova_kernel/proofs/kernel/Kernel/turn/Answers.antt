@@ -1,8 +1,8 @@
 use Rattle.std.proofs.Common.{sym, subst}
 use Rattle.nova_model.specs.State.{KernelState}
-use Rattle.nova_leases.specs.Commits.{IsReached}
-use Rattle.nova_parts.specs.Known.{AreKnown}
-use Rattle.nova_parts.specs.Parts.{state_of}
+use Rattle.law_leases.specs.Commits.{IsReached}
+use Rattle.nova_turn.specs.Known.{AreKnown}
+use Rattle.nova_turn.specs.Parts.{state_of}
 use Rattle.nova_kernel.specs.Begun.{IsBegun}
 use Rattle.nova_kernel.proofs.Begun.{after_begun}
 use Rattle.nova_kernel.proofs.Known.{kept_known}

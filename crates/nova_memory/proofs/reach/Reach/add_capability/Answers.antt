@@ -3,8 +3,8 @@ use Rattle.std.specs.Prelude.{false, is_some, None, IfSome}
 use Rattle.std.specs.List.{find}
 use Rattle.nova_range.specs.declared.range.Kind.TheVariants.{Obj}
 use Rattle.nova_model.specs.Delegations.{Delegations, covers, derived}
-use Rattle.nova_forest.proofs.Boots.{capability_fits}
-use Rattle.nova_forest.proofs.Members.{all_more, none_found}
+use Rattle.law_forest.proofs.Boots.{capability_fits}
+use Rattle.law_forest.proofs.Members.{all_more, none_found}
 use Rattle.nova_memory.specs.Reach.{IsFound, LeadToFrames, LeadsToFrames, ReachState, selector_range}
 use Rattle.nova_memory.proofs.Placed.{last_more}
 use Rattle.nova_memory.proofs.Seen.{blank_seen}

@@ -2,7 +2,7 @@ use Rattle.std.proofs.Common.{◌≡◌, ◌+◌, length, ap, sym, subst}
 use Rattle.std.specs.Prelude.{IfOk, OnErr, OnOk}
 use Rattle.nova_model.specs.Delegations.{Delegations}
 use Rattle.nova_model.specs.Forest.{IsForest}
-use Rattle.nova_running.specs.Runners.{busy_under}
+use Rattle.nova_revoke.specs.Runners.{busy_under}
 use Rattle.nova_model.specs.Transfers.{given, next_part}
 use Rattle.nova_memory.specs.Reach.{ReachState}
 use Rattle.nova_delegate.specs.Parts.{HasChild, MakesChild, done_of}

@@ -3,7 +3,7 @@ use Rattle.std.specs.Prelude.{option_map}
 use Rattle.nova_delegate.specs.Parts.{pair_of}
 use Rattle.nova_model.specs.Delegations.{Delegations}
 use Rattle.nova_model.specs.Transfers.{next_part}
-use Rattle.nova_running.specs.Runners.{busy_under}
+use Rattle.nova_revoke.specs.Runners.{busy_under}
 use Rattle.nova_memory.specs.Reach.{ReachState}
 use Rattle.nova_memory.proofs.reach.Reach.next_part.Goals as goal
 

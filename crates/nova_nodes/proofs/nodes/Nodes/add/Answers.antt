@@ -3,7 +3,7 @@ use Rattle.std.specs.Prelude.{map, Some}
 use Rattle.nova_model.specs.Delegations.{Delegations, derived, with_id}
 use Rattle.nova_model.specs.Forest.{IsFitting}
 use Rattle.nova_model.specs.declared.delegation.Derivation.{Derivation}
-use Rattle.nova_forest.proofs.Forests.{forest_add}
+use Rattle.law_forest.proofs.Forests.{forest_add}
 use Rattle.nova_nodes.specs.Spaces.{IsIndexed, shown_room}
 use Rattle.nova_nodes.specs.NodesStates.{IsPlaced, IsSound}
 use Rattle.nova_nodes.proofs.Found.{with_its_id}

@@ -3,7 +3,7 @@ use Rattle.std.specs.Prelude.{Contains, None}
 use Rattle.nova_model.specs.Delegations.{Delegations, newest_child}
 use Rattle.nova_model.specs.Revokes.{leaf_by}
 use Rattle.nova_model.specs.declared.delegation.Derivation.{Derivation}
-use Rattle.nova_forest.proofs.Members.{in_from_contains}
+use Rattle.law_forest.proofs.Members.{in_from_contains}
 use Rattle.nova_nodes.specs.Trails.{IsOnWay, IsTrail}
 use Rattle.nova_nodes.proofs.Ways.{trail_gone, way_ends, way_through}
 use Rattle.nova_nodes.proofs.nodes.Nodes.leaf_below.Goals as goal

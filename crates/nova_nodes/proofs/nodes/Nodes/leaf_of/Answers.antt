@@ -2,7 +2,7 @@ use Rattle.std.proofs.Common.{rules, arith, ◌≡◌, ◌<◌, ◌∙◌, sym, 
 use Rattle.std.specs.Prelude.{Some, None, option_map}
 use Rattle.nova_model.specs.Delegations.{id_of, newest_child, with_id}
 use Rattle.nova_model.specs.declared.delegation.Derivation.{Derivation}
-use Rattle.nova_forest.proofs.Members.{IsIn, in_from_contains}
+use Rattle.law_forest.proofs.Members.{IsIn, in_from_contains}
 use Rattle.nova_nodes.specs.Trails.{Here, IsOnWay}
 use Rattle.nova_nodes.proofs.Ways.{below_next, looked, way_ends, way_on}
 use Rattle.nova_nodes.proofs.nodes.Nodes.leaf_of.Goals as goal

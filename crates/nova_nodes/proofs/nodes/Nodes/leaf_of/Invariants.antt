@@ -1,5 +1,5 @@
 use Rattle.std.proofs.Common.{◌-◌}
-use Rattle.nova_forest.proofs.Members.{IsIn}
+use Rattle.law_forest.proofs.Members.{IsIn}
 use Rattle.nova_nodes.specs.Trails.{IsOnWay}
 use Rattle.nova_nodes.proofs.nodes.Nodes.leaf_of.Given as goal
 

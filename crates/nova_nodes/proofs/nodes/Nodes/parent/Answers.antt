@@ -2,7 +2,7 @@ use Rattle.std.proofs.Common.{rules, ◌≡◌, sym, subst}
 use Rattle.std.specs.Prelude.{Some, Option, IfSome, option_map, ◌==◌}
 use Rattle.nova_model.specs.Delegations.{id_of, with_id, parent_of}
 use Rattle.nova_model.specs.declared.delegation.Derivation.{Derivation}
-use Rattle.nova_forest.proofs.Members.{found_in}
+use Rattle.law_forest.proofs.Members.{found_in}
 use Rattle.nova_nodes.proofs.Kept.{parent_is}
 use Rattle.nova_nodes.proofs.nodes.Nodes.parent.Goals as goal
 

@@ -4,7 +4,7 @@ use Rattle.std.proofs.lemmas.Bool.{eqb-true}
 use Rattle.nova_model.specs.Delegations.{Delegations, without, with_id}
 use Rattle.nova_model.specs.Forest.{IsChildless}
 use Rattle.nova_model.specs.declared.delegation.Derivation.{Derivation}
-use Rattle.nova_forest.proofs.Members.{found_in}
+use Rattle.law_forest.proofs.Members.{found_in}
 use Rattle.nova_nodes.specs.Links.{LinkedState}
 use Rattle.nova_nodes.specs.Spaces.{IsIndexed, shown_room}
 use Rattle.nova_nodes.specs.NodesStates.{IsSound}

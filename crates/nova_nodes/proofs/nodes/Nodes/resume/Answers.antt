@@ -2,7 +2,7 @@ use Rattle.std.proofs.Common.{rules, ◌≡◌, ◌∙◌, List, ap, sym, subst}
 use Rattle.std.specs.Prelude.{Some, Contains, ◌==◌}
 use Rattle.nova_model.specs.Delegations.{with_id}
 use Rattle.nova_model.specs.declared.delegation.Derivation.{Derivation}
-use Rattle.nova_forest.proofs.Members.{contains_from_in, found_in, in_from_contains}
+use Rattle.law_forest.proofs.Members.{contains_from_in, found_in, in_from_contains}
 use Rattle.nova_nodes.specs.Trails.{Here, IsOnWay}
 use Rattle.nova_nodes.proofs.Found.{with_its_id}
 use Rattle.nova_nodes.proofs.nodes.Nodes.resume.Goals as goal

@@ -1,0 +1,9 @@
+use Rattle.law_integrity.specs.Confined.{Of}
+use Rattle.law_integrity.proofs.Confined.{turn_blind, turns_blind}
+use Rattle.law_integrity.proofs.confinement.closed_sets_are_blind_to_the_rest.Goals as goal
+
+pub returns-clause-turn : goal.returns-clause-turn
+returns-clause-turn c s before turns S T = turn_blind s before turns (Of S) (Of T)
+
+pub returns-clause-turns : goal.returns-clause-turns
+returns-clause-turns c s before turns S T = turns_blind s before turns (Of S) (Of T)

@@ -1,0 +1,11 @@
+use Rattle.law_integrity.proofs.Unseen.{event_unseen, sides_unseen, turn_unseen}
+use Rattle.law_integrity.proofs.disclosure.a_turn_is_the_same_over_what_it_doesnt_see.Goals as goal
+
+pub returns-clause-turn : goal.returns-clause-turn
+returns-clause-turn c = turn_unseen
+
+pub returns-clause-event : goal.returns-clause-event
+returns-clause-event c = event_unseen
+
+pub returns-clause-guests : goal.returns-clause-guests
+returns-clause-guests c = sides_unseen

@@ -1,0 +1,304 @@
+-- Integrity: whatever a turn changes, the one whose turn it is had the authority for it, by what was held in the state before the turn.
+-- Read `IsAuthorised`, `IsByRight` and `IsByTime` at the end first: of each part of the state it either stays, or changes in a way that names the right.
+use Rattle.std.specs.Prelude.{◌≡◌, ◌≢◌, ◌⊎◌, ℕ, ◌+◌, ◌-◌, ◌%◌, List, [], ◌∷◌, ◌++◌, Bool, Contains, IfSome, IsSome, true, false, Option, Some, None, length, slice_get, slice_index}
+use Rattle.byteorder.specs.Endian.{little_bytes}
+use Rattle.rv_model.specs.Registers.{Registers, reg}
+use Rattle.rv_model.specs.Step.{Store, Went}
+use Rattle.nova_guest.specs.Frames.{replaced}
+use Rattle.nova_guest.specs.declared.input.Input.{Input}
+use Rattle.nova_guest.specs.declared.input.Input.TheVariants.{Own}
+use Rattle.nova_objects.specs.declared.object.Object.{Object}
+use Rattle.nova_range.specs.declared.status.Status.{Status}
+use Rattle.nova_range.specs.declared.status.Status.TheVariants.{Success, Timeout}
+use Rattle.nova_utcb.specs.Messages.{copied, exited, has_items, stored, with_item}
+use Rattle.nova_calls.specs.declared.numbers.TheConstants.{EC_CTRL, PT_CTRL}
+use Rattle.nova_model.specs.Capabilities.{control_right}
+use Rattle.nova_model.specs.Choice.{choose}
+use Rattle.nova_model.specs.Deeds.{answered, answered_registers, deed, instruction, recall, resumed, serving}
+use Rattle.nova_model.specs.Delegations.{Delegations, added, without}
+use Rattle.nova_model.specs.Edges.{is_dead, state_in}
+use Rattle.nova_model.specs.Forest.{IsWithin}
+use Rattle.nova_model.specs.Guests.{input}
+use Rattle.nova_model.specs.Portals.{identifier}
+use Rattle.nova_model.specs.Semaphores.{lowered, raised, semaphore, semaphore_at, without_one}
+use Rattle.nova_model.specs.State.{KernelState, Semaphore, context, context_at, deadline_of, entry, message, no_transfer, no_words, pd_of, transfer_at}
+use Rattle.nova_model.specs.Times.{due_on, next_moment, rung_once, ticked}
+use Rattle.nova_model.specs.declared.context.EcState.{EcState}
+use Rattle.nova_model.specs.declared.context.Mark.{Mark}
+use Rattle.nova_model.specs.declared.context.Mark.TheVariants.{Call, Exit}
+use Rattle.nova_model.specs.declared.context.State.{State}
+use Rattle.nova_model.specs.declared.context.State.TheVariants.{Blocked, Calling, Dead, Exiting, Fresh, Granting, Helping, Parked, Replying, Revoking, Sending}
+use Rattle.nova_model.specs.declared.deed.Deed.TheVariants.{Steps}
+use Rattle.nova_model.specs.declared.delegation.Derivation.{Derivation}
+use Rattle.nova_model.specs.declared.log.LogByte.{LogByte}
+use Rattle.nova_model.specs.declared.times.AlarmState.{AlarmState}
+use Rattle.nova_model.specs.declared.times.Deadline.{Deadline}
+use Rattle.nova_model.specs.declared.times.Due.{Due}
+use Rattle.nova_model.specs.declared.times.Due.TheVariants as due
+use Rattle.nova_model.specs.declared.transfer.ItemEnd.{ItemEnd}
+use Rattle.nova_model.specs.declared.transfer.ItemWords.{ItemWords}
+use Rattle.nova_model.specs.declared.transfer.Transfer.{Transfer}
+use Rattle.law_forest.specs.Made.{IsFirstCapability, MayCreate}
+use Rattle.law_turns.specs.Giving.{IsShared}
+use Rattle.law_turns.specs.Moments.{IsDueOn}
+use Rattle.law_turns.specs.Revoking.{AsksRevoke}
+use Rattle.law_turns.specs.Scheduling.{IsPaidBy, IsUnpaid}
+use Rattle.law_turns.specs.Stirs.{stirs_of}
+use Rattle.law_turns.specs.Windows.{TellsOfItem}
+use Rattle.law_turns.specs.Words.{IsAmongWords, words_at}
+use Rattle.law_integrity.specs.Rightful.{IsLost, IsOwnDeadline, IsRaise, IsTold}
+use Rattle.law_integrity.specs.Rights.{AsksDown, AsksUp, CallsAt, ExitsAt, GivesTo, HasTurn, IsNew, IsServing, MayTake, Names, Stores, StoresTo}
+
+-- MEMORY
+
+-- the bytes of a frame: a store of the one who acts, whose domain reaches the frame with the right to write
+pub record FrameBy (k : KernelState) (ec frame : ℕ) (old new : Option (List ℕ)) : Type 0 where
+  pub store : Store
+  pub bytes : List ℕ
+  pub reaches : StoresTo k ec frame store
+  pub before : old ≡ Some bytes
+  pub after : new ≡ Some (replaced bytes (store.address % 4096) (little_bytes store.width store.value))
+
+-- the log: such a store to the first byte of a frame that is no RAM adds a byte of that console
+pub record LogBy (k : KernelState) (ec : ℕ) (old new : List LogByte) : Type 0 where
+  pub store : Store
+  pub frame : ℕ
+  pub reaches : StoresTo k ec frame store
+  pub console : slice_get k.memory.ram frame ≡ None
+  pub first : store.address % 4096 ≡ 0
+  pub after : new ≡ old ++ record { console = frame - length k.memory.ram; value = store.value % 256 } ∷ []
+
+-- MESSAGE WORDS
+
+-- of the one who acts by its own store; of the handler that it calls, or to which its exit goes; of its caller, to whom it replies; of itself or its caller, who is
+-- told by two words what came of the present item; or of a new thread
+pub data MessageBy (k : KernelState) (ec n : ℕ) (new : Option (List ℕ)) : Type 0 where
+  StoresOwn : n ≡ ec → (s : Store) → Stores k ec s → IsAmongWords k ec s → new ≡ Some (stored (message k n) (s.address % 4096) s.width s.value) → MessageBy k ec n new
+  CopiesCall : CallsAt k ec n → new ≡ Some (copied (message k ec) (message k n)) → MessageBy k ec n new
+  CopiesExit : (e : ExitsAt k ec n) → new ≡ Some (exited (record { 0 = e.mtd }) e.q0 e.q1 (context k ec).regs (message k n)) → MessageBy k ec n new
+  CopiesReply : IsServing k ec n Call → new ≡ Some (copied (message k ec) (message k n)) → MessageBy k ec n new
+  TellsItem : ((n ≡ ec) ⊎ IsServing k ec n Call) → (item : ℕ) (end : ItemEnd) (words : ItemWords) → TellsOfItem k ec item end words → words.ec ≡ n →
+      new ≡ Some (with_item (message k n) item words.first words.second) → MessageBy k ec n new
+  NewWords : IsNew k ec n → IfSome new (λ m. m ≡ no_words) → MessageBy k ec n new
+
+-- EXECUTION CONTEXTS
+
+-- one at birth: its number, pc 0 and all registers 0 but for x2; nobody's handler, and no recall; a local thread is parked, any other raises its startup exit first
+pub record IsBorn (n : ℕ) (x : EcState) : Type 0 where
+  pub number : x.id ≡ n
+  pub pc : x.regs.pc ≡ 0
+  pub zero : (r : ℕ) → r ≢ 2 → reg x.regs r ≡ 0
+  pub caller : x.caller ≡ None
+  pub recall : x.recall ≡ false
+  pub state : (x.state ≡ Parked) ⊎ (x.state ≡ Fresh)
+
+-- one that acts ends: nobody takes its exit, or the handler for whose reply it waits has ended
+pub data EndsBy (k : KernelState) (ec : ℕ) : Type 0 where
+  Lost : (reason q0 : ℕ) → IsLost k ec reason q0 → EndsBy k ec
+  Left : (handler : ℕ) → (context k ec).state ≡ Calling handler → is_dead (state_in k.contexts handler) ≡ true → EndsBy k ec
+
+-- a state to which one that acts may come by itself: to wait for a handler, by a portal that it may call or to which its exit goes; to wait at a semaphore by a down, to which it has the right; to give
+-- a first range to a domain that it makes; to reply to the caller that it serves, and to be parked then; to an exit that it raises; to a revoke that its registers ask for; or to its end
+abbrev pub MayComeTo : KernelState → ℕ → State → Type 0
+MayComeTo k ec (Calling handler) = CallsAt k ec handler ⊎ ExitsAt k ec handler
+MayComeTo k ec (Helping handler) = CallsAt k ec handler
+MayComeTo k ec (Sending reason q0 q1 handler) = ExitsAt k ec handler
+MayComeTo k ec (Blocked sm) = AsksDown k ec sm
+MayComeTo k ec (Granting new) = (new ≡ Some (length k.objects)) × MayCreate k (pd_of k ec)
+MayComeTo k ec Replying = (caller : ℕ) × (mark : Mark) × IsServing k ec caller mark
+MayComeTo k ec Parked = (caller : ℕ) × (mark : Mark) × IsServing k ec caller mark
+MayComeTo k ec (Exiting reason q0 q1) = IsRaise k ec reason q0 q1
+MayComeTo k ec Fresh = ⊥
+MayComeTo k ec (Revoking range own) = AsksRevoke k ec range own
+MayComeTo k ec Dead = EndsBy k ec
+MayComeTo k ec other = Unit {0}
+
+-- its registers stay; or are those that its instruction makes of them; or a call is answered: the status in x10, what it is told in x11, and pc after the call
+pub data RegistersBy (k : KernelState) (ec : ℕ) (old new : Registers) : Type 0 where
+  Kept : new ≡ old → RegistersBy k ec old new
+  Stepped : deed k ec ≡ Steps → (store : Option Store) → instruction k ec ≡ Went new store → RegistersBy k ec old new
+  Answered : (status : Status) (value : Option ℕ) → IfSome value (λ v. IsTold k ec (reg (context k ec).regs 17) v) → new ≡ answered_registers old status value → RegistersBy k ec old new
+
+-- its recall stays; its own exit clears it, that of the recall; or it asks for its own, with control of itself
+pub data RecallBy (k : KernelState) (ec : ℕ) (old new : Bool) (state : State) : Type 0 where
+  Unasked : new ≡ old → RecallBy k ec old new state
+  ByExit : new ≡ false → (q0 q1 : ℕ) → state ≡ Exiting recall q0 q1 → RecallBy k ec old new state
+  AsksItself : new ≡ true → Names k ec EC_CTRL control_right ec → RecallBy k ec old new state
+
+-- the one who acts, before and after its turn: its number and processor stay, and its caller, but where it is parked
+pub record IsItself (k : KernelState) (ec : ℕ) (old new : EcState) : Type 0 where
+  pub number : new.id ≡ old.id
+  pub processor : new.cpu ≡ old.cpu
+  pub state : (new.state ≡ old.state) ⊎ MayComeTo k ec new.state
+  pub regs : RegistersBy k ec old.regs new.regs
+  pub caller : (new.caller ≡ old.caller) ⊎ ((new.caller ≡ None) × (new.state ≡ Parked))
+  pub recall : RecallBy k ec old.recall new.recall new.state
+
+-- the one who acts; the handler that it calls, or to which its exit goes, which is parked and begins where its portal says; its caller, which waits for its reply and goes on;
+-- one whose recall it asks for, which it controls; the first that waits at a semaphore that it raises; or a new one. `words` are the message words of the one who acts, after
+-- the turn.
+pub data ContextBy (k : KernelState) (ec n : ℕ) (words : List ℕ) (old new : Option EcState) : Type 0 where
+  Itself : n ≡ ec → (x y : EcState) → old ≡ Some x → new ≡ Some y → IsItself k ec x y → ContextBy k ec n words old new
+  Called : (c : CallsAt k ec n) (x : EcState) → old ≡ Some x → x.state ≡ Parked →
+      new ≡ Some (serving x ec Call c.ip (identifier k c.portal) (has_items (message k ec))) → ContextBy k ec n words old new
+  ExitSent : (e : ExitsAt k ec n) (x : EcState) → old ≡ Some x → x.state ≡ Parked →
+      new ≡ Some (serving x ec Exit e.ip (identifier k e.portal) false) → ContextBy k ec n words old new
+  Resumed : (mark : Mark) → IsServing k ec n mark → (x : EcState) → old ≡ Some x → x.state ≡ Calling ec → new ≡ Some (resumed x mark words) → ContextBy k ec n words old new
+  Recalled : Names k ec EC_CTRL control_right n → (x : EcState) → old ≡ Some x → new ≡ Some (record x { recall = true }) → ContextBy k ec n words old new
+  Woken : (sm : ℕ) → AsksUp k ec sm → (rest : List ℕ) → (semaphore k.semaphores sm).waiting ≡ n ∷ rest → (x : EcState) → old ≡ Some x → x.state ≡ Blocked sm →
+      new ≡ Some (answered x Success None) → ContextBy k ec n words old new
+  NewContext : IsNew k ec n → IfSome new (IsBorn n) → ContextBy k ec n words old new
+
+-- how far it is with its items: its own, or of a new one
+pub data TransferBy (k : KernelState) (ec n : ℕ) (new : Option Transfer) : Type 0 where
+  OwnItems : n ≡ ec → TransferBy k ec n new
+  NewItems : IsNew k ec n → IfSome new (λ t. t ≡ no_transfer) → TransferBy k ec n new
+
+-- OBJECTS AND DELEGATIONS
+
+-- a new object, which its maker's domain may have made, with the maker's first capability to it
+pub record ObjectsBy (k : KernelState) (ec : ℕ) (old new : List Object) : Type 0 where
+  pub object : Object
+  pub capability : Derivation
+  pub may : IsFirstCapability k ec object capability
+  pub joins : new ≡ old ++ object ∷ []
+
+-- the first capability to a new object; a child of what the giver holds, with no target and no right more, by the present item and within its window, to one who takes it or waits for it; or a leaf
+-- of a revoke's scope goes
+pub data DelegationsBy (k : KernelState) (ec : ℕ) (old new : Delegations) : Type 0 where
+  Creates : (object : Object) (capability : Derivation) → IsFirstCapability k ec object capability → new ≡ added old capability → DelegationsBy k ec old new
+  Gives : (child source : Derivation) → Contains old.list source → child.parent ≡ Some source.id → IsWithin child source → IsShared k ec child →
+      GivesTo k ec source.pd child.pd →
+      new ≡ added old child → DelegationsBy k ec old new
+  Takes : (leaf : Derivation) → MayTake k ec leaf → new ≡ without old leaf.id → DelegationsBy k ec old new
+
+-- a portal's identifier: who controls the portal, with the number in x11; or of a new portal
+pub data IdentifierBy (k : KernelState) (ec n : ℕ) (new : Option ℕ) : Type 0 where
+  Controls : Names k ec PT_CTRL control_right n → new ≡ Some (reg (context k ec).regs 11) → IdentifierBy k ec n new
+  NewPortal : IsNew k ec n → IfSome new (λ i. i ≡ 0) → IdentifierBy k ec n new
+
+-- a semaphore's counter and queue: who has the right to an up, or to a down; or of a new one
+pub data SemaphoreBy (k : KernelState) (ec n : ℕ) (old new : Option Semaphore) : Type 0 where
+  Ups : AsksUp k ec n → (s : Semaphore) → old ≡ Some s → new ≡ Some (raised s) → SemaphoreBy k ec n old new
+  Downs : AsksDown k ec n → (s : Semaphore) → old ≡ Some s → new ≡ Some (lowered ec s) → SemaphoreBy k ec n old new
+  NewSemaphore : IsNew k ec n → IfSome new (λ s. s.waiting ≡ []) → SemaphoreBy k ec n old new
+
+-- a deadline: of one that blocks itself at a semaphore to which it has the right to a down, on its processor and at the moment that its registers ask for; or the first
+-- that waits at a semaphore that is raised has none any more
+pub data DeadlineBy (k : KernelState) (ec n : ℕ) (new : Option Deadline) : Type 0 where
+  Sets : n ≡ ec → (d : Deadline) → AsksDown k ec d.sm → IsOwnDeadline k ec d.sm d → new ≡ Some d → DeadlineBy k ec n new
+  Clears : (sm : ℕ) → AsksUp k ec sm → (rest : List ℕ) → (semaphore k.semaphores sm).waiting ≡ n ∷ rest → new ≡ None → DeadlineBy k ec n new
+
+-- the stir count of a virtual CPU: it rises where the turn is an input of it, other than its own step, and stays where it is none; or that of a new one; or there is no such virtual CPU
+pub data CountBy (k : KernelState) (cpu ec n : ℕ) (old new : Option ℕ) : Type 0 where
+  Stirs : (i : Input) → input k cpu n ≡ Some i → i ≢ Own → (count : ℕ) → old ≡ Some count → new ≡ Some (count + 1) → CountBy k cpu ec n old new
+  Unstirred : ((i : Input) → input k cpu n ≡ Some i → i ≡ Own) → (count : ℕ) → old ≡ Some count → new ≡ Some count → CountBy k cpu ec n old new
+  NewCount : IsNew k ec n → old ≡ None → IfSome new (λ c. c ≡ 0) → CountBy k cpu ec n old new
+  NoCount : old ≡ None → new ≡ None → CountBy k cpu ec n old new
+
+-- A TURN
+
+-- the turn of a processor in which `ec` acts and `sc` pays: each part of the state stays, or changes by right
+pub record IsByRight (k new : KernelState) (cpu ec sc : ℕ) : Type 0 where
+  -- whom it serves waits for its reply
+  pub serves : (caller : ℕ) (mark : Mark) → IsServing k ec caller mark → (context k caller).state ≡ Calling ec
+  pub frames : (frame : ℕ) → (slice_get new.memory.ram frame ≡ slice_get k.memory.ram frame) ⊎ FrameBy k ec frame (slice_get k.memory.ram frame) (slice_get new.memory.ram frame)
+  pub log : (new.memory.log ≡ k.memory.log) ⊎ LogBy k ec k.memory.log new.memory.log
+  pub messages : (n : ℕ) → (words_at new n ≡ words_at k n) ⊎ MessageBy k ec n (words_at new n)
+  pub contexts : (n : ℕ) → (context_at new n ≡ context_at k n) ⊎ ContextBy k ec n (message new ec) (context_at k n) (context_at new n)
+  pub transfers : (n : ℕ) → (transfer_at new n ≡ transfer_at k n) ⊎ TransferBy k ec n (transfer_at new n)
+  pub objects : (new.objects ≡ k.objects) ⊎ ObjectsBy k ec k.objects new.objects
+  pub delegations : (new.delegations ≡ k.delegations) ⊎ DelegationsBy k ec k.delegations new.delegations
+  pub identifiers : (n : ℕ) → (entry (slice_get new.identifiers n) ≡ entry (slice_get k.identifiers n)) ⊎ IdentifierBy k ec n (entry (slice_get new.identifiers n))
+  pub semaphores : (n : ℕ) → (semaphore_at new.semaphores n ≡ semaphore_at k.semaphores n)
+      ⊎ SemaphoreBy k ec n (semaphore_at k.semaphores n) (semaphore_at new.semaphores n)
+  pub deadlines : (n : ℕ) → (deadline_of new.times n ≡ deadline_of k.times n) ⊎ DeadlineBy k ec n (deadline_of new.times n)
+  pub alarms : new.times.alarms ≡ k.times.alarms
+  pub clocks : new.times.clocks ≡ (ticked k.times cpu).clocks
+  -- budgets, ticks and stamps
+  pub budgets : IsPaidBy k new cpu sc
+  pub counts : (n : ℕ) → CountBy k cpu ec n (stirs_of k n) (stirs_of new n)
+  pub turns : new.turns ≡ k.turns + 1
+  pub processors : (n : ℕ) → n ≢ cpu → slice_index new.stirs.processors n ≡ slice_index k.stirs.processors n
+  pub cpus : new.cpus ≡ k.cpus
+  pub consoles : new.consoles ≡ k.consoles
+
+-- WHAT COMES BY ITSELF
+
+-- `what` is due, if anything. One that is blocked is answered: the first that waits at the semaphore of an alarm that rings, with success; or the one whose deadline
+-- it is, which set it when it came to wait at that semaphore, with a timeout.
+pub data ContextByTime (k : KernelState) (what : Option Due) (n : ℕ) (old new : Option EcState) : Type 0 where
+  RungAwake : (alarm : ℕ) (a : AlarmState) → what ≡ Some (due.Alarm alarm) → slice_get k.times.alarms alarm ≡ Some a → (rest : List ℕ) →
+      (semaphore k.semaphores a.alarm.sm).waiting ≡ n ∷ rest → (x : EcState) → old ≡ Some x → x.state ≡ Blocked a.alarm.sm →
+      new ≡ Some (answered x Success None) → ContextByTime k what n old new
+  TimedOut : (d : Deadline) → what ≡ Some (due.Deadline n) → deadline_of k.times n ≡ Some d → (x : EcState) → old ≡ Some x → x.state ≡ Blocked d.sm →
+      new ≡ Some (answered x Timeout None) → ContextByTime k what n old new
+
+-- the alarm's semaphore is raised; who timed out leaves the queue of the deadline's
+pub data SemaphoreByTime (k : KernelState) (what : Option Due) (n : ℕ) (old new : Option Semaphore) : Type 0 where
+  Rung : (alarm : ℕ) (a : AlarmState) → what ≡ Some (due.Alarm alarm) → slice_get k.times.alarms alarm ≡ Some a → n ≡ a.alarm.sm → (s : Semaphore) → old ≡ Some s →
+      new ≡ Some (raised s) → SemaphoreByTime k what n old new
+  LeftByLate : (ec : ℕ) (d : Deadline) → what ≡ Some (due.Deadline ec) → deadline_of k.times ec ≡ Some d → n ≡ d.sm → (s : Semaphore) → old ≡ Some s →
+      new ≡ Some (without_one ec s) → SemaphoreByTime k what n old new
+
+-- who is answered has no deadline any more
+pub data DeadlineByTime (k : KernelState) (what : Option Due) (n : ℕ) (new : Option Deadline) : Type 0 where
+  ClearedAwake : (alarm : ℕ) (a : AlarmState) → what ≡ Some (due.Alarm alarm) → slice_get k.times.alarms alarm ≡ Some a → (rest : List ℕ) →
+      (semaphore k.semaphores a.alarm.sm).waiting ≡ n ∷ rest → new ≡ None → DeadlineByTime k what n new
+  ClearedLate : what ≡ Some (due.Deadline n) → new ≡ None → DeadlineByTime k what n new
+
+-- the alarm that rings comes to its next moment
+pub data AlarmByTime (what : Option Due) (n : ℕ) (old new : Option AlarmState) : Type 0 where
+  Rings : what ≡ Some (due.Alarm n) → (a : AlarmState) → old ≡ Some a → new ≡ Some (rung_once a) → AlarmByTime what n old new
+
+-- what is due is done: the alarm rings, or who has the deadline goes on without it
+pub record IsRung (k new : KernelState) (n : ℕ) : Type 0 where
+  pub alarm : AlarmState
+  pub there : slice_get k.times.alarms n ≡ Some alarm
+  pub rises : slice_get new.times.alarms n ≡ Some (rung_once alarm)
+
+pub record IsLate (k new : KernelState) (ec : ℕ) : Type 0 where
+  pub context : EcState
+  pub there : context_at k ec ≡ Some context
+  pub goes_on : context_at new ec ≡ Some (answered context Timeout None)
+  pub cleared : deadline_of new.times ec ≡ None
+
+abbrev pub IsDone : KernelState → KernelState → Option Due → Type 0
+IsDone k new (Some (due.Alarm n)) = IsRung k new n
+IsDone k new (Some (due.Deadline ec)) = IsLate k new ec
+IsDone k new None = Unit {0}
+
+-- the turn of a processor in which nobody acts and nobody pays: what is due is done, and but for who waits, semaphores, times and the counts of turns all stays
+pub record IsByTime (k new : KernelState) (cpu : ℕ) (what : Option Due) : Type 0 where
+  pub done : IsDone k new what
+  pub memory : new.memory ≡ k.memory
+  pub messages : new.messages ≡ k.messages
+  pub contexts : (n : ℕ) → (context_at new n ≡ context_at k n) ⊎ ContextByTime k what n (context_at k n) (context_at new n)
+  pub transfers : new.transfers ≡ k.transfers
+  pub objects : new.objects ≡ k.objects
+  pub delegations : new.delegations ≡ k.delegations
+  pub identifiers : new.identifiers ≡ k.identifiers
+  pub semaphores : (n : ℕ) → (semaphore_at new.semaphores n ≡ semaphore_at k.semaphores n)
+      ⊎ SemaphoreByTime k what n (semaphore_at k.semaphores n) (semaphore_at new.semaphores n)
+  pub deadlines : (n : ℕ) → (deadline_of new.times n ≡ deadline_of k.times n) ⊎ DeadlineByTime k what n (deadline_of new.times n)
+  pub alarms : (n : ℕ) → (slice_get new.times.alarms n ≡ slice_get k.times.alarms n) ⊎ AlarmByTime what n (slice_get k.times.alarms n) (slice_get new.times.alarms n)
+  pub clocks : new.times.clocks ≡ (ticked k.times cpu).clocks
+  pub budgets : IsUnpaid k new
+  pub counts : new.stirs.guests ≡ k.stirs.guests
+  pub turns : new.turns ≡ k.turns + 1
+  pub processors : (n : ℕ) → n ≢ cpu → slice_index new.stirs.processors n ≡ slice_index k.stirs.processors n
+  pub cpus : new.cpus ≡ k.cpus
+  pub consoles : new.consoles ≡ k.consoles
+
+-- why such a turn comes: this is due on the processor, where the alarm is one of it that goes on, or the deadline of one of it, and its moment has come; or nothing is due
+-- there and nobody is chosen, but something is to come
+abbrev pub IsComing : KernelState → ℕ → Option Due → Type 0
+IsComing k cpu (Some what) = IsDueOn k.times cpu what
+IsComing k cpu None = (due_on k.times cpu ≡ None) × (choose k cpu ≡ None) × IsSome (next_moment k.times cpu)
+
+-- What a processor's turn comes to: nothing, where nothing is due, none is chosen and nothing is to come; a turn of one who acts in it; or one in which nobody acts: an alarm rings, a
+-- deadline ends a wait, or the clock alone goes on.
+pub data IsAuthorised (k new : KernelState) (cpu : ℕ) : Type 0 where
+  Idles : choose k cpu ≡ None → next_moment k.times cpu ≡ None → new ≡ k → IsAuthorised k new cpu
+  Acts : (ec sc : ℕ) → HasTurn k cpu ec sc → IsByRight k new cpu ec sc → IsAuthorised k new cpu
+  Passes : (what : Option Due) → IsComing k cpu what → IsByTime k new cpu what → IsAuthorised k new cpu

@@ -1,0 +1,85 @@
+-- Sides beside domains that are trusted: what no program of a side does to another side, while what is trusted serves both.
+-- A label says of each protection domain whose it is: 0 is trusted, and any other number is a side.
+use Rattle.std.specs.Prelude.{◌≡◌, ◌≢◌, ◌⊎◌, ◌==◌, ℕ, Contains, List, [], ◌∷◌, ◌++◌, if◌then◌else◌, length, slice_get, Option, Some, None, option_map}
+use Rattle.nova_objects.specs.declared.object.Object.TheVariants.{Sm}
+use Rattle.nova_range.specs.declared.range.Kind.TheVariants.{Obj}
+use Rattle.nova_model.specs.Choice.{next_to_act}
+use Rattle.nova_model.specs.Edges.{edge}
+use Rattle.nova_model.specs.Runs.{after, run}
+use Rattle.nova_model.specs.State.{KernelState, context, pd_of}
+use Rattle.nova_model.specs.declared.context.State.TheVariants.{Blocked, Granting}
+use Rattle.nova_model.specs.declared.delegation.Derivation.{Derivation}
+use Rattle.law_origins.specs.Giving.{Acts}
+use Rattle.law_integrity.specs.Confined.{Holds, IsOwned, Reach}
+
+-- the domains of this label; and those with the trusted ones
+abbrev pub Labelled : (ℕ → ℕ) → ℕ → ℕ → Type 0
+Labelled label side n = label n ≡ side
+
+abbrev pub OrTrusted : (ℕ → ℕ) → ℕ → ℕ → Type 0
+OrTrusted label side n = (label n ≡ side) ⊎ (label n ≡ 0)
+
+-- THE POLICY, OF ONE STATE
+
+-- a side may hold capabilities to the object of this number: it is a domain, an execution context or a portal of the side's own or of what is trusted; or a scheduling context; or a semaphore that no
+-- other side holds. And nobody of another side waits there.
+pub record MayHold (k : KernelState) (label : ℕ → ℕ) (side object : ℕ) : Type 0 where
+  pub leads : IsOwned k (OrTrusted label side) object (slice_get k.objects object)
+  pub alone : slice_get k.objects object ≡ Some Sm → (d : Derivation) → Contains k.delegations.list d → d.kind ≡ Obj → d.target ≡ object → OrTrusted label side d.pd
+  pub waits : (n : ℕ) → (context k n).state ≡ Blocked object → OrTrusted label side (pd_of k n)
+
+-- each side holds only what it may; who waits for a handler of a side, by a call, a help or an exit, is of that side; and so is a domain to which one of a side gives a first range. What is trusted may
+-- hold what it likes.
+pub record IsWithinPolicy (k : KernelState) (label : ℕ → ℕ) : Type 0 where
+  pub capabilities : (d : Derivation) → Contains k.delegations.list d → d.kind ≡ Obj → label d.pd ≢ 0 → MayHold k label (label d.pd) d.target
+  pub edges : (waiter handler : ℕ) → edge k.contexts waiter ≡ Some handler → label (pd_of k handler) ≢ 0 → label (pd_of k waiter) ≡ label (pd_of k handler)
+  pub firsts : (ec new : ℕ) → (context k ec).state ≡ Granting (Some new) → label (pd_of k ec) ≢ 0 → label new ≡ label (pd_of k ec)
+
+-- ALONG TURNS
+
+-- a domain that is made in a turn has the label of its maker's
+abbrev pub labels_by : ℕ → (ℕ → ℕ) → Option ℕ → ℕ → ℕ
+labels_by next label None n = label n
+labels_by next label (Some side) n = if n == next then side else label n
+
+abbrev pub labels_after : KernelState → (ℕ → ℕ) → ℕ → ℕ → ℕ
+labels_after k label cpu = labels_by (length k.objects) label (option_map (λ c. label (pd_of k c.actor)) (next_to_act k cpu))
+
+abbrev pub labels : KernelState → (ℕ → ℕ) → List ℕ → ℕ → ℕ
+labels k label [] = label
+labels k label (cpu ∷ turns) = labels (after k cpu) (labels_after k label cpu) turns
+
+-- what one that is trusted has to see to in a turn of its own: each capability that a side has then is one that it had, or one that it may hold; and it doesn't come to wait for a handler of a side
+pub record IsCareful (k : KernelState) (label : ℕ → ℕ) (cpu ec : ℕ) : Type 0 where
+  pub gives : (d : Derivation) → Contains (after k cpu).delegations.list d → d.kind ≡ Obj → label d.pd ≢ 0 →
+      Contains k.delegations.list d ⊎ MayHold (after k cpu) (labels_after k label cpu) (label d.pd) d.target
+  pub calls : (handler : ℕ) → edge (after k cpu).contexts ec ≡ Some handler → label (pd_of k handler) ≡ 0
+
+-- whoever acts in this turn is of a side, or careful
+abbrev pub MayTakeTurn : KernelState → (ℕ → ℕ) → ℕ → Type 0
+MayTakeTurn k label cpu = (ec : ℕ) → Acts k cpu ec → label (pd_of k ec) ≡ 0 → IsCareful k label cpu ec
+
+abbrev pub MayTakeTurns : KernelState → (ℕ → ℕ) → List ℕ → Type 0
+MayTakeTurns k label [] = Unit {0}
+MayTakeTurns k label (cpu ∷ turns) = MayTakeTurn k label cpu × MayTakeTurns (after k cpu) (labels_after k label cpu) turns
+
+-- of a list of turns from k on one in which one of this label acts
+pub record IsTurnOf (k : KernelState) (label : ℕ → ℕ) (turns : List ℕ) (side : ℕ) : Type 0 where
+  pub before : List ℕ
+  pub cpu : ℕ
+  pub later : List ℕ
+  pub whole : turns ≡ before ++ cpu ∷ later
+  pub actor : ℕ
+  pub acts : Acts (run k before) cpu actor
+  pub of : labels k label before (pd_of (run k before) actor) ≡ side
+
+-- it is a turn of one that is trusted, whose own domain reaches the frame, or holds the object, with this right before it
+abbrev pub IsGivenFrame : KernelState → (ℕ → ℕ) → List ℕ → ℕ → ℕ → Type 0
+IsGivenFrame k label turns right frame = (t : IsTurnOf k label turns 0) × Reach (run k t.before) (λ n. n ≡ pd_of (run k t.before) t.actor) right frame
+
+abbrev pub IsGivenObject : KernelState → (ℕ → ℕ) → List ℕ → ℕ → ℕ → Type 0
+IsGivenObject k label turns right object = (t : IsTurnOf k label turns 0) × Holds (run k t.before) (λ n. n ≡ pd_of (run k t.before) t.actor) right object
+
+-- it is a turn of one of the side, and the object is the next that is made
+abbrev pub IsMadeBySide : KernelState → (ℕ → ℕ) → List ℕ → ℕ → ℕ → Type 0
+IsMadeBySide k label turns side object = (t : IsTurnOf k label turns side) × (object ≡ length (run k t.before).objects)

@@ -1,0 +1,68 @@
+// Laws of authority.
+ghost use Rattle.std.specs.Prelude.{◌≡◌, ℕ, List, Some, slice_get, true};
+ghost use Rattle.nova_model.specs.Boot.{Scenario, boot};
+ghost use Rattle.nova_model.specs.Deeds.{deed};
+ghost use Rattle.nova_model.specs.Exits.{raised_exit};
+ghost use Rattle.nova_model.specs.Runs.{after, run};
+ghost use Rattle.nova_model.specs.State.{KernelState, context};
+ghost use Rattle.nova_model.specs.Edges.{is_dead, state_in};
+ghost use Rattle.nova_model.specs.declared.context.State.TheVariants.{Calling, Granting};
+ghost use Rattle.law_origins.specs.Giving.{Acts, HasMade};
+ghost use Rattle.law_integrity.specs.Integrity.{IsAuthorised, IsByRight};
+ghost use Rattle.law_integrity.specs.Rightful.{IsAsking, IsOfCall, IsOfExit, IsRightful};
+ghost use Rattle.law_integrity.specs.Rights.{HasTurn};
+ghost use Rattle.law_integrity.specs.Unwritten.{IsUnwritten};
+
+/// Take any list of turns from any boot state, and any processor. Its next turn changes nothing, where nothing
+/// is due, none is chosen and nothing is to come. Or it is the turn of one who acts, paid by a scheduling
+/// context whose turns lead there along edges; and then each part of the state stays, or changes in a way that
+/// names the right to it: the capability or the derivation that the domain of the one who acts held, the caller
+/// that it served, or the revoke that it ran. Or nobody acts and nobody pays: an alarm that is due raises its
+/// own semaphore, which may wake the first that waits there, and comes to its next moment; or a deadline that is
+/// due ends the wait of the one whose it is, with TIMEOUT; or the clock goes on; and all else stays.
+pub fn turns_change_by_right()
+    ensures turn { (scenario : Scenario) (turns : List ℕ) (cpu : ℕ)
+        → IsAuthorised (run (boot scenario) turns) (after (run (boot scenario) turns) cpu) cpu }
+    ensures acting { (scenario : Scenario) (turns : List ℕ) (cpu ec : ℕ)
+        → Acts (run (boot scenario) turns) cpu ec
+        → (sc : ℕ) × HasTurn (run (boot scenario) turns) cpu ec sc
+        × IsByRight (run (boot scenario) turns) (after (run (boot scenario) turns) cpu) cpu ec sc }
+{}
+
+/// Whatever list of turns is taken from whatever boot state, what an execution context is about to do names
+/// nobody but by right. A call goes to the handler of a portal that its domain holds at the selector in x10,
+/// with the right to call. An exit goes to that of the portal that its domain holds at event base + reason,
+/// with the right to send exits, with that portal's descriptor and identifier; it ends its execution context
+/// only where no such portal's handler takes it, and nothing else becomes of one than that it is sent, waits for
+/// its handler or ends it. A reply goes to the caller that it serves. Recalls, numbers of
+/// portals, ticks, ups and downs are of what its domain holds at the selector in x10, with the right to them;
+/// an up or a down is the one that x11 asks for, and a wait has a deadline exactly where x11 asks for one, on its
+/// own processor and so many ticks after the turn as x12 says. A lookup tells 0, or the word of a derivation of
+/// its own domain. A refusal is of the call in x17, and doesn't say SUCCESS. What only a hypercall does is done by
+/// a thread whose next instruction is one, or that makes its call again. A part of an item is skipped for a reason
+/// that holds, an item ends as it is and tells whom it is for, and a revoke is the one that the registers ask for
+/// and returns where nothing is left of its scope. One that waits for a reply acts only where its handler has
+/// ended, which keeps it as the caller that came by that mark, and one that gives a first range made that domain
+/// in a turn of its own.
+pub fn deeds_are_rightful()
+    ensures rightful { (scenario : Scenario) (turns : List ℕ) (ec : ℕ)
+        → IsRightful (run (boot scenario) turns) ec (deed (run (boot scenario) turns) ec) }
+    ensures asks { (k : KernelState) (ec : ℕ) → IsOfCall (deed k ec) → IsAsking k ec }
+    ensures exits { (k : KernelState) (ec reason q0 q1 : ℕ)
+        → raised_exit (context k ec).state ≡ Some (reason, q0, q1)
+        → IsOfExit reason q0 q1 (deed k ec) }
+    ensures aborts { (scenario : Scenario) (turns : List ℕ) (cpu ec handler : ℕ)
+        → Acts (run (boot scenario) turns) cpu ec
+        → (context (run (boot scenario) turns) ec).state ≡ Calling handler
+        → is_dead (state_in (run (boot scenario) turns).contexts handler) ≡ true }
+    ensures firsts { (scenario : Scenario) (turns : List ℕ) (ec domain : ℕ)
+        → (context (run (boot scenario) turns) ec).state ≡ Granting (Some domain)
+        → HasMade (boot scenario) turns ec domain }
+{}
+
+/// A frame stays over turns in which the domain of nobody who acts reaches it with the right to write.
+pub fn frames_that_nobody_may_write_stay()
+    ensures { (scenario : Scenario) (before turns : List ℕ) (frame : ℕ)
+        → IsUnwritten (run (boot scenario) before) turns frame
+        → slice_get (run (run (boot scenario) before) turns).memory.ram frame ≡ slice_get (run (boot scenario) before).memory.ram frame }
+{}

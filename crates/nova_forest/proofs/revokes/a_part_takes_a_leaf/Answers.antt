@@ -1,5 +1,0 @@
-use Rattle.nova_forest.proofs.Leaves.{leaf_facts, leaf_or_none, part_takes_one}
-use Rattle.nova_forest.proofs.revokes.a_part_takes_a_leaf.Goals as goal
-
-pub returns : goal.returns
-returns c = record { leaf = leaf_facts; none = leaf_or_none; one = part_takes_one }

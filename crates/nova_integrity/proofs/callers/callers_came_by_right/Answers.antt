@@ -1,5 +1,0 @@
-use Rattle.nova_integrity.proofs.Waits.{has_come}
-use Rattle.nova_integrity.proofs.callers.callers_came_by_right.Goals as goal
-
-pub returns : goal.returns
-returns c = has_come

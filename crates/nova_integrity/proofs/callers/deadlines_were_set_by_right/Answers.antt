@@ -1,5 +1,0 @@
-use Rattle.nova_integrity.proofs.Limits.{has_set}
-use Rattle.nova_integrity.proofs.callers.deadlines_were_set_by_right.Goals as goal
-
-pub returns : goal.returns
-returns c = has_set

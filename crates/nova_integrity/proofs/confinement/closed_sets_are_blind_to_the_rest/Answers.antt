@@ -1,9 +1,0 @@
-use Rattle.nova_integrity.specs.Confined.{Of}
-use Rattle.nova_integrity.proofs.Confined.{turn_blind, turns_blind}
-use Rattle.nova_integrity.proofs.confinement.closed_sets_are_blind_to_the_rest.Goals as goal
-
-pub returns-clause-turn : goal.returns-clause-turn
-returns-clause-turn c s before turns S T = turn_blind s before turns (Of S) (Of T)
-
-pub returns-clause-turns : goal.returns-clause-turns
-returns-clause-turns c s before turns S T = turns_blind s before turns (Of S) (Of T)

@@ -1,5 +1,0 @@
-use Rattle.nova_integrity.proofs.Unwritten.{unwritten_stays}
-use Rattle.nova_integrity.proofs.rights.frames_that_nobody_may_write_stay.Goals as goal
-
-pub returns : goal.returns
-returns c = unwritten_stays

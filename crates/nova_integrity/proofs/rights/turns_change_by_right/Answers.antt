@@ -1,8 +1,0 @@
-use Rattle.nova_integrity.proofs.Authorised.{authorised, authorised_by}
-use Rattle.nova_integrity.proofs.rights.turns_change_by_right.Goals as goal
-
-pub returns-clause-turn : goal.returns-clause-turn
-returns-clause-turn c = authorised
-
-pub returns-clause-acting : goal.returns-clause-acting
-returns-clause-acting c = authorised_by

@@ -1,9 +1,0 @@
-use Rattle.nova_integrity.proofs.Edges.{local_edges}
-use Rattle.nova_integrity.proofs.Waits.{pays_itself}
-use Rattle.nova_integrity.proofs.running.only_handlers_are_paid_for.Goals as goal
-
-pub returns-clause-edges : goal.returns-clause-edges
-returns-clause-edges c = local_edges
-
-pub returns-clause-pays : goal.returns-clause-pays
-returns-clause-pays c = pays_itself

@@ -1,5 +1,0 @@
-use Rattle.nova_isolation.proofs.Runs.{own_is_one}
-use Rattle.nova_isolation.proofs.a_guests_own_turn_is_its_own_alone.Goals as goal
-
-pub returns : goal.returns
-returns c = own_is_one

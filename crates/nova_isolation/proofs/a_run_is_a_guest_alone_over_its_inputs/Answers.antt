@@ -1,5 +1,0 @@
-use Rattle.nova_isolation.proofs.Runs.{run_alone}
-use Rattle.nova_isolation.proofs.a_run_is_a_guest_alone_over_its_inputs.Goals as goal
-
-pub returns : goal.returns
-returns c = run_alone

@@ -1,5 +1,0 @@
-use Rattle.nova_isolation.proofs.Runs.{turn_is_one}
-use Rattle.nova_isolation.proofs.a_turn_is_one_input_of_a_guest_alone.Goals as goal
-
-pub returns : goal.returns
-returns c = turn_is_one

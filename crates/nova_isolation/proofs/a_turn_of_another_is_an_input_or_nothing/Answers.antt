@@ -1,5 +1,0 @@
-use Rattle.nova_isolation.proofs.Runs.{other_is_one}
-use Rattle.nova_isolation.proofs.a_turn_of_another_is_an_input_or_nothing.Goals as goal
-
-pub returns : goal.returns
-returns c = other_is_one

@@ -1,5 +1,0 @@
-use Rattle.nova_isolation.proofs.Contents.{taken_as_seen}
-use Rattle.nova_isolation.proofs.what_is_taken_leaves_no_page.Goals as goal
-
-pub returns : goal.returns
-returns c = taken_as_seen

@@ -1,5 +1,0 @@
-use Rattle.nova_laws.proofs.Quanta.{left_within}
-use Rattle.nova_laws.proofs.scheduling.what_is_left_is_within_its_quantum.Goals as goal
-
-pub returns : goal.returns
-returns c = left_within

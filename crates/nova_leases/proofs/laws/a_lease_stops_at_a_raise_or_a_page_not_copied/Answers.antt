@@ -1,5 +1,0 @@
-use Rattle.nova_leases.proofs.Stops.{stops}
-use Rattle.nova_leases.proofs.laws.a_lease_stops_at_a_raise_or_a_page_not_copied.Goals as goal
-
-pub returns : goal.returns
-returns c = stops

@@ -1,5 +1,0 @@
-use Rattle.nova_leases.proofs.Unchanged.{unstirred}
-use Rattle.nova_leases.proofs.laws.equal_counts_mean_an_equal_view.Goals as goal
-
-pub returns : goal.returns
-returns c = unstirred

@@ -1,5 +1,0 @@
-use Rattle.nova_leases.proofs.Paged.{steps_advance}
-use Rattle.nova_leases.proofs.laws.steps_with_their_pages_are_turns.Goals as goal
-
-pub returns : goal.returns
-returns c = steps_advance

@@ -1,5 +1,0 @@
-use Rattle.nova_origins.proofs.Origins.{makers}
-use Rattle.nova_origins.proofs.a_first_range_is_its_makers.Goals as goal
-
-pub returns : goal.returns
-returns c = makers

@@ -1,5 +1,0 @@
-use Rattle.nova_origins.proofs.Lives.{guests_alone}
-use Rattle.nova_origins.proofs.virtual_cpus_are_guests_alone_from_their_birth.Goals as goal
-
-pub returns : goal.returns
-returns c = guests_alone

@@ -1,0 +1,131 @@
+ghost use Rattle.std.specs.Prelude.{◌≡◌, ◌<◌, IfOk};
+ghost use Rattle.nova_delegate.specs.Parts.{IsUnderWay};
+ghost use Rattle.nova_preview.specs.Ahead.{AreOf, GivesRange};
+ghost use Rattle.nova_model.specs.Deliveries.{delegated, delivered, delivers, part_deed, parted};
+ghost use Rattle.nova_model.specs.Forest.{IsForest};
+ghost use Rattle.nova_model.specs.State.{KernelState};
+ghost use Rattle.nova_model.specs.Transfers.{job_of, next_part};
+ghost use Rattle.nova_nodes.specs.NodesStates.{IsPlaced};
+ghost use Rattle.nova_range.specs.Rights.{IsRights};
+ghost use Rattle.nova_revoke.specs.Runners.{busy_under};
+
+use nova_deeds::items::{DELEGATES, finished, flag, range_given};
+use nova_delegate::job;
+use nova_memory::Reach;
+use nova_model::{Deed, Delivery, Derivation, ItemEnd, Job, Reason, Transfer};
+use nova_revoke::Running;
+
+/// The deed of a part of a derivation: it makes a child, or is skipped.
+fn parted(job: &Job, source: &Derivation, child: Result<Derivation, Reason>) -> Deed
+    requires source { IsPlaced source.now }
+    requires child { IfOk child IsPlaced }
+    ensures deed { result ≡ parted job.now source.now child }
+    ensures order { GivesRange result }
+{
+    let cursor = source.base + (1 << source.order);
+    match child {
+        Ok(child) => Deed::Gives { child, cursor },
+        Err(reason) => Deed::Skips {
+            reason,
+            place: source.base.max(job.source),
+            cursor,
+        },
+    }
+}
+
+/// The deed of the next part of a delegation, or what ends the item.
+fn part_ahead(
+    reach: &Reach,
+    revokes: &[Running],
+    delivery: Delivery,
+    transfer: Transfer,
+    job: Job,
+) -> Deed
+    requires forest { IsForest reach.now.nodes.delegations }
+    requires item { transfer.item < 62 }
+    requires job { IsUnderWay job }
+    requires rights { IsRights job.rights }
+    ensures deed { result ≡ part_deed delivery transfer job (next_part (busy_under revokes.now reach.now.nodes.delegations.list) reach.now.nodes.delegations job) }
+    ensures order { GivesRange result }
+{
+    match reach.next_part(&job, revokes) {
+        Some((source, child)) => parted(&job, &source, child),
+        None => {
+            let children = transfer.children;
+            finished(
+                delivery,
+                transfer.item,
+                ItemEnd::Given(children),
+                range_given(job, children),
+            )
+        }
+    }
+}
+
+/// The next part of a delegation, or it is skipped as a whole.
+fn delegation_ahead(
+    reach: &Reach,
+    revokes: &[Running],
+    delivery: Delivery,
+    transfer: Transfer,
+) -> Deed
+    requires forest { IsForest reach.now.nodes.delegations }
+    requires item { transfer.item < 62 }
+    ensures deed { (k : KernelState) → AreOf k reach.now revokes.now
+        → result ≡ delegated k delivery transfer (job_of delivery.range_word delivery.second_word delivery.delegations delivery.giver delivery.receiver) }
+    ensures order { GivesRange result }
+{
+    let Delivery {
+        range_word,
+        second_word,
+        delegations,
+        giver,
+        receiver,
+        ..
+    } = delivery;
+    match job(range_word, second_word, delegations, giver, receiver) {
+        Ok(whole) => {
+            let cursor = transfer.cursor;
+            part_ahead(reach, revokes, delivery, transfer, Job { cursor, ..whole })
+        }
+        Err(skip) => finished(delivery, transfer.item, ItemEnd::Skipped(skip), 0),
+    }
+}
+
+/// The next part of an item, by its flag, or what ends it.
+fn item_ahead(reach: &Reach, revokes: &[Running], delivery: Delivery, transfer: Transfer) -> Deed
+    requires forest { IsForest reach.now.nodes.delegations }
+    requires item { transfer.item < 62 }
+    ensures deed { (k : KernelState) → AreOf k reach.now revokes.now → result ≡ delivered k delivery transfer }
+    ensures order { GivesRange result }
+{
+    if flag(delivery) == DELEGATES {
+        return delegation_ahead(reach, revokes, delivery, transfer);
+    }
+    let answer = reach.translate(
+        delivery.range_word,
+        delivery.translations,
+        delivery.giver,
+        delivery.receiver,
+    );
+    finished(delivery, transfer.item, ItemEnd::Translated(answer), answer)
+}
+
+/// The deed of one whose present item this is, while these revokes run: the next part of the item, or what
+/// ends it. One without an item rests.
+pub fn next_deed(
+    reach: &Reach,
+    revokes: &[Running],
+    transfer: Transfer,
+    delivery: Option<Delivery>,
+) -> Deed
+    requires forest { IsForest reach.now.nodes.delegations }
+    requires item { transfer.item < 62 }
+    ensures deed { (k : KernelState) → AreOf k reach.now revokes.now → result ≡ delivers k transfer delivery }
+    ensures order { GivesRange result }
+{
+    match delivery {
+        Some(delivery) => item_ahead(reach, revokes, delivery, transfer),
+        None => Deed::Rests,
+    }
+}

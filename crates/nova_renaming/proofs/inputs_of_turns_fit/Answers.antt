@@ -1,5 +1,0 @@
-use Rattle.nova_renaming.proofs.Runs.{inputs_fit}
-use Rattle.nova_renaming.proofs.inputs_of_turns_fit.Goals as goal
-
-pub returns : goal.returns
-returns c = inputs_fit

@@ -1,9 +1,0 @@
-use Rattle.nova_renaming.proofs.Orders.{walk_pairs}
-use Rattle.nova_renaming.proofs.Walking.{walk_holds}
-use Rattle.nova_renaming.proofs.one_pass_compares.Goals as goal
-
-pub returns-clause-holds : goal.returns-clause-holds
-returns-clause-holds c = walk_holds
-
-pub returns-clause-pairs : goal.returns-clause-pairs
-returns-clause-pairs c = walk_pairs

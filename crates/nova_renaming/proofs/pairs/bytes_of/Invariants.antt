@@ -1,6 +1,0 @@
-use Rattle.std.proofs.Common.{◌≡◌, ◌==◌, drop}
-use Rattle.std.specs.List.{find}
-use Rattle.nova_renaming.proofs.pairs.bytes_of.Given as goal
-
-abbrev pub invariant-loop-cell : goal.invariant-loop-cell
-invariant-loop-cell l = find (λ c. c.frame == l.frame) (drop l.cell-index l.cells) ≡ find (λ c. c.frame == l.frame) l.cells

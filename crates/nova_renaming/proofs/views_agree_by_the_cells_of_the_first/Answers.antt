@@ -1,5 +1,0 @@
-use Rattle.nova_renaming.proofs.Twins.{views_agree}
-use Rattle.nova_renaming.proofs.views_agree_by_the_cells_of_the_first.Goals as goal
-
-pub returns : goal.returns
-returns c = views_agree

@@ -1,5 +1,0 @@
-use Rattle.nova_revocation.proofs.Taking.{barred}
-use Rattle.nova_revocation.proofs.what_a_revoke_would_take_is_busy.Goals as goal
-
-pub returns : goal.returns
-returns c = barred

@@ -1,5 +1,0 @@
-use Rattle.nova_rows.proofs.Sizes.{no_more}
-use Rattle.nova_rows.proofs.deeds.deeds_that_make.Goals as goal
-
-pub returns-clause-no_more : goal.returns-clause-no_more
-returns-clause-no_more c = no_more

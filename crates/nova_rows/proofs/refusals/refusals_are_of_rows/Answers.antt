@@ -1,5 +1,0 @@
-use Rattle.nova_rows.proofs.Refusing.{refused}
-use Rattle.nova_rows.proofs.refusals.refusals_are_of_rows.Goals as goal
-
-pub returns : goal.returns
-returns c = refused

@@ -1,2 +1,0 @@
-pub mod GuestTables
-pub mod Runners

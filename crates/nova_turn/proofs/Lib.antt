@@ -1,0 +1,21 @@
+-- lemmas of crates below that `nova_kernel` cites
+pub use Rattle.nova_deeds.proofs.StirTables
+pub use Rattle.nova_memory.proofs.Laid
+pub use Rattle.nova_deeds.proofs.Booted
+pub use Rattle.nova_deeds.proofs.Bursts
+pub use Rattle.nova_deeds.proofs.Charges
+pub use Rattle.nova_deeds.proofs.Counts
+pub use Rattle.nova_deeds.proofs.Keeps
+pub use Rattle.nova_deeds.proofs.Moves
+pub use Rattle.nova_deeds.proofs.Taken
+pub mod Reached
+pub mod Beside
+pub mod Making
+pub mod Quiet
+pub mod Known
+pub mod Alone
+pub mod Foreseen
+pub mod Ongoing
+pub mod Going
+pub mod Homes
+pub mod Dues

@@ -1,0 +1,82 @@
+use Rattle.std.proofs.Common.{rules, ◌≡◌, ◌+◌, ◌∙◌, ℕ, List, length, refl, ap, sym, subst}
+use Rattle.std.specs.Prelude.{true, false, slice_get, Option, Some, None, IsSome, IfSome, is_none}
+use Rattle.nova_range.specs.declared.status.Status.TheVariants.{Success, Timeout}
+use Rattle.nova_model.specs.Deeds.{ended_wait, woken_in}
+use Rattle.nova_model.specs.Running.{revoke_of}
+use Rattle.nova_model.specs.Runs.{after}
+use Rattle.nova_model.specs.Semaphores.{Semaphores, left, semaphore, upped, woken}
+use Rattle.nova_model.specs.State.{KernelState, context_at, deadline_of}
+use Rattle.nova_model.specs.Times.{alarm_sm, deadline_sm, due_on, goes_on, next_moment, rung}
+use Rattle.nova_model.specs.Turn.{Step, answer_of, counted, expires, state_after, turn, whom_of}
+use Rattle.nova_model.specs.Choice.{Candidate}
+use Rattle.nova_model.specs.declared.event.Event.{Event}
+use Rattle.nova_model.specs.declared.event.Turn.TheVariants.{Stepped}
+use Rattle.nova_model.specs.declared.times.AlarmState.{AlarmState}
+use Rattle.nova_model.specs.declared.times.Deadline.{Deadline}
+use Rattle.nova_model.specs.declared.times.Due.TheVariants as due
+use Rattle.law_turns.specs.Keeping.{IsKept}
+use Rattle.law_turns.specs.Revoking.{revoke_in_turn}
+use Rattle.law_turns.proofs.Dues.{due_is}
+use Rattle.law_forest.specs.Effects.{Falls}
+use Rattle.law_forest.proofs.Turning.{passing_none}
+use Rattle.nova_sched.specs.Queues.{QueuesState}
+use Rattle.nova_choice.specs.Schedules.{AreQueued, AreQueuedBut}
+use Rattle.nova_choice.proofs.Choosing.{turn_due}
+use Rattle.nova_deeds.specs.Counted.{IsCounted}
+use Rattle.nova_deeds.specs.Passing.{fallen, home_of}
+use Rattle.nova_deeds.proofs.Bounds.{there-set}
+use Rattle.nova_deeds.proofs.Keeps.{KeepsCounts-self}
+use Rattle.nova_deeds.proofs.Passing.{IsCounted-counted, after_due, fallen_delegations, fallen_keeps, fallen_long, queued_expired, queued_woken, whom_there}
+use Rattle.nova_turn.specs.Parts.{state_of}
+use Rattle.nova_turn.proofs.Dues.{late_there, still_runs, still_woken, tick_turn}
+use Rattle.nova_turn.proofs.parts.Parts.come_due.Goals as goal
+
+pub returns-clause-answer : goal.returns-clause-answer
+returns-clause-answer c =
+    let k : KernelState = state_of c.args.self.now in
+    let cpu = c.args.cpu in
+    let what = c.in-Some.what in
+    let is : due_on k.times cpu ≡ Some what = sym c.due.ensures ∙ c.in-Some.is in
+    let shown : state_of c.count.new.self ≡ counted (fallen k what) cpu = c.count.ensures.counted ∙ ap (λ (s : KernelState). counted s cpu) c.fall-event.ensures.state in
+    ap Stepped c.fall-event.ensures.event ∙ sym (ap answer_of (turn_due k cpu what is))
+
+pub returns-clause-state : goal.returns-clause-state
+returns-clause-state c =
+    let k : KernelState = state_of c.args.self.now in
+    let cpu = c.args.cpu in
+    let what = c.in-Some.what in
+    let is : due_on k.times cpu ≡ Some what = sym c.due.ensures ∙ c.in-Some.is in
+    let shown : state_of c.count.new.self ≡ counted (fallen k what) cpu = c.count.ensures.counted ∙ ap (λ (s : KernelState). counted s cpu) c.fall-event.ensures.state in
+    shown ∙ sym (after_due k cpu what is)
+
+pub returns-clause-counted : goal.returns-clause-counted
+returns-clause-counted c =
+    let k : KernelState = state_of c.args.self.now in
+    let cpu = c.args.cpu in
+    let what = c.in-Some.what in
+    let is : due_on k.times cpu ≡ Some what = sym c.due.ensures ∙ c.in-Some.is in
+    let shown : state_of c.count.new.self ≡ counted (fallen k what) cpu = c.count.ensures.counted ∙ ap (λ (s : KernelState). counted s cpu) c.fall-event.ensures.state in
+    let keeps : IsKept (counted (fallen k what) cpu) = subst IsKept (after_due k cpu what is) (c.turns_keep_what_they_find.ensures.turns k cpu c.requires.counted.kept) in
+    subst IsCounted (sym shown) (IsCounted-counted k (fallen k what) cpu (fallen_keeps k what) (fallen_delegations k what) c.requires.turns keeps c.requires.counted)
+
+pub returns-clause-running : goal.returns-clause-running
+returns-clause-running c =
+    let k : KernelState = state_of c.args.self.now in
+    let cpu = c.args.cpu in
+    let what = c.in-Some.what in
+    let is : due_on k.times cpu ≡ Some what = sym c.due.ensures ∙ c.in-Some.is in
+    let shown : state_of c.count.new.self ≡ counted (fallen k what) cpu = c.count.ensures.counted ∙ ap (λ (s : KernelState). counted s cpu) c.fall-event.ensures.state in
+    still_runs k (state_of c.count.new.self) c.args.self.now.revokes c.count.new.self.revokes c.requires.running
+    (ap (λ (s : KernelState). length s.contexts) shown ∙ fallen_long k what)
+    (λ e. ap (λ (s : KernelState). revoke_of s e) (shown ∙ sym (after_due k cpu what is)) ∙ c.running_revokes_are_their_runners.ensures.turns k cpu c.requires.counted.kept e
+    ∙ ap (λ (o : Option Candidate). revoke_in_turn k o e) (passing_none k cpu (Falls what) is))
+    (c.count.ensures.revokes ∙ c.fall-event.ensures.revokes)
+
+pub returns-clause-turns : goal.returns-clause-turns
+returns-clause-turns c =
+    let k : KernelState = state_of c.args.self.now in
+    let cpu = c.args.cpu in
+    let what = c.in-Some.what in
+    let is : due_on k.times cpu ≡ Some what = sym c.due.ensures ∙ c.in-Some.is in
+    let shown : state_of c.count.new.self ≡ counted (fallen k what) cpu = c.count.ensures.counted ∙ ap (λ (s : KernelState). counted s cpu) c.fall-event.ensures.state in
+    ap (λ (s : KernelState). s.turns) shown ∙ ap (λ (n : ℕ). n + 1) (fallen_keeps k what).turns

@@ -1,0 +1,35 @@
+use Rattle.std.proofs.Common.{rules, refl, arith, ◌≡◌, ◌∙◌, ap}
+use Rattle.rv_model.specs.Step.{one}
+use Rattle.rv_core.specs.Steps.{space_of}
+use Rattle.nova_ec.specs.Tables.{EcTable}
+use Rattle.nova_memory.specs.Reach.{fetched, loaded, takes}
+use Rattle.nova_turn.specs.Beside.{with_regs}
+use Rattle.nova_turn.specs.Parts.{state_of}
+use Rattle.nova_turn.proofs.Beside.{beside-there, raised-room, still-entered}
+use Rattle.nova_turn.proofs.Reached.{reaching}
+use Rattle.nova_turn.proofs.parts.Parts.execute_beside.Goals as goal
+
+pub returns-clause-outcome : goal.returns-clause-outcome
+returns-clause-outcome c =
+    (beside-there (state_of c.args.self.now) c.args.ec c.args.self.now.reach c.step_beside.new.bus c.args.regs.now c.step_beside.new.regs c.step_beside.result c.requires.there
+    (record { delegations = refl; memory = refl; messages = refl; consoles = refl; number = c.requires.entered.number; pd = c.requires.entered.pd; is_thread = c.requires.entered.is_thread })
+    c.step_beside.ensures.follows).0
+
+pub returns-clause-done : goal.returns-clause-done
+returns-clause-done c =
+    ap (λ (t : EcTable). with_regs (reaching (state_of c.args.self.now) c.step_beside.new.bus t.items) c.args.ec c.step_beside.new.regs) c.step_beside.ensures.kept
+    ∙ (beside-there (state_of c.args.self.now) c.args.ec c.args.self.now.reach c.step_beside.new.bus c.args.regs.now c.step_beside.new.regs c.step_beside.result c.requires.there
+    (record { delegations = refl; memory = refl; messages = refl; consoles = refl; number = c.requires.entered.number; pd = c.requires.entered.pd; is_thread = c.requires.entered.is_thread })
+    c.step_beside.ensures.follows).1
+
+pub returns-clause-entered : goal.returns-clause-entered
+returns-clause-entered c =
+    let still = still-entered c.args.self.now.reach c.step_beside.new.bus c.args.regs.now c.step_beside.new.regs c.step_beside.result (one c.args.regs.now (space_of fetched loaded takes c.args.self.now.reach)) c.step_beside.ensures.follows in record {
+      number = still.0 ∙ c.requires.entered.number;
+      pd = still.1 ∙ c.requires.entered.pd;
+      is_thread = still.2 ∙ c.requires.entered.is_thread;
+    }
+
+pub returns-clause-raised : goal.returns-clause-raised
+returns-clause-raised c =
+    raised-room c.args.self.now.reach c.step_beside.new.bus c.args.regs.now c.step_beside.new.regs c.step_beside.result (one c.args.regs.now (space_of fetched loaded takes c.args.self.now.reach)) c.step_beside.ensures.follows

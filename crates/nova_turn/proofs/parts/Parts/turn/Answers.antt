@@ -1,0 +1,164 @@
+use Rattle.std.proofs.Common.{◌≡◌, length, rules, ap, subst, sym, ◌∙◌}
+use Rattle.std.specs.Prelude.{None, Some, IfOk, OnOk, OnErr, IsSome, option_map}
+use Rattle.nova_model.specs.State.{KernelState, context_at}
+use Rattle.nova_model.specs.Turn.{answer_of, charged, state_after, turn}
+use Rattle.nova_turn.specs.Parts.{state_of}
+use Rattle.nova_turn.specs.Revoking.{AreRunning}
+use Rattle.nova_turn.specs.Views.{IsMaking}
+use Rattle.nova_model.specs.Choice.{choice}
+use Rattle.nova_choice.specs.Choices.{chosen_of}
+use Rattle.nova_deeds.specs.Counted.{IsCounted, IsToBeCharged}
+use Rattle.nova_choice.specs.Schedules.{AreQueued}
+use Rattle.nova_deeds.specs.Stirs.{is_stirring, risen_in}
+use Rattle.nova_sched.specs.Queues.{QueuesState, queued_at}
+use Rattle.nova_choice.proofs.Budgets.{still_queued}
+use Rattle.nova_deeds.proofs.Charges.{queued_risen}
+use Rattle.nova_deeds.proofs.Counts.{IsCharged-kept, IsCharged-risen}
+use Rattle.nova_turn.specs.Going.{HasRaised, Stays, WentOn}
+use Rattle.nova_model.specs.declared.deed.Deed.TheVariants.{Steps}
+use Rattle.nova_model.specs.Times.{due_on}
+use Rattle.nova_turn.proofs.Dues.{none_due_at}
+use Rattle.nova_turn.proofs.Homes.{still_counted}
+use Rattle.nova_turn.proofs.Ongoing.{settled_runs}
+use Rattle.nova_deeds.proofs.Taken.{IsSettled, settled_counts, settled_state, told_acts}
+use Rattle.nova_turn.proofs.parts.Parts.turn.Goals as goal
+
+pub go_on-requires-clause-acts : goal.go_on-requires-clause-acts
+go_on-requires-clause-acts c = told_acts (state_of c.args.self.now) c.args.cpu c.in-Some.chosen (sym c.in-Some.is ∙ c.choice.ensures.choice)
+
+pub note_step-requires-clause-charged : goal.note_step-requires-clause-charged
+note_step-requires-clause-charged c =
+    let went : WentOn c.args.self.now c.go_on.new.self c.in-Some.chosen.actor = c.go_on.ensures.went c.in-Next.is in
+    IsCharged-kept (state_of c.args.self.now) (state_of c.go_on.new.self) went.kept c.requires.counted.charged
+
+pub note_step-requires-clause-counted : goal.note_step-requires-clause-counted
+note_step-requires-clause-counted c =
+    let went : WentOn c.args.self.now c.go_on.new.self c.in-Some.chosen.actor = c.go_on.ensures.went c.in-Next.is in
+    still_counted (state_of c.args.self.now) (state_of c.go_on.new.self) c.in-Some.chosen.actor Steps went.does c.requires.counted.kept.tables.guests
+
+pub charge-requires-clause-charged : goal.charge-requires-clause-charged
+charge-requires-clause-charged c =
+    let went : WentOn c.args.self.now c.go_on.new.self c.in-Some.chosen.actor = c.go_on.ensures.went c.in-Next.is in
+    let mid : KernelState = state_of c.go_on.new.self in
+    subst IsToBeCharged (sym c.note_step.ensures.shown)
+    (IsCharged-risen mid _ (IsCharged-kept (state_of c.args.self.now) mid went.kept c.requires.counted.charged))
+
+pub charge-requires-clause-queued : goal.charge-requires-clause-queued
+charge-requires-clause-queued c =
+    let went : WentOn c.args.self.now c.go_on.new.self c.in-Some.chosen.actor = c.go_on.ensures.went c.in-Next.is in
+    let mid : KernelState = state_of c.go_on.new.self in
+    let rises = is_stirring mid c.go_on.new.self.reach.written c.in-Some.chosen.actor Steps in
+    subst (λ (s : KernelState). AreQueued s c.note_step.new.self.queues.all) (sym c.note_step.ensures.shown)
+    (subst (λ (q : QueuesState). AreQueued (risen_in mid rises) q.all) (sym c.note_step.ensures.queues)
+    (queued_risen mid rises c.go_on.new.self.queues.all went.queued))
+
+pub charge-requires-clause-there : goal.charge-requires-clause-there
+charge-requires-clause-there c =
+    let went : WentOn c.args.self.now c.go_on.new.self c.in-Some.chosen.actor = c.go_on.ensures.went c.in-Next.is in
+    let p = c.args.self.now in
+    let there : IsSome (queued_at p.queues.all c.in-Some.chosen.sc) = search rules in
+    subst (λ (q : QueuesState). IsSome (queued_at q.all c.in-Some.chosen.sc)) (sym c.note_step.ensures.queues)
+    (still_queued p.queues.all c.go_on.new.self.queues.all (length p.objects.items) (length c.go_on.new.self.objects.items) c.in-Some.chosen.sc there
+    (went.kept.budgets c.in-Some.chosen.sc))
+
+pub returns-in-Next-clause-state : goal.returns-in-Next-clause-state
+returns-in-Next-clause-state c =
+    let went : WentOn c.args.self.now c.go_on.new.self c.in-Some.chosen.actor = c.go_on.ensures.went c.in-Next.is in
+    let k : KernelState = state_of c.args.self.now in
+    let settled : IsSettled k (state_of c.go_on.new.self) (state_of c.charge.new.self) c.args.cpu c.in-Some.chosen Steps c.go_on.new.self.reach.written = record {
+      none_due = none_due_at (due_on k.times c.args.cpu) (sym c.is_due.ensures ∙ c.if-is_due.false);
+      told = sym c.in-Some.is ∙ c.choice.ensures.choice;
+      decided = went.decided;
+      does = went.does;
+      wrote = λ _. went.wrote;
+      settled = c.charge.ensures.charged ∙ ap (λ (s : KernelState). charged s c.args.cpu c.in-Some.chosen.sc) c.note_step.ensures.shown;
+    } in
+    settled_state k (state_of c.go_on.new.self) (state_of c.charge.new.self) c.args.cpu c.in-Some.chosen Steps c.go_on.new.self.reach.written settled
+
+pub returns-in-Next-clause-counted : goal.returns-in-Next-clause-counted
+returns-in-Next-clause-counted c =
+    let went : WentOn c.args.self.now c.go_on.new.self c.in-Some.chosen.actor = c.go_on.ensures.went c.in-Next.is in
+    let k : KernelState = state_of c.args.self.now in
+    let settled : IsSettled k (state_of c.go_on.new.self) (state_of c.charge.new.self) c.args.cpu c.in-Some.chosen Steps c.go_on.new.self.reach.written = record {
+      none_due = none_due_at (due_on k.times c.args.cpu) (sym c.is_due.ensures ∙ c.if-is_due.false);
+      told = sym c.in-Some.is ∙ c.choice.ensures.choice;
+      decided = went.decided;
+      does = went.does;
+      wrote = λ _. went.wrote;
+      settled = c.charge.ensures.charged ∙ ap (λ (s : KernelState). charged s c.args.cpu c.in-Some.chosen.sc) c.note_step.ensures.shown;
+    } in
+    settled_counts k (state_of c.go_on.new.self) (state_of c.charge.new.self) c.args.cpu c.in-Some.chosen Steps c.go_on.new.self.reach.written settled
+    went.kept c.requires.turns (c.turns_keep_what_they_find.ensures.turns k c.args.cpu c.requires.counted.kept) c.requires.counted
+
+pub returns-in-Next-clause-running : goal.returns-in-Next-clause-running
+returns-in-Next-clause-running c =
+    let went : WentOn c.args.self.now c.go_on.new.self c.in-Some.chosen.actor = c.go_on.ensures.went c.in-Next.is in
+    let mid : KernelState = state_of c.go_on.new.self in
+    settled_runs mid (state_of c.note_step.new.self) (state_of c.charge.new.self)
+    (is_stirring mid c.go_on.new.self.reach.written c.in-Some.chosen.actor Steps) c.args.cpu c.in-Some.chosen.sc c.go_on.new.self.revokes
+    c.note_step.new.self.revokes c.charge.new.self.revokes went.running c.note_step.ensures.shown c.note_step.ensures.revokes
+    c.charge.ensures.charged c.charge.ensures.revokes
+
+pub settle-requires-clause-counted : goal.settle-requires-clause-counted
+settle-requires-clause-counted c =
+    let stays : Stays c.args.self.now c.go_on.new.self c.in-Some.chosen.actor c.in-Raise.reason c.in-Raise.q0 c.in-Raise.q1 = c.go_on.ensures.raised c.in-Raise.reason c.in-Raise.q0 c.in-Raise.q1 c.in-Raise.is in
+    let same = stays.state in
+    subst (λ (s : KernelState). IsCounted s) (sym same) c.requires.counted
+
+pub settle-requires-clause-queued : goal.settle-requires-clause-queued
+settle-requires-clause-queued c =
+    let stays : Stays c.args.self.now c.go_on.new.self c.in-Some.chosen.actor c.in-Raise.reason c.in-Raise.q0 c.in-Raise.q1 = c.go_on.ensures.raised c.in-Raise.reason c.in-Raise.q0 c.in-Raise.q1 c.in-Raise.is in
+    let same = stays.state in
+    subst (λ (s : KernelState). AreQueued s c.go_on.new.self.queues.all) (sym same) (subst (λ (q : QueuesState). AreQueued (state_of c.args.self.now) q.all) (sym c.go_on.ensures.queues) c.requires.queued)
+
+pub settle-requires-clause-running : goal.settle-requires-clause-running
+settle-requires-clause-running c =
+    let stays : Stays c.args.self.now c.go_on.new.self c.in-Some.chosen.actor c.in-Raise.reason c.in-Raise.q0 c.in-Raise.q1 = c.go_on.ensures.raised c.in-Raise.reason c.in-Raise.q0 c.in-Raise.q1 c.in-Raise.is in
+    let same = stays.state in
+    subst (λ (s : KernelState). AreRunning s c.go_on.new.self.revokes) (sym same) (subst (AreRunning (state_of c.args.self.now)) (sym c.go_on.ensures.revokes) c.requires.running)
+
+pub settle-requires-clause-none_due : goal.settle-requires-clause-none_due
+settle-requires-clause-none_due c =
+    let stays : Stays c.args.self.now c.go_on.new.self c.in-Some.chosen.actor c.in-Raise.reason c.in-Raise.q0 c.in-Raise.q1 = c.go_on.ensures.raised c.in-Raise.reason c.in-Raise.q0 c.in-Raise.q1 c.in-Raise.is in
+    let same = stays.state in
+    subst (λ (s : KernelState). due_on s.times c.args.cpu ≡ None) (sym same) (none_due_at (due_on (state_of c.args.self.now).times c.args.cpu) (sym c.is_due.ensures ∙ c.if-is_due.false))
+
+pub settle-requires-clause-told : goal.settle-requires-clause-told
+settle-requires-clause-told c =
+    let stays : Stays c.args.self.now c.go_on.new.self c.in-Some.chosen.actor c.in-Raise.reason c.in-Raise.q0 c.in-Raise.q1 = c.go_on.ensures.raised c.in-Raise.reason c.in-Raise.q0 c.in-Raise.q1 c.in-Raise.is in
+    let same = stays.state in
+    subst (λ (s : KernelState). Some c.in-Some.chosen ≡ option_map chosen_of (choice s c.args.cpu)) (sym same) (sym c.in-Some.is ∙ c.choice.ensures.choice)
+
+pub settle-requires-clause-there : goal.settle-requires-clause-there
+settle-requires-clause-there c =
+    let stays : Stays c.args.self.now c.go_on.new.self c.in-Some.chosen.actor c.in-Raise.reason c.in-Raise.q0 c.in-Raise.q1 = c.go_on.ensures.raised c.in-Raise.reason c.in-Raise.q0 c.in-Raise.q1 c.in-Raise.is in
+    let same = stays.state in
+    subst (λ (s : KernelState). IsSome (context_at s c.in-Some.chosen.actor)) (sym same) (search rules)
+
+pub settle-requires-clause-pays : goal.settle-requires-clause-pays
+settle-requires-clause-pays c =
+    let there : IsSome (queued_at c.args.self.now.queues.all c.in-Some.chosen.sc) = search rules in
+    subst (λ (q : QueuesState). IsSome (queued_at q.all c.in-Some.chosen.sc)) (sym c.go_on.ensures.queues) there
+
+pub returns-in-Raise-clause-answer : goal.returns-in-Raise-clause-answer
+returns-in-Raise-clause-answer c =
+    let stays : Stays c.args.self.now c.go_on.new.self c.in-Some.chosen.actor c.in-Raise.reason c.in-Raise.q0 c.in-Raise.q1 = c.go_on.ensures.raised c.in-Raise.reason c.in-Raise.q0 c.in-Raise.q1 c.in-Raise.is in
+    let same = stays.state in
+    subst (λ (s : KernelState). IfOk c.settle.result (λ t. t ≡ answer_of (turn s c.args.cpu))) same c.settle.ensures.answer
+
+pub returns-in-Raise-clause-state : goal.returns-in-Raise-clause-state
+returns-in-Raise-clause-state c =
+    let stays : Stays c.args.self.now c.go_on.new.self c.in-Some.chosen.actor c.in-Raise.reason c.in-Raise.q0 c.in-Raise.q1 = c.go_on.ensures.raised c.in-Raise.reason c.in-Raise.q0 c.in-Raise.q1 c.in-Raise.is in
+    let same = stays.state in
+    subst (λ (s : KernelState). OnOk c.settle.result (state_of c.settle.new.self ≡ state_after s (turn s c.args.cpu))) same c.settle.ensures.state
+
+pub returns-in-Raise-clause-making : goal.returns-in-Raise-clause-making
+returns-in-Raise-clause-making c =
+    let stays : Stays c.args.self.now c.go_on.new.self c.in-Some.chosen.actor c.in-Raise.reason c.in-Raise.q0 c.in-Raise.q1 = c.go_on.ensures.raised c.in-Raise.reason c.in-Raise.q0 c.in-Raise.q1 c.in-Raise.is in
+    let same = stays.state in
+    subst (λ (s : KernelState). OnErr c.settle.result (IsMaking s c.args.cpu)) same c.settle.ensures.making
+
+pub settle-requires-clause-raised : goal.settle-requires-clause-raised
+settle-requires-clause-raised c =
+    let stays : Stays c.args.self.now c.go_on.new.self c.in-Some.chosen.actor c.in-Raise.reason c.in-Raise.q0 c.in-Raise.q1 = c.go_on.ensures.raised c.in-Raise.reason c.in-Raise.q0 c.in-Raise.q1 c.in-Raise.is in
+    subst (λ (s : KernelState). HasRaised s c.in-Some.chosen.actor c.in-Raise.reason c.in-Raise.q0 c.in-Raise.q1) (sym stays.state) stays.raised

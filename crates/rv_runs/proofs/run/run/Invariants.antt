@@ -1,7 +1,0 @@
-use Rattle.std.proofs.Common.{◌≡◌, ◌-◌}
-use Rattle.rv_runs.specs.Run.{run}
-use Rattle.rv_runs.proofs.run.run.Given as goal
-
--- what is left of the run ends as the whole run does
-abbrev pub invariant-loop-step : goal.invariant-loop-step
-invariant-loop-step l = run (l.steps - l._step) l.regs l.memory ≡ run l.steps l.fn.regs l.fn.memory
