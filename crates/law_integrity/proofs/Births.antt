@@ -1,13 +1,14 @@
 -- Objects are made exactly as they are asked for.
-use Rattle.std.proofs.Common.{◌≡◌, ◌<◌, ◌≤◌, ℕ, zero, suc, ◌-◌, ◌/◌, ◌%◌, ◌^◌, List, [], ◌∷◌, refl, sym, ap, subst, arith}
+use Rattle.std.proofs.Common.{◌≡◌, ◌<◌, ◌≤◌, ℕ, ◌-◌, ◌/◌, ◌%◌, ◌^◌, refl, sym, ap, subst, arith}
 use Rattle.std.specs.Prelude.{Bool, true, false, not, nat_lt, nat_le, ◌&&◌, if◌then◌else◌, IfSome, option_map, slice_get, Option, Some, None, Result, Ok, Err}
 use Rattle.std.proofs.lemmas.Bool.Decides.{nat_tests}
 use Rattle.rv_model.specs.Registers.{Registers, reg}
-use Rattle.nova_calls.specs.Hypercalls.{call_of, call_row, create_ec_row, create_pd_row, create_pt_row, create_sc_row, create_sm_row, ec_ctrl_row, is_selector, kind_of, lookup_row, pt_ctrl_row, read_row, readable, revoke_row, rows, sc_ctrl_row, sm_ctrl_row}
+use Rattle.nova_calls.specs.Hypercalls.{call_of, create_ec_row, create_pd_row, create_pt_row, create_sc_row, create_sm_row, is_selector, kind_of, readable, rows}
+use Rattle.nova_calls.specs.Numbers.{number_of}
 use Rattle.nova_calls.specs.declared.call.Call.{Call}
 use Rattle.nova_calls.specs.declared.call.Call.TheVariants as asks
 use Rattle.nova_calls.specs.declared.numbers.TheConstants.{CREATE_EC, CREATE_PD, CREATE_PT, CREATE_SC, CREATE_SM}
-use Rattle.nova_calls.proofs.Numbered.{read_numbered}
+use Rattle.nova_calls.proofs.Numbered.{holds_by_row, read_in_row, read_numbered}
 use Rattle.nova_objects.specs.declared.object.EcKind.{EcKind}
 use Rattle.nova_range.specs.RangeWords.{meaning_of}
 use Rattle.nova_range.specs.declared.mtd.Mtd.{Mtd}
@@ -75,34 +76,16 @@ sc_reads r = grind (arith, nat_tests)
 sm_reads : (r : Registers) → IfSome (create_sm_row r) (Reads r)
 sm_reads r = grind (arith, nat_tests)
 
-others_read : (r : Registers) → IfSome (call_row r) (Reads r) × IfSome (revoke_row r) (Reads r) × IfSome (lookup_row r) (Reads r) × IfSome (ec_ctrl_row r) (Reads r) × IfSome (sc_ctrl_row r) (Reads r)
-    × IfSome (pt_ctrl_row r) (Reads r) × IfSome (sm_ctrl_row r) (Reads r)
-others_read r = (
-  grind (arith, nat_tests),
-  grind (arith, nat_tests),
-  grind (arith, nat_tests),
-  grind (arith, nat_tests),
-  grind (arith, nat_tests),
-  grind (arith, nat_tests),
-  grind (arith, nat_tests),
-)
-
-abbrev AllRead : Registers → List (Option Call) → Type 0
-AllRead r [] = Unit {0}
-AllRead r (row ∷ rows) = IfSome row (Reads r) × AllRead r rows
-
-found : (r : Registers) (rows : List (Option Call)) → AllRead r rows → (n : ℕ) (c : Call) → read_row (slice_get rows n) ≡ Ok c → Reads r c
-found r [] all n c is = absurd (cc)
-found r (Some asked ∷ rows) all zero c is = let same : asked ≡ c = cc in subst (Reads r) same all.0
-found r (None ∷ rows) all zero c is = absurd (cc)
-found r (row ∷ rows) all (suc n) c is = found r rows all.1 n c is
-
 call_reads : (r : Registers) (c : Call) → call_of r ≡ Ok c → Reads r c
-unfolding call_of
-call_reads r c is =
-    let o = others_read r in
-    found r (rows r)
-    (o.0, (tt, (pd_reads r, (ec_reads r, (sc_reads r, (pt_reads r, (sm_reads r, (o.1, (o.2, (o.3, (o.4, (o.5, (o.6, tt))))))))))))) (reg r 17) c is
+call_reads r c is = by_call c (read_in_row r c is)
+  where
+    by_call : (c : Call) → slice_get (rows r) (number_of c) ≡ Some (Some c) → Reads r c
+    by_call (asks.CreatePd target pd first) at = holds_by_row (Reads r) (create_pd_row r) _ at (pd_reads r)
+    by_call (asks.CreateEc target pd cpu kind sp event) at = holds_by_row (Reads r) (create_ec_row r) _ at (ec_reads r)
+    by_call (asks.CreateSc target pd ec quantum priority) at = holds_by_row (Reads r) (create_sc_row r) _ at (sc_reads r)
+    by_call (asks.CreatePt target pd ec mtd ip) at = holds_by_row (Reads r) (create_pt_row r) _ at (pt_reads r)
+    by_call (asks.CreateSm target pd count) at = holds_by_row (Reads r) (create_sm_row r) _ at (sm_reads r)
+    by_call other at = tt
 
 -- WHAT IS MADE WAS ASKED FOR
 

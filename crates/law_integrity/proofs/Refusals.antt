@@ -136,12 +136,11 @@ row_undone k ec domain (asks.CreatePt target pd handler mtd ip) =
     makes_undone k domain CREATE_PT target pd _
     (λ owner. then_undone (named k domain is_local bind_portal_right handler) _ (named_undone k domain is_local bind_portal_right handler) (λ n. tt))
 row_undone k ec domain (asks.CreateSm target pd count) = makes_undone k domain CREATE_SM target pd (λ owner. Ok (new.Sm count)) (λ owner. tt)
-row_undone k ec domain (asks.Revoke range own) = tt
-row_undone k ec domain (asks.Lookup range) = tt
 row_undone k ec domain (asks.EcCtrl whose) = then_undone (named k domain is_ec control_right whose) _ (named_undone k domain is_ec control_right whose) (λ n. tt)
 row_undone k ec domain (asks.ScCtrl sc) = then_undone (named k domain is_sc control_right sc) _ (named_undone k domain is_sc control_right sc) (λ n. tt)
 row_undone k ec domain (asks.PtCtrl pt identifier) = then_undone (named k domain is_pt control_right pt) _ (named_undone k domain is_pt control_right pt) (λ n. tt)
 row_undone k ec domain (asks.SmCtrl sm action) = sm_undone k ec domain sm action
+row_undone k ec domain other = tt
 
 read_undone : (o : Option (Option Call)) → IsUndone (read_row o)
 read_undone (Some (Some c)) = tt

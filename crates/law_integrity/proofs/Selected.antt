@@ -1,13 +1,15 @@
 -- The selector in x10 of a call, and what it names.
-use Rattle.std.proofs.Common.{◌≡◌, ◌<◌, ℕ, zero, suc, ◌^◌, List, [], ◌∷◌, slice_get, Option, Some, None, Ok, IfSome, subst, refl, sym, arith}
+use Rattle.std.proofs.Common.{◌≡◌, ◌<◌, ℕ, ◌^◌, slice_get, Option, Some, None, Ok, IfSome, subst, refl, sym, arith}
 use Rattle.std.specs.Prelude.{Bool, true, option_map}
 use Rattle.std.proofs.lemmas.Bool.Decides.{nat_tests}
 use Rattle.rv_model.specs.Registers.{Registers, reg}
-use Rattle.nova_calls.specs.Hypercalls.{create_pd_row, create_ec_row, create_sc_row, create_pt_row, create_sm_row, call_row, reply_row, revoke_row, lookup_row, ec_ctrl_row, sc_ctrl_row, pt_ctrl_row, sm_ctrl_row, rows, read_row, call_of}
+use Rattle.nova_calls.specs.Hypercalls.{call_row, ec_ctrl_row, sc_ctrl_row, pt_ctrl_row, sm_ctrl_row, rows, call_of}
+use Rattle.nova_calls.specs.Numbers.{number_of}
 use Rattle.nova_calls.specs.declared.call.Call.{Call}
 use Rattle.nova_calls.specs.declared.call.Call.TheVariants as call
 use Rattle.nova_calls.specs.declared.call.SmAction.{SmAction}
 use Rattle.nova_calls.specs.declared.call.SmAction.TheVariants as act
+use Rattle.nova_calls.proofs.Numbered.{holds_by_row, read_in_row}
 use Rattle.nova_objects.specs.declared.object.Object.{Object}
 use Rattle.nova_objects.specs.declared.object.Object.TheVariants.{Pd, Ec, Sc, Pt, Sm}
 use Rattle.nova_model.specs.Capabilities.{is_pt, named}
@@ -42,30 +44,6 @@ Row r row = IfSome row (Selects r)
 call_selects : (r : Registers) → Row r (call_row r)
 call_selects r = grind (arith, nat_tests)
 
-reply_selects : (r : Registers) → Row r (reply_row r)
-reply_selects r = tt
-
-create_pd_selects : (r : Registers) → Row r (create_pd_row r)
-create_pd_selects r = grind (arith, nat_tests)
-
-create_ec_selects : (r : Registers) → Row r (create_ec_row r)
-create_ec_selects r = grind (arith, nat_tests)
-
-create_sc_selects : (r : Registers) → Row r (create_sc_row r)
-create_sc_selects r = grind (arith, nat_tests)
-
-create_pt_selects : (r : Registers) → Row r (create_pt_row r)
-create_pt_selects r = grind (arith, nat_tests)
-
-create_sm_selects : (r : Registers) → Row r (create_sm_row r)
-create_sm_selects r = grind (arith, nat_tests)
-
-revoke_selects : (r : Registers) → Row r (revoke_row r)
-revoke_selects r = grind (arith, nat_tests)
-
-lookup_selects : (r : Registers) → Row r (lookup_row r)
-lookup_selects r = grind (arith, nat_tests)
-
 ec_ctrl_selects : (r : Registers) → Row r (ec_ctrl_row r)
 ec_ctrl_selects r = grind (arith, nat_tests)
 
@@ -78,41 +56,16 @@ pt_ctrl_selects r = grind (arith, nat_tests)
 sm_ctrl_selects : (r : Registers) → Row r (sm_ctrl_row r)
 sm_ctrl_selects r = grind (arith, nat_tests)
 
-abbrev AllSelect : Registers → List (Option Call) → Type 0
-AllSelect r [] = Unit {0}
-AllSelect r (row ∷ rows) = Row r row × AllSelect r rows
-
-found : (r : Registers) (rows : List (Option Call)) → AllSelect r rows → (n : ℕ) (c : Call) → read_row (slice_get rows n) ≡ Ok c → Selects r c
-found r [] all n c is = absurd (cc)
-found r (Some asked ∷ rows) all zero c is = let same : asked ≡ c = cc in subst (Selects r) same all.0
-found r (None ∷ rows) all zero c is = absurd (cc)
-found r (row ∷ rows) all (suc n) c is = found r rows all.1 n c is
-
 pub call_selected : (r : Registers) (c : Call) → call_of r ≡ Ok c → Selects r c
-unfolding call_of
-call_selected r c is =
-    found r (rows r) (
-      call_selects r,
-      (
-        reply_selects r,
-        (
-          create_pd_selects r,
-          (
-            create_ec_selects r,
-            (
-              create_sc_selects r,
-              (
-                create_pt_selects r,
-                (
-                  create_sm_selects r,
-                  (revoke_selects r, (lookup_selects r, (ec_ctrl_selects r, (sc_ctrl_selects r, (pt_ctrl_selects r, (sm_ctrl_selects r, tt)))))),
-                ),
-              ),
-            ),
-          ),
-        ),
-      ),
-    ) (reg r 17) c is
+call_selected r c is = by_call c (read_in_row r c is)
+  where
+    by_call : (c : Call) → slice_get (rows r) (number_of c) ≡ Some (Some c) → Selects r c
+    by_call (call.Call portal flag) at = holds_by_row (Selects r) (call_row r) _ at (call_selects r)
+    by_call (call.EcCtrl ec) at = holds_by_row (Selects r) (ec_ctrl_row r) _ at (ec_ctrl_selects r)
+    by_call (call.ScCtrl sc) at = holds_by_row (Selects r) (sc_ctrl_row r) _ at (sc_ctrl_selects r)
+    by_call (call.PtCtrl pt identifier) at = holds_by_row (Selects r) (pt_ctrl_row r) _ at (pt_ctrl_selects r)
+    by_call (call.SmCtrl sm action) at = holds_by_row (Selects r) (sm_ctrl_row r) _ at (sm_ctrl_selects r)
+    by_call other at = tt
 
 -- what it names
 pub names : (k : KernelState) (ec call selector right n : ℕ) (is : Object → Bool) → call ≡ reg (context k ec).regs 17 → (selector ≡ reg (context k ec).regs 10) × (selector < 2 ^ 20) →

@@ -140,13 +140,12 @@ row_holds k ec g sound is asking (asks.CreateEc target pd cpu kind sp event) = m
 row_holds k ec g sound is asking (asks.CreateSc target pd whose quantum priority) = makes_holds k g (pd_of k ec) _ target pd _
 row_holds k ec g sound is asking (asks.CreatePt target pd handler mtd ip) = makes_holds k g (pd_of k ec) _ target pd _
 row_holds k ec g sound is asking (asks.CreateSm target pd count) = makes_holds k g (pd_of k ec) CREATE_SM target pd (λ owner. Ok (new.Sm count))
-row_holds k ec g sound is asking (asks.Revoke range own) = tt
-row_holds k ec g sound is asking (asks.Lookup range) = tt
 row_holds k ec g sound is asking (asks.EcCtrl whose) = then_holds (Facts k g) (named k (pd_of k ec) is_ec control_right whose) _ (λ n h. tt)
 row_holds k ec g sound is asking (asks.ScCtrl sc) = then_holds (Facts k g) (named k (pd_of k ec) is_sc control_right sc) _ (λ n h. tt)
 row_holds k ec g sound is asking (asks.PtCtrl pt identifier) = then_holds (Facts k g) (named k (pd_of k ec) is_pt control_right pt) _ (λ n h. tt)
 row_holds k ec g sound is asking (asks.SmCtrl sm action) =
     sm_ctrl_holds (Facts k g) k ec (pd_of k ec) sm action (λ n whom h wakes. ups_hold k g n whom sound is wakes) (λ n h answers. tt) (λ n until h answers till. tt)
+row_holds k ec g sound is asking other = tt
 
 -- the end of an item
 ends_hold : (k : KernelState) (ec g item : ℕ) (end : ItemEnd) (answer : ℕ) (v : Delivery) → HasPremises k → IsGuest k g → delivery k ec (context k ec).state ≡ Some v →

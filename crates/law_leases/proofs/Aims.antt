@@ -83,12 +83,11 @@ row_aims k ec domain tables (asks.CreateEc target pd cpu kind sp event) = makes_
 row_aims k ec domain tables (asks.CreateSc target pd whose quantum priority) = makes_hold (Aims k) CREATE_SC target (λ made. tt) k domain pd _
 row_aims k ec domain tables (asks.CreatePt target pd handler mtd ip) = makes_hold (Aims k) CREATE_PT target (λ made. tt) k domain pd _
 row_aims k ec domain tables (asks.CreateSm target pd count) = makes_hold (Aims k) CREATE_SM target (λ made. tt) k domain pd (λ o. Ok (new.Sm count))
-row_aims k ec domain tables (asks.Lookup range) = tt
 row_aims k ec domain tables (asks.EcCtrl whose) = named_holds (Aims k) (named k domain is_ec control_right whose) (λ n. Recalls n) (λ n. tt)
 row_aims k ec domain tables (asks.ScCtrl sc) = named_holds (Aims k) (named k domain is_sc control_right sc) (λ n. Tells SC_CTRL (ticks_in (budget_at k n))) (λ n. tt)
 row_aims k ec domain tables (asks.PtCtrl pt identifier) = named_holds (Aims k) (named k domain is_pt control_right pt) (λ n. Names n identifier) (λ n. tt)
 row_aims k ec domain tables (asks.SmCtrl sm action) = sm_ctrl_holds (Aims k) k ec domain sm action (λ n whom is wakes. tt) (λ n is answers. tt) (λ n until is answers till. tt)
-row_aims k ec domain tables (asks.Revoke range own) = tt
+row_aims k ec domain tables other = tt
 
 deed_aims : (k : KernelState) (ec : ℕ) → HasTables k → Aims k (deed k ec)
 deed_aims k ec tables =

@@ -147,8 +147,6 @@ row_warrant k ec r (asks.CreateSc target pd its quantum priority) reads =
 row_warrant k ec r (asks.CreatePt target pd handler mtd ip) reads =
     made_warrant k ec (pd_of k ec) CREATE_PT target pd _ (λ o. pt_warrant mtd.0 ip (named k (pd_of k ec) is_local bind_portal_right handler))
 row_warrant k ec r (asks.CreateSm target pd count) reads = made_warrant k ec (pd_of k ec) CREATE_SM target pd (λ o. Ok (new.Sm count)) (λ o. tt)
-row_warrant k ec r (asks.Lookup range) reads = tt
-row_warrant k ec r (asks.Revoke range own) reads = tt
 row_warrant k ec r (asks.EcCtrl whose) reads =
     recall_warrant k ec whose (selector_fits r whose reads) (named k (pd_of k ec) is_ec control_right whose) (named_at k (pd_of k ec) is_ec control_right whose)
 row_warrant k ec r (asks.ScCtrl sc) reads =
@@ -157,6 +155,7 @@ row_warrant k ec r (asks.PtCtrl pt identifier) reads =
     named_holds (Warrant k ec) (named k (pd_of k ec) is_pt control_right pt) (λ n. deeds.Names n identifier) (λ n. tt)
 row_warrant k ec r (asks.SmCtrl sm action) reads =
     sm_ctrl_holds (Warrant k ec) k ec (pd_of k ec) sm action (λ n whom is wakes. tt) (λ n is answers. tt) (λ n until is answers till. tt)
+row_warrant k ec r other reads = tt
 
 pub deed_warrant : (k : KernelState) (ec : ℕ) → Warrant k ec (deed k ec)
 deed_warrant k ec =
@@ -194,12 +193,11 @@ row_reason k ec domain (asks.CreateEc target pd cpu kind sp event) = makes_hold 
 row_reason k ec domain (asks.CreateSc target pd its quantum priority) = makes_hold HasReason CREATE_SC target (λ made. tt) k domain pd _
 row_reason k ec domain (asks.CreatePt target pd handler mtd ip) = makes_hold HasReason CREATE_PT target (λ made. tt) k domain pd _
 row_reason k ec domain (asks.CreateSm target pd count) = makes_hold HasReason CREATE_SM target (λ made. tt) k domain pd (λ o. Ok (new.Sm count))
-row_reason k ec domain (asks.Lookup range) = tt
-row_reason k ec domain (asks.Revoke range own) = tt
 row_reason k ec domain (asks.EcCtrl other) = named_holds HasReason (named k domain is_ec control_right other) (λ n. deeds.Recalls n) (λ n. tt)
 row_reason k ec domain (asks.ScCtrl sc) = named_holds HasReason (named k domain is_sc control_right sc) (λ n. deeds.Tells SC_CTRL (ticks_in (budget_at k n))) (λ n. tt)
 row_reason k ec domain (asks.PtCtrl pt identifier) = named_holds HasReason (named k domain is_pt control_right pt) (λ n. deeds.Names n identifier) (λ n. tt)
 row_reason k ec domain (asks.SmCtrl sm action) = sm_ctrl_holds HasReason k ec domain sm action (λ n whom is wakes. tt) (λ n is answers. tt) (λ n until is answers till. tt)
+row_reason k ec domain other = tt
 
 call_reason : (k : KernelState) (ec domain : ℕ) (r : Registers) → HasReason (hypercall k ec domain r)
 call_reason k ec domain r = hypercall_holds HasReason k ec domain r (λ call status. tt) (λ c reads. row_reason k ec domain c)

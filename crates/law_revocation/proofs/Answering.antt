@@ -60,29 +60,18 @@ row_gives k ec domain (asks.CreateSc target pd its quantum priority) = makes_hol
 row_gives k ec domain (asks.CreatePt target pd handler mtd ip) = makes_hold IsOfRow CREATE_PT target (λ made. refl) k domain pd _
 row_gives k ec domain (asks.CreateSm target pd count) = makes_hold IsOfRow CREATE_SM target (λ made. refl) k domain pd (λ o. Ok (Sm count))
 row_gives k ec domain (asks.Revoke range own) = tt
-row_gives k ec domain (asks.Lookup range) = refl
 row_gives k ec domain (asks.EcCtrl other) = named_holds IsOfRow (named k domain is_ec control_right other) (λ n. Recalls n) (λ n. tt)
 row_gives k ec domain (asks.ScCtrl sc) =
     named_holds IsOfRow (named k domain is_sc control_right sc) (λ n. Tells SC_CTRL (ticks_in (budget_at k n))) (λ n. refl)
 row_gives k ec domain (asks.PtCtrl pt identifier) = named_holds IsOfRow (named k domain is_pt control_right pt) (λ n. Names n identifier) (λ n. tt)
 row_gives k ec domain (asks.SmCtrl sm action) =
     sm_ctrl_holds IsOfRow k ec domain sm action (λ n whom is wakes. tt) (λ n is answers. tt) (λ n until is answers till. tt)
+row_gives k ec domain other = refl
 
 -- the row of a revoke has no refusal
 revoke_done : (k : KernelState) (ec domain : ℕ) (c : Call) (status : Status) → number_of c ≡ REVOKE → row k ec domain c ≡ Err status → ⊥
 revoke_done k ec domain (asks.Revoke range own) status number is = absurd (cc)
-revoke_done k ec domain (asks.Call portal flag) status number is = absurd (cc)
-revoke_done k ec domain asks.Reply status number is = absurd (cc)
-revoke_done k ec domain (asks.CreatePd target pd first) status number is = absurd (cc)
-revoke_done k ec domain (asks.CreateEc target pd cpu kind sp event) status number is = absurd (cc)
-revoke_done k ec domain (asks.CreateSc target pd its quantum priority) status number is = absurd (cc)
-revoke_done k ec domain (asks.CreatePt target pd handler mtd ip) status number is = absurd (cc)
-revoke_done k ec domain (asks.CreateSm target pd count) status number is = absurd (cc)
-revoke_done k ec domain (asks.Lookup range) status number is = absurd (cc)
-revoke_done k ec domain (asks.EcCtrl other) status number is = absurd (cc)
-revoke_done k ec domain (asks.ScCtrl sc) status number is = absurd (cc)
-revoke_done k ec domain (asks.PtCtrl pt identifier) status number is = absurd (cc)
-revoke_done k ec domain (asks.SmCtrl sm action) status number is = absurd (cc)
+revoke_done k ec domain other status number is = absurd (cc)
 
 -- EACH DEED
 

@@ -75,31 +75,22 @@ past [] n most = refl
 past (x ∷ xs) zero most = absurd (omega (arith, most))
 past (x ∷ xs) (suc n) most = past xs n (omega (arith, most))
 
-past_all : (r : Registers) (n : ℕ) → 12 < n → slice_get (rows r) n ≡ None
-past_all r n above = past (rows r) n (omega (arith, above))
-
-pub unknown : (r : Registers) → 12 < reg r 17 → call_of r ≡ Err BadHyp
+pub unknown : (r : Registers) → length (rows r) ≤ reg r 17 → call_of r ≡ Err BadHyp
 unfolding call_of
-unknown r past = ap read_row (past_all r (reg r 17) past)
+unknown r above = ap read_row (past (rows r) (reg r 17) above)
 
 row_bad : (row : Option Call) (status : Status) → read_row (Some row) ≡ Err status → status ≡ BadPar
 row_bad (Some asked) status is = absurd (cc)
 row_bad None status is = cc
-
-abbrev IsThere : Registers → ℕ → Type 0
-IsThere r n = (row : Option Call) × (slice_get (rows r) n ≡ Some row)
 
 one_there : {A : Type 0} (xs : List A) (n : ℕ) → n < length xs → (x : A) × (slice_get xs n ≡ Some x)
 one_there [] n below = absurd (omega (arith, below))
 one_there (x ∷ xs) zero below = (x, refl)
 one_there (x ∷ xs) (suc n) below = one_there xs n (omega (arith, below))
 
-row_there : (r : Registers) (n : ℕ) → n ≤ 12 → IsThere r n
-row_there r n most = one_there (rows r) n (omega (arith, most))
-
-pub unread : (r : Registers) (status : Status) → reg r 17 ≤ 12 → call_of r ≡ Err status → status ≡ BadPar
-unread r status most is =
-    let there = row_there r (reg r 17) most in
+pub unread : (r : Registers) (status : Status) → reg r 17 < length (rows r) → call_of r ≡ Err status → status ≡ BadPar
+unread r status below is =
+    let there = one_there (rows r) (reg r 17) below in
     row_bad there.0 status (sym (of_row r (reg r 17) there.0 refl there.1) ∙ is)
 
 -- FLAGS

@@ -6,7 +6,7 @@ use Rattle.rv_model.specs.Step.{Once, Raised, Went, environment_call}
 use Rattle.nova_calls.specs.Hypercalls.{call_of}
 use Rattle.nova_calls.specs.declared.call.Call.{Call}
 use Rattle.nova_calls.specs.declared.call.Call.TheVariants as asks
-use Rattle.nova_calls.specs.declared.call.Call.TheVariants.{CreatePd, CreateEc, CreateSc, CreatePt, CreateSm, Revoke, Lookup, EcCtrl, ScCtrl, PtCtrl, SmCtrl}
+use Rattle.nova_calls.specs.declared.call.Call.TheVariants.{CreatePd, CreateEc, CreateSc, CreatePt, CreateSm, EcCtrl, ScCtrl, PtCtrl, SmCtrl}
 use Rattle.nova_calls.specs.declared.call.SmAction.TheVariants as act
 use Rattle.nova_range.specs.declared.range.Range.{Range}
 use Rattle.nova_range.specs.declared.rights.Rights.{Rights}
@@ -126,8 +126,6 @@ row_gives k ec domain (CreateSc target pd whose quantum priority) =
     makes_gives k domain CREATE_SC target pd (λ owner. and_then (named k domain is_schedulable bind_scheduling_right whose) (λ n. unless (is_scheduled k n) BadCap (Ok (new.Sc n (processor_of k n) priority quantum))))
 row_gives k ec domain (CreatePt target pd handler mtd ip) = makes_gives k domain CREATE_PT target pd (λ owner. and_then (named k domain is_local bind_portal_right handler) (λ n. Ok (new.Pt n mtd.0 ip)))
 row_gives k ec domain (CreateSm target pd count) = makes_gives k domain CREATE_SM target pd (λ owner. Ok (new.Sm count))
-row_gives k ec domain (Revoke range own) = refl
-row_gives k ec domain (Lookup range) = refl
 row_gives k ec domain (EcCtrl whose) = control_gives (named k domain is_ec control_right whose) Recalls (λ n. refl)
 row_gives k ec domain (ScCtrl sc) = control_gives (named k domain is_sc control_right sc) (λ n. Tells SC_CTRL (ticks_in (budget_at k n))) (λ n. refl)
 row_gives k ec domain (PtCtrl pt identifier) = control_gives (named k domain is_pt control_right pt) (λ n. Names n identifier) (λ n. refl)
@@ -138,6 +136,7 @@ row_gives k ec domain (SmCtrl selector act.Down) =
 row_gives k ec domain (SmCtrl selector (act.DownWithin ticks)) =
     and_then_gives (named k domain is_sm down_right selector) (λ sm. downed_within sm ticks (deadline_after k ec sm ticks) (answer_of (semaphore k.semaphores sm)))
     (λ sm. within_gives sm ticks (deadline_after k ec sm ticks) (answer_of (semaphore k.semaphores sm)))
+row_gives k ec domain other = refl
 
 pub asked_gives : (k : KernelState) (ec domain : ℕ) (r : Registers) → Gives (asked k ec domain r)
 asked_gives k ec domain r = and_then_gives (call_of r) (row k ec domain) (row_gives k ec domain)

@@ -116,12 +116,11 @@ row_does k ec domain (call.CreateEc target pd cpu kind sp event) = makes_hold Do
 row_does k ec domain (call.CreateSc target pd whose quantum priority) = makes_hold Does CREATE_SC target (λ made. refl) k domain pd _
 row_does k ec domain (call.CreatePt target pd handler mtd ip) = makes_hold Does CREATE_PT target (λ made. refl) k domain pd _
 row_does k ec domain (call.CreateSm target pd count) = makes_hold Does CREATE_SM target (λ made. refl) k domain pd (λ o. Ok (Sm count))
-row_does k ec domain (call.Lookup range) = refl
 row_does k ec domain (call.EcCtrl whose) = named_holds Does (named k domain is_ec control_right whose) (λ n. Recalls n) (λ n. refl)
 row_does k ec domain (call.ScCtrl sc) = named_holds Does (named k domain is_sc control_right sc) (λ n. Tells SC_CTRL (ticks_in (budget_at k n))) (λ n. refl)
 row_does k ec domain (call.PtCtrl pt identifier) = named_holds Does (named k domain is_pt control_right pt) (λ n. Names n identifier) (λ n. refl)
 row_does k ec domain (call.SmCtrl sm action) = sm_ctrl_holds Does k ec domain sm action (λ n whom is wakes. refl) (λ n is answers. refl) (λ n until is answers till. refl)
-row_does k ec domain (call.Revoke range own) = refl
+row_does k ec domain other = refl
 
 own_does : (k : KernelState) (ec : ℕ) → Holds Does k ec
 own_does k ec = record {

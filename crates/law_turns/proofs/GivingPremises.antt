@@ -1,13 +1,14 @@
 -- What a deed wants of transfers: whose execution context gives or doesn't, and where it opens a protection domain, the range that it was
 -- asked to give.
-use Rattle.std.proofs.Common.{◌≡◌, ℕ, ◌+◌, length, refl, ap, sym, subst}
-use Rattle.std.specs.Prelude.{Bool, true, false, ◌&&◌, ◌==◌, nat_le, ◌%◌, ◌/◌, ◌^◌, ◌-◌, not, nat_lt, if◌then◌else◌, slice_get, Option, Some, None, IsSome, IfSome, option_map, Result, Ok, Err}
-use Rattle.std.specs.List.{AllByRecursion}
+use Rattle.std.proofs.Common.{◌≡◌, ℕ, ◌+◌, length, refl, ap, subst}
+use Rattle.std.specs.Prelude.{Bool, true, false, ◌&&◌, not, nat_lt, if◌then◌else◌, slice_get, Option, Some, None, IsSome, IfSome, option_map, Result, Ok, Err}
 use Rattle.rv_model.specs.Registers.{Registers, reg}
-use Rattle.nova_calls.specs.Hypercalls.{action_of, call_of, is_flag, is_selector, kind_of, range_of, read_row, readable, rows}
+use Rattle.nova_calls.specs.Hypercalls.{call_of, create_pd_row, is_selector, readable, rows}
+use Rattle.nova_calls.specs.Numbers.{number_of}
 use Rattle.nova_calls.specs.declared.call.Call.{Call}
 use Rattle.nova_calls.specs.declared.call.Call.TheVariants as asks
 use Rattle.nova_calls.specs.declared.numbers.TheConstants.{CREATE_EC, CREATE_SC, CREATE_PT, CREATE_SM, SC_CTRL}
+use Rattle.nova_calls.proofs.Numbered.{holds_by_row, read_in_row}
 use Rattle.nova_range.specs.RangeWords.{meaning_of}
 use Rattle.nova_range.specs.declared.range.Range.{Range}
 use Rattle.nova_range.specs.declared.rights.Rights.{Rights}
@@ -36,7 +37,6 @@ use Rattle.nova_model.specs.declared.new_object.NewObject.TheVariants.{Sm}
 use Rattle.nova_ec.proofs.Admitted.{call_sent, exit_sent}
 use Rattle.law_forest.proofs.Walk.{IfDone, Delivers, delivered_holds, own_holds, sm_ctrl_holds}
 use Rattle.law_turns.proofs.Rows.{call_holds, makes_hold, named_holds, reply_holds, create_pd_holds}
-use Rattle.law_turns.proofs.TablesKept.{all_get}
 
 -- the word in x12 reads as a range
 abbrev pub HasRange : Registers → Type 0
@@ -98,70 +98,20 @@ row_if : (r : Registers) (test : Bool) (o : Option Call) → Row r o → Row r (
 row_if r true o h = h
 row_if r false o h = tt
 
-row_map : {A : Type 0} (r : Registers) (f : A → Call) (o : Option A) → ((x : A) → HasRangeFor r (f x)) → Row r (option_map f o)
-row_map r f (Some x) h = h x
-row_map r f None h = tt
-
 create_pd_range : (r : Registers) (target pd : ℕ) (m : Result (Option (Range × Rights)) WordFault) → meaning_of (reg r 12) ≡ m →
     Row r (option_map (λ first. asks.CreatePd target pd first) (readable m))
 create_pd_range r target pd (Ok None) is = tt
 create_pd_range r target pd (Ok (Some range)) is = rw is refl
 create_pd_range r target pd (Err fault) is = tt
 
-rows_range : (r : Registers) → AllByRecursion (Row r) (rows r)
-rows_range r = (
-  row_if r (is_selector (reg r 10) && is_flag (reg r 11)) (Some (asks.Call (reg r 10) (reg r 11 == 1))) tt,
-  (
-    tt,
-    (
-      row_if r (is_selector (reg r 10) && is_selector (reg r 11)) _ (create_pd_range r (reg r 10) (reg r 11) (meaning_of (reg r 12)) refl),
-      (
-        row_if r (is_selector (reg r 10) && is_selector (reg r 11) && nat_le (reg r 14) (2 ^ 20 - 9))
-            (option_map (λ kind. asks.CreateEc (reg r 10) (reg r 11) (reg r 12 % 2 ^ 8) kind (reg r 13) (reg r 14)) (kind_of (reg r 12 / 2 ^ 8)))
-            (row_map r (λ kind. asks.CreateEc (reg r 10) (reg r 11) (reg r 12 % 2 ^ 8) kind (reg r 13) (reg r 14)) (kind_of (reg r 12 / 2 ^ 8)) (λ kind. tt)),
-        (
-          row_if r (is_selector (reg r 10) && is_selector (reg r 11) && is_selector (reg r 12) && nat_le 1 (reg r 13 / 2 ^ 8)) (Some (asks.CreateSc (reg r 10) (reg r 11) (reg r 12) (reg r 13 / 2 ^ 8) (reg r 13 % 2 ^ 8))) tt,
-          (
-            row_if r (is_selector (reg r 10) && is_selector (reg r 11) && is_selector (reg r 12) && nat_le (reg r 13) 15 && (reg r 14 % 4 == 0)) (Some (asks.CreatePt (reg r 10) (reg r 11) (reg r 12) (record { 0 = reg r 13 }) (reg r 14))) tt,
-            (
-              row_if r (is_selector (reg r 10) && is_selector (reg r 11)) (Some (asks.CreateSm (reg r 10) (reg r 11) (reg r 12))) tt,
-              (
-                row_if r (is_flag (reg r 11)) (option_map (λ range. asks.Revoke range (reg r 11 == 1)) (range_of (reg r 10)))
-                    (row_map r (λ range. asks.Revoke range (reg r 11 == 1)) (range_of (reg r 10)) (λ range. tt)),
-                (
-                  row_map r (λ range. asks.Lookup range) (range_of (reg r 10)) (λ range. tt),
-                  (
-                    row_if r (is_selector (reg r 10)) (Some (asks.EcCtrl (reg r 10))) tt,
-                    (
-                      row_if r (is_selector (reg r 10)) (Some (asks.ScCtrl (reg r 10))) tt,
-                      (
-                        row_if r (is_selector (reg r 10)) (Some (asks.PtCtrl (reg r 10) (reg r 11))) tt,
-                        (
-                          row_if r (is_selector (reg r 10)) (option_map (λ action. asks.SmCtrl (reg r 10) action) (action_of (reg r 11) (reg r 12)))
-                              (row_map r (λ action. asks.SmCtrl (reg r 10) action) (action_of (reg r 11) (reg r 12)) (λ action. tt)),
-                          tt,
-                        ),
-                      ),
-                    ),
-                  ),
-                ),
-              ),
-            ),
-          ),
-        ),
-      ),
-    ),
-  ),
-)
-
 call_range : (r : Registers) (c : Call) → call_of r ≡ Ok c → HasRangeFor r c
-unfolding call_of
-call_range r c is = by_row (slice_get (rows r) (reg r 17)) (all_get (Row r) (rows r) (reg r 17) (rows_range r)) is
+call_range r c is = by_call c (read_in_row r c is)
   where
-    by_row : (o : Option (Option Call)) → IfSome o (Row r) → read_row o ≡ Ok c → HasRangeFor r c
-    by_row None h is = absurd (cc)
-    by_row (Some None) h is = absurd (cc)
-    by_row (Some (Some asked)) h is = let same : asked ≡ c = cc in rw (sym same) h
+    by_call : (c : Call) → slice_get (rows r) (number_of c) ≡ Some (Some c) → HasRangeFor r c
+    by_call (asks.CreatePd target pd first) at =
+        holds_by_row (HasRangeFor r) (create_pd_row r) _ at
+        (row_if r (is_selector (reg r 10) && is_selector (reg r 11)) _ (create_pd_range r (reg r 10) (reg r 11) (meaning_of (reg r 12)) refl))
+    by_call other at = tt
 
 -- DECIDING
 
@@ -194,7 +144,6 @@ row_wants k ec domain (asks.CreateEc target pd cpu kind sp event) rests range =
 row_wants k ec domain (asks.CreateSc target pd its quantum priority) rests range = makes_hold (Wants k ec) CREATE_SC target (λ made. rests) k domain pd _
 row_wants k ec domain (asks.CreatePt target pd handler mtd ip) rests range = makes_hold (Wants k ec) CREATE_PT target (λ made. rests) k domain pd _
 row_wants k ec domain (asks.CreateSm target pd count) rests range = makes_hold (Wants k ec) CREATE_SM target (λ made. rests) k domain pd (λ o. Ok (Sm count))
-row_wants k ec domain (asks.Lookup range) rests has = rests
 row_wants k ec domain (asks.EcCtrl other) rests range = named_holds (Wants k ec) (named k domain is_ec control_right other) (λ n. Recalls n) (λ n. rests)
 row_wants k ec domain (asks.ScCtrl sc) rests range =
     named_holds (Wants k ec) (named k domain is_sc control_right sc) (λ n. Tells SC_CTRL (ticks_in (budget_at k n))) (λ n. rests)
@@ -202,7 +151,7 @@ row_wants k ec domain (asks.PtCtrl pt identifier) rests range =
     named_holds (Wants k ec) (named k domain is_pt control_right pt) (λ n. Names n identifier) (λ n. rests)
 row_wants k ec domain (asks.SmCtrl sm action) rests range =
     sm_ctrl_holds (Wants k ec) k ec domain sm action (λ n whom is wakes. (rests, wakes)) (λ n is answers. rests) (λ n until is answers till. rests)
-row_wants k ec domain (asks.Revoke range own) rests has = rests
+row_wants k ec domain other rests range = rests
 
 -- an item ends so
 delivery_goes : (k : KernelState) (ec : ℕ) (s : State) (v : Delivery) → delivery k ec s ≡ Some v → GoesTo k ec v.last

@@ -291,13 +291,13 @@ row_told k ec domain (asks.CreateSc target pd whose quantum priority) is = makes
 row_told k ec domain (asks.CreatePt target pd handler mtd ip) is = makes_hold (Told k ec) CREATE_PT target (λ made. tt) k domain pd _
 row_told k ec domain (asks.CreateSm target pd count) is = makes_hold (Told k ec) CREATE_SM target (λ made. tt) k domain pd (λ o. Ok (new.Sm count))
 row_told k ec domain (asks.Revoke range own) is = is
-row_told k ec domain (asks.Lookup range) is = tt
 row_told k ec domain (asks.EcCtrl other) is = named_holds (Told k ec) (named k domain is_ec control_right other) (λ n. Recalls n) (λ n. tt)
 row_told k ec domain (asks.ScCtrl sc) is =
     named_holds (Told k ec) (named k domain is_sc control_right sc) (λ n. Tells SC_CTRL (ticks_in (budget_at k n))) (λ n. tt)
 row_told k ec domain (asks.PtCtrl pt identifier) is = named_holds (Told k ec) (named k domain is_pt control_right pt) (λ n. Names n identifier) (λ n. tt)
 row_told k ec domain (asks.SmCtrl sm action) is =
     sm_ctrl_holds (Told k ec) k ec domain sm action (λ n whom names wakes. tt) (λ n names answers. tt) (λ n until names answers till. tt)
+row_told k ec domain other is = tt
 
 deed_told : (k : KernelState) (ec : ℕ) → Told k ec (deed k ec)
 deed_told k ec =

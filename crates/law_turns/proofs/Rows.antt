@@ -136,11 +136,10 @@ row_whole k ec domain (asks.CreateEc target pd cpu kind sp event) =
 row_whole k ec domain (asks.CreateSc target pd its quantum priority) = makes_hold IsWhole CREATE_SC target (λ made. refl) k domain pd _
 row_whole k ec domain (asks.CreatePt target pd handler mtd ip) = makes_hold IsWhole CREATE_PT target (λ made. refl) k domain pd _
 row_whole k ec domain (asks.CreateSm target pd count) = makes_hold IsWhole CREATE_SM target (λ made. refl) k domain pd (λ o. Ok (Sm count))
-row_whole k ec domain (asks.Lookup range) = refl
 row_whole k ec domain (asks.EcCtrl other) = named_holds IsWhole (named k domain is_ec control_right other) (λ n. Recalls n) (λ n. refl)
 row_whole k ec domain (asks.ScCtrl sc) =
     named_holds IsWhole (named k domain is_sc control_right sc) (λ n. Tells SC_CTRL (ticks_in (budget_at k n))) (λ n. refl)
 row_whole k ec domain (asks.PtCtrl pt identifier) = named_holds IsWhole (named k domain is_pt control_right pt) (λ n. Names n identifier) (λ n. refl)
 row_whole k ec domain (asks.SmCtrl sm action) =
     sm_ctrl_holds IsWhole k ec domain sm action (λ n whom is wakes. refl) (λ n is answers. refl) (λ n until is answers till. refl)
-row_whole k ec domain (asks.Revoke range own) = refl
+row_whole k ec domain other = refl
