@@ -92,7 +92,7 @@ def box(x: float, y: float, width: float, height: float, colour: str, frame: str
     return f'<rect x="{x:.0f}" y="{y:.0f}" width="{width:.0f}" height="{height:.0f}" rx="4" fill="{colour}" stroke="{frame}" stroke-width="2"/>'
 
 
-def band(layer: Layer, x: float, y: float, width: float, colour: str) -> tuple[list[str], float]:
+def band(layer: Layer, x: float, y: float, width: float) -> tuple[list[str], float]:
     """A layer's drawing at a place, and how high it is."""
     lines, drawn = rows(list(layer.crates), width - 2 * GAP), []
     height = 26 + len(lines) * (ROW + 4) + 4
@@ -101,16 +101,17 @@ def band(layer: Layer, x: float, y: float, width: float, colour: str) -> tuple[l
         left, top = x + GAP, y + 26 + number * (ROW + 4)
         for crate in crates:
             frame = INK if crate in FIRST else "none"
+            colour = LAW if layer.is_beside or crate.startswith("law_") else CRATE
             drawn += [box(left, top, box_width(crate), ROW, colour, frame), text(left + 7, top + 19, crate, INK)]
             left += box_width(crate) + GAP
     return drawn, height
 
 
-def stack(layers: list[Layer], x: float, y: float, width: float, colour: str) -> tuple[list[str], float]:
+def stack(layers: list[Layer], x: float, y: float, width: float) -> tuple[list[str], float]:
     """Layers one below another, the last of them on top, and where they end."""
     drawn: list[str] = []
     for layer in reversed(layers):
-        made, height = band(layer, x, y, width, colour)
+        made, height = band(layer, x, y, width)
         drawn, y = drawn + made, y + height + GAP
     return drawn, y
 
@@ -118,11 +119,11 @@ def stack(layers: list[Layer], x: float, y: float, width: float, colour: str) ->
 def draw(layers: list[Layer]) -> str:
     """The drawing."""
     upper = [layer for layer in layers if not layer.is_beside and not layer.is_below]
-    main, bottom = stack(upper, GAP, 34, WIDTH, CRATE)
-    beside, side_end = stack([layer for layer in layers if layer.is_beside], WIDTH + 2 * GAP, 34, SIDE, LAW)
-    below, end = stack([layer for layer in layers if layer.is_below], GAP, max(bottom, side_end), WIDTH + SIDE + GAP, CRATE)
+    main, bottom = stack(upper, GAP, 34, WIDTH)
+    beside, side_end = stack([layer for layer in layers if layer.is_beside], WIDTH + 2 * GAP, 34, SIDE)
+    below, end = stack([layer for layer in layers if layer.is_below], GAP, max(bottom, side_end), WIDTH + SIDE + GAP)
     wide, high = WIDTH + SIDE + 3 * GAP, end
-    note = "A crate names crates of its own layer, of layers below it, and laws. Framed: to be read first."
+    note = "A crate names crates of its own layer, of layers below it, and laws (green). Framed: to be read first."
     head = f'<svg xmlns="http://www.w3.org/2000/svg" width="{wide}" height="{high:.0f}" font-family="DejaVu Sans Mono, monospace">'
     return "\n".join([head, f'<rect width="100%" height="100%" fill="{PAPER}"/>', text(GAP, 21, note, QUIET), *main, *beside, *below, "</svg>", ""])
 

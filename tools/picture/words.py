@@ -2,14 +2,28 @@
 
 from __future__ import annotations
 
+import re
 from enum import Enum
+from functools import cache
+from pathlib import Path
 
 from report import CapRange, Event, Kind, Space
 
+HEADER = Path(__file__).resolve().parent.parent / "c" / "include" / "nova.h"
+
+
+@cache
+def _numbered(enum: str) -> list[str]:
+    """The names of an enumeration of the header in C, by their numbers from 0 on. It is read where a name is asked for, since modules
+    that are sent elsewhere come without it."""
+    rows = re.search(rf"enum {enum} {{(.*?)}};", HEADER.read_text(), re.DOTALL)
+    named = re.findall(r"NOVA_(\w+) = (\d+),", rows[1]) if rows else []
+    if [int(number) for _, number in named] != list(range(len(named))):
+        raise ValueError(f"{HEADER}: {enum} leaves numbers out")
+    return [name for name, _ in named]
+
+
 CALL, REPLY, CREATE_PD, CREATE_EC, CREATE_SC, CREATE_PT, CREATE_SM, REVOKE, LOOKUP, EC_CTRL, SC_CTRL, PT_CTRL, SM_CTRL = range(13)
-HYPERCALLS = (
-    "call reply create_pd create_ec create_sc create_pt create_sm revoke lookup ec_ctrl sc_ctrl pt_ctrl sm_ctrl"
-).split()
 STATUSES = "SUCCESS TIMEOUT ABORTED OVERFLOW BAD_HYP BAD_CAP BAD_PAR BAD_CPU BUSY".split()
 REASONS = (
     "startup",
@@ -47,7 +61,7 @@ def _of(names: list[str] | tuple[str, ...], number: int, what: str) -> str:
 
 def hypercall(number: int) -> str:
     """The name of a hypercall."""
-    return _of(HYPERCALLS, number, "hypercall")
+    return _of(_numbered("nova_number"), number, "hypercall").lower()
 
 
 def status(number: int) -> str:

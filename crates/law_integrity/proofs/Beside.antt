@@ -20,7 +20,7 @@ pub record ChooseSame (k l : KernelState) (cpu : ℕ) : Type 0 where
   pub times : l.times ≡ k.times
   pub chosen : choice l cpu ≡ choice k cpu
 
-idle_stays : (k : KernelState) (cpu : ℕ) → choice k cpu ≡ None → next_moment k.times cpu ≡ None → after k cpu ≡ k
+pub idle_stays : (k : KernelState) (cpu : ℕ) → choice k cpu ≡ None → next_moment k.times cpu ≡ None → after k cpu ≡ k
 idle_stays k cpu none quiet = ap (state_after k) (none_taken k cpu none quiet)
 
 -- what holds of both, of both after what comes by itself, and of both after the turn of who is chosen, holds of both after

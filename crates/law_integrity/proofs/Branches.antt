@@ -1,5 +1,5 @@
 -- What a deed does to objects and delegations, and by what right.
-use Rattle.std.proofs.Common.{◌≡◌, ℕ, ◌+◌, ◌≤◌, ◌⊎◌, List, [], ◌∷◌, ◌++◌, length, refl, sym, ap, ◌∙◌, subst, inl, inr, arith}
+use Rattle.std.proofs.Common.{◌≡◌, ℕ, ◌≤◌, ◌⊎◌, List, [], ◌∷◌, ◌++◌, length, refl, sym, ap, ◌∙◌, subst, inl, inr, arith}
 use Rattle.std.specs.Prelude.{Bool, true, false, not, ◌==◌, drop, filter, if◌then◌else◌, slice_get, Option, Some, None, option_and_then}
 use Rattle.std.proofs.lemmas.Option.{same_Some}
 use Rattle.nova_model.specs.Choice.{Candidate, next_to_act}
@@ -26,6 +26,7 @@ use Rattle.law_forest.proofs.Growth.{turn_grows}
 use Rattle.law_forest.proofs.Members.{in_from_contains}
 use Rattle.law_forest.proofs.Pairs.{same_id}
 use Rattle.law_turns.specs.Giving.{IsShared}
+use Rattle.law_turns.proofs.Setting.{joined_length}
 use Rattle.law_integrity.specs.Rights.{MayTake}
 use Rattle.law_integrity.specs.Integrity.{Creates, DelegationsBy, Gives, ObjectsBy, Takes}
 use Rattle.law_integrity.proofs.Deciding.{given_rightful, may_take}
@@ -70,10 +71,6 @@ last_same : {T : Type 0} (xs : List T) (x y : T) → xs ++ x ∷ [] ≡ xs ++ y 
 last_same [] x y same = let one : Some x ≡ Some y = ap (λ l. slice_get l 0) same in same_Some x y one
 last_same (z ∷ xs) x y same = last_same xs x y (ap (drop 1) same)
 
-one_more : {T : Type 0} (xs : List T) (x : T) → length (xs ++ x ∷ []) ≡ length xs + 1
-one_more [] x = refl
-one_more (y ∷ xs) x = let h = one_more xs x in omega (arith, h)
-
 fewer : {T : Type 0} (is : T → Bool) (xs : List T) → length (filter is xs) ≤ length xs
 fewer is [] = omega arith
 fewer is (x ∷ xs) = by_test (is x) (fewer is xs)
@@ -94,11 +91,11 @@ shared_by k ec child (deeds.Opens target domain) is shares given same =
     let one = last_same k.delegations.list child (root_capability k (pd_of k ec) target (object_of new.Pd)) (ap (λ (f : Delegations). f.list) same) in
     absurd (let both : None ≡ Some given.source.id = sym (ap (λ (x : Derivation). x.parent) one) ∙ given.parent in cc)
 shared_by k ec child (deeds.Removes leaf) is shares given same =
-    let longer = one_more k.delegations.list child in
+    let longer = joined_length k.delegations.list child in
     let shorter = fewer (λ (x : Derivation). not (x.id == leaf.id)) k.delegations.list in
     let both = ap (λ (f : Delegations). length f.list) same in absurd (omega (arith, longer, shorter, both))
 shared_by k ec child other is shares given same =
-    let longer = one_more k.delegations.list child in
+    let longer = joined_length k.delegations.list child in
     let both = ap (λ (f : Delegations). length f.list) same in absurd (omega (arith, longer, both))
 
 pub delegations_by : (k new : KernelState) (ec : ℕ) → IsForest k.delegations → ((child : Derivation) (cursor : ℕ) → deed k ec ≡ deeds.Gives child cursor → IsShared k ec child) →

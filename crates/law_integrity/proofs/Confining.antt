@@ -20,19 +20,15 @@ use Rattle.nova_model.specs.declared.context.State.TheVariants.{Calling, Grantin
 use Rattle.nova_model.specs.declared.delegation.Derivation.{Derivation}
 use Rattle.law_forest.specs.Made.{GivesChild, Grows, IsFirstCapability, Leaves, MakesObject, TakesLeaf}
 use Rattle.law_forest.specs.Turns.{Idles as Stays, Passes, Takes, Acts as Chosen, turned}
-use Rattle.law_forest.specs.Effects.{joined, made_by}
-use Rattle.law_forest.proofs.Allowed.{OpensNext, deed_opens}
-use Rattle.nova_model.specs.Creation.{object_of}
-use Rattle.nova_model.specs.declared.deed.Deed.{Deed}
-use Rattle.nova_model.specs.declared.deed.Deed.TheVariants as deeds
 use Rattle.law_forest.proofs.Members.{IsIn, all_at, contains_from_in, filtered_in, in_from_contains}
 use Rattle.law_forest.proofs.Turning.{comes}
 use Rattle.law_isolation.specs.Sound.{IsSound}
 use Rattle.law_turns.specs.Tables.{HasTables, IsOf, Refers}
 use Rattle.law_turns.proofs.Serving.{IsActor, actor_of, awaited}
 use Rattle.law_origins.specs.Giving.{Acts}
-use Rattle.law_origins.proofs.Actors.{actor_object, is_able, is_done, last_object, object_stays, special_object}
-use Rattle.law_origins.proofs.Coming.{Begins, came}
+use Rattle.law_origins.proofs.Actors.{actor_object, is_able, last_object, object_stays, special_object}
+use Rattle.law_origins.proofs.Coming.{came}
+use Rattle.law_origins.proofs.Origins.{opened_now}
 use Rattle.law_integrity.specs.Rights.{CallsAt, ExitsAt, GivesFirst, GivesTo, RepliesWith, TakesOfCaller}
 use Rattle.law_integrity.specs.Rightful.{IsRightful}
 use Rattle.law_integrity.specs.Confined.{IsClosed, IsMade, IsMember, IsOwned, more}
@@ -179,22 +175,6 @@ child_target d source kind order w =
     let first = w.first in
     let last : d.target + 2 ^ d.order ≤ source.target + 1 = subst (λ (n : ℕ). d.target + 2 ^ d.order ≤ source.target + 2 ^ n) order w.last in
     let some = pow_pos d.order in omega (arith, first, last, some)
-
--- A DOMAIN THAT IS BEING GIVEN ITS FIRST RANGE
-
-opened_by : (k : KernelState) (pd : ℕ) (d : Deed) → OpensNext k d → Begins d (Granting (Some pd)) → (length k.objects ≡ pd) × (option_map object_of (made_by d) ≡ Some Pd)
-opened_by k pd (deeds.Opens target domain) next starts = let same : domain ≡ pd = cc in (sym next ∙ same, refl)
-opened_by k pd (deeds.Raises reason q0 q1) next starts = absurd (cc)
-opened_by k pd (deeds.Waits handler reason q0 q1) next starts = absurd (cc)
-opened_by k pd (deeds.Calls handler ip identifier items) next starts = absurd (cc)
-opened_by k pd (deeds.Sends handler ip identifier mtd reason q0 q1) next starts = absurd (cc)
-opened_by k pd other next starts = absurd starts
-
-pub opened_now : (k : KernelState) (cpu ec pd : ℕ) → Acts k cpu ec → Begins (deed k ec) (Granting (Some pd)) → (length k.objects ≡ pd) × (slice_get (after k cpu).objects pd ≡ Some Pd)
-opened_now k cpu ec pd acts_ starts =
-    let by = opened_by k pd (deed k ec) (deed_opens k ec) starts in
-    let objects : (after k cpu).objects ≡ k.objects ++ Pd ∷ [] = (is_done k cpu ec acts_).objects ∙ ap (joined k.objects) by.1 in
-    (by.0, ap (λ (os : List Object). slice_get os pd) objects ∙ subst (λ (n : ℕ). slice_get (k.objects ++ Pd ∷ []) n ≡ Some Pd) by.0 (last_object k.objects Pd))
 
 -- A CLOSED SET AFTER A TURN
 

@@ -39,7 +39,7 @@ use Rattle.nova_objects.specs.declared.object.Object.TheVariants.{Sc}
 abbrev pub over : KernelState → Memory → KernelState
 over k m = record k { memory = m }
 
-next_same : {A B : Type 0} (o : Result A Status) (f g : A → Result B Status) → ((x : A) → f x ≡ g x) → and_then o f ≡ and_then o g
+pub next_same : {A B : Type 0} (o : Result A Status) (f g : A → Result B Status) → ((x : A) → f x ≡ g x) → and_then o f ≡ and_then o g
 next_same (Err status) f g same = refl
 next_same (Ok x) f g same = same x
 

@@ -26,9 +26,9 @@ use Rattle.law_forest.proofs.Members.{IsIn, contains_from_in, in_from_contains}
 use Rattle.law_turns.proofs.Setting.{get_kept, get_last}
 use Rattle.law_origins.proofs.Coming.{came}
 use Rattle.law_origins.proofs.Lists.{by_turns, run_append}
-use Rattle.law_origins.proofs.Origins.{boot_plain}
+use Rattle.law_origins.proofs.Origins.{boot_plain, opened_now}
 use Rattle.law_integrity.specs.Rights.{GivesFirst, GivesTo, RepliesWith, TakesOfCaller}
-use Rattle.law_integrity.proofs.Confining.{Child, Newest, Old, Whence, acting_one, child_target, in_more, newest_object, object_kept, opened_now, order_none, whence}
+use Rattle.law_integrity.proofs.Confining.{Child, Newest, Old, Whence, acting_one, child_target, in_more, newest_object, object_kept, order_none, whence}
 use Rattle.law_integrity.proofs.Edges.{at_index}
 
 pub record AreHomed (k : KernelState) : Type 0 where

@@ -18,11 +18,12 @@ use Rattle.law_turns.proofs.Links.{place}
 use Rattle.law_turns.proofs.Serving.{IsActor, awaited}
 use Rattle.law_origins.specs.Giving.{Acts}
 use Rattle.law_origins.proofs.Coming.{came}
+use Rattle.law_origins.proofs.Origins.{opened_now}
 use Rattle.law_integrity.specs.Confined.{IsMember, IsOwned}
 use Rattle.law_integrity.specs.Rights.{CallsAt, ExitsAt, GivesFirst, GivesTo, Names, RepliesWith, TakesOfCaller}
 use Rattle.law_integrity.specs.Trusted.{IsWithinPolicy, Labelled, MayHold, MayTakeTurn, OrTrusted, labels_after}
 use Rattle.law_integrity.proofs.Blocked.{Before, BlockedBy, Now}
-use Rattle.law_integrity.proofs.Confining.{Child, Newest, Old, Whence, acting_one, acts_one, child_target, local_member, member_pd, newest_object, object_kept, opened_now, order_none, waits_edge, whence}
+use Rattle.law_integrity.proofs.Confining.{Child, Newest, Old, Whence, acting_one, acts_one, child_target, local_member, member_pd, newest_object, object_kept, order_none, waits_edge, whence}
 use Rattle.law_integrity.proofs.Edges.{edge_came, handler_local}
 use Rattle.law_integrity.proofs.Homes.{receiver_there}
 use Rattle.law_integrity.proofs.Labels.{IsEc, IsTaken, blocked_object, context_ec, edge_ec, label_kept, labels_made, labels_old, local_ec, or_kept, or_member, owned_kept}

@@ -1,5 +1,5 @@
 -- The bytes of a frame that who acts doesn't reach influence nothing.
-use Rattle.std.proofs.Common.{◌≡◌, ℕ, ◌/◌, ◌%◌, ◌-◌, ◌==◌, zero, suc, List, [], ◌∷◌, ◌++◌, length, refl, sym, ap, ap₂, ◌∙◌, subst}
+use Rattle.std.proofs.Common.{◌≡◌, ℕ, ◌/◌, ◌%◌, ◌-◌, ◌==◌, zero, suc, List, [], ◌∷◌, ◌++◌, refl, sym, ap, ap₂, ◌∙◌, subst}
 use Rattle.std.specs.Prelude.{Bool, true, false, ◌≢◌, IsSome, is_some, slice_get, slice_set, option_map, option_and_then, Option, Some, None, if◌then◌else◌}
 use mathlib.Core.Path.{fun_ext}
 use Rattle.byteorder.specs.Endian.{little_bytes}
@@ -13,7 +13,7 @@ use Rattle.nova_model.specs.Inputs.{foreign_by, foreign_at, given_of, in_ram, in
 use Rattle.nova_model.specs.Memory.{Memory, written_in}
 use Rattle.nova_model.specs.Runs.{after, run, trace}
 use Rattle.nova_model.specs.Times.{due_on, next_moment}
-use Rattle.nova_model.specs.Turn.{Step, chosen_by, event_of, state_after, tick_by, turn, turn_by}
+use Rattle.nova_model.specs.Turn.{Step, chosen_by, event_of, tick_by, turn, turn_by}
 use Rattle.nova_model.specs.Views.{is_memory_of}
 use Rattle.nova_model.specs.declared.event.Event.{Event}
 use Rattle.nova_model.specs.State.{KernelState, context, pd_of}
@@ -23,11 +23,12 @@ use Rattle.nova_model.specs.declared.times.Due.{Due}
 use Rattle.nova_model.specs.declared.times.Due.TheVariants as due
 use Rattle.law_forest.specs.Effects.{Edits, Falls, Passing, Ticks, edits_by, effect, memory_with, steps_by, store_by, store_words, words_by}
 use Rattle.law_forest.specs.Turns.{Turning, acting, passing, turned}
-use Rattle.law_forest.proofs.Turning.{acts_next, chosen_turn, due_turn, none_taken, tick_turn}
-use Rattle.law_turns.proofs.Setting.{get_other}
+use Rattle.law_forest.proofs.Turning.{acts_next, chosen_turn, due_turn, tick_turn}
+use Rattle.law_turns.proofs.Setting.{get_other, set_length}
 use Rattle.law_origins.specs.Giving.{Acts}
 use Rattle.law_integrity.specs.Rights.{LeadsTo}
 use Rattle.law_integrity.specs.Secrecy.{IsHidden, IsHiddenAlong, with_bytes}
+use Rattle.law_integrity.proofs.Beside.{idle_stays}
 use Rattle.law_integrity.proofs.Deeds.{choice_same, deed_same}
 use Rattle.law_integrity.proofs.Stores.{leads_to}
 
@@ -86,11 +87,6 @@ set_both (z ∷ xs) zero (suc f) x y other = refl
 set_both (z ∷ xs) (suc e) zero x y other = refl
 set_both {T} (z ∷ xs) (suc e) (suc f) x y other = ap (λ (l : List T). z ∷ l) (set_both xs e f x y (λ same. other (ap suc same)))
 
-set_count : {T : Type 0} (xs : List T) (e : ℕ) (x : T) → length (slice_set xs e x) ≡ length xs
-set_count [] e x = refl
-set_count (y ∷ xs) zero x = refl
-set_count (y ∷ xs) (suc e) x = ap suc (set_count xs e x)
-
 set_there : {T : Type 0} (xs : List T) (e n : ℕ) (x : T) → is_some (slice_get (slice_set xs e x) n) ≡ is_some (slice_get xs n)
 set_there [] e n x = refl
 set_there (y ∷ xs) zero zero x = refl
@@ -106,7 +102,7 @@ written_same : (m : Memory) (frame : ℕ) (bytes : List ℕ) (g offset width val
 written_same m frame bytes g offset width value other (Some old) =
     ap (λ (l : List (List ℕ)). record m { ram = l }) (set_both m.ram frame g bytes (replaced old offset (little_bytes width value)) other)
 written_same m frame bytes g offset width value other None =
-    ap (λ (n : ℕ). record (memory_of m frame bytes) { log = m.log ++ (if offset == 0 then record { console = g - n; value = value % 256 } ∷ [] else []) }) (set_count m.ram frame bytes)
+    ap (λ (n : ℕ). record (memory_of m frame bytes) { log = m.log ++ (if offset == 0 then record { console = g - n; value = value % 256 } ∷ [] else []) }) (set_length m.ram frame bytes)
 
 stored_same : (k : KernelState) (ec frame : ℕ) (bytes : List ℕ) → IsHidden k (pd_of k ec) frame → (s : Store) (o : Option ℕ) → frame_for (address_space k ec) write_right s.address ≡ o →
     stored_at (memory_of k.memory frame bytes) s o ≡ memory_of (stored_at k.memory s o) frame bytes
@@ -161,9 +157,6 @@ stirred_same k ec frame bytes same d g = by_test (ec == g) d
     by_test false other = refl
 
 -- A TURN
-
-idle_stays : (k : KernelState) (cpu : ℕ) → choice k cpu ≡ None → next_moment k.times cpu ≡ None → after k cpu ≡ k
-idle_stays k cpu none quiet = ap (state_after k) (none_taken k cpu none quiet)
 
 turning_same : (k : KernelState) (cpu frame : ℕ) (bytes : List ℕ) (c : Candidate) → IsHidden k (pd_of k c.actor) frame →
     turned (with_bytes k frame bytes) cpu (acting (with_bytes k frame bytes) c) ≡ with_bytes (turned k cpu (acting k c)) frame bytes

@@ -54,6 +54,7 @@ use Rattle.nova_model.specs.declared.transfer.Transfer.{Transfer}
 use Rattle.law_integrity.specs.Disclosure.{AreSameIn, AskSame, CallSame, ExitTellsSame, TellsSame}
 use Rattle.law_integrity.specs.Rightful.{IsStep}
 use Rattle.law_integrity.proofs.Deciding.{Found, call_found}
+use Rattle.law_integrity.proofs.Deeds.{next_same}
 use Rattle.law_integrity.proofs.Masking.{AreMasked, ReadsSame, Words, admitted_same, busy_same, exit_admitted_same, over, revoked_same, words_in}
 
 -- WHAT AN EXIT TELLS
@@ -116,10 +117,6 @@ call_same r s same =
   where
     its : (x : ℕ) → 10 ≤ x → x ≤ 14 → reg s x ≡ reg r x
     its x from to = sym (same.arguments x from to)
-
-next_same : {A B : Type 0} (o : Result A Status) (f g : A → Result B Status) → ((x : A) → f x ≡ g x) → and_then o f ≡ and_then o g
-next_same (Err status) f g same = refl
-next_same (Ok x) f g same = same x
 
 called_same : (k : KernelState) (cs : Contexts) (ms : Words) (ec pt : ℕ) → words_in ms ec ≡ message k ec → (a : Admit) → called (over k cs ms) ec pt a ≡ called k ec pt a
 called_same k cs ms ec pt own (Refused status) = refl

@@ -117,7 +117,7 @@ opened_by k pd (deeds.Calls handler ip identifier items) next starts = absurd (c
 opened_by k pd (deeds.Sends handler ip identifier mtd reason q0 q1) next starts = absurd (cc)
 opened_by k pd other next starts = absurd starts
 
-opened_now : (k : KernelState) (cpu ec pd : ℕ) → Acts k cpu ec → Begins (deed k ec) (Granting (Some pd)) → (length k.objects ≡ pd) × (slice_get (after k cpu).objects pd ≡ Some Pd)
+pub opened_now : (k : KernelState) (cpu ec pd : ℕ) → Acts k cpu ec → Begins (deed k ec) (Granting (Some pd)) → (length k.objects ≡ pd) × (slice_get (after k cpu).objects pd ≡ Some Pd)
 opened_now k cpu ec pd acts starts =
     let by = opened_by k pd (deed k ec) (deed_opens k ec) starts in
     let objects : (after k cpu).objects ≡ k.objects ++ Pd ∷ [] = (is_done k cpu ec acts).objects ∙ ap (joined k.objects) by.1 in

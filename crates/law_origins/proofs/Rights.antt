@@ -57,9 +57,9 @@ use Rattle.law_origins.proofs.Origins.{run_origin}
 use Rattle.law_origins.proofs.Warrants.{Warrant, deed_warrant}
 
 -- where an input comes by a test, the test holds
-right_if : (P : Input → Type 0) (t : Bool) (i : Input) → (t ≡ true → P i) → IfSome (only_if t i) P
-right_if P true i h = h refl
-right_if P false i h = tt
+pub only_if_holds : (P : Input → Type 0) (t : Bool) (i : Input) → (t ≡ true → P i) → IfSome (only_if t i) P
+only_if_holds P true i h = h refl
+only_if_holds P false i h = tt
 
 -- ITS OWN
 
@@ -134,12 +134,12 @@ replies_last s turns cpu ec g came acts virtual keeps =
 reply_right : (s : Scenario) (turns : List ℕ) (cpu ec g caller : ℕ) → Acts (run (boot s) turns) cpu ec → IsVirtual (run (boot s) turns) g →
     IsCallerOf (run (boot s) turns) ec caller mark.Exit → IfSome (only_if (caller == g) (reply_of (message (run (boot s) turns) ec))) (HasRight (boot s) turns cpu ec g)
 reply_right s turns cpu ec g caller acts virtual keeps =
-    right_if (HasRight (boot s) turns cpu ec g) (caller == g) (reply_of (message (run (boot s) turns) ec))
+    only_if_holds (HasRight (boot s) turns cpu ec g) (caller == g) (reply_of (message (run (boot s) turns) ec))
     (λ own. replies_last s turns cpu ec g mark.Exit acts virtual (subst (λ (n : ℕ). IsCallerOf (run (boot s) turns) ec n mark.Exit) (eqb-true caller g own) keeps))
 
 -- A DERIVATION THAT JOINS
 
-kind_is : (kind : Kind) → is_memory kind ≡ true → kind ≡ Mem
+pub kind_is : (kind : Kind) → is_memory kind ≡ true → kind ≡ Mem
 kind_is Mem h = refl
 kind_is Obj h = absurd (cc)
 
@@ -189,7 +189,7 @@ giver_is s turns ec pd giver v present receives gives = by_state (context now ec
 
 given_right : (s : Scenario) (turns : List ℕ) (cpu ec g cursor : ℕ) (d : Derivation) → (after (run (boot s) turns) cpu).delegations ≡ branched (run (boot s) turns).delegations (branch_by (run (boot s) turns) ec (Gives d cursor)) →
     IsGivenChild (run (boot s) turns) ec d → IfSome (only_if (is_memory_of (pd_of (run (boot s) turns) g) d) (given_of (run (boot s) turns) d)) (HasRight (boot s) turns cpu ec g)
-given_right s turns cpu ec g cursor d joins child = right_if (HasRight (boot s) turns cpu ec g) (is_memory_of (pd_of now g) d) (given_of now d) (λ is. given is)
+given_right s turns cpu ec g cursor d joins child = only_if_holds (HasRight (boot s) turns cpu ec g) (is_memory_of (pd_of now g) d) (given_of now d) (λ is. given is)
   where
     now : KernelState
     now = run (boot s) turns
@@ -292,7 +292,7 @@ revoking k ec r runs = by_entry (context_at k ec) refl runs
 taken_right : (k : KernelState) (turns : List ℕ) (cpu ec g : ℕ) (leaf : Derivation) → IsForest (run k turns).delegations → (after (run k turns) cpu).delegations ≡ branched (run k turns).delegations (branch_by (run k turns) ec (Removes leaf)) →
     IsNextLeaf (run k turns) ec leaf → IfSome (only_if (is_memory_of (pd_of (run k turns) g) leaf) (input_as.Taken leaf.base leaf.order)) (HasRight k turns cpu ec g)
 taken_right k turns cpu ec g leaf forest goes next =
-    right_if (HasRight k turns cpu ec g) (is_memory_of (pd_of now g) leaf) (input_as.Taken leaf.base leaf.order) (λ is. taken is)
+    only_if_holds (HasRight k turns cpu ec g) (is_memory_of (pd_of now g) leaf) (input_as.Taken leaf.base leaf.order) (λ is. taken is)
   where
     now : KernelState
     now = run k turns
@@ -330,7 +330,7 @@ others_right : (s : Scenario) (turns : List ℕ) (cpu ec g : ℕ) (d : Deed) →
     IfSome (others_input (run (boot s) turns) ec g d) (HasRight (boot s) turns cpu ec g)
 others_right s turns cpu ec g Steps acts virtual warrant asks allowed done = store_right (boot s) turns cpu ec g (store_of (instruction (run (boot s) turns) ec))
 others_right s turns cpu ec g (Recalls whose) acts virtual warrant asks allowed done =
-    right_if (HasRight (boot s) turns cpu ec g) (whose == g) input_as.Recall
+    only_if_holds (HasRight (boot s) turns cpu ec g) (whose == g) input_as.Recall
     (λ own. subst (MayUse (run (boot s) turns) (pd_of (run (boot s) turns) ec) is_ec control_right) (eqb-true whose g own) warrant)
 others_right s turns cpu ec g (Replies caller mark.Exit false) acts virtual warrant asks allowed done = reply_right s turns cpu ec g caller acts virtual asks
 others_right s turns cpu ec g (Replies caller mark.Exit true) acts virtual warrant asks allowed done = tt

@@ -2,6 +2,7 @@
 use Rattle.std.proofs.Common.{◌≡◌, ℕ, zero, suc, ◌+◌, ◌<◌, ◌≤◌, List, [], ◌∷◌, ◌++◌, length, refl, ap, ◌∙◌, arith}
 use Rattle.std.specs.Prelude.{Bool, true, false, ◌==◌, ◌&&◌, nat_lt, nat_le, filter, Option, Some, None, slice_get, option_and_then}
 use Rattle.std.specs.List.{AllByRecursion, cons_option, filter_map, find, list_any, range_with_len}
+use Rattle.law_forest.proofs.Members.{all_weaker}
 use Rattle.nova_model.specs.Delegations.{covers, is_held_in, meets}
 use Rattle.nova_model.specs.Running.{revoke_of, revoke_by, running, running_of}
 use Rattle.nova_model.specs.State.{KernelState, entry, pd_of}
@@ -64,10 +65,6 @@ pub any_nothing : {T : Type 0} (p : T → Bool) (xs : List T) → AllByRecursion
 any_nothing p [] all = refl
 any_nothing p (x ∷ xs) all = rw all.0 (any_nothing p xs all.1)
 
-pub all_by : {T : Type 0} (P Q : T → Type 0) (xs : List T) → ((x : T) → P x → Q x) → AllByRecursion P xs → AllByRecursion Q xs
-all_by P Q [] each all = tt
-all_by P Q (x ∷ xs) each all = (each x all.0, all_by P Q xs each all.1)
-
 -- all derivations: RAM, the root's capabilities, and what was made
 abbrev pub with_made : List Derivation → List Derivation
 with_made rest = ram_pages ∷ (own_capabilities ++ rest)
@@ -89,7 +86,7 @@ module _ (s n : ℕ) (rest : List Derivation) (all : AllByRecursion (IsMade s n)
             lies_before 1 s (omega (arith, from)),
             (
               lies_before 2 s (omega (arith, from)),
-              all_by (IsMade s n) (λ x. covers Obj 0 s x ≡ false) rest selector_free all,
+              all_weaker (IsMade s n) (λ x. covers Obj 0 s x ≡ false) rest selector_free all,
             ),
           ),
         ),
@@ -102,7 +99,7 @@ module _ (s n : ℕ) (rest : List Derivation) (all : AllByRecursion (IsMade s n)
   not_left receiver cursor x (FirstPage id pd old from below) = rw (differ_too pd 0 (omega (arith, from))) refl
 
   abbrev rest_left : (receiver cursor : ℕ) → AllByRecursion (λ x. is_left (first_job receiver cursor) x ≡ false) rest
-  rest_left receiver cursor = all_by (IsMade s n) (λ x. is_left (first_job receiver cursor) x ≡ false) rest (not_left receiver cursor) all
+  rest_left receiver cursor = all_weaker (IsMade s n) (λ x. is_left (first_job receiver cursor) x ≡ false) rest (not_left receiver cursor) all
 
   pub ram_is_next : (receiver : ℕ) → next_source (with_made rest) (first_job receiver 0) ≡ Some ram_pages
   ram_is_next receiver = rw (filter_nothing (is_left (first_job receiver 0)) rest (rest_left receiver 0)) refl
@@ -118,7 +115,7 @@ module _ (s n : ℕ) (rest : List Derivation) (all : AllByRecursion (IsMade s n)
 
   pub none_held : 0 < n → is_held_in (with_made rest) n the_first_page ≡ false
   none_held some =
-      rw (differ 0 n some) (any_nothing (meets n the_first_page) rest (all_by (IsMade s n) (λ x. meets n the_first_page x ≡ false) rest not_met all))
+      rw (differ 0 n some) (any_nothing (meets n the_first_page) rest (all_weaker (IsMade s n) (λ x. meets n the_first_page x ≡ false) rest not_met all))
 
 -- NO REVOKE RUNS
 

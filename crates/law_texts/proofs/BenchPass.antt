@@ -27,7 +27,7 @@ use Rattle.nova_model.specs.declared.context.State.TheVariants.{Ready, Granting}
 use Rattle.nova_model.specs.declared.deed.Deed.{Deed}
 use Rattle.nova_model.specs.declared.deed.Deed.TheVariants.{Steps, Opens, Gives, Finishes}
 use Rattle.nova_model.specs.declared.delegation.Derivation.{Derivation}
-use Rattle.law_forest.proofs.Members.{all_more}
+use Rattle.law_forest.proofs.Members.{all_more, all_weaker}
 use Rattle.nova_model.specs.Deliveries.{first_delivery, part_deed, parted}
 use Rattle.nova_model.specs.Revokes.{busy}
 use Rattle.nova_model.specs.Transfers.{part_of}
@@ -37,7 +37,7 @@ use Rattle.nova_model.specs.declared.transfer.Reason.TheVariants as reason
 use Rattle.nova_model.specs.declared.transfer.Sequel.TheVariants as sequel
 use Rattle.law_texts.proofs.BenchStates.{Accounts, AreDomains, Tables, domains_more, held, kernel, ram_pages, with_domain}
 use Rattle.law_texts.proofs.BenchTurn.{IsActing, IsTaken, paid_once, turn_taken}
-use Rattle.law_texts.proofs.BenchMade.{IsMade, Capability, FirstPage, all_by, with_made, none_at, ram_is_next, none_is_next, none_held, none_running, differ_too, first_job, first_page, is_less, still_made}
+use Rattle.law_texts.proofs.BenchMade.{IsMade, Capability, FirstPage, with_made, none_at, ram_is_next, none_is_next, none_held, none_running, differ_too, first_job, first_page, is_less, still_made}
 
 -- the bench's program but for its first two words, where its bytes lie
 pub record HoldsCode (m : Memory) : Type 0 where
@@ -182,7 +182,7 @@ module _ (words : List ℕ) (t : Tables) (rest : List Derivation) (next : ℕ) (
   -- the made of before, and the capability
   made_then : AllByRecursion (IsMade (x9 + 1) (number t)) with_capability
   made_then = all_more (IsMade (x9 + 1) (number t)) rest (capability next x9 (number t))
-      (all_by (IsMade x9 (number t)) (IsMade (x9 + 1) (number t)) rest (still_made x9 (number t) (x9 + 1) (number t) (omega arith) (omega arith)) all)
+      (all_weaker (IsMade x9 (number t)) (IsMade (x9 + 1) (number t)) rest (still_made x9 (number t) (x9 + 1) (number t) (omega arith) (omega arith)) all)
       (Capability next x9 (number t) (record { 0 = 1 }) from (omega arith))
 
   judged_by : Bool → List Running → Result Derivation Reason
@@ -220,7 +220,7 @@ module _ (words : List ℕ) (t : Tables) (rest : List Derivation) (next : ℕ) (
   module _ (old : 4 ≤ next) where
     pub made_by_now : AllByRecursion (IsMade (x9 + 1) (number t + 1)) with_page
     made_by_now = all_more (IsMade (x9 + 1) (number t + 1)) with_capability (first_page (next + 1) (number t))
-        (all_by (IsMade (x9 + 1) (number t)) (IsMade (x9 + 1) (number t + 1)) with_capability (still_made (x9 + 1) (number t) (x9 + 1) (number t + 1) (omega arith) (omega arith)) made_then)
+        (all_weaker (IsMade (x9 + 1) (number t)) (IsMade (x9 + 1) (number t + 1)) with_capability (still_made (x9 + 1) (number t) (x9 + 1) (number t + 1) (omega arith) (omega arith)) made_then)
         (FirstPage (next + 1) (number t) (omega (arith, old)) (omega arith) (omega arith))
 
     its_end : deed granted 1 ≡ the_end

@@ -7,6 +7,7 @@ use Rattle.rv_model.specs.declared.instr.Instr.{Instr}
 use Rattle.nova_calls.specs.Hypercalls.{call_of}
 use Rattle.nova_guest.specs.Frames.{read_in}
 use Rattle.law_forest.proofs.Changes.{run_forest}
+use Rattle.law_forest.proofs.Members.{all_weaker}
 use Rattle.nova_model.specs.AddressSpaces.{space}
 use Rattle.nova_model.specs.Deeds.{address_space, deed, stepping}
 use Rattle.nova_model.specs.Delegations.{covers}
@@ -22,7 +23,7 @@ use Rattle.nova_range.specs.declared.range.Kind.TheVariants.{Obj}
 use Rattle.nova_objects.specs.declared.object.Object.TheVariants.{Pd}
 use Rattle.law_texts.proofs.BenchStates.{Accounts, AreDomains, Tables, domains_more, own_capabilities, with_domain}
 use Rattle.law_texts.proofs.BenchTurn.{IsTaken, paid_once, turn_taken}
-use Rattle.law_texts.proofs.BenchMade.{IsMade, Capability, FirstPage, all_by, first_page, the_first_page, with_made}
+use Rattle.law_texts.proofs.BenchMade.{IsMade, Capability, FirstPage, first_page, the_first_page, with_made}
 use Rattle.law_texts.proofs.BenchPass.{HoldsCode, asking, at, call_ended, capability, counted_down, domain_opened, file, granted, left_loop, looped, made_by_now, made_next, number, number_next, opened, page_given, plain, ready_acts, selected, stepped_on, the_end, thread}
 use Rattle.law_texts.proofs.BenchEnds.{Ends, turn_ends}
 use Rattle.law_texts.proofs.BenchRevoke.{has_parent, revoke_order, revokes_end, revoking, scope_is}
@@ -107,7 +108,7 @@ module _ (words : List ℕ) (t : Tables) (rest : List Derivation) (next : ℕ) (
       (turn_ends (at words t rest next m is.tables is.code (paid_once (paid_once a)) 48 (file 0 x9 1 x12 7)) (revoking words t m is.tables is.code next (own_capabilities ++ rest) (paid_once (paid_once (paid_once a))) 0 x9 x12) (Revokes the_first_page false) (revoke_order pages) 0 pages caps 0 pages
       (revoke_called (paid_once (paid_once a)) x12) refl (omega arith) (omega arith)
       (revokes_end words t m is.tables is.code next 0 x9 x12 pages (own_capabilities ++ rest) (paid_once (paid_once (paid_once a))) caps is.forest
-      (refl, (refl, (refl, all_by (IsMade x9 (number t)) (λ x. covers Obj 0 23 x ≡ false) rest (not_at x9 (number t)) is.made)))
+      (refl, (refl, (refl, all_weaker (IsMade x9 (number t)) (λ x. covers Obj 0 23 x ≡ false) rest (not_at x9 (number t)) is.made)))
       (ap (λ (l : List Derivation). length l) (scope_is x9 (number t) rest is.made) ∙ is.half) (let w = is.whole in omega (arith, w)))))
 
 -- A PASS

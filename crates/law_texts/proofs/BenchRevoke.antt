@@ -8,7 +8,8 @@ use Rattle.nova_guest.specs.Frames.{read_in}
 use Rattle.law_forest.proofs.Extremes.{filter_same}
 use Rattle.law_forest.proofs.Forests.{forest_without}
 use Rattle.law_forest.proofs.Leaves.{leaf_facts, leaf_or_none}
-use Rattle.law_forest.proofs.Members.{IsIn, all_at, in_from_contains, in_filtered}
+use Rattle.law_forest.proofs.Lines.{line_none}
+use Rattle.law_forest.proofs.Members.{IsIn, all_at, all_weaker, in_from_contains, in_filtered}
 use Rattle.law_forest.specs.Courses.{IsLeaf}
 use Rattle.law_forest.proofs.Pairs.{pairs_filter, same_id}
 use Rattle.law_forest.proofs.Scopes.{scope_without}
@@ -19,7 +20,6 @@ use Rattle.nova_model.specs.Deeds.{address_space, deed, stepping, removes}
 use Rattle.nova_model.specs.Delegations.{Delegations, covers, without}
 use Rattle.nova_model.specs.Exits.{exit_at}
 use Rattle.nova_model.specs.Forest.{ArePairs, IsForest}
-use Rattle.nova_model.specs.Lines.{line_by}
 use Rattle.nova_model.specs.Memory.{Memory}
 use Rattle.nova_model.specs.Revokes.{Revocation, in_scope, is_top, next_leaf, scope}
 use Rattle.nova_model.specs.State.{KernelState, no_transfer}
@@ -31,7 +31,7 @@ use Rattle.nova_objects.specs.declared.object.Object.TheVariants.{Sc}
 use Rattle.nova_range.specs.declared.range.Kind.TheVariants.{Obj}
 use Rattle.law_texts.proofs.BenchStates.{Accounts, AreDomains, Tables, held, kernel, own_capabilities, ram_pages}
 use Rattle.law_texts.proofs.BenchTurn.{IsActing, IsTaken, no_candidates, no_entry, paid_once, turn_taken}
-use Rattle.law_texts.proofs.BenchMade.{IsMade, Capability, FirstPage, all_by, differ, find_none, the_first_page, with_made}
+use Rattle.law_texts.proofs.BenchMade.{IsMade, Capability, FirstPage, differ, find_none, the_first_page, with_made}
 use Rattle.law_texts.proofs.BenchPass.{HoldsCode, file, thread, ready_acts}
 use Rattle.law_texts.proofs.BenchEnds.{Ends, turn_ends}
 
@@ -49,14 +49,10 @@ exiting_acts reason q0 q1 = record { edge = refl; acts = refl }
 abbrev pub has_parent : Derivation → Bool
 has_parent d = is_some d.parent
 
-no_line : (n : ℕ) (list : List Derivation) → line_by n list None ≡ []
-no_line zero list = refl
-no_line (suc n) list = refl
-
 -- first pages are in the scope, and nothing else
 pub in_scope_is : (s n : ℕ) (xs : List Derivation) (x : Derivation) → IsMade s n x → in_scope the_revoke (ram_pages ∷ xs) x ≡ has_parent x
 in_scope_is s n xs x (Capability id selector target rights from below) =
-    ap (λ (l : List Derivation). list_any (is_top the_revoke (ram_pages ∷ xs)) (held id selector 0 target rights ∷ l)) (no_line id (ram_pages ∷ xs))
+    ap (λ (l : List Derivation). list_any (is_top the_revoke (ram_pages ∷ xs)) (held id selector 0 target rights ∷ l)) (line_none id (ram_pages ∷ xs))
 in_scope_is s n xs x (FirstPage id pd old from below) = refl
 
 pub scope_is : (s n : ℕ) (rest : List Derivation) → AllByRecursion (IsMade s n) rest → scope the_revoke (with_made rest) ≡ filter has_parent rest
@@ -85,7 +81,7 @@ one_less : (list : List Derivation) (d : Derivation) → ArePairs (λ a b. a.id 
 one_less [] d rising i = absurd i
 one_less (x ∷ xs) d rising (inl e) =
     let gone : not (x.id == d.id) ≡ false = ap (λ (y : Derivation). not (y.id == d.id)) e ∙ itself_gone d.id in
-    let rest = all_kept (λ a. not (a.id == d.id)) xs (all_by (λ (a : Derivation). x.id < a.id) (λ a. not (a.id == d.id) ≡ true) xs
+    let rest = all_kept (λ a. not (a.id == d.id)) xs (all_weaker (λ (a : Derivation). x.id < a.id) (λ a. not (a.id == d.id) ≡ true) xs
     (λ a above. other_stays a.id d.id (subst (λ (y : Derivation). y.id < a.id) e above)) rising.0) in
     rw gone (let same = ap (λ (l : List Derivation). length l) rest in omega (arith, same))
 one_less (x ∷ xs) d rising (inr i) =

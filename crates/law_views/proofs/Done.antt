@@ -28,7 +28,8 @@ use Rattle.nova_model.specs.declared.transfer.Sequel.TheVariants.{Replied}
 use Rattle.law_origins.specs.Giving.{Acts}
 use Rattle.nova_range.specs.declared.rights.Rights.{Rights}
 use Rattle.law_views.specs.Said.{AfterItems, AtOnce, Completes, Delegates, IsOwnDeed, IsOwnTurn, IsToldReply, Stores, TakesAway}
-use Rattle.law_views.proofs.Said.{input_is, of_memory, tells, view_covers}
+use Rattle.law_origins.proofs.Actors.{input_is}
+use Rattle.law_views.proofs.Said.{of_memory, tells, view_covers}
 
 -- NOBODY ACTS
 

@@ -4,7 +4,6 @@ use Rattle.std.specs.Prelude.{Bool, true, false, ◌==◌, ◌&&◌, IfSome, Opt
 use Rattle.std.proofs.lemmas.Bool.{and_parts, cases_eq, eq-eqb, eqb-true}
 use Rattle.std.proofs.lemmas.Option.{slice_get_within}
 use Rattle.rv_model.specs.Step.{Once, Raised, Went}
-use Rattle.law_forest.proofs.Actors.{chosen_input, who_acts}
 use Rattle.nova_guest.specs.Maps.{is_covered}
 use Rattle.nova_guest.specs.declared.guest.Guest.{Guest}
 use Rattle.nova_guest.specs.declared.input.Input.{Input}
@@ -29,11 +28,12 @@ use Rattle.nova_model.specs.declared.deed.Deed.TheVariants.{Steps, Raises, Dies,
 use Rattle.nova_model.specs.declared.delegation.Derivation.{Derivation}
 use Rattle.nova_model.specs.declared.transfer.Sequel.TheVariants.{Replied}
 use Rattle.law_origins.specs.Giving.{Acts}
+use Rattle.law_origins.proofs.Actors.{input_is}
+use Rattle.law_origins.proofs.Rights.{kind_is, only_if_holds}
 use Rattle.nova_range.specs.Mtds.{names}
 use Rattle.nova_range.specs.Rights.{write_right}
 use Rattle.nova_range.specs.declared.mtd.TheConstants.Mtd.{PC, LOW, HIGH}
-use Rattle.nova_range.specs.declared.range.Kind.{Kind}
-use Rattle.nova_range.specs.declared.range.Kind.TheVariants.{Mem, Obj}
+use Rattle.nova_range.specs.declared.range.Kind.TheVariants.{Mem}
 use Rattle.nova_utcb.specs.Messages.{groups_in, word}
 use Rattle.law_views.specs.Said.{AfterItems, Answers, AtOnce, Completes, Delegates, IsOwnDeed, IsOwnTurn, Stores, TakesAway, TellsOf}
 
@@ -47,13 +47,6 @@ IsSaid k ec g (input_as.Taken base order) = TakesAway k ec g base order
 IsSaid k ec g input_as.Own = IsOwnTurn k ec g input_as.Own
 IsSaid k ec g input_as.Sent = IsOwnTurn k ec g input_as.Sent
 IsSaid k ec g input_as.Died = IsOwnTurn k ec g input_as.Died
-
-pub input_is : (k : KernelState) (cpu ec g : ℕ) → Acts k cpu ec → input k cpu g ≡ input_of k ec g (deed k ec)
-input_is k cpu ec g is = who_acts (λ n. input k cpu g ≡ input_of k n g (deed k n)) k cpu ec is (λ c chosen. chosen_input k cpu g c chosen)
-
-said_if : (P : Input → Type 0) (t : Bool) (i : Input) → (t ≡ true → P i) → IfSome (only_if t i) P
-said_if P true i h = h refl
-said_if P false i h = tt
 
 -- ITS OWN
 
@@ -130,21 +123,17 @@ tells m size = record {
 }
 
 reply_said : (k : KernelState) (ec g caller : ℕ) → (caller ≡ g → Completes k ec g) → IfSome (only_if (caller == g) (reply_of (message k ec))) (IsSaid k ec g)
-reply_said k ec g caller completes = said_if (IsSaid k ec g) (caller == g) (reply_of (message k ec))
+reply_said k ec g caller completes = only_if_holds (IsSaid k ec g) (caller == g) (reply_of (message k ec))
     (λ own sound. record { completes = completes (eqb-true caller g own); tells = tells (message k ec) (sound.whole.messages ec) })
 
 -- A DERIVATION
-
-pub kind_is : (kind : Kind) → is_memory kind ≡ true → kind ≡ Mem
-kind_is Mem h = refl
-kind_is Obj h = absurd (cc)
 
 pub of_memory : (d : Derivation) (pd : ℕ) → d.kind ≡ Mem → d.pd ≡ pd → is_memory_of pd d ≡ true
 of_memory d pd kind domain = ap₂ (λ (a b : Bool). a && b) (ap is_memory kind) (eq-eqb d.pd pd domain)
 
 given_said : (k : KernelState) (ec g cursor : ℕ) (d : Derivation) → deed k ec ≡ Gives d cursor →
     IfSome (only_if (is_memory_of (pd_of k g) d) (given_of k d)) (IsSaid k ec g)
-given_said k ec g cursor d is = said_if (IsSaid k ec g) (is_memory_of (pd_of k g) d) (given_of k d)
+given_said k ec g cursor d is = only_if_holds (IsSaid k ec g) (is_memory_of (pd_of k g) d) (given_of k d)
     (λ of_. let parts = and_parts (is_memory d.kind) (d.pd == pd_of k g) of_ in record {
       child = d;
       cursor = cursor;
@@ -160,7 +149,7 @@ given_said k ec g cursor d is = said_if (IsSaid k ec g) (is_memory_of (pd_of k g
 
 taken_said : (k : KernelState) (ec g : ℕ) (d : Derivation) → deed k ec ≡ Removes d →
     IfSome (only_if (is_memory_of (pd_of k g) d) (input_as.Taken d.base d.order)) (IsSaid k ec g)
-taken_said k ec g d is = said_if (IsSaid k ec g) (is_memory_of (pd_of k g) d) (input_as.Taken d.base d.order)
+taken_said k ec g d is = only_if_holds (IsSaid k ec g) (is_memory_of (pd_of k g) d) (input_as.Taken d.base d.order)
     (λ of_. let parts = and_parts (is_memory d.kind) (d.pd == pd_of k g) of_ in record {
       leaf = d;
       removes = is;
@@ -175,7 +164,7 @@ taken_said k ec g d is = said_if (IsSaid k ec g) (is_memory_of (pd_of k g) d) (i
 others_said : (k : KernelState) (ec g : ℕ) (d : Deed) → ec ≢ g → deed k ec ≡ d → IfSome (others_input k ec g d) (IsSaid k ec g)
 others_said k ec g Steps ne is = store_said k ec g ne is (instruction k ec) refl
 others_said k ec g (Recalls whose) ne is =
-    said_if (IsSaid k ec g) (whose == g) input_as.Recall (λ own. is ∙ ap Recalls (eqb-true whose g own))
+    only_if_holds (IsSaid k ec g) (whose == g) input_as.Recall (λ own. is ∙ ap Recalls (eqb-true whose g own))
 others_said k ec g (Replies caller mark.Exit false) ne is =
     reply_said k ec g caller (λ same. AtOnce (is ∙ ap (λ (n : ℕ). Replies n mark.Exit false) same))
 others_said k ec g (Replies caller mark.Exit true) ne is = tt

@@ -29,7 +29,8 @@ use Rattle.nova_model.specs.Views.{cells_of, guest_state, is_memory_of, map_in, 
 use Rattle.nova_model.specs.declared.context.State.{State}
 use Rattle.nova_model.specs.declared.context.State.TheVariants.{Fresh, Ready, Calling, Exiting, Sending, Dead}
 use Rattle.nova_model.specs.declared.delegation.Derivation.{Derivation}
-use Rattle.law_views.proofs.Said.{kind_is, of_memory}
+use Rattle.law_origins.proofs.Rights.{kind_is}
+use Rattle.law_views.proofs.Said.{of_memory}
 use Rattle.law_views.specs.Seen.{AreCellsOf, AreMapsOf, IsMapped, IsShownAs}
 
 pub view_registers : (k : KernelState) (g : ℕ) → (view k g).regs ≡ (context k g).regs

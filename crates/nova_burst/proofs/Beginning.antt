@@ -32,12 +32,9 @@ use Rattle.nova_burst.specs.Gathered.{AreGathered, HasPage, IsLedTo}
 use Rattle.nova_burst.specs.Lending.{IsCodeCopied, IsNew, LeaseView, StemsFrom, lease_state_of}
 use Rattle.nova_burst.specs.declared.copies.Known.{Known}
 use Rattle.nova_burst.specs.declared.leasing.Leasable.{Leasable}
+use Rattle.nova_burst.proofs.Lists.{some_of}
 
 -- WHAT IS GATHERED IS THE GUEST'S
-
-some_of : (o : Option (List ℕ)) → IsSome o → (b : List ℕ) × (o ≡ Some b)
-some_of (Some b) h = (b, refl)
-some_of None h = absurd (cc)
 
 place_covered : (maps : List Map) (page : ℕ) (p : Place) → page_in maps page ≡ Some p → is_covered maps p.frame ≡ true
 place_covered maps page p h = by_map (find (covers page) maps) refl h

@@ -15,6 +15,7 @@ use Rattle.nova_model.specs.declared.budget.Budget.{Budget}
 use Rattle.nova_model.specs.declared.context.EcState.{EcState}
 use Rattle.nova_model.specs.declared.context.State.{State}
 use Rattle.nova_model.specs.declared.context.State.TheVariants.{Fresh, Ready, Parked, Calling, Helping, Exiting, Sending, Granting, Replying, Revoking, Blocked, Dead}
+use Rattle.law_forest.proofs.Turning.{idle_none}
 use Rattle.law_turns.proofs.Candidates.{HasSchedule, schedule_of, the_chosen}
 use Rattle.law_isolation.specs.Sound.{IsVirtual}
 use Rattle.law_leases.specs.Commits.{IsReached, lesser, stirs_now}
@@ -99,15 +100,6 @@ pub chosen_acts : (k : KernelState) (cpu : ℕ) → due_on k.times cpu ≡ None 
 unfolding next_to_act
 chosen_acts k cpu calm = ap (λ (d : Option Due). unless_due d (choice k cpu)) calm
 
--- nobody acts where nobody is chosen
-pub none_chosen : (k : KernelState) (cpu : ℕ) → choice k cpu ≡ None → next_to_act k cpu ≡ None
-unfolding next_to_act
-none_chosen k cpu none = by_due (due_on k.times cpu) ∙ none
-  where
-    by_due : (d : Option Due) → unless_due d (choice k cpu) ≡ choice k cpu
-    by_due None = refl
-    by_due (Some what) = sym none
-
 pub acts_on : (k : KernelState) (cpu g sc : ℕ) → IsNext k cpu g sc → is_to_step k (choice k cpu) ≡ has_code k (domain_of_virtual (slice_get k.objects g)) (regs_to_step (context k g))
 acts_on k cpu g sc it = ap (is_to_step k) it.is ∙ ap (λ (n : ℕ). has_code k (domain_of_virtual (slice_get k.objects n)) (regs_to_step (context k n))) it.actor
 
@@ -130,7 +122,7 @@ not_leasable k cpu none = ap (λ (o : Option Candidate). nat_lt cpu k.cpus && is
     and_none false = refl
 
 pub leasable_none : (k : KernelState) (cpu : ℕ) → option_map (λ c. c.actor) (choice k cpu) ≡ None → is_leasable k cpu ≡ false
-leasable_none k cpu h = not_leasable k cpu (none_chosen k cpu (no_choice (choice k cpu) h))
+leasable_none k cpu h = not_leasable k cpu (idle_none k cpu (no_choice (choice k cpu) h))
 
 pub leasable_is : (k : KernelState) (cpu g sc : ℕ) → cpu < k.cpus → due_on k.times cpu ≡ None → IsNext k cpu g sc →
     is_leasable k cpu ≡ has_code k (domain_of_virtual (slice_get k.objects g)) (regs_to_step (context k g))

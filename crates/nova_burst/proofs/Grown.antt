@@ -14,7 +14,7 @@ use Rattle.nova_burst.specs.Copies.{CopiesState, known_in, place_of}
 use Rattle.nova_burst.specs.Gathered.{AreGathered, HasCopy, HasPage, HaveGrown, HaveGrownBy, IsLedTo, IsNoRamPage}
 use Rattle.nova_kernel.specs.Views.{KernelView}
 use Rattle.nova_burst.specs.declared.copies.Known.{Known}
-use Rattle.nova_burst.proofs.Lists.{copy_new, copy_or, copy_still, fresh_more, known_new, known_or, known_still}
+use Rattle.nova_burst.proofs.Lists.{copy_new, copy_or, copy_still, fresh_more, known_new, known_or, known_still, some_of}
 
 -- NOTHING CAME, OR SEVERAL TIMES
 
@@ -37,10 +37,6 @@ empty k pd most = record {
 }
 
 -- A PAGE MORE
-
-some_of : (o : Option (List ℕ)) → IsSome o → (b : List ℕ) × (o ≡ Some b)
-some_of (Some b) h = (b, refl)
-some_of None h = absurd (cc)
 
 abbrev with_known : CopiesState → Known → CopiesState
 with_known s x = record s { known = s.known ++ x ∷ [] }

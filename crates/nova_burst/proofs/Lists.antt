@@ -48,6 +48,10 @@ known_or (k ∷ list) x page p h = by_test (k.page == page) h (known_or list x p
 
 -- COPIES
 
+pub some_of : (o : Option (List ℕ)) → IsSome o → (b : List ℕ) × (o ≡ Some b)
+some_of (Some b) h = (b, refl)
+some_of None h = absurd (cc)
+
 pub none_of : (o : Option (List ℕ)) → is_some o ≡ false → o ≡ None
 none_of None h = refl
 none_of (Some b) h = absurd (cc)

@@ -1,48 +1,33 @@
-ghost use Rattle.std.specs.Prelude.{◌≡◌, ◌≤◌, ◌+◌, ◌^◌, nat_le, replicate};
+ghost use Rattle.std.specs.Prelude.{◌≡◌, ◌≤◌, ◌+◌, ◌^◌, replicate};
 ghost use Rattle.nova_model.specs.Runs.{run};
 ghost use Rattle.nova_burst.specs.Taken.{MayTakeOver};
-ghost use Rattle.law_leases.specs.Commits.{by_room, commit_done};
-ghost use Rattle.nova_burst.specs.Lending.{AreItsTurns, ComesAfter, answer_by, answer_to, turns_of};
+ghost use Rattle.law_leases.specs.Commits.{commit_done};
+ghost use Rattle.nova_burst.specs.Lending.{AreItsTurns, ComesAfter, answer_to, turns_of};
 
 use crate::lent::Lease;
 use law_leases::CommitDone;
 use nova_kernel::Kernel;
 
-/// The answer where nothing came between and the leased one acts again.
-fn by_room(count: u64, left: u64) -> CommitDone
-    ensures { result ≡ by_room count left (nat_le count left) }
-{
-    if count <= left {
-        CommitDone::Committed(count)
-    } else {
-        CommitDone::NoRoom { left }
-    }
-}
-
-/// The answer where nothing came between. The processor then isn't idle, so that None is never met.
-fn by_actor(lease: &Lease, actor: Option<u32>, left: u64) -> CommitDone
-    ensures { result ≡ answer_by lease.now.run left actor }
-{
-    let Some(actor) = actor else {
-        return CommitDone::Away { actor: 0 };
-    };
-    if actor == lease.guest() {
-        by_room(lease.count(), left)
-    } else {
-        CommitDone::Away { actor }
-    }
-}
-
-/// The answer by both stir counts of now, and by who acts.
+/// The answer by both stir counts of now, and by who acts: that of the first test that fails. Where nothing came between, the processor
+/// isn't idle, so that None is never met.
 fn answer(lease: &Lease, now: (u64, u64), actor: Option<u32>, left: u64) -> CommitDone
     ensures { result ≡ answer_to lease.now.run left now actor }
 {
     let kept = lease.kept();
-    if kept.0 == now.0 && kept.1 == now.1 {
-        by_actor(lease, actor, left)
-    } else {
-        CommitDone::Dropped { kept, now }
+    if kept.0 != now.0 || kept.1 != now.1 {
+        return CommitDone::Dropped { kept, now };
     }
+    let Some(actor) = actor else {
+        return CommitDone::Away { actor: 0 };
+    };
+    if actor != lease.guest() {
+        return CommitDone::Away { actor };
+    }
+    let count = lease.count();
+    if count > left {
+        return CommitDone::NoRoom { left };
+    }
+    CommitDone::Committed(count)
 }
 
 /// What becomes of a lease that is to be committed.

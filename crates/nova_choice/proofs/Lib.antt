@@ -2,6 +2,7 @@ pub mod Budgets
 pub mod Nexts
 pub mod Choosing
 pub mod Waits
+pub mod Avoiding
 pub mod Serving
 pub mod Joins
 pub mod Marks

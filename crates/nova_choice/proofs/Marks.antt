@@ -1,16 +1,17 @@
 -- Scheduling contexts of one processor that are marked anew.
 use Rattle.std.proofs.Common.{◌≡◌, ℕ, zero, suc, ◌+◌, ◌<◌, ◌==◌, List, [], ◌∷◌, length, refl, ap, ap₂, sym, ◌∙◌, subst, arith, IsSome}
-use Rattle.std.specs.Prelude.{Bool, true, false, not, ◌&&◌, ◌||◌, eqb, if◌then◌else◌, Option, Some, None, is_some, drop, option_map, slice_get, slice_index_or, slice_set}
+use Rattle.std.specs.Prelude.{Bool, true, false, not, ◌&&◌, ◌||◌, ◌≢◌, eqb, if◌then◌else◌, Option, Some, None, IfSome, is_some, drop, option_and_then, option_map, slice_get, slice_index_or, slice_set}
 use Rattle.std.specs.List.{list_any}
 use Rattle.nova_model.specs.Choice.{in_front}
-use Rattle.nova_model.specs.Edges.{chase}
+use Rattle.nova_model.specs.Edges.{after_edges, chase, cpu_in, edge}
 use Rattle.nova_model.specs.State.{Contexts, KernelState, budget_at, entry}
 use Rattle.nova_model.specs.declared.budget.Budget.{Budget}
 use Rattle.nova_objects.specs.declared.object.Object.{Object}
 use Rattle.nova_objects.specs.declared.object.Object.TheVariants.{Pd, Ec, Sc, Pt, Sm}
+use Rattle.nova_ec.proofs.Walks.{after_edges-last}
 use Rattle.nova_sched.specs.Queues.{Schedule, marked, marked_by, member_of, members, members_from, queued_at}
 use Rattle.nova_sched.specs.declared.queued.Queued.{Queued}
-use Rattle.nova_choice.specs.Schedules.{AreQueued, AreQueuedBut, actor_of, budgets_of, but_for, leads, remarked, wanted, wanted_with}
+use Rattle.nova_choice.specs.Schedules.{AreQueued, AreQueuedBeyond, AreQueuedBut, AreQueuedBy, Avoids, NeverWaits, actor_of, budgets_of, but_for, leads, owner_in, remarked, wanted, wanted_with}
 use Rattle.nova_choice.proofs.Budgets.{remarked_budgets, remarked_stamp}
 use Rattle.nova_choice.proofs.Joins.{marked_cpus, marked_length, marked_none, marked_other, marked_same}
 
@@ -194,23 +195,125 @@ remarked_queued k s home queued = record {
   owners = queued.owners;
 }
 
+-- one alone is marked, where the one to whom ways come has no other scheduling context
+pub marked_own : (k : KernelState) (s : Schedule) (moved at x : ℕ) → AreQueuedBy moved at k s → ((sc : ℕ) → owner_in (slice_get k.objects sc) ≡ Some at → x ≡ sc) →
+    AreQueuedBeyond moved at k (remarked k.objects k.contexts (x ∷ []) s)
+marked_own k s moved at x queued only = record {
+  near = record {
+    cpus = rw (remarked_cpus k.objects k.contexts (x ∷ []) s) queued.near.cpus;
+    numbers = rw (remarked_length k.objects k.contexts (x ∷ []) s) queued.near.numbers;
+    stamp = remarked_stamp k.objects k.contexts (x ∷ []) s ∙ queued.near.stamp;
+    entries = λ sc. ap (but_for (cpu_in k.contexts moved)) (remarked_at k.objects k.contexts (x ∷ []) s sc) ∙ near_by sc (eqb sc x);
+    homes = λ number. rw (remarked_cpus k.objects k.contexts (x ∷ []) s) (queued.near.homes number);
+    owners = queued.near.owners;
+  };
+  others = λ sc never. remarked_at k.objects k.contexts (x ∷ []) s sc ∙ others_by sc (eqb sc x) refl (owner_in (slice_get k.objects sc)) refl never;
+}
+  where
+    by_stale : (sc : ℕ) (stale : Option ℕ) → but_for stale (queued_at s sc) ≡ but_for stale (wanted k sc) →
+        with_mark true (mark_of k.objects k.contexts sc) (queued_at s sc) ≡ wanted k sc
+    by_stale sc (Some home) same =
+        right_when_marked home true (mark_of k.objects k.contexts sc) (queued_at s sc) (wanted k sc) same
+        (λ v is. wanted_mark k.contexts (slice_get k.objects sc) (budget_at k sc) v is) (λ e is at. refl)
+    by_stale sc None same =
+        right_when_marked 0 true (mark_of k.objects k.contexts sc) (queued_at s sc) (wanted k sc) (ap (but_for (Some 0)) same)
+        (λ v is. wanted_mark k.contexts (slice_get k.objects sc) (budget_at k sc) v is) (λ e is at. refl)
+
+    near_by : (sc : ℕ) (t : Bool) → but_for (cpu_in k.contexts moved) (with_mark (t || false) (mark_of k.objects k.contexts sc) (queued_at s sc)) ≡ but_for (cpu_in k.contexts moved) (wanted k sc)
+    near_by sc true = ap (but_for (cpu_in k.contexts moved)) (by_stale sc (cpu_in k.contexts moved) (queued.near.entries sc))
+    near_by sc false = queued.near.entries sc
+
+    never_at : (ec : ℕ) → ec ≢ at → NeverWaits k.contexts at ec → Avoids k.contexts at ec
+    never_at ec apart never zero meets = apart (let same : ec ≡ at = cc in same)
+    never_at ec apart never (suc n) meets = never n meets
+
+    others_by : (sc : ℕ) (t : Bool) → eqb sc x ≡ t → (o : Option ℕ) → owner_in (slice_get k.objects sc) ≡ o → IfSome o (NeverWaits k.contexts at) →
+        with_mark (t || false) (mark_of k.objects k.contexts sc) (queued_at s sc) ≡ wanted k sc
+    others_by sc true is o owner never = by_stale sc (cpu_in k.contexts moved) (queued.near.entries sc)
+    others_by sc false is None owner never = queued.others sc (subst (λ (o : Option ℕ). IfSome o (Avoids k.contexts at)) (sym owner) tt)
+    others_by sc false is (Some ec) owner never =
+        queued.others sc (subst (λ (o : Option ℕ). IfSome o (Avoids k.contexts at)) (sym owner)
+        (never_at ec (λ same. absurd (let here = only sc (owner ∙ ap Some same) in grind (arith, is, here))) never))
+
+-- none is, where it has none
+pub none_own : (k : KernelState) (s : Schedule) (moved at : ℕ) → AreQueuedBy moved at k s → ((sc : ℕ) → owner_in (slice_get k.objects sc) ≢ Some at) → AreQueuedBeyond moved at k s
+none_own k s moved at queued none = record {
+  near = queued.near;
+  others = λ sc never. queued.others sc (by_owner sc (owner_in (slice_get k.objects sc)) refl never);
+}
+  where
+    never_at : (ec : ℕ) → ec ≢ at → NeverWaits k.contexts at ec → Avoids k.contexts at ec
+    never_at ec apart never zero meets = apart (let same : ec ≡ at = cc in same)
+    never_at ec apart never (suc n) meets = never n meets
+
+    by_owner : (sc : ℕ) (o : Option ℕ) → owner_in (slice_get k.objects sc) ≡ o → IfSome o (NeverWaits k.contexts at) → IfSome o (Avoids k.contexts at)
+    by_owner sc None owner never = tt
+    by_owner sc (Some ec) owner never = never_at ec (λ same. none sc (owner ∙ ap Some same)) never
+
+-- all are right, so that others are
+pub all_beyond : (k : KernelState) (s : Schedule) (moved at : ℕ) → AreQueued k s → AreQueuedBeyond moved at k s
+all_beyond k s moved at queued = record {
+  near = record {
+    cpus = queued.cpus;
+    numbers = queued.numbers;
+    stamp = queued.stamp;
+    entries = λ sc. ap (but_for (cpu_in k.contexts moved)) (queued.entries sc);
+    homes = queued.homes;
+    owners = queued.owners;
+  };
+  others = λ sc never. queued.entries sc;
+}
+
+-- the last edge of a way
+last_edge : (g : ℕ → Option ℕ) (n e at : ℕ) → after_edges (suc n) g e ≡ Some at → (y : ℕ) × (after_edges n g e ≡ Some y) × (g y ≡ Some at)
+last_edge g n e at way = by_mid (after_edges n g e) refl (sym (after_edges-last n g e) ∙ way)
+  where
+    by_mid : (o : Option ℕ) → after_edges n g e ≡ o → option_and_then g o ≡ Some at → (y : ℕ) × (after_edges n g e ≡ Some y) × (g y ≡ Some at)
+    by_mid None is last = absurd cc
+    by_mid (Some y) is last = (y, is, last)
+
+-- where nobody waits for it, all are right
+pub beyond_nobody : (k : KernelState) (s : Schedule) (moved at : ℕ) → AreQueuedBeyond moved at k s → ((z : ℕ) → edge k.contexts z ≢ Some at) → AreQueued k s
+beyond_nobody k s moved at queued nobody = record {
+  cpus = queued.near.cpus;
+  numbers = queued.near.numbers;
+  stamp = queued.near.stamp;
+  entries = λ sc. queued.others sc (by_owner (owner_in (slice_get k.objects sc)));
+  homes = queued.near.homes;
+  owners = queued.near.owners;
+}
+  where
+    by_owner : (o : Option ℕ) → IfSome o (NeverWaits k.contexts at)
+    by_owner None = tt
+    by_owner (Some ec) = λ n meets. let last = last_edge (edge k.contexts) n ec at meets in nobody last.0 last.2
+
+-- where one waits for it alone, those that never come to that one are
+pub beyond_only : (k : KernelState) (s : Schedule) (moved at waiter : ℕ) → AreQueuedBeyond moved at k s → ((z : ℕ) → edge k.contexts z ≡ Some at → waiter ≡ z) → AreQueuedBy moved waiter k s
+beyond_only k s moved at waiter queued only = record {
+  near = queued.near;
+  others = λ sc avoids. queued.others sc (by_owner (owner_in (slice_get k.objects sc)) avoids);
+}
+  where
+    by_owner : (o : Option ℕ) → IfSome o (Avoids k.contexts waiter) → IfSome o (NeverWaits k.contexts at)
+    by_owner None avoids = tt
+    by_owner (Some ec) avoids = λ n meets. let last = last_edge (edge k.contexts) n ec at meets in avoids n (last.1 ∙ ap Some (sym (only last.0 last.2)))
+
 -- the state with other budgets and another stamp
 with_budgets : KernelState → List (Option Budget) → ℕ → KernelState
 with_budgets k budgets stamp = record k { budgets = budgets; next_stamp = stamp }
 
 -- marks show nothing
-pub refreshed_shown : (k : KernelState) (s after : Schedule) (count home : ℕ) → k.budgets ≡ budgets_of s count → k.next_stamp ≡ s.next_stamp →
-    after ≡ remarked k.objects k.contexts (members s home) s → record k { budgets = budgets_of after count; next_stamp = after.next_stamp } ≡ k
+pub refreshed_shown : (k : KernelState) (s after : Schedule) (count : ℕ) (scs : List ℕ) → k.budgets ≡ budgets_of s count → k.next_stamp ≡ s.next_stamp →
+    after ≡ remarked k.objects k.contexts scs s → record k { budgets = budgets_of after count; next_stamp = after.next_stamp } ≡ k
 unfolding with_budgets
-refreshed_shown k s after count home budgets stamp is =
-    ap₂ (with_budgets k) (ap (λ (x : Schedule). budgets_of x count) is ∙ remarked_budgets k.objects k.contexts (members s home) s count ∙ sym budgets)
-    (ap (λ (x : Schedule). x.next_stamp) is ∙ remarked_stamp k.objects k.contexts (members s home) s ∙ sym stamp)
+refreshed_shown k s after count scs budgets stamp is =
+    ap₂ (with_budgets k) (ap (λ (x : Schedule). budgets_of x count) is ∙ remarked_budgets k.objects k.contexts scs s count ∙ sym budgets)
+    (ap (λ (x : Schedule). x.next_stamp) is ∙ remarked_stamp k.objects k.contexts scs s ∙ sym stamp)
 
-pub refreshed_queued : (k new : KernelState) (s after : Schedule) (home : ℕ) → AreQueuedBut (Some home) k s → new ≡ k →
-    after ≡ remarked k.objects k.contexts (members s home) s → AreQueued new after
-refreshed_queued k new s after home queued same is =
-    subst (λ (x : KernelState). AreQueued x after) (sym same)
-    (subst (λ (x : Schedule). AreQueued k x) (sym is) (remarked_queued k s home queued))
+pub refreshed_queued : (k new : KernelState) (s after : Schedule) (scs : List ℕ) → AreQueued k (remarked k.objects k.contexts scs s) → new ≡ k →
+    after ≡ remarked k.objects k.contexts scs s → AreQueued new after
+refreshed_queued k new s after scs queued same is =
+    subst (λ (x : KernelState). AreQueued x after) (sym same) (subst (λ (x : Schedule). AreQueued k x) (sym is) queued)
 
 -- one after another
 

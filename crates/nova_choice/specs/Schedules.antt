@@ -1,11 +1,11 @@
 -- How the queues of scheduling contexts stand to the state: each scheduling context waits as its object says, with its budget, and is marked
 -- runnable where its turns lead to an execution context that acts.
-use Rattle.std.specs.Prelude.{ℕ, ◌≡◌, ◌<◌, ◌≤◌, ◌==◌, ◌&&◌, Bool, true, false, not, List, [], ◌∷◌, length, map, max, slice_get, Option, Some, None, is_some, option_and_then, option_map, if◌then◌else◌}
+use Rattle.std.specs.Prelude.{ℕ, suc, ◌≡◌, ◌≢◌, ◌<◌, ◌≤◌, ◌==◌, ◌&&◌, Bool, true, false, not, List, [], ◌∷◌, length, map, max, slice_get, Option, Some, None, IfSome, is_some, option_and_then, option_map, if◌then◌else◌}
 use Rattle.nova_objects.specs.declared.object.EcKind.TheVariants.{Global, Vcpu}
 use Rattle.nova_objects.specs.declared.object.Object.{Object}
 use Rattle.nova_objects.specs.declared.object.Object.TheVariants.{Ec, Sc}
 use Rattle.nova_model.specs.Deeds.{actor_after}
-use Rattle.nova_model.specs.Edges.{acts, chase, cpu_in}
+use Rattle.nova_model.specs.Edges.{acts, after_edges, chase, cpu_in, edge}
 use Rattle.nova_model.specs.State.{Contexts, KernelState, budget_at, context, with_ec}
 use Rattle.nova_model.specs.declared.budget.Budget.{Budget}
 use Rattle.nova_model.specs.declared.context.EcState.{EcState}
@@ -98,6 +98,39 @@ pub record AreQueuedBut (stale : Option ℕ) (k : KernelState) (s : Schedule) : 
 
 abbrev pub AreQueued : KernelState → Schedule → Type 0
 AreQueued k s = AreQueuedBut None k s
+
+-- the execution context of a scheduling context
+abbrev pub owner_in : Option Object → Option ℕ
+owner_in (Some (Sc ec cpu priority quantum)) = Some ec
+owner_in other = None
+
+-- its way along edges never comes to the other, not even without an edge
+abbrev pub Avoids : Contexts → ℕ → ℕ → Type 0
+Avoids cs other ec = (n : ℕ) → after_edges n (edge cs) ec ≢ Some other
+
+-- no way of one edge or more does
+abbrev pub NeverWaits : Contexts → ℕ → ℕ → Type 0
+NeverWaits cs other ec = (n : ℕ) → after_edges (suc n) (edge cs) ec ≢ Some other
+
+-- scheduling contexts of such are queued as they are
+abbrev pub AreQueuedWhere : (ℕ → Type 0) → KernelState → Schedule → Type 0
+AreQueuedWhere P k s = (sc : ℕ) → IfSome (owner_in (slice_get k.objects sc)) P → queued_at s sc ≡ wanted k sc
+
+-- One moved: the queues are right but for the marks of its processor, and of those but for the marks of scheduling contexts whose ways come to this one,
+-- which may be itself.
+pub record AreQueuedBy (moved at : ℕ) (k : KernelState) (s : Schedule) : Type 0 where
+  pub near : AreQueuedBut (cpu_in k.contexts moved) k s
+  pub others : AreQueuedWhere (Avoids k.contexts at) k s
+
+-- the same where those of that one itself are right too
+pub record AreQueuedBeyond (moved at : ℕ) (k : KernelState) (s : Schedule) : Type 0 where
+  pub near : AreQueuedBut (cpu_in k.contexts moved) k s
+  pub others : AreQueuedWhere (NeverWaits k.contexts at) k s
+
+-- where perhaps one moved
+abbrev pub AreQueuedAfter : Option ℕ → KernelState → Schedule → Type 0
+AreQueuedAfter None k s = AreQueued k s
+AreQueuedAfter (Some moved) k s = AreQueuedBy moved moved k s
 
 -- WHAT CHANGES
 

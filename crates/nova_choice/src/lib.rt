@@ -5,4 +5,4 @@ pub mod choice;
 pub mod queues;
 
 pub use choice::{Chosen, actor_of};
-pub use queues::{enqueue, mark_all, moved_by, root_queues};
+pub use queues::{enqueue, mark_all, mark_one, moved_by, root_queues};

@@ -1,4 +1,4 @@
-ghost use Rattle.std.specs.Prelude.{◌≡◌, ◌-◌, ◌^◌, ◌<◌, ◌≤◌, length, IfOk};
+ghost use Rattle.std.specs.Prelude.{◌≡◌, ◌-◌, ◌^◌, ◌<◌, ◌≤◌, [], ◌∷◌, length, IfOk};
 ghost use Rattle.nova_sched.specs.Queues.{members};
 ghost use Rattle.nova_choice.specs.Schedules.{HasQueue, is_moving, joined, moved_by, remarked, root_schedule};
 
@@ -36,6 +36,16 @@ pub fn mark_all(queues: &mut Queues, objects: &Objects, contexts: &Ecs, cpu: u32
 {
     for i in 0..queues.members(cpu).len() {
         let sc = queues.members(cpu)[i];
+        let is_runnable = actor_of(objects, contexts, sc).is_some();
+        queues.set_runnable(sc, is_runnable);
+    }
+}
+
+/// Marks one scheduling context by that; another object has no mark.
+pub fn mark_one(queues: &mut Queues, objects: &Objects, contexts: &Ecs, sc: u32)
+    ensures { queues.new.all ≡ remarked objects.now.items contexts.now.items (sc ∷ []) queues.old.all }
+{
+    if queues.contains(sc) {
         let is_runnable = actor_of(objects, contexts, sc).is_some();
         queues.set_runnable(sc, is_runnable);
     }

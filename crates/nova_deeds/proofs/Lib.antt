@@ -1,6 +1,7 @@
 pub mod Served
 pub mod Answered
 pub mod Moves
+pub mod Moved
 pub mod Charges
 pub mod Steps
 pub mod Bounds

@@ -244,7 +244,7 @@ finished_leaves k s ec item end None (Replied caller m) may sequel queued = comp
 finished_leaves k s ec item end (Some w) (Replied caller m) may sequel queued = completed_leaves k _ s ec caller m _ may sequel queued refl refl refl refl refl
 
 -- an up and a down leave who acts so: all turns stay, but for those of whom an up wakes
-answered_queued : (k : KernelState) (ec : ℕ) → MayMove k ec → KeepsQueued None k (with_context k ec (answered (context k ec) Success None))
+pub answered_queued : (k : KernelState) (ec : ℕ) → MayMove k ec → KeepsQueued None k (with_context k ec (answered (context k ec) Success None))
 answered_queued k ec may = going k ec (Downs 0) may refl refl
 
 upped_queued : (k : KernelState) (ec sm : ℕ) (whom : Option ℕ) → MayMove k ec → woken (semaphore k.semaphores sm) ≡ Ok whom →

@@ -1,4 +1,4 @@
--- Turns in which no execution context acts: what is counted stays bounded, and the queues are right but for the marks of the processor of who goes on.
+-- Turns in which no execution context acts: what is counted stays bounded, and the queues are right but for marks in which who goes on may act.
 use Rattle.std.proofs.Common.{◌≡◌, ℕ, ◌+◌, ◌^◌, ◌<◌, List, [], ◌∷◌, length, refl, ap, sym, ◌∙◌, subst, arith, IsSome}
 use Rattle.std.specs.Prelude.{Option, Some, None, IfSome, Ok, Err, Result, slice_get, slice_set}
 use Rattle.std.proofs.lemmas.List.{length-set}
@@ -9,7 +9,7 @@ use Rattle.nova_model.specs.Edges.{AreEdges, acts}
 use Rattle.nova_model.specs.Forest.{IsForest}
 use Rattle.nova_model.specs.Runs.{after}
 use Rattle.nova_model.specs.Semaphores.{left, raised, semaphore, upped, without_one, woken}
-use Rattle.nova_model.specs.State.{Contexts, KernelState, Semaphore, budget_at, context, context_at, context_in, deadline_of, ec_in, ec_of, entry, with_ec}
+use Rattle.nova_model.specs.State.{Contexts, KernelState, Semaphore, budget_at, context, context_at, deadline_of, ec_of, entry, with_ec}
 use Rattle.nova_model.specs.Times.{Times, alarm_sm, deadline_sm, due_on, next_moment, rung, with_deadline}
 use Rattle.nova_model.specs.Turn.{Step, counted, expires, paid_by, rings_at, state_after, ticking, turn, turn_by, what_is_due, whom_of}
 use Rattle.nova_model.specs.declared.budget.Budget.{Budget}
@@ -20,12 +20,12 @@ use Rattle.nova_model.specs.declared.times.Due.TheVariants as due
 use Rattle.law_turns.specs.Keeping.{IsKept}
 use Rattle.law_turns.specs.Waiting.{AreBlocked}
 use Rattle.nova_sched.specs.Queues.{Schedule}
-use Rattle.nova_choice.specs.Schedules.{AreQueued, AreQueuedBut}
+use Rattle.nova_choice.specs.Schedules.{AreQueued, AreQueuedAfter, AreQueuedBut, AreQueuedBy}
 use Rattle.nova_choice.proofs.Choosing.{turn_due}
-use Rattle.nova_ec.proofs.Tables.{ec_in-set_same}
-use Rattle.nova_choice.proofs.Waits.{KeepsQueued, moved, queued_kept, same_state, there_at}
+use Rattle.nova_choice.proofs.Avoiding.{one_moved}
+use Rattle.nova_choice.proofs.Waits.{KeepsQueued, cpu_of, moved, queued_kept, same_state}
 use Rattle.nova_deeds.specs.Counted.{AreTables, IsCharged, IsCounted, IsNumbered, IsToBeCharged, IsToBeStirred, KeepsCounts}
-use Rattle.nova_deeds.specs.Passing.{fallen, home_of}
+use Rattle.nova_deeds.specs.Passing.{fallen}
 use Rattle.nova_deeds.proofs.Bursts.{one_later}
 use Rattle.nova_deeds.proofs.Counts.{AreTables-paid, IsCharged-kept, IsCharged-paid, IsNumbered-kept, IsNumbered-paid, children-kept, children-paid, items-paid}
 use Rattle.nova_deeds.proofs.Keeps.{KeepsCounts-self, deadlines-keep, semaphores-keeps, semaphores-length, times-keep, with_context-keeps, woken-keeps}
@@ -111,30 +111,28 @@ queued_counted k cpu s q = record { cpus = q.cpus; numbers = q.numbers; stamp = 
 -- who goes on may act from then on
 pub queued_ended : (k new : KernelState) (ec : ℕ) (status : Status) (s : Schedule) → AreQueued k s → AreEdges k.contexts → IsSome (context_at k ec) →
     new.contexts ≡ with_ec k.contexts ec (answered (context k ec) status None) → new.objects ≡ k.objects → new.budgets ≡ k.budgets → new.next_stamp ≡ k.next_stamp → new.cpus ≡ k.cpus →
-    AreQueuedBut (Some (context k ec).cpu) new s
+    AreQueuedBy ec ec new s
 queued_ended k new ec status s queued edges there contexts objects budgets stamp cpus =
-    queued_kept (Some (context k ec).cpu) k new s queued
-    (aside (Some (context k ec).cpu) k (with_context k ec (answered (context k ec) status None)) new (moved k ec (answered (context k ec) status None) edges there refl) contexts objects budgets stamp cpus)
+    let stale = Some (context k ec).cpu in
+    let kept : KeepsQueued stale k new =
+    aside stale k (with_context k ec (answered (context k ec) status None)) new (moved k ec (answered (context k ec) status None) edges there refl) contexts objects budgets stamp cpus in
+    record {
+      near = subst (λ (o : Option ℕ). AreQueuedBut o new s) (sym (kept.contexts.homes ec (context k ec).cpu (cpu_of k.contexts ec there))) (queued_kept stale k new s queued kept);
+      others = one_moved k new s ec (answered (context k ec) status None) queued edges contexts objects budgets;
+    }
 
 pub queued_beside : (k new : KernelState) (s : Schedule) → AreQueued k s → new.contexts ≡ k.contexts → new.objects ≡ k.objects → new.budgets ≡ k.budgets → new.next_stamp ≡ k.next_stamp → new.cpus ≡ k.cpus → AreQueued new s
 queued_beside k new s queued contexts objects budgets stamp cpus = queued_kept None k new s queued (aside None k k new (same_state k) contexts objects budgets stamp cpus)
 
-home_after : (cs : Contexts) (ec : ℕ) (y : EcState) → IsSome (ec_in cs ec) → ec_of (with_ec cs ec y) ec ≡ y
-home_after cs ec y there = ap context_in (ec_in-set_same cs ec (ec_of cs ec) y (there_at cs ec there))
-
 -- after a wake, by who goes on
 pub queued_woken : (k : KernelState) (times : Times) (all : List (Option Semaphore)) (whom : Option ℕ) (s : Schedule) → AreQueued k s → AreEdges k.contexts → IfSome whom (λ ec. IsSome (context_at k ec)) →
-    AreQueuedBut (home_of (woken_in (record k { semaphores = all; times = times }) whom) whom) (woken_in (record k { semaphores = all; times = times }) whom) s
+    AreQueuedAfter whom (woken_in (record k { semaphores = all; times = times }) whom) s
 queued_woken k times all None s queued edges there = queued_beside k (record k { semaphores = all; times = times }) s queued refl refl refl refl refl
 queued_woken k times all (Some ec) s queued edges there =
-    let new = woken_in (record k { semaphores = all; times = times }) (Some ec) in
-    let home : (context k ec).cpu ≡ (context new ec).cpu = sym (ap (λ (x : EcState). x.cpu) (home_after k.contexts ec (answered (context k ec) Success None) there)) in
-    subst (λ (n : ℕ). AreQueuedBut (Some n) new s) home (queued_ended k new ec Success s queued edges there refl refl refl refl refl)
+    queued_ended k (woken_in (record k { semaphores = all; times = times }) (Some ec)) ec Success s queued edges there refl refl refl refl refl
 
-pub queued_expired : (k : KernelState) (ec sm : ℕ) (s : Schedule) → AreQueued k s → AreEdges k.contexts → IsSome (context_at k ec) → AreQueuedBut (home_of (expires k ec sm) (Some ec)) (expires k ec sm) s
-queued_expired k ec sm s queued edges there =
-    let home : (context k ec).cpu ≡ (context (expires k ec sm) ec).cpu = sym (ap (λ (x : EcState). x.cpu) (home_after k.contexts ec (answered (context k ec) Timeout None) there)) in
-    subst (λ (n : ℕ). AreQueuedBut (Some n) (expires k ec sm) s) home (queued_ended k (expires k ec sm) ec Timeout s queued edges there refl refl refl refl refl)
+pub queued_expired : (k : KernelState) (ec sm : ℕ) (s : Schedule) → AreQueued k s → AreEdges k.contexts → IsSome (context_at k ec) → AreQueuedBy ec ec (expires k ec sm) s
+queued_expired k ec sm s queued edges there = queued_ended k (expires k ec sm) ec Timeout s queued edges there refl refl refl refl refl
 
 -- who is woken is there
 pub whom_there : (k : KernelState) (sm : ℕ) → AreBlocked k.contexts k.semaphores → IfSome (whom_of (woken (semaphore k.semaphores sm))) (λ ec. IsSome (context_at k ec))

@@ -2,6 +2,7 @@ pub mod Walks
 pub mod Tables
 pub mod Callers
 pub mod Ends
+pub mod Waiting
 pub mod Untouched
 pub mod Donors
 pub mod Steps

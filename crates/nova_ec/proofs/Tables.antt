@@ -64,7 +64,7 @@ no_way cs sound e h below none k way =
 pub edge-set_other : (cs : Contexts) (e : ℕ) (y : EcState) → AreButFor e (edge cs) (edge (slice_set cs e (Some y)))
 edge-set_other cs e y f other = ap (λ (o : Option EcState). option_and_then edge_of (option_map (λ (z : EcState). z.state) o)) (ec_in-set_other cs e f (Some y) other)
 
-edge-set_same : (cs : Contexts) (e : ℕ) (x y : EcState) → ec_in cs e ≡ Some x → edge (slice_set cs e (Some y)) e ≡ edge_of y.state
+pub edge-set_same : (cs : Contexts) (e : ℕ) (x y : EcState) → ec_in cs e ≡ Some x → edge (slice_set cs e (Some y)) e ≡ edge_of y.state
 edge-set_same cs e x y there = ap (λ (o : Option EcState). option_and_then edge_of (option_map (λ (z : EcState). z.state) o)) (ec_in-set_same cs e x y there)
 
 pub cpu-set : (cs : Contexts) (e : ℕ) (x y : EcState) → ec_in cs e ≡ Some x → y.cpu ≡ x.cpu → (f : ℕ) → cpu_in (slice_set cs e (Some y)) f ≡ cpu_in cs f
@@ -123,7 +123,7 @@ ec_in-more [] o e x h = absurd cc
 ec_in-more (c ∷ cs) o zero x h = h
 ec_in-more (c ∷ cs) o (suc e) x h = ec_in-more cs o e x h
 
-edge-more : (cs : Contexts) (o : Option EcState) (e : ℕ) → option_and_then edge_of (option_map (λ (z : EcState). z.state) o) ≡ None → edge (cs ++ o ∷ []) e ≡ edge cs e
+pub edge-more : (cs : Contexts) (o : Option EcState) (e : ℕ) → option_and_then edge_of (option_map (λ (z : EcState). z.state) o) ≡ None → edge (cs ++ o ∷ []) e ≡ edge cs e
 edge-more [] o zero h = h
 edge-more [] o (suc e) h = refl
 edge-more (c ∷ cs) o zero h = refl

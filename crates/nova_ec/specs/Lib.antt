@@ -1,5 +1,6 @@
 pub use Rattle.nova_model.specs.Edges
 pub mod Tables
+pub mod Waiting
 pub mod Ways
 pub mod Changes
 pub mod Handlers

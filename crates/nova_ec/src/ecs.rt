@@ -1,4 +1,4 @@
-ghost use Rattle.std.specs.Prelude.{false, true, ◌||◌, ◌≡◌, ◌+◌, ◌-◌, ◌<◌, ◌≤◌, [], ◌∷◌, ◌++◌, length, max, IsOk, IsSome, IfOk, IfSome, OnOk, OnErr, option_and_then, option_map, Some, None};
+ghost use Rattle.std.specs.Prelude.{ℕ, false, true, ◌||◌, ◌≡◌, ◌+◌, ◌-◌, ◌<◌, ◌≤◌, [], ◌∷◌, ◌++◌, length, max, IsOk, IsSome, IfOk, IfSome, OnOk, OnErr, option_and_then, option_map, Some, None};
 ghost use Rattle.rv_model.specs.Step.{one};
 ghost use Rattle.rv_core.specs.Steps.{Follows, space_of};
 ghost use Rattle.nova_model.specs.State.{ec_in, ec_of, with_ec};
@@ -6,11 +6,13 @@ ghost use Rattle.nova_model.specs.Calls.{is_same_cpu, is_parked};
 ghost use Rattle.nova_model.specs.Edges.{cpu_in, is_dead, state_in, edge_of, edge, acts, stays, met, chase, circle, MayWait, MayServe, AreEdges, AreCallers};
 ghost use Rattle.nova_model.specs.Deeds.{answered, parked, serving};
 ghost use Rattle.nova_ec.specs.Tables.{Steps, StepsIn, MayBecome, IsServing, with_items, actor_in};
+ghost use Rattle.nova_ec.specs.Waiting.{IsAmong};
 ghost use Rattle.nova_model.specs.declared.context.EcState.{EcState};
 ghost use Rattle.nova_model.specs.declared.context.State.TheVariants.{Ready};
 
 use crate::registers::{answered_registers, entered};
 use crate::states::{acts_by, edge_of, entry_state};
+use crate::waiters::{Waiters, join, leave};
 use nova_model::{EcState, Mark, State};
 use nova_range::Status;
 use rv_core::bus::Bus;
@@ -21,24 +23,27 @@ use std::marker::Model;
 
 /// The table of execution contexts, by number: an entry holds the execution context of its number or
 /// nothing. Edges, from one that waits to the handler that it waits for, join execution contexts of one processor, and
-/// never form a circle. A caller is there, and of one processor with the one that serves it. What words read as is remembered.
+/// never form a circle. A caller is there, and of one processor with the one that serves it. Of each is kept who may wait for it. What words read as is remembered.
 #[derive(Drop)]
 pub struct Ecs {
     items: Vec<Option<EcState>>,
+    waiters: Vec<Waiters>,
     spare: usize,
     readings: Readings,
 }
 
 impl Model for Ecs {
-    ghost use Rattle.std.specs.Prelude.{◌+◌, ◌≤◌, vec_len, vec_capacity};
+    ghost use Rattle.std.specs.Prelude.{◌≡◌, ◌+◌, ◌≤◌, length, vec_len, vec_capacity};
     ghost use Rattle.nova_model.specs.Edges.{AreEdges, AreCallers};
     ghost use Rattle.nova_ec.specs.Tables.{EcTable, AreNumbered};
+    ghost use Rattle.nova_ec.specs.Waiting.{AreKnown};
 
     ghost Value = { EcTable };
 
     ghost view = { λ t. record { items = t.items.items; spare = t.spare } };
 
-    ghost invariant = { λ t. AreEdges t.items.items × (vec_len t.items + t.spare ≤ vec_capacity t.items) × AreNumbered t.items.items × AreCallers t.items.items };
+    ghost invariant = { λ t. AreEdges t.items.items × (vec_len t.items + t.spare ≤ vec_capacity t.items) × AreNumbered t.items.items × AreCallers t.items.items
+        × (vec_len t.waiters + t.spare ≤ vec_capacity t.waiters) × (length t.waiters.items ≡ length t.items.items) × AreKnown t.items.items t.waiters.items };
 }
 
 /// One instruction of an execution context over a bus.
@@ -58,6 +63,7 @@ impl Ecs {
     {
         Ecs {
             items: Vec::new(alloc),
+            waiters: Vec::new(alloc),
             spare: 0,
             readings: Readings::new(alloc),
         }
@@ -70,6 +76,7 @@ impl Ecs {
         ensures err { OnErr result (self.new ≡ self.old) }
     {
         self.items.reserve(n)?;
+        self.waiters.reserve(n)?;
         self.spare = self.spare.max(n);
         Ok(())
     }
@@ -80,8 +87,10 @@ impl Ecs {
     {
         let alloc = *self.items.allocator();
         let items = Vec::from_slice(alloc, self.items.as_slice())?;
+        let waiters = Vec::from_slice(alloc, self.waiters.as_slice())?;
         Ok(Ecs {
             items,
+            waiters,
             spare: 0,
             readings: Readings::new(alloc),
         })
@@ -97,6 +106,7 @@ impl Ecs {
         ensures { self.new ≡ record { items = self.old.items ++ ec ∷ []; spare = self.old.spare - 1 } }
     {
         self.items.push_reserved(ec);
+        self.waiters.push_reserved(Waiters::Nobody);
         self.spare -= 1;
     }
 
@@ -135,6 +145,16 @@ impl Ecs {
         ensures { result ≡ edge self.now.items ec }
     {
         edge_of(self.state(ec)?)
+    }
+
+    /// Who may wait for an execution context. Once several waited for it at a time, several may from then on.
+    pub fn waiters(&self, ec: u32) -> Waiters
+        ensures { (z : ℕ) → edge self.now.items z ≡ Some ec → IsAmong z result }
+    {
+        match self.waiters.get(ec as usize) {
+            Some(waiters) => *waiters,
+            None => Waiters::Several,
+        }
     }
 
     /// Whether an execution context is there and acts.
@@ -248,6 +268,9 @@ impl Ecs {
         requires { MayBecome self.old.items ec context }
         ensures { self.new ≡ with_items self.old (with_ec self.old.items ec context) }
     {
+        let left = self.edge(ec);
+        leave(&mut self.waiters, left, ec);
+        join(&mut self.waiters, edge_of(context.state), ec);
         self.items[ec as usize] = Some(context);
     }
 

@@ -101,7 +101,7 @@ its_own all at sm s there same = ap (λ (n : ℕ). semaphore all n) same ∙ ap 
 
 -- A DEED
 
-none_by : (t : Bool) → (if t then no_ends else no_ends) ≡ no_ends
+pub none_by : (t : Bool) → (if t then no_ends else no_ends) ≡ no_ends
 none_by true = refl
 none_by false = refl
 

@@ -22,7 +22,7 @@ use Rattle.law_forest.proofs.Turning.{acts_chosen, comes}
 use Rattle.law_turns.proofs.Referring.{Asks, deed_asks}
 use Rattle.law_turns.proofs.Setting.{entry_kept}
 use Rattle.nova_gsi.specs.Counters.{Ends, ends_at, ends_by, ends_by_deed, no_ends, woken_ends}
-use Rattle.nova_gsi.proofs.Counters.{changed_itself, changed_other, its_own}
+use Rattle.nova_gsi.proofs.Counters.{changed_itself, changed_other, its_own, none_by}
 
 -- it waits on, or its down ended, or its deadline is due
 abbrev WaitsOn : Semaphores → ℕ → ℕ → Ends → Option Due → Type 0
@@ -63,10 +63,6 @@ lowered_waits ec w s waits = by_test (s.count == 0)
     by_test true = has_more s.waiting (ec ∷ []) w waits
     by_test false = waits
 
-none_if : (t : Bool) → (if t then no_ends else no_ends) ≡ no_ends
-none_if true = refl
-none_if false = refl
-
 deed_on : (k : KernelState) (ec sm w : ℕ) (d : Deed) (s : Semaphore) (o : Option Due) → Asks k ec d → semaphore_at k.semaphores sm ≡ Some s → has s.waiting w ≡ true →
     WaitsOn (semaphores_with k.semaphores (semaphore_by ec d)) sm w (ends_by_deed sm d) o
 deed_on k ec sm w (Ups at whom) s o asks there waits =
@@ -75,7 +71,7 @@ deed_on k ec sm w (Ups at whom) s o asks there waits =
 deed_on k ec sm w (Downs at) s o asks there waits =
     changes_on (lowered ec) k.semaphores at sm w s (record { ups = 0; downs = 1; irqs = 0 }) o there waits (λ same. inl (lowered_waits ec w s waits))
 deed_on k ec sm w (Blocks at until) s o asks there waits =
-    subst (λ (e : Ends). WaitsOn (changed (lowered ec) k.semaphores at) sm w e o) (none_if (at == sm))
+    subst (λ (e : Ends). WaitsOn (changed (lowered ec) k.semaphores at) sm w e o) (none_by (at == sm))
     (changes_on (lowered ec) k.semaphores at sm w s no_ends o there waits (λ same. inl (lowered_waits ec w s waits)))
 deed_on k ec sm w other s o asks there waits = inl (s, there, waits)
 
@@ -95,7 +91,7 @@ passing_on k cpu sm w (Falls (due.Alarm n)) s comes there waits =
     (λ same. inr (inl (woken_one s.count w s.waiting (alarm_up k n) waits (ap woken (sym (its_own k.semaphores (alarm_sm (slice_get k.times.alarms n)) sm s there same)))))))
 passing_on k cpu sm w (Falls (due.Deadline ec)) s comes there waits =
     subst (λ (o : Option Due). WaitsOn (changed (without_one ec) k.semaphores (deadline_sm (deadline_of k.times ec))) sm w (ends_by k sm o (next_to_act k cpu)) o) (sym comes)
-    (subst (λ (e : Ends). WaitsOn (changed (without_one ec) k.semaphores (deadline_sm (deadline_of k.times ec))) sm w e (Some (due.Deadline ec))) (none_if (deadline_sm (deadline_of k.times ec) == sm))
+    (subst (λ (e : Ends). WaitsOn (changed (without_one ec) k.semaphores (deadline_sm (deadline_of k.times ec))) sm w e (Some (due.Deadline ec))) (none_by (deadline_sm (deadline_of k.times ec) == sm))
     (changes_on (without_one ec) k.semaphores (deadline_sm (deadline_of k.times ec)) sm w s no_ends (Some (due.Deadline ec)) there waits
     (λ same. elim (late_on ec w s waits) [
       | inl on ↦ inl on

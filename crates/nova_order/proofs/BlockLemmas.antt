@@ -1,6 +1,7 @@
 -- Blocks that are added, and a last block that grows.
-use Rattle.std.proofs.Common.{◌≡◌, ℕ, zero, suc, ◌+◌, ◌-◌, ◌≤◌, ◌<◌, ◌^◌, Bool, true, false, not, ◌&&◌, List, [], ◌∷◌, ◌++◌, length, replicate, Option, Some, None, refl, ap, sym, subst, ◌∙◌, arith, slice_set, slice_index_or, cond, slice_get, append_assoc, length-append, nat_lt, ◌==◌}
+use Rattle.std.proofs.Common.{◌≡◌, ℕ, ◌+◌, ◌-◌, ◌≤◌, ◌<◌, ◌^◌, Bool, true, false, not, ◌&&◌, List, [], ◌∷◌, ◌++◌, length, replicate, Option, Some, None, refl, ap, sym, subst, ◌∙◌, arith, slice_set, slice_index_or, cond, slice_get, append_assoc, length-append, nat_lt, ◌==◌}
 use Rattle.std.specs.List.{last_or, list_all}
+use Rattle.std.proofs.lemmas.List.{append-nil, length-replicate, replicate-append-replicate}
 use Rattle.std.proofs.lemmas.List.Sums.{sum_by-cons, sum_by_push}
 use Rattle.std.proofs.lemmas.List.Folds.{list_all-append}
 use Rattle.std.proofs.lemmas.List.Concat.{flat_map-append}
@@ -17,10 +18,6 @@ last_at [] = refl
 last_at (x ∷ xs) = let e : length (x ∷ xs) - 1 ≡ length xs = omega arith in ap (slice_get (x ∷ xs)) e ∙ last_at_length x xs
 
 -- how many turns there are
-length-replicate : (n x : ℕ) → length (replicate n x) ≡ n
-length-replicate zero x = refl
-length-replicate (suc n) x = ap suc (length-replicate n x)
-
 pub length_turns : (blocks : List Block) → length (turns blocks) ≡ total blocks
 unfolding turns
 length_turns [] = refl
@@ -48,10 +45,7 @@ order_push bs b is some fits other = record {
 
 pub turns_push : (bs : List Block) (b : Block) → turns (bs ++ b ∷ []) ≡ turns bs ++ replicate b.count b.cpu
 unfolding turns
-turns_push bs b = flat_map-append (λ block. replicate block.count block.cpu) bs (b ∷ []) ∙ ap (λ ts. turns bs ++ ts) (append-nil (replicate b.count b.cpu)) where
-  append-nil : (xs : List ℕ) → xs ++ [] ≡ xs
-  append-nil [] = refl
-  append-nil (x ∷ xs) = ap (λ ys. x ∷ ys) (append-nil xs)
+turns_push bs b = flat_map-append (λ block. replicate block.count block.cpu) bs (b ∷ []) ∙ ap (λ ts. turns bs ++ ts) (append-nil (replicate b.count b.cpu))
 
 -- blocks with a last one, which is set to another
 pub record Ends (bs : List Block) (n : ℕ) (last : Block) : Type 0 where
@@ -68,10 +62,6 @@ ends_after x (y ∷ ys) last is =
 pub ends : (bs : List Block) (last : Block) → last_or None bs ≡ Some last → Ends bs (length bs - 1) last
 ends [] last is = absurd cc
 ends (x ∷ xs) last is = let e : length xs ≡ length (x ∷ xs) - 1 = omega arith in subst (λ n. Ends (x ∷ xs) n last) e (ends_after x xs last is)
-
-replicate_more : (m n x : ℕ) → replicate (m + n) x ≡ replicate m x ++ replicate n x
-replicate_more zero n x = let e : 0 + n ≡ n = omega arith in ap (λ k. replicate k x) e
-replicate_more (suc m) n x = let e : suc m + n ≡ suc (m + n) = omega arith in ap (λ k. replicate k x) e ∙ ap (λ xs. x ∷ xs) (replicate_more m n x)
 
 module _ (bs : List Block) (last : Block) (count : ℕ) (is_last : last_or None bs ≡ Some last) where
   abbrev more : Block
@@ -93,7 +83,7 @@ module _ (bs : List Block) (last : Block) (count : ℕ) (is_last : last_or None 
   turns_grown =
       ap turns (e.set more)
       ∙ turns_push e.front more
-      ∙ ap (λ ts. turns e.front ++ ts) (replicate_more last.count count last.cpu)
+      ∙ ap (λ ts. turns e.front ++ ts) (sym (replicate-append-replicate last.count count last.cpu))
       ∙ sym (append_assoc (turns e.front) (replicate last.count last.cpu) (replicate count last.cpu))
       ∙ ap (λ ts. ts ++ replicate count last.cpu) (sym (ap turns e.are ∙ turns_push e.front last))
 

@@ -1,7 +1,9 @@
 pub mod BlockLemmas
+pub mod BoundLemmas
 pub mod LengthLemmas
 pub mod LineLemmas
 pub mod NumberLemmas
 pub mod OrderLemmas
+pub mod PlaceLemmas
 pub mod TextLemmas
 pub mod TurnLemmas

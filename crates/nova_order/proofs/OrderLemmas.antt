@@ -3,6 +3,7 @@ use Rattle.std.proofs.Common.{◌≡◌, ℕ, ◌+◌, ◌≤◌, ◌<◌, ◌^�
 use Rattle.std.specs.Prelude.{flat_map, IsOk, IsTrue, ◌⊎◌}
 use Rattle.std.specs.Fmt.{decimal}
 use Rattle.std.specs.List.{after_first, before_first, last_or, list_all, position_or_len, slice_split, join_with_byte}
+use Rattle.std.proofs.lemmas.List.{append-nil}
 use Rattle.std.proofs.lemmas.List.Sums.{sum_by-cons}
 use Rattle.std.proofs.lemmas.List.Folds.{list_all-append}
 use Rattle.std.proofs.lemmas.List.Concat.{flat_map-append}
@@ -16,10 +17,6 @@ use Rattle.nova_order.specs.declared.fault.OrderFault.TheVariants.{BadCpu, ZeroC
 use Rattle.nova_order.proofs.BlockLemmas.{merged_push, total_push, counted_push}
 use Rattle.nova_order.proofs.LineLemmas.{Parts, parts, read_line, split_line}
 use Rattle.nova_order.proofs.TextLemmas.{words_of, block_of_words, no_feed_in_words, words_of_line}
-
-append-nil : {X : Type 0} (xs : List X) → xs ++ [] ≡ xs
-append-nil [] = refl
-append-nil (x ∷ xs) = ap (λ ys. x ∷ ys) (append-nil xs)
 
 last_push : (o : Option Block) (bs : List Block) (b : Block) → last_or o (bs ++ b ∷ []) ≡ Some b
 last_push o [] b = refl

@@ -4,6 +4,8 @@ use Rattle.nova_model.specs.State.{KernelState}
 use Rattle.nova_model.specs.declared.event.Event.{Event}
 use Rattle.nova_model.specs.declared.event.EventKind.{EventKind}
 use Rattle.nova_model.specs.declared.event.EventKind.TheVariants.{Made, Gone}
+use Rattle.nova_report.specs.declared.bench.Counted.{Counted}
+use Rattle.nova_report.specs.declared.bench.Counted.TheVariants.{Children, Removals}
 use Rattle.nova_report.specs.Words.{line_feed}
 
 -- events that a derivation was made as a child, and that one was removed
@@ -20,6 +22,11 @@ gone_kind other = false
 
 abbrev pub is_gone : Event → Bool
 is_gone e = gone_kind e.kind
+
+-- the events that are counted
+abbrev pub is_counted : Counted → Event → Bool
+is_counted Children = is_made
+is_counted Removals = is_gone
 
 abbrev pub count : (Event → Bool) → List Event → ℕ
 count p trace = length (filter p trace)

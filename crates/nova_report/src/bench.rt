@@ -1,55 +1,50 @@
 ghost use Rattle.std.specs.Prelude.{◌≡◌, ◌≤◌, IfOk, length, replicate};
-ghost use Rattle.nova_report.specs.Summary.{count, is_made, is_gone, summary};
+ghost use Rattle.nova_report.specs.Summary.{count, is_counted, summary};
 
 use nova_kernel::Kernel;
-use nova_model::EventKind;
+use nova_model::{Event, EventKind};
 use nova_trace::{Repeated, Trace};
 use std::alloc::{AllocError, Global};
 
-/// How many events of an entry tell that a child was made.
-fn made_in(entry: &Repeated) -> u64
-    ensures { result ≡ count is_made (replicate entry.now.count entry.now.event) }
+/// What is counted: events that a child was made, or that a derivation was removed.
+#[derive(Clone, Copy)]
+enum Counted {
+    Children,
+    Removals,
+}
+
+/// Whether an event is counted.
+fn is_counted(event: &Event, counted: Counted) -> bool
+    ensures { result ≡ is_counted counted event.now }
 {
-    match entry.event.kind {
-        EventKind::Made => entry.count,
-        _ => 0,
+    match counted {
+        Counted::Children => matches!(event.kind, EventKind::Made),
+        Counted::Removals => matches!(event.kind, EventKind::Gone),
     }
 }
 
-/// How many events tell that a child was made.
-fn count_made(trace: &Trace) -> u64
-    ensures count { result ≡ count is_made trace.now.items }
+/// How many events of an entry are counted.
+fn count_in(entry: &Repeated, counted: Counted) -> u64
+    ensures { result ≡ count (is_counted counted) (replicate entry.now.count entry.now.event) }
+{
+    if is_counted(&entry.event, counted) {
+        entry.count
+    } else {
+        0
+    }
+}
+
+/// How many events are counted.
+fn count_all(trace: &Trace, counted: Counted) -> u64
+    ensures count { result ≡ count (is_counted counted) trace.now.items }
     ensures few { result ≤ length trace.now.items }
 {
     let entries = trace.entries();
-    let mut made = 0;
+    let mut count = 0;
     for entry in entries {
-        made += made_in(entry);
+        count += count_in(entry, counted);
     }
-    made
-}
-
-/// How many events of an entry tell that a derivation was removed.
-fn gone_in(entry: &Repeated) -> u64
-    ensures { result ≡ count is_gone (replicate entry.now.count entry.now.event) }
-{
-    match entry.event.kind {
-        EventKind::Gone => entry.count,
-        _ => 0,
-    }
-}
-
-/// How many events tell that a derivation was removed.
-fn count_gone(trace: &Trace) -> u64
-    ensures count { result ≡ count is_gone trace.now.items }
-    ensures few { result ≤ length trace.now.items }
-{
-    let entries = trace.entries();
-    let mut gone = 0;
-    for entry in entries {
-        gone += gone_in(entry);
-    }
-    gone
+    count
 }
 
 /// How many derivations there are.
@@ -78,8 +73,8 @@ pub fn summary(
 {
     let mut out = String::new(alloc);
     let turns = kernel.turns();
-    let made = count_made(trace);
-    let gone = count_gone(trace);
+    let made = count_all(trace, Counted::Children);
+    let gone = count_all(trace, Counted::Removals);
     let caps = count_derivations(kernel);
     writeln!(
         out,

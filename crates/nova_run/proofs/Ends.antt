@@ -1,5 +1,5 @@
 -- A run that goes on by passes until none takes a turn.
-use Rattle.std.proofs.Common.{◌≡◌, inl, inr, ⊎_elim, ℕ, ◌<◌, List, [], ◌∷◌, ◌++◌, length, ap, sym, ◌∙◌, subst, arith}
+use Rattle.std.proofs.Common.{◌≡◌, inl, inr, ⊎_elim, ℕ, ◌<◌, List, length, ap, sym, ◌∙◌, subst, arith}
 use Rattle.std.specs.List.{AllByRecursion}
 use Rattle.std.proofs.lemmas.List.{length-append}
 use Rattle.nova_model.specs.State.{KernelState}
@@ -10,15 +10,12 @@ use Rattle.law_turns.proofs.Passes.{run_append, rounds_run_out}
 use Rattle.law_turns.proofs.Processors.{run_cpus}
 use Rattle.nova_order.specs.Blocks.{turns}
 use Rattle.nova_order.proofs.BlockLemmas.{length_turns}
+use Rattle.nova_order.proofs.BoundLemmas.{all_append}
 use Rattle.nova_run.specs.Finished.{IsFinished}
 use Rattle.nova_run.specs.UnderWay.{IsReady, Passed, left}
 use Rattle.nova_shared.specs.declared.finished.Finished.{Finished}
+use Rattle.nova_shared.proofs.Idle.{free_append}
 use Rattle.nova_shared.proofs.Passing.{Finished-on}
-use Rattle.nova_run.proofs.Blocks.{free_append}
-
-all_append : (P : ℕ → Type 0) (xs ys : List ℕ) → AllByRecursion P xs → AllByRecursion P ys → AllByRecursion P (xs ++ ys)
-all_append P [] ys a b = b
-all_append P (x ∷ xs) ys a b = (a.0, all_append P xs ys a.1 b)
 
 module _ (k : KernelState) (limit : ℕ) (f g : Finished) (begun : IsFinished k (turns f.order.blocks) limit f) (ready : IsReady f) (ran : Passed f (rounds f.kernel.state (left f)) g) where
   before : List ℕ

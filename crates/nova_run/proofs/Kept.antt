@@ -1,7 +1,7 @@
 -- What holds of a run that went on holds of the one that is kept.
 use Rattle.std.proofs.Common.{◌≡◌, subst, sym}
 use Rattle.std.specs.Prelude.{true, false, Result, Ok, Err, IfOk, IfErr, OnOk, IsOk}
-use Rattle.nova_run.specs.declared.fault.RunFault.{RunFault}
+use Rattle.nova_shared.specs.declared.fault.RunFault.{RunFault}
 use Rattle.nova_shared.specs.declared.finished.Finished.{Finished}
 
 none_is : false ≡ true → ⊥

@@ -3,7 +3,6 @@
 
 mod bursts;
 mod crew;
-mod fault;
 mod gate;
 mod orders;
 mod riding;
@@ -11,11 +10,10 @@ mod rounds;
 mod turns;
 mod workers;
 
-pub use fault::RunFault;
 pub use gate::{Gate, Open};
 pub use nova_kernel::{Event, Kernel};
 pub use nova_order::Order;
-pub use nova_shared::Finished;
+pub use nova_shared::{Finished, RunFault};
 pub use orders::run_order;
 pub use rounds::round_robin;
 pub use workers::run_workers;

@@ -1,15 +1,14 @@
 ghost use Rattle.std.specs.Prelude.{ℕ, ◌≡◌, ◌+◌, ◌^◌, ◌<◌, ◌≤◌, length, replicate, IfOk, OnOk, IsTrue, Err};
 ghost use Rattle.nova_order.specs.Blocks.{turns, is_within};
-ghost use Rattle.nova_run.specs.declared.fault.RunFault.TheVariants.{OrderIdle};
+ghost use Rattle.nova_shared.specs.declared.fault.RunFault.TheVariants.{OrderIdle};
 ghost use Rattle.nova_run.specs.Finished.{IsFinished, IsIdleLine, IsFreeOfIdle};
 ghost use Rattle.nova_run.specs.UnderWay.{IsReady, Passed, IsAlong, IsBegun, IsBlockTaken};
 
-use crate::fault::RunFault;
 use crate::riding::Riding;
 use crate::turns::{begin, go, kept, make_places};
 use nova_kernel::Kernel;
 use nova_order::Order;
-use nova_shared::Finished;
+use nova_shared::{Finished, RunFault};
 use std::alloc::{AllocError, Global};
 
 /// Turns of one processor, until one is idle; and whether none was.

@@ -1,14 +1,13 @@
 ghost use Rattle.std.specs.Prelude.{◌≡◌, ◌+◌, ◌^◌, ◌<◌, ◌≤◌, IfOk, IfErr, OnOk};
 ghost use Rattle.nova_model.specs.Runs.{rounds, pass};
-ghost use Rattle.nova_run.specs.declared.fault.RunFault.TheVariants.{Memory};
+ghost use Rattle.nova_shared.specs.declared.fault.RunFault.TheVariants.{Memory};
 ghost use Rattle.nova_run.specs.Finished.{IsFinished};
 ghost use Rattle.nova_run.specs.UnderWay.{IsReady, Passed, left};
 
-use crate::fault::RunFault;
 use crate::riding::Riding;
 use crate::turns::{begin, go, kept, make_places, turn};
 use nova_kernel::Kernel;
-use nova_shared::Finished;
+use nova_shared::{Finished, RunFault};
 use std::alloc::{AllocError, Global};
 
 /// A turn of a processor that is not idle, where there may be one more. It is given how many more there may be, and tells how many

@@ -3,11 +3,10 @@ ghost use Rattle.nova_model.specs.Turn.{turn};
 ghost use Rattle.nova_run.specs.Finished.{IsFinished, IsFreeOfIdle};
 ghost use Rattle.nova_run.specs.UnderWay.{IsReady, Passed, taken};
 
-use crate::fault::RunFault;
 use crate::riding::{FEW, Riding};
 use nova_kernel::{Kernel, StepsTaken, Turn};
 use nova_order::Order;
-use nova_shared::Finished;
+use nova_shared::{Finished, RunFault};
 use nova_trace::Trace;
 use std::alloc::{AllocError, Global};
 

@@ -18,6 +18,9 @@ use crate::statement::{Setting, SourceHead};
 use std::alloc::{AllocError, Global};
 use std::marker::Model;
 
+/// The most sources of a scenario.
+const MAX_SOURCES: usize = 32;
+
 /// What the text says so far. Contracts see the settings and the list of images.
 #[derive(Drop)]
 pub struct Draft {
@@ -73,7 +76,7 @@ impl Draft {
             return Err(Why::Missing);
         }
         match self.settings.source_of(head) {
-            Some(row) if self.sources.len() < 32 => Ok(row),
+            Some(row) if self.sources.len() < MAX_SOURCES => Ok(row),
             _ => Err(Why::Range),
         }
     }

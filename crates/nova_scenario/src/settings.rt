@@ -6,6 +6,20 @@ use crate::fault::Why;
 use crate::source::SourceRow;
 use crate::statement::{Setting, SourceHead, Start};
 
+/// The most processors of a scenario, and the most consoles.
+const MAX_CPUS: u32 = 8;
+
+const MAX_CONSOLES: u32 = 16;
+
+/// The greatest order of the number of RAM frames: 64 MiB.
+const MAX_RAM_ORDER: u8 = 14;
+
+/// The greatest quantum, in turns: what 24 bits hold.
+const MAX_QUANTUM: u32 = 16_777_215;
+
+/// The greatest number of a source's line, in ticks or firings.
+const MAX_SOURCE: u32 = 10_000_000;
+
 /// How the first thread starts, and its scheduling context.
 #[derive(Clone, Copy)]
 pub struct Root {
@@ -96,7 +110,7 @@ impl Root {
             pc: pc_of(start)?,
             sp: sp?,
             priority: byte_within(255, priority)?,
-            quantum: within(1, 16_777_215, quantum)?,
+            quantum: within(1, MAX_QUANTUM, quantum)?,
         })
     }
 }
@@ -140,10 +154,13 @@ impl Settings {
     {
         let mut settings = self;
         match setting {
-            Setting::Cpus(n) => settings.cpus = Some(set_once(self.cpus, within(1, 8, n))?),
-            Setting::Ram(m) => settings.ram = Some(set_once(self.ram, byte_within(14, m))?),
+            Setting::Cpus(n) => settings.cpus = Some(set_once(self.cpus, within(1, MAX_CPUS, n))?),
+            Setting::Ram(m) => settings.ram = Some(set_once(
+                self.ram,
+                byte_within(MAX_RAM_ORDER, m),
+            )?),
             Setting::Consoles(c) => {
-                settings.consoles = Some(set_once(self.consoles, within(0, 16, c))?);
+                settings.consoles = Some(set_once(self.consoles, within(0, MAX_CONSOLES, c))?);
             }
             Setting::Root {
                 start,
@@ -176,9 +193,9 @@ impl Settings {
     {
         Some(SourceRow {
             cpu: cpu_below(self.cpus, head.cpu)?,
-            first: u64::from(within(0, 10_000_000, head.first)?),
-            period: u64::from(within(1, 10_000_000, head.period)?),
-            count: u64::from(within(1, 10_000_000, head.count)?),
+            first: u64::from(within(0, MAX_SOURCE, head.first)?),
+            period: u64::from(within(1, MAX_SOURCE, head.period)?),
+            count: u64::from(within(1, MAX_SOURCE, head.count)?),
         })
     }
 

@@ -1,14 +1,12 @@
 -- Turns of one processor, one part after another.
-use Rattle.std.proofs.Common.{◌≡◌, ℕ, ◌+◌, List, [], ◌∷◌, ◌++◌, ap, sym, subst, replicate}
-use Rattle.std.specs.Prelude.{Bool, true, false, is_some, if◌then◌else◌}
+use Rattle.std.proofs.Common.{ℕ, ◌+◌, List, subst, replicate}
 use Rattle.std.proofs.lemmas.List.{replicate-append-replicate}
 use Rattle.nova_model.specs.State.{KernelState}
-use Rattle.nova_model.specs.Turn.{turn}
 use Rattle.nova_model.specs.Runs.{IsFreeOfIdle}
-use Rattle.nova_shared.specs.UnderWay.{Passed, taken}
+use Rattle.nova_shared.specs.UnderWay.{Passed}
 use Rattle.nova_shared.specs.declared.finished.Finished.{Finished}
+use Rattle.nova_shared.proofs.Idle.{free_append}
 use Rattle.nova_shared.proofs.Passing.{Passed-through}
-use Rattle.nova_shared.proofs.Shares.{free_append}
 
 -- turns of one processor so far, and more of them, none of them idle
 pub turns_on : (a b c : Finished) (cpu n m : ℕ) → Passed a (replicate n cpu) b × IsFreeOfIdle a.kernel.state (replicate n cpu) →
@@ -18,14 +16,3 @@ turns_on a b c cpu n m was more there =
     let passed = Passed-through a b c (replicate n cpu) (replicate m cpu) was.0 more in
     let free = free_append a.kernel.state (replicate n cpu) (replicate m cpu) was.1 (subst (λ (k : KernelState). IsFreeOfIdle k (replicate m cpu)) was.0.kernel there) in
     subst (λ (l : List ℕ). Passed a l c × IsFreeOfIdle a.kernel.state l) (replicate-append-replicate n m cpu) (passed, free)
-
--- one turn of a processor that isn't idle
-pub turn_one : (a b : Finished) (cpu : ℕ) → Passed a (taken a.kernel.state cpu) b → is_some (turn a.kernel.state cpu) ≡ true →
-    Passed a (replicate 1 cpu) b × IsFreeOfIdle a.kernel.state (replicate 1 cpu)
-turn_one a b cpu turned there =
-    let one : taken a.kernel.state cpu ≡ cpu ∷ [] = ap (λ (t : Bool). if t then cpu ∷ [] else []) there in
-    (subst (λ (l : List ℕ). Passed a l b) one turned, (there, tt))
-
--- and one that is idle
-pub turn_none : (a b : Finished) (cpu : ℕ) → Passed a (taken a.kernel.state cpu) b → is_some (turn a.kernel.state cpu) ≡ false → Passed a [] b
-turn_none a b cpu turned idle = subst (λ (l : List ℕ). Passed a l b) (ap (λ (t : Bool). if t then cpu ∷ [] else []) idle) turned

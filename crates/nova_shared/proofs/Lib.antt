@@ -1,3 +1,4 @@
+pub mod Idle
 pub mod Passing
 pub mod Shares
 pub mod Seats

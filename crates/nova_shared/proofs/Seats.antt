@@ -1,5 +1,6 @@
 -- Seats, and how many turns each saw.
-use Rattle.std.proofs.Common.{◌≡◌, ◌≢◌, ⊎_elim, ℕ, zero, suc, ◌+◌, ◌<◌, ◌≤◌, List, [], ◌∷◌, ◌++◌, length, drop, refl, replicate, ap, sym, ◌∙◌, arith, All, subst}
+use Rattle.std.proofs.Common.{◌≡◌, ◌≢◌, ⊎_elim, ℕ, zero, suc, ◌+◌, ◌<◌, ◌≤◌, List, [], ◌∷◌, ◌++◌, length, drop, refl, replicate, ap, ap₂, sym, ◌∙◌, arith, All, subst}
+use Rattle.std.proofs.lemmas.List.{length-append, length-replicate}
 use Rattle.std.proofs.lemmas.Bool.Decides.{nat_tests}
 use Rattle.std.proofs.lemmas.Bool.{cases_lt}
 use Rattle.std.specs.List.{AllByRecursion}
@@ -32,6 +33,17 @@ block_mine n k old found f = entries_block n k found ∙ ap (λ (m : ℕ). m + k
 
 pub mine_most : (n : ℕ) (old found : List ℕ) → IsFrontOf n old found → entries n old ≤ length found
 mine_most n old found f = omega (arith, f.whole, entries_most n found)
+
+-- what a seat counts, after so many turns more of its own behind those that were found
+module _ (n seen mine count : ℕ) (old found new : List ℕ) (front : IsFrontOf n old found) (left : new ≡ found ++ replicate count n) (saw : seen ≡ length found + count) (own : mine ≡ entries n old) where
+  pub mine_fits : mine + count ≤ seen
+  mine_fits = let most = mine_most n old found front in omega arith
+
+  pub seen_is : seen ≡ length new
+  seen_is = omega (arith, saw, ap length left, length-append found (replicate count n), length-replicate count n)
+
+  pub mine_is : (m : ℕ) → m ≡ n → mine + count ≡ entries m new
+  mine_is m same = omega (arith, own, ap₂ entries same left, block_mine n count old found front)
 
 pub all_tail : {A : Type 0} (P : A → Type 0) (x : A) (xs ys : List A) → xs ≡ x ∷ ys → All P xs → All P ys
 all_tail P x xs ys e a = λ k d h. let b : All P (x ∷ ys) = subst (All P) e a in b (suc k) d (omega arith)

@@ -5,7 +5,7 @@ use Rattle.std.proofs.lemmas.List.{append-nil, length-replicate}
 use Rattle.nova_kernel.specs.Views.{KernelView, IsMaking}
 use Rattle.nova_model.specs.State.{KernelState}
 use Rattle.nova_model.specs.Turn.{turn, Step}
-use Rattle.nova_model.specs.Runs.{IsFreeOfIdle, after, run, trace}
+use Rattle.nova_model.specs.Runs.{IsFreeOfIdle, run, trace}
 use Rattle.law_turns.proofs.Processors.{run_cpus}
 use Rattle.nova_order.specs.Blocks.{turns, total}
 use Rattle.nova_order.specs.declared.block.Block.{Block}
@@ -15,12 +15,8 @@ use Rattle.nova_shared.specs.Told.{IsTold, IsRefused}
 use Rattle.nova_shared.specs.UnderWay.{HasRoom, Passed, left, taken}
 use Rattle.nova_shared.specs.declared.finished.Finished.{Finished}
 use Rattle.nova_shared.specs.declared.turn.SharedTurn.TheVariants.{Stepped, Idle, AtLimit}
+use Rattle.nova_shared.proofs.Idle.{free_append}
 use Rattle.nova_shared.proofs.Passing.{run_on, trace_on}
-
--- two parts of an order, each free of idle turns
-pub free_append : (k : KernelState) (xs ys : List ℕ) → IsFreeOfIdle k xs → IsFreeOfIdle (run k xs) ys → IsFreeOfIdle k (xs ++ ys)
-free_append k [] ys first then_ = then_
-free_append k (x ∷ xs) ys first then_ = (first.0, free_append (after k x) xs ys first.1 then_)
 
 -- the turn of a processor that is not idle is no idle one
 pub free_taken : (k : KernelState) (cpu : ℕ) → IsFreeOfIdle k (taken k cpu)

@@ -2,7 +2,7 @@
 use Rattle.std.specs.Prelude.{◌≡◌, ◌<◌, ℕ, List, Some}
 use Rattle.nova_kernel.specs.Views.{KernelView}
 use Rattle.nova_lock.specs.Seats.{LockView, SeatView, AreSeats}
-use Rattle.nova_shared.specs.declared.running.Opening.{Opening}
+use Rattle.nova_shared.specs.declared.shared_run.Opening.{Opening}
 
 -- a run: what it began with, the kernel, the order of turns, and how often the lock was used
 pub record Ran : Type 0 where

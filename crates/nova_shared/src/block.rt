@@ -4,7 +4,7 @@ ghost use Rattle.nova_model.specs.Runs.{run, trace};
 ghost use Rattle.nova_model.specs.State.{KernelState};
 ghost use Rattle.nova_shared.specs.Steps.{ArePlainSteps};
 
-use crate::running::Running;
+use crate::shared_run::SharedRun;
 use nova_kernel::Kernel;
 use nova_lock::LockCall;
 
@@ -46,7 +46,7 @@ pub struct Blocking<'a, B: Block> {
     pub call: &'a mut B,
 }
 
-impl<'a, B: Block> LockCall<Running> for Blocking<'a, B> {
+impl<'a, B: Block> LockCall<SharedRun> for Blocking<'a, B> {
     ghost use Rattle.std.specs.Prelude.{◌≡◌, ◌+◌, ◌-◌, ◌<◌, ◌≤◌, ◌++◌, length, replicate};
     ghost use Rattle.nova_model.specs.Runs.{run};
 
@@ -60,7 +60,7 @@ impl<'a, B: Block> LockCall<Running> for Blocking<'a, B> {
         × B.tells b.call.now b.cpu (run o.kernel.state found) (o.limit - length found) next.call.now out.taken
         × (next.call.ghost_name ≡ b.call.ghost_name) };
 
-    fn act(&mut self, value: &mut Running) -> BlockDone {
+    fn act(&mut self, value: &mut SharedRun) -> BlockDone {
         let done = value.block(self.cpu, self.call);
         value.count();
         done

@@ -2,12 +2,14 @@
 #![tactic(auto)]
 
 mod block;
+mod fault;
 mod finished;
-mod running;
 mod shared;
+mod shared_run;
 mod turn;
 
 pub use block::Block;
+pub use fault::RunFault;
 pub use finished::Finished;
 pub use shared::{CpuSeat, Shared};
 pub use turn::SharedTurn;

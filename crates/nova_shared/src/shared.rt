@@ -13,7 +13,7 @@ ghost use Rattle.nova_shared.specs.UnderWay.{IsReady, HasRoom};
 
 use crate::block::{Block, BlockDone, Blocking};
 use crate::finished::Finished;
-use crate::running::Running;
+use crate::shared_run::SharedRun;
 use crate::turn::{OneTurn, SharedTurn, Turns};
 use nova_kernel::Kernel;
 use nova_lock::{HistoryLock, Seat};
@@ -25,12 +25,12 @@ use std::sync::Wait;
 /// which is empty before its first turn.
 #[derive(Drop)]
 pub struct CpuSeat {
-    seat: Seat<Running>,
+    seat: Seat<SharedRun>,
     seen: u64,
     mine: u64,
 
     // Of processor 0: the room in which all seats are handed back.
-    spare: Vec<Seat<Running>>,
+    spare: Vec<Seat<SharedRun>>,
 }
 
 impl Model for CpuSeat {
@@ -48,7 +48,7 @@ impl Model for CpuSeat {
 
 impl CpuSeat {
     /// A seat that was not used yet, with room for the seats that are handed back with it.
-    fn new(seat: Seat<Running>, spare: Vec<Seat<Running>>) -> CpuSeat
+    fn new(seat: Seat<SharedRun>, spare: Vec<Seat<SharedRun>>) -> CpuSeat
         requires front { seat.front ≡ [] }
         requires room { (spare.items ≡ []) × (seat.number ≡ 0 → seat.made ≤ vec_capacity spare) }
         ensures { result ≡ seat }
@@ -84,7 +84,7 @@ impl CpuSeat {
 }
 
 /// Adds the seat of a processor, in the room of a list.
-fn add(out: &mut Vec<CpuSeat>, seat: Seat<Running>, spare: Vec<Seat<Running>>)
+fn add(out: &mut Vec<CpuSeat>, seat: Seat<SharedRun>, spare: Vec<Seat<SharedRun>>)
     requires room { vec_len out.old < vec_capacity out.old }
     requires front { seat.front ≡ [] }
     requires spare { (spare.items ≡ []) × (seat.number ≡ 0 → seat.made ≤ vec_capacity spare) }
@@ -100,9 +100,9 @@ fn add(out: &mut Vec<CpuSeat>, seat: Seat<Running>, spare: Vec<Seat<Running>>)
 /// The seats of processors, in the room of a list. The first keeps the room in which all are handed back.
 fn wrapped(
     alloc: Global,
-    mut seats: Vec<Seat<Running>>,
+    mut seats: Vec<Seat<SharedRun>>,
     mut out: Vec<CpuSeat>,
-    spare: Vec<Seat<Running>>,
+    spare: Vec<Seat<SharedRun>>,
 ) -> Vec<CpuSeat>
     requires room { (out.items ≡ []) × (0 < vec_len seats) × (vec_len seats ≤ vec_capacity out) × (spare.items ≡ []) }
     requires fresh { All (λ s. s.front ≡ []) seats.items }
@@ -119,7 +119,7 @@ fn wrapped(
 }
 
 /// The seats of the lock, in the room that the first processor's seat kept.
-fn bare(mut seats: Vec<CpuSeat>) -> Vec<Seat<Running>>
+fn bare(mut seats: Vec<CpuSeat>) -> Vec<Seat<SharedRun>>
     requires { (0 < vec_len seats) × ((d : SeatView Ran) → ((slice_index_or seats.items 0 d).number ≡ 0) × (vec_len seats ≤ (slice_index_or seats.items 0 d).made)) }
     ensures { result.items ≡ seats.items }
 {
@@ -152,7 +152,7 @@ fn bare(mut seats: Vec<CpuSeat>) -> Vec<Seat<Running>>
 ///
 /// It has to be finished: that gives the kernel back.
 pub struct Shared {
-    lock: HistoryLock<Running>,
+    lock: HistoryLock<SharedRun>,
 }
 
 impl Model for Shared {
@@ -192,14 +192,14 @@ impl Shared {
             Ok(run) => run,
             Err(kernel) => return Err((kernel, AllocError)),
         };
-        match HistoryLock::new(alloc, Running::new(run), cpus) {
+        match HistoryLock::new(alloc, SharedRun::new(run), cpus) {
             Ok((lock, seats)) => Ok((Shared { lock }, wrapped(alloc, seats, room, spare))),
             Err((value, failed)) => Err((value.into_kernel(), failed)),
         }
     }
 
     /// One use of the lock, in which the processor of a seat takes a turn.
-    fn take(&self, rt: &impl Wait, seat: &mut Seat<Running>) -> Result<SharedTurn, u64>
+    fn take(&self, rt: &impl Wait, seat: &mut Seat<SharedRun>) -> Result<SharedTurn, u64>
         requires own { IsCpuSeat self.now seat.old }
         ensures seat { seat.new ≡ record seat.old { front = seat.new.front } }
         ensures told { (found : List ℕ) × IsFrontOf seat.old.number seat.old.front found
@@ -245,7 +245,7 @@ impl Shared {
     }
 
     /// One use of the lock, in which a block is done on the processor of a seat.
-    fn act<B: Block>(&self, rt: &impl Wait, seat: &mut Seat<Running>, call: &mut B) -> BlockDone
+    fn act<B: Block>(&self, rt: &impl Wait, seat: &mut Seat<SharedRun>, call: &mut B) -> BlockDone
         requires own { IsCpuSeat self.now seat.old }
         requires fits { (h : List ℕ) → IsPrefix seat.old.front h → B.fits call.old seat.old.number (run self.now.opened.opening.kernel.state h) }
         ensures seat { seat.new ≡ record seat.old { front = seat.new.front } }
@@ -283,7 +283,7 @@ impl Shared {
     }
 
     /// One use of the lock, in which the processor of a seat takes turns, at most so many.
-    fn go(&self, rt: &impl Wait, seat: &mut Seat<Running>, most: u64) -> BlockDone
+    fn go(&self, rt: &impl Wait, seat: &mut Seat<SharedRun>, most: u64) -> BlockDone
         requires own { IsCpuSeat self.now seat.old }
         ensures seat { seat.new ≡ record seat.old { front = seat.new.front } }
         ensures told { (found : List ℕ) × IsFrontOf seat.old.number seat.old.front found

@@ -2,7 +2,7 @@ ghost use Rattle.std.specs.Prelude.{◌≡◌, ◌<◌, length, IfOk, IfErr};
 ghost use Rattle.nova_shared.specs.Told.{IsTold, IsRefused};
 
 use crate::block::BlockDone;
-use crate::running::Running;
+use crate::shared_run::SharedRun;
 use nova_lock::LockCall;
 
 /// What came of a turn of a shared kernel.
@@ -24,7 +24,7 @@ pub struct OneTurn {
     pub cpu: u32,
 }
 
-impl LockCall<Running> for OneTurn {
+impl LockCall<SharedRun> for OneTurn {
     ghost use Rattle.std.specs.Prelude.{◌≡◌, ◌<◌, length, IfOk, IfErr};
     ghost use Rattle.nova_shared.specs.Told.{IsTold, IsRefused};
 
@@ -37,7 +37,7 @@ impl LockCall<Running> for OneTurn {
     ghost did = { λ o t found left next out. IfOk out (IsTold o.kernel.state o.limit t.cpu found left)
         × IfErr out (λ taken. (taken ≡ length found) × IsRefused o.kernel.state o.limit t.cpu found left) };
 
-    fn act(&mut self, value: &mut Running) -> Result<SharedTurn, u64> {
+    fn act(&mut self, value: &mut SharedRun) -> Result<SharedTurn, u64> {
         let out = value.turn(self.cpu);
         value.count();
         out
@@ -51,7 +51,7 @@ pub struct Turns {
     pub most: u64,
 }
 
-impl LockCall<Running> for Turns {
+impl LockCall<SharedRun> for Turns {
     ghost use Rattle.std.specs.Prelude.{◌≡◌, ◌+◌, ◌-◌, ◌<◌, ◌≤◌, ◌++◌, length, replicate};
     ghost use Rattle.nova_model.specs.Runs.{run};
     ghost use Rattle.nova_shared.specs.Told.{HasNone};
@@ -65,7 +65,7 @@ impl LockCall<Running> for Turns {
     ghost did = { λ o t found left next out. (left ≡ found ++ replicate out.taken t.cpu) × (out.seen ≡ length found + out.taken) × (out.seen ≤ o.limit)
         × (out.taken ≤ t.most) × (out.taken ≡ 0 → 0 < t.most → HasNone (run o.kernel.state found) (o.limit - length found) t.cpu) };
 
-    fn act(&mut self, value: &mut Running) -> BlockDone {
+    fn act(&mut self, value: &mut SharedRun) -> BlockDone {
         let out = value.turns(self.cpu, self.most);
         value.count();
         out

@@ -7,7 +7,7 @@ use nova_boot::boot;
 use nova_kernel::Kernel;
 use nova_order::Order;
 use nova_scenario::{Scenario, read};
-use nova_twin::{CollectFault, Side, Verdict, collect, compare};
+use nova_twin::{RunFault, Side, Verdict, collect, compare};
 use std::alloc::Global;
 use std::process::Abort;
 
@@ -51,7 +51,7 @@ enum Found {
     Views,
     Differ(u64),
     None,
-    Fault(CollectFault),
+    Fault(RunFault),
 }
 
 /// What the other run is, and what is found.
@@ -121,7 +121,7 @@ static ROWS: [Row; 6] = [
             order: "0 74\n",
             guest: GUEST,
         },
-        found: Found::Fault(CollectFault::OrderIdle(1)),
+        found: Found::Fault(RunFault::OrderIdle(1)),
     },
 ];
 
@@ -155,7 +155,7 @@ fn begin(rt: &impl Abort, alloc: Global, scenario: &Scenario) -> Kernel
 }
 
 /// The side of a run's guest.
-fn side_of(rt: &impl Abort, alloc: Global, run: &Run) -> Result<Option<Side>, CollectFault>
+fn side_of(rt: &impl Abort, alloc: Global, run: &Run) -> Result<Option<Side>, RunFault>
     ensures { IfOk result (λ found. IfSome found IsSide) }
 {
     let text = text_of(rt, alloc, run);

@@ -1,6 +1,6 @@
 -- Where nothing fails outside and the files have what a command needs, it is done, or was stopped by its limit or by want of memory.
 use Rattle.std.proofs.Common.{◌≡◌, ℕ, ◌<◌, ◌≤◌, List, [], length, ap, inl, inr, sym, ◌∙◌, refl, arith, subst}
-use Rattle.std.specs.Prelude.{◌⊎◌, Option, Some, None, IfSome, unwrap_or, Result, Ok, Err}
+use Rattle.std.specs.Prelude.{◌⊎◌, Option, Some, None, IfSome, unwrap_or, Ok, Err}
 use Rattle.std.specs.List.{AllByRecursion}
 use Rattle.std.specs.FinMap.{get}
 use Rattle.nova_model.specs.State.{KernelState}
@@ -16,6 +16,7 @@ use Rattle.nova_order.specs.declared.block.Block.{Block}
 use Rattle.nova_order.specs.declared.fault.OrderFault.{OrderFault}
 use Rattle.nova_scenario.specs.Scenario.{scenario}
 use Rattle.nova_scenario.specs.declared.scenario.Scenario.{Scenario as ScenarioText}
+use Rattle.nova_shared.proofs.Idle.{no_idle_line}
 use Rattle.nova_top.specs.Causes.{ScenarioRefused, OrderRefused, NoOrderCame, IsRefusedAfter, IsReadFault, IsScenarioFault, IsOrderFault, IsTried, IsUnfollowed, SubjectsRefused, LineUnread, IsTwinFault}
 use Rattle.nova_top.specs.Prepared.{IsPrepared}
 use Rattle.nova_top.specs.Came.{Followed, IsFoundBy, ScenarioCame, SubjectsCame}
@@ -34,7 +35,7 @@ use Rattle.nova_top.specs.declared.exit.TwinWhy.{TwinWhy}
 use Rattle.nova_top.specs.declared.exit.TwinWhy.TheVariants as twin
 use Rattle.nova_top.specs.declared.subjects.Subject.{Subject}
 use Rattle.nova_top.specs.declared.subjects.Subjects.{Subjects}
-use Rattle.nova_top.proofs.Idle.{no_idle_line}
+use Rattle.nova_top.proofs.Results.{fault_is_none, same_ok}
 
 -- the bytes that came are those of the file
 same_bytes : (files : Option Files) (held : Files) (name bytes came : List ℕ) → files ≡ Some held → get held name ≡ Some bytes →
@@ -51,12 +52,6 @@ few_bytes (Some files) held name bytes most told there fits more =
     let is : length (bytes_of files name) ≡ length bytes = ap (λ (h : Files). length (bytes_of h name)) same ∙ ap (λ (o : Option (List ℕ)). length (unwrap_or o [])) there in
     absurd (omega arith)
 few_bytes None held name bytes most told there fits more = absurd (cc)
-
-fault_is_none : {A B : Type 0} (r : Result A B) (is : A) (fault : B) → r ≡ Ok is → r ≡ Err fault → ⊥
-fault_is_none r is fault good bad = absurd (cc)
-
-same_ok : {A B : Type 0} (r : Result A B) (is other : A) → r ≡ Ok is → r ≡ Ok other → other ≡ is
-same_ok r is other good too = cc
 
 module _ {D : Type 0} (d : Depots D) (held : Files) where
   no_scenario_fault : (name : List ℕ) (from : ScenarioText) (line : ℕ) (w : ScenarioWhy) (old new : D) → d.files old ≡ Some held → HasScenario held name from →

@@ -1,4 +1,4 @@
-pub mod Idle
+pub mod Results
 pub mod Reports
 pub mod Counts
 pub mod Sourced

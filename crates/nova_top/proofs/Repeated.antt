@@ -1,6 +1,6 @@
 -- A run is repeated by one thread over the order that it appended.
 use Rattle.std.proofs.Common.{◌≡◌, ◌≢◌, ℕ, ◌*◌, ◌<◌, ◌≤◌, Bool, true, false, List, [], ◌∷◌, ◌++◌, length, cond, refl, ap, sym, ◌∙◌, subst, inl, inr, arith}
-use Rattle.std.specs.Prelude.{◌⊎◌, Option, Some, None, IfSome, unwrap_or, Result, Ok, Err}
+use Rattle.std.specs.Prelude.{◌⊎◌, Option, Some, None, IfSome, unwrap_or, Ok}
 use Rattle.std.specs.Cmp.Lexicographic.{slice_cmp, nat_list_cmp_total}
 use Rattle.std.specs.Cmp.{eq_by_cmp_equiv}
 use Rattle.std.specs.FinMap.{get, get-insert, nat_cmp-IsAntisymmetric, slice_cmp-IsAntisymmetric}
@@ -23,6 +23,7 @@ use Rattle.nova_order.proofs.LengthLemmas.{short_text}
 use Rattle.nova_scenario.specs.Scenario.{scenario}
 use Rattle.nova_scenario.specs.declared.scenario.Scenario.{Scenario as ScenarioText}
 use Rattle.nova_scenario.proofs.SoundLemmas.{scenario_sound}
+use Rattle.nova_shared.proofs.Idle.{no_idle_line}
 use Rattle.nova_top.specs.Causes.{ScenarioRefused, OrderRefused, NoOrderCame, IsRefusedAfter, IsUnread}
 use Rattle.nova_top.specs.Main.{IsAnswer, IsWritten, IsTextCut, IsCut}
 use Rattle.nova_top.specs.Names.{most_of_order, most_of_scenario}
@@ -37,9 +38,9 @@ use Rattle.nova_top.specs.declared.exit.OrderWhy.{OrderWhy}
 use Rattle.nova_top.specs.declared.exit.OrderWhy.TheVariants as cause
 use Rattle.nova_top.specs.declared.exit.ScenarioWhy.{ScenarioWhy}
 use Rattle.nova_top.specs.declared.exit.ScenarioWhy.TheVariants.{TooLong, Text}
-use Rattle.nova_top.proofs.Idle.{no_idle_line}
 use Rattle.nova_top.proofs.Replays.{taken, same, is_there}
 use Rattle.nova_top.proofs.Reports.{boot_cpus}
+use Rattle.nova_top.proofs.Results.{fault_is_none, same_ok}
 
 -- HOW LONG AN ORDER IS
 
@@ -67,12 +68,6 @@ module _ {D : Type 0} (d : Depots D) where
       few_bytes (length bytes) most (run_is_short name order most k made.between new complete bytes text few made.done) limit.1
 
 -- NO REFUSAL
-
-fault_is_none : {A B : Type 0} (r : Result A B) (is : A) (fault : B) → r ≡ Ok is → r ≡ Err fault → ⊥
-fault_is_none r is fault good bad = absurd (cc)
-
-same_ok : {A B : Type 0} (r : Result A B) (is other : A) → r ≡ Ok is → r ≡ Ok other → other ≡ is
-same_ok r is other good too = cc
 
 too_many : (n most : ℕ) → n ≤ most → most < n → ⊥
 too_many n most few more = absurd (omega arith)

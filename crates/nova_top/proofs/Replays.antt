@@ -1,6 +1,6 @@
 -- An order that a run wrote is read back as it was.
 use Rattle.std.proofs.Common.{◌≡◌, ℕ, ◌<◌, ◌≤◌, ◌^◌, Bool, true, List, [], ◌∷◌, length, refl, ap, ap₂, sym, ◌∙◌, subst, arith}
-use Rattle.std.specs.Prelude.{◌&&◌, nat_lt, nat_le, IsTrue, Result, Ok}
+use Rattle.std.specs.Prelude.{◌&&◌, nat_lt, nat_le, IsTrue, Ok}
 use Rattle.std.specs.List.{AllByRecursion, list_all}
 use Rattle.nova_model.specs.State.{KernelState}
 use Rattle.nova_model.specs.Boot.{boot}
@@ -19,6 +19,7 @@ use Rattle.nova_scenario.proofs.SoundLemmas.{scenario_sound}
 use Rattle.nova_top.specs.Outside.{Depots}
 use Rattle.nova_top.specs.Runs.{IsRun}
 use Rattle.nova_top.specs.Replayed.{AreTakenAgain, AreSameAgain}
+use Rattle.nova_top.proofs.Results.{same_ok}
 use Rattle.nova_top.proofs.Reports.{boot_cpus}
 
 all_below : (cpus : ℕ) (order : List ℕ) → AllByRecursion (λ cpu. cpu < cpus) order → list_all (λ cpu. nat_lt cpu cpus) order ≡ true
@@ -55,9 +56,6 @@ module _ {D : Type 0} (d : Depots D) (name order : List ℕ) (most : ℕ) (k : K
 few_processors : (from : Scenario) → from.cpus ≤ 8 → (boot (scenario_of from)).cpus ≤ 2 ^ 32
 few_processors from few = let same : (boot (scenario_of from)).cpus ≡ from.cpus = boot_cpus (scenario_of from) in omega arith
 
-same_ok : {A B : Type 0} (r : Result A B) (is other : A) → r ≡ Ok is → r ≡ Ok other → is ≡ other
-same_ok r is other good too = cc
-
 module _ {D : Type 0} (d : Depots D) where
   pub taken : AreTakenAgain d
   taken name order most old new complete bytes text limit ran =
@@ -77,7 +75,7 @@ module _ {D : Type 0} (d : Depots D) where
       let first = read_back d name order most k ran.between new complete bytes text ran.done few in
       let second : order_of bytes k.cpus most ≡ Ok again.done.of_command.0.blocks =
       ap₂ (λ (b : List ℕ) (s : KernelState). order_of b s.cpus most) (sym is) (sym begun) ∙ again.done.of_command.0.came.reads in
-      let blocks = same_ok (order_of bytes k.cpus most) again.done.of_command.0.blocks ran.done.of_command.0.blocks second first in
+      let blocks = sym (same_ok (order_of bytes k.cpus most) again.done.of_command.0.blocks ran.done.of_command.0.blocks second first) in
       let turns_same : again.done.order ≡ ran.done.order = again.done.of_command.0.all ∙ ap turns blocks ∙ sym ran.done.of_command.0.all in (
         again.done.reported ∙ ap₂ (λ (s : KernelState) (l : List ℕ). report (run s l) (trace s l)) begun turns_same ∙ sym ran.done.reported,
         again.done.quiet ∙ ap₂ (λ (s : KernelState) (l : List ℕ). is_quiet (run s l)) begun turns_same ∙ sym ran.done.quiet,

@@ -11,6 +11,7 @@ use Rattle.law_turns.specs.Orders.{IsRunOut}
 use Rattle.nova_order.specs.Blocks.{IsOrder, turns, is_within}
 use Rattle.nova_order.specs.Text.{text_of}
 use Rattle.nova_order.specs.declared.block.Block.{Block}
+use Rattle.nova_order.proofs.BoundLemmas.{processors_of, turns_within}
 use Rattle.nova_report.specs.Report.{report}
 use Rattle.nova_boot.specs.Boot.{scenario_of}
 pub use Rattle.nova_boot.proofs.Started.{boot_turns, boot_cpus}
@@ -20,7 +21,6 @@ use Rattle.nova_run.specs.Finished.{IsFinished}
 use Rattle.nova_top.specs.declared.exit.Exit.{Exit}
 use Rattle.nova_top.specs.declared.outcome.Outcome.{Outcome}
 use Rattle.nova_shared.specs.declared.finished.Finished.{Finished}
-use Rattle.nova_top.proofs.Idle.{processors_of, turns_within}
 use Rattle.nova_top.proofs.Single.{one_order}
 
 -- what is said of a finished run

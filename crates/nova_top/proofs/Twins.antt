@@ -13,14 +13,15 @@ use Rattle.law_renaming.specs.Verdicts.{IsVerdict}
 use Rattle.nova_scenario.specs.declared.scenario.Scenario.{Scenario as ScenarioText}
 use Rattle.nova_scenario.specs.Sound.{IsSound}
 use Rattle.nova_scenario.proofs.SoundLemmas.{scenario_sound}
+use Rattle.nova_shared.specs.Finished.{IsIdleLine}
+use Rattle.nova_shared.specs.declared.fault.RunFault.{RunFault}
+use Rattle.nova_shared.specs.declared.fault.RunFault.TheVariants as fault
 use Rattle.nova_twin.specs.Comparison.{said, ram_of, Holds, EndsSo}
-use Rattle.nova_twin.specs.Sides.{IsAlone, IsBeginning, IsFound, IsIdleLine, IsSide, IsSideOf}
-use Rattle.nova_twin.specs.declared.fault.CollectFault.{CollectFault}
-use Rattle.nova_twin.specs.declared.fault.CollectFault.TheVariants as collect
+use Rattle.nova_twin.specs.Sides.{IsAlone, IsBeginning, IsFound, IsSide, IsSideOf}
 use Rattle.nova_twin.specs.declared.side.Side.{Side}
 use Rattle.nova_top.specs.Came.{Followed, IsFoundBy, ScenarioCame, SubjectsCame}
 use Rattle.nova_top.specs.Causes.{IsTried, IsUnread}
-use Rattle.nova_top.specs.Exit.{at_line, of_collect}
+use Rattle.nova_top.specs.Exit.{at_line, of_run}
 use Rattle.nova_top.specs.Fetches.{CameBefore, Fetches, FetchesOf, FetchesOfRun}
 use Rattle.nova_top.specs.Names.{most_of_subjects}
 use Rattle.nova_top.specs.Orders.{OrderCame}
@@ -62,17 +63,15 @@ found_from s k order guest found begun is = subst (λ (z : KernelState). IsFound
 pub free_from : (s : Scenario) (k : KernelState) (order : List ℕ) → k ≡ boot s → IsFreeOfIdle k order → IsFreeOfIdle (boot s) order
 free_from s k order begun free = subst (λ (z : KernelState). IsFreeOfIdle z order) begun free
 
-idle_at : (k : KernelState) (list : BlockList) (fault : CollectFault) → ((line : ℕ) → fault ≡ collect.OrderIdle line → IsIdleLine k list.blocks line) → IsIdleFault k list (of_collect fault)
-idle_at k list (collect.OrderIdle line) idle =
-    let i = idle line refl in
-    record { before = i.before; block = i.block; after = i.after; whole = i.whole; number = i.number; free = i.free; idle = i.idle }
-idle_at k list collect.Memory idle = tt
+idle_at : (k : KernelState) (list : BlockList) (why : RunFault) → ((line : ℕ) → why ≡ fault.OrderIdle line → IsIdleLine k list.blocks line) → IsIdleFault k list (of_run why)
+idle_at k list (fault.OrderIdle line) idle = idle line refl
+idle_at k list fault.Memory idle = tt
 
-pub idle_from : (s : Scenario) (k : KernelState) (list : BlockList) (fault : CollectFault) (r : Result (Option Side) CollectFault) → k ≡ boot s → r ≡ Err fault →
-    ((line : ℕ) → r ≡ Err (collect.OrderIdle line) → IsIdleLine k list.blocks line) → IsIdleFault (boot s) list (of_collect fault)
-idle_from s k list fault r begun is idle =
-    subst (λ (z : KernelState). IsIdleFault z list (of_collect fault)) begun
-    (idle_at k list fault (λ line same. idle line (is ∙ ap Err same)))
+pub idle_from : (s : Scenario) (k : KernelState) (list : BlockList) (why : RunFault) (r : Result (Option Side) RunFault) → k ≡ boot s → r ≡ Err why →
+    ((line : ℕ) → r ≡ Err (fault.OrderIdle line) → IsIdleLine k list.blocks line) → IsIdleFault (boot s) list (of_run why)
+idle_from s k list why r begun is idle =
+    subst (λ (z : KernelState). IsIdleFault z list (of_run why)) begun
+    (idle_at k list why (λ line same. idle line (is ∙ ap Err same)))
 
 module _ {D : Type 0} (d : Depots D) where
   abbrev pub is_side : (subject : Subject) (most : ℕ) (old : D) (side : Side) (new : D) → Followed d subject most old (Some side) new → IsSide side

@@ -8,6 +8,7 @@ use Rattle.std.specs.Char.{is_ascii_graphic}
 use Rattle.std.specs.List.{list_all, position_or_len, slice_split, onto_first, before_first, after_first}
 use Rattle.std.specs.Str.{IsAscii}
 use Rattle.nova_text.specs.Number.{number}
+use Rattle.nova_text.proofs.LineLemmas.{Parts, parts}
 use Rattle.nova_top.specs.Subjects.{is_space, is_line_feed, is_name, guest_of, guest_read, subject_of_words, subject_of, both, subjects_of_parts, subjects_of, at_line, IsFault}
 use Rattle.nova_top.specs.declared.subjects.Subject.{Subject}
 use Rattle.nova_top.specs.declared.subjects.SubjectsFault.{SubjectsFault}
@@ -53,24 +54,6 @@ line_named line text rest scenario order last g is_scenario is_rest is_order is_
     ap (at_line line) all ∙ words_named line scenario order (number last) g read named named_too
 
 -- A TEXT
-
--- there is always a part
-record Parts (ps : List (List ℕ)) : Type 0 where
-  first : List ℕ
-  others : List (List ℕ)
-  are : ps ≡ first ∷ others
-
-parts_onto : (b : ℕ) (ps : List (List ℕ)) → Parts (onto_first b ps)
-parts_onto b [] = record { first = b ∷ []; others = []; are = refl }
-parts_onto b (p ∷ ps) = record { first = b ∷ p; others = ps; are = refl }
-
-parts_cond : (feed : Bool) (b : ℕ) (ps : List (List ℕ)) → Parts (cond feed ([] ∷ ps) (onto_first b ps))
-parts_cond true b ps = record { first = []; others = ps; are = refl }
-parts_cond false b ps = parts_onto b ps
-
-parts : (bs : List ℕ) → Parts (slice_split is_line_feed bs)
-parts [] = record { first = []; others = []; are = refl }
-parts (b ∷ bs) = parts_cond (is_line_feed b) b (slice_split is_line_feed bs)
 
 -- a text with a line feed: its first line, and what stands behind it
 pub record IsCut (text line behind : List ℕ) : Type 0 where

@@ -17,10 +17,8 @@ use Rattle.nova_top.specs.declared.exit.ScenarioWhy.TheVariants.{TooLong, Text}
 use Rattle.nova_top.specs.declared.exit.TwinWhy.TheVariants as twin
 use Rattle.nova_top.specs.declared.subjects.SubjectsFault.{SubjectsFault}
 use Rattle.nova_top.specs.declared.subjects.SubjectsFault.TheVariants as subjects
-use Rattle.nova_twin.specs.declared.fault.CollectFault.{CollectFault}
-use Rattle.nova_twin.specs.declared.fault.CollectFault.TheVariants as collect
-use Rattle.nova_run.specs.declared.fault.RunFault.{RunFault}
-use Rattle.nova_run.specs.declared.fault.RunFault.TheVariants as turn
+use Rattle.nova_shared.specs.declared.fault.RunFault.{RunFault}
+use Rattle.nova_shared.specs.declared.fault.RunFault.TheVariants as turn
 
 abbrev pub status_of : Exit → ℕ
 status_of Done = 0
@@ -79,10 +77,6 @@ of_subjects_fetch fetch.Memory = Memory
 abbrev pub of_subjects : SubjectsFault → Exit
 of_subjects (subjects.Syntax line) = Twin line twin.Syntax
 of_subjects subjects.Memory = Memory
-
-abbrev pub of_collect : CollectFault → Exit
-of_collect (collect.OrderIdle line) = OrderFault line Idle
-of_collect collect.Memory = Memory
 
 -- the guest of a line is not followed
 abbrev pub at_line : ℕ → Exit → Exit

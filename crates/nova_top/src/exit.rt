@@ -7,7 +7,6 @@ use nova_io::FetchFault;
 use nova_order::OrderFault;
 use nova_run::RunFault;
 use nova_scenario::{ScenarioFault, Why};
-use nova_twin::CollectFault;
 use std::alloc::AllocError;
 use std::io::ErrorKind;
 use thiserror::Error;
@@ -289,22 +288,6 @@ impl From<SubjectsFault> for Exit {
                 why: TwinWhy::Syntax,
             },
             SubjectsFault::Memory => Exit::Memory,
-        }
-    }
-}
-
-impl From<CollectFault> for Exit {
-    ghost use Rattle.nova_top.specs.Exit.{of_collect};
-
-    ghost from_gives = { λ fault exit. exit ≡ of_collect fault };
-
-    fn from(fault: CollectFault) -> Exit {
-        match fault {
-            CollectFault::OrderIdle(line) => Exit::OrderFault {
-                line,
-                why: OrderWhy::Idle,
-            },
-            CollectFault::Memory => Exit::Memory,
         }
     }
 }

@@ -1,7 +1,7 @@
 -- What is due, and what is not.
 use mathlib.Core.Path.{fun_ext}
 use Rattle.std.proofs.Common.{◌≡◌, ℕ, length, refl, ap, sym, ◌∙◌, subst, arith}
-use Rattle.std.specs.Prelude.{Bool, true, false, is_some, is_none, option_map, List, Option, Some, None, IsSome, IfSome, Ok}
+use Rattle.std.specs.Prelude.{false, is_some, is_none, option_map, Option, Some, None, IsSome, IfSome, Ok}
 use Rattle.std.specs.List.{filter_map, range_with_len}
 use Rattle.nova_model.specs.Running.{Running, revoke_of, running, running_of}
 use Rattle.nova_model.specs.Semaphores.{semaphore, woken}
@@ -10,7 +10,6 @@ use Rattle.nova_model.specs.declared.context.EcState.{EcState}
 use Rattle.law_turns.specs.Waiting.{AreBlocked}
 use Rattle.nova_deeds.proofs.Served.{still_there, woken_there}
 use Rattle.nova_model.specs.Choice.{choice}
-use Rattle.nova_model.specs.Deeds.{woken_in}
 use Rattle.nova_model.specs.Times.{due_on, next_moment}
 use Rattle.nova_model.specs.Turn.{counted, ticking, turn}
 use Rattle.nova_model.specs.declared.times.Deadline.{Deadline}
@@ -18,7 +17,6 @@ use Rattle.law_turns.specs.Keeping.{IsKept}
 use Rattle.law_turns.proofs.Serving.{blocked_there}
 use Rattle.nova_choice.specs.Choices.{chosen_of}
 use Rattle.nova_choice.proofs.Choosing.{turn_ticks}
-use Rattle.nova_deeds.proofs.Bounds.{there-set}
 use Rattle.nova_revoke.specs.Runners.{RevokesState}
 use Rattle.nova_turn.specs.Revoking.{AreRunning}
 
@@ -46,11 +44,6 @@ pub woken_still : (k : KernelState) (ec sm : ℕ) (whom : Option ℕ) (x : EcSta
     IfSome whom (λ w. IsSome (ec_in (with_ec k.contexts ec x) w))
 woken_still k ec sm None x blocked is = tt
 woken_still k ec sm (Some w) x blocked is = still_there k.contexts ec w x (woken_there k.contexts k.semaphores sm w blocked is)
-
--- who goes on is there still
-pub still_woken : (k : KernelState) (whom : Option ℕ) → IfSome whom (λ w. IsSome (context_at k w)) → IfSome whom (λ w. IsSome (context_at (woken_in k whom) w))
-still_woken k None there = tt
-still_woken k (Some w) there = there-set k.contexts w w _ there
 
 -- who has a deadline is there
 pub late_there : (k : KernelState) (ec : ℕ) (d : Deadline) → IsKept k → deadline_of k.times ec ≡ Some d → IsSome (context_at k ec)

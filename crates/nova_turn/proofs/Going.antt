@@ -1,6 +1,6 @@
 -- An instruction that goes on, from its outcome.
 use Rattle.std.proofs.Common.{◌≡◌, ℕ, refl, ap, sym, subst, ◌∙◌}
-use Rattle.std.specs.Prelude.{◌&&◌, ◌==◌, true, false, None, IsSome}
+use Rattle.std.specs.Prelude.{◌&&◌, ◌==◌, true, false, Option, Some, None, IsSome}
 use Rattle.nova_model.specs.Deeds.{deed, done, instruction, signalled}
 use Rattle.nova_model.specs.Edges.{acts}
 use Rattle.nova_model.specs.State.{KernelState, context, context_at, is_thread}
@@ -19,6 +19,8 @@ use Rattle.nova_sched.specs.Queues.{Schedule, QueuesState}
 use Rattle.nova_turn.specs.Going.{HasRaised, WentOn}
 use Rattle.nova_turn.specs.Parts.{state_of}
 use Rattle.nova_turn.specs.Revoking.{AreRunning}
+use Rattle.nova_turn.specs.declared.act.turn.Progress.TheVariants.{Stayed}
+use Rattle.nova_turn.specs.declared.decide.deciding.Raised.{Raised}
 use Rattle.nova_turn.specs.declared.parts.Parts.{Parts}
 use Rattle.nova_turn.proofs.Foreseen.{goes_on, raises}
 use Rattle.nova_turn.proofs.Ongoing.{IsDecided, over_runs}
@@ -45,9 +47,9 @@ went_on p q ec decided counted acting queued running does wrote same still = rec
 }
 
 -- what a raise leads to is the deed, and is still to be done
-pub raised_deed : (k : KernelState) (ec reason q0 q1 : ℕ) (d : Deed) → is_executing (context k ec) ≡ true → HasRaised k ec reason q0 q1 →
-    d ≡ signalled k ec reason q0 q1 ((reason == environment_call) && is_thread k ec) → d ≡ deed k ec
-raised_deed k ec reason q0 q1 d next raised signals = signals ∙ raises k ec reason q0 q1 (instruction k ec) (raised next) ∙ sym (executing-deed k ec next)
+pub raised_deed : (k : KernelState) (ec : ℕ) (r : Raised) (d : Deed) → HasRaised k ec (Some r) →
+    d ≡ signalled k ec r.reason r.q0 r.q1 ((r.reason == environment_call) && is_thread k ec) → d ≡ deed k ec
+raised_deed k ec r d raised signals = signals ∙ raises k ec r.reason r.q0 r.q1 (instruction k ec) raised.1 ∙ sym (executing-deed k ec raised.0)
 
 pub raised_begun : (k : KernelState) (ec : ℕ) (d : Deed) → is_done_when_decided d ≡ false → k ≡ begun k ec d
 raised_begun k ec d later = rw later refl
@@ -60,3 +62,7 @@ later_no_step other later = refl
 pub never_step : (d : Deed) → (d ≡ Steps → true ≡ false) → is_step d ≡ false
 never_step Steps never = let so : true ≡ false = never refl in absurd cc
 never_step other never = refl
+
+-- who stayed with one raise stayed with no other
+pub stayed_with : (r s : Option Raised) → Stayed r ≡ Stayed s → r ≡ s
+stayed_with r s is = cc

@@ -18,4 +18,5 @@ pub mod Foreseen
 pub mod Ongoing
 pub mod Going
 pub mod Homes
+pub mod Whom
 pub mod Dues

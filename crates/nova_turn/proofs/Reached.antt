@@ -4,6 +4,7 @@ use Rattle.std.specs.Prelude.{Bool, if◌then◌else◌, slice_get, Option, Some
 use Rattle.rv_model.specs.Step.{Once, Raised, Went, Store, one}
 use Rattle.rv_core.specs.Steps.{space_of}
 use Rattle.rv_core.specs.declared.outcome.Outcome.{Outcome}
+use Rattle.rv_core.specs.declared.outcome.Outcome.TheVariants.{Raise}
 use Rattle.nova_ec.specs.Tables.{EcTable, Steps as Steps_of}
 use Rattle.nova_range.specs.Rights.{write_right}
 use Rattle.nova_model.specs.AddressSpaces.{AddressSpace, frame_for, space, space_through, after_store, words_after_store}
@@ -17,6 +18,9 @@ use Rattle.nova_model.specs.declared.delegation.Derivation.{Derivation}
 use Rattle.nova_deeds.specs.Acts.{outcome_of}
 use Rattle.nova_deeds.specs.Stirs.{frame_at, written_frame}
 use Rattle.nova_memory.specs.Reach.{ReachState, reached, fetched, loaded, takes, stored}
+use Rattle.nova_turn.specs.Beside.{IsEntered}
+use Rattle.nova_turn.specs.Parts.{state_of}
+use Rattle.nova_turn.specs.declared.parts.Parts.{Parts}
 
 -- the state with what an instruction reaches, and with another table of execution contexts
 abbrev pub reaching : KernelState → ReachState → Contexts → KernelState
@@ -116,3 +120,38 @@ written-there k t t' ec reach reach' outcome is r none h =
     reaching-written k t t' ec reach reach' outcome (instruction k ec) r none
     (subst (λ (a : AddressSpace). Steps_of stored (one (context k ec).regs (space a)) t ec reach outcome t' reach') (space-reached k ec reach r)
     (subst (λ (cs : Contexts). Steps_of stored (one (ec_of cs ec).regs (space (reached reach))) t ec reach outcome t' reach') is h))
+
+-- a raise leaves the room
+pub room-there : (t t' : EcTable) (ec : ℕ) (reach reach' : ReachState) (outcome : Outcome) (o : Once) → Steps_of stored o t ec reach outcome t' reach' →
+    (reason q0 q1 : ℕ) → outcome ≡ Raise reason q0 q1 → reach'.room ≡ reach.room
+room-there t t' ec reach reach' outcome (Raised why a b) h reason q0 q1 is = ap (λ (s : ReachState). s.room) h.2
+room-there t t' ec reach reach' outcome (Went regs None) h reason q0 q1 is = let next = h.0 in absurd (cc)
+room-there t t' ec reach reach' outcome (Went regs (Some store)) h reason q0 q1 is = let next = h.0 in absurd (cc)
+
+-- AN ADDRESS SPACE THAT WAS ENTERED
+
+is-reached : (p : Parts) (ec : ℕ) → IsEntered p ec → IsReached (state_of p) ec p.reach
+is-reached p ec entered = record {
+  delegations = refl;
+  memory = refl;
+  messages = refl;
+  consoles = refl;
+  number = entered.number;
+  pd = entered.pd;
+  is_thread = entered.is_thread;
+}
+
+-- an instruction over it is one of the kernel's
+pub entered-steps : (k : KernelState) (p : Parts) (ec : ℕ) (t' : EcTable) (reach' : ReachState) (outcome : Outcome) → IsEntered p ec → state_of p ≡ k →
+    Steps_of stored (one (ec_of p.contexts.items ec).regs (space_of fetched loaded takes p.reach)) p.contexts ec p.reach outcome t' reach' →
+    (outcome ≡ outcome_of (instruction k ec)) × (reaching (state_of p) reach' t'.items ≡ done k ec Steps)
+entered-steps k p ec t' reach' outcome entered is h =
+    subst (λ (s : KernelState). (outcome ≡ outcome_of (instruction s ec)) × (reaching (state_of p) reach' t'.items ≡ done s ec Steps)) is
+    (steps-there (state_of p) p.contexts t' ec p.reach reach' outcome refl (is-reached p ec entered) h)
+
+pub entered-written : (k : KernelState) (p : Parts) (ec : ℕ) (t' : EcTable) (reach' : ReachState) (outcome : Outcome) → IsEntered p ec → state_of p ≡ k →
+    p.reach.written ≡ None → Steps_of stored (one (ec_of p.contexts.items ec).regs (space_of fetched loaded takes p.reach)) p.contexts ec p.reach outcome t' reach' →
+    reach'.written ≡ written_frame k ec
+entered-written k p ec t' reach' outcome entered is none h =
+    subst (λ (s : KernelState). reach'.written ≡ written_frame s ec) is
+    (written-there (state_of p) p.contexts t' ec p.reach reach' outcome refl (is-reached p ec entered) none h)

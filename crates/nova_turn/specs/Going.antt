@@ -1,16 +1,33 @@
 -- An instruction that goes on.
-use Rattle.std.specs.Prelude.{◌≡◌, ℕ, true}
+use Rattle.std.specs.Prelude.{◌≡◌, ◌<◌, ◌^◌, ℕ, true, false, Option, Some, None}
 use Rattle.rv_core.specs.declared.outcome.Outcome.TheVariants.{Raise}
 use Rattle.nova_model.specs.State.{KernelState, context}
 use Rattle.nova_deeds.specs.Acts.{is_executing, outcome_of}
 use Rattle.nova_model.specs.Deeds.{deed, done, instruction}
 use Rattle.nova_model.specs.declared.deed.Deed.TheVariants.{Steps}
-use Rattle.nova_deeds.specs.Counted.{KeepsCounts}
+use Rattle.nova_deeds.specs.Counted.{IsCounted, KeepsCounts}
 use Rattle.nova_deeds.specs.Stirs.{written_frame}
 use Rattle.nova_choice.specs.Schedules.{AreQueued}
 use Rattle.nova_turn.specs.Parts.{state_of}
 use Rattle.nova_turn.specs.Revoking.{AreRunning}
+use Rattle.nova_turn.specs.declared.decide.deciding.Raised.{Raised}
 use Rattle.nova_turn.specs.declared.parts.Parts.{Parts}
+
+-- parts in which a turn may be taken, with room for one more turn and for one more byte of the log
+pub record MayTurn (p : Parts) : Type 0 where
+  pub counted : IsCounted (state_of p)
+  pub queued : AreQueued (state_of p) p.queues.all
+  pub running : AreRunning (state_of p) p.revokes
+  pub turns : p.turns < 2 ^ 31
+  pub log : 0 < p.reach.room
+
+-- who waits for a processor, which revokes run, what is counted of turns and processors, and the room of the log stay
+pub record KeepsRest (old new : Parts) : Type 0 where
+  pub queues : new.queues ≡ old.queues
+  pub revokes : new.revokes ≡ old.revokes
+  pub turns : new.turns ≡ old.turns
+  pub cpus : new.cpus ≡ old.cpus
+  pub log : new.reach.room ≡ old.reach.room
 
 -- it was the deed of the execution context, and is done
 pub record WentOn (old new : Parts) (ec : ℕ) : Type 0 where
@@ -21,12 +38,13 @@ pub record WentOn (old new : Parts) (ec : ℕ) : Type 0 where
   pub queued : AreQueued (state_of new) new.queues.all
   pub running : AreRunning (state_of new) new.revokes
 
--- the instruction that is next, if one is, raises this
-abbrev pub HasRaised : KernelState → ℕ → ℕ → ℕ → ℕ → Type 0
-HasRaised k ec reason q0 q1 = is_executing (context k ec) ≡ true → Raise reason q0 q1 ≡ outcome_of (instruction k ec)
+-- the instruction that is next raises this, and where there is no raise, none is next
+abbrev pub HasRaised : KernelState → ℕ → Option Raised → Type 0
+HasRaised k ec (Some r) = (is_executing (context k ec) ≡ true) × (Raise r.reason r.q0 r.q1 ≡ outcome_of (instruction k ec))
+HasRaised k ec None = is_executing (context k ec) ≡ false
 
--- it raises, or there is none, and nothing has changed
-pub record Stays (old new : Parts) (ec reason q0 q1 : ℕ) : Type 0 where
-  pub raised : HasRaised (state_of old) ec reason q0 q1
+-- so it is, and nothing has changed
+pub record Stays (old new : Parts) (ec : ℕ) (r : Option Raised) : Type 0 where
+  pub raised : HasRaised (state_of old) ec r
   pub state : state_of new ≡ state_of old
   pub log : new.reach.room ≡ old.reach.room

@@ -18,6 +18,7 @@ use Rattle.law_isolation.proofs.Ranges.{boot_ranges, turn_ranges, view_guest}
 use Rattle.law_isolation.proofs.Runs.{boot_sound, run_alone, turn_sound}
 use Rattle.law_isolation.proofs.Showing.{turn_frames}
 use Rattle.law_turns.proofs.Courses.{edited_length}
+use Rattle.law_turns.proofs.Passes.{run_append}
 use Rattle.nova_model.specs.Boot.{Scenario, boot}
 use Rattle.nova_model.specs.Capabilities.{is_vcpu}
 use Rattle.nova_model.specs.Creation.{context_of, object_of}
@@ -51,10 +52,6 @@ run_reached k turns b = run_keeps IsReached turn_reached k turns (begins_so k b)
 run_frames : (k : KernelState) (turns : List ℕ) → length (run k turns).memory.ram ≡ length k.memory.ram
 run_frames k [] = refl
 run_frames k (cpu ∷ turns) = run_frames (after k cpu) turns ∙ turn_frames k cpu
-
-pub run_append : (k : KernelState) (a b : List ℕ) → run k (a ++ b) ≡ run (run k a) b
-run_append k [] b = refl
-run_append k (cpu ∷ a) b = run_append (after k cpu) a b
 
 -- THE REGISTERS OF ONE THAT IS MADE
 begun_registers : (r : Registers) (sp : ℕ) → r.x ≡ replicate 32 0 → AreRegisters (with_reg r 2 sp)

@@ -1,34 +1,27 @@
 -- Turns along an order, block by block, in which a virtual CPU is followed.
-use Rattle.std.proofs.Common.{◌≡◌, ℕ, suc, ◌+◌, ◌-◌, ◌≤◌, ◌<◌, List, [], ◌∷◌, ◌++◌, length, take, drop, replicate, ap, sym, ◌∙◌, subst, refl, arith, append_assoc, slice_index_or}
+use Rattle.std.proofs.Common.{◌≡◌, ℕ, ◌+◌, ◌≤◌, ◌<◌, List, [], ◌∷◌, ◌++◌, length, take, replicate, ap, sym, ◌∙◌, subst, refl, arith, slice_index_or}
 use Rattle.std.specs.Prelude.{Bool, true, false, is_some, IsSome, IsTrue, nat_lt, if◌then◌else◌}
 use Rattle.std.specs.List.{list_all}
-use Rattle.std.proofs.lemmas.List.{append-nil, length-append, length-replicate, length-take, take_more, take-append-drop, replicate-append-replicate}
-use Rattle.std.proofs.lemmas.List.Folds.{list_all-append}
-use Rattle.std.proofs.lemmas.List.Sums.{sum_by-append, sum_by-cons}
+use Rattle.std.proofs.lemmas.List.{length-append, replicate-append-replicate}
 use Rattle.nova_kernel.specs.Views.{KernelView}
+use Rattle.law_turns.proofs.Passes.{run_append}
 use Rattle.nova_model.specs.Runs.{IsFreeOfIdle, after, run}
 use Rattle.nova_model.specs.State.{KernelState}
 use Rattle.nova_model.specs.Turn.{turn}
 use Rattle.nova_order.specs.Blocks.{total, turns}
 use Rattle.nova_order.specs.declared.block.Block.{Block}
 use Rattle.nova_order.proofs.BlockLemmas.{length_turns, turns_push}
+use Rattle.nova_order.proofs.PlaceLemmas.{fits_at, more_at, there_at}
+use Rattle.nova_shared.specs.Finished.{IsIdleLine}
+use Rattle.nova_shared.specs.UnderWay.{taken}
+use Rattle.nova_shared.proofs.Idle.{free_append, line_idle}
 use Rattle.nova_twin.specs.Follows.{Followed, followed, met, noted}
-use Rattle.nova_twin.specs.Passes.{IsBlockTaken, Passed, taken}
-use Rattle.nova_twin.specs.Sides.{IsIdleLine}
-use Rattle.nova_twin.proofs.Admitted.{run_append}
+use Rattle.nova_twin.specs.Passes.{IsBlockTaken, Passed}
 
 -- TURNS AFTER OTHERS
 followed_append : (g : ℕ) (k : KernelState) (xs ys : List ℕ) (f : Followed) → followed g k (xs ++ ys) f ≡ followed g (run k xs) ys (followed g k xs f)
 followed_append g k [] ys f = refl
 followed_append g k (cpu ∷ xs) ys f = followed_append g (after k cpu) xs ys (noted f (after k cpu) g (met k cpu g))
-
-free_append : (k : KernelState) (xs ys : List ℕ) → IsFreeOfIdle k xs → IsFreeOfIdle (run k xs) ys → IsFreeOfIdle k (xs ++ ys)
-free_append k [] ys first rest = rest
-free_append k (x ∷ xs) ys first rest = (first.0, free_append (after k x) xs ys first.1 rest)
-
-free_after : (k : KernelState) (xs ys : List ℕ) → IsFreeOfIdle k (xs ++ ys) → IsFreeOfIdle (run k xs) ys
-free_after k [] ys free = free
-free_after k (x ∷ xs) ys free = free_after (after k x) xs ys free.1
 
 pub passed_none : (g : ℕ) (k : KernelView) (f : Followed) → Passed g k f [] k f
 passed_none g k f = record { state = refl; room = omega arith; count = omega arith; cpus = refl; trail = refl }
@@ -64,25 +57,6 @@ turn_on g a b c f h i cpu n was turned there =
     (is_at (run a.state (replicate n cpu)) cpu (ap (λ (k : KernelState). is_some (turn k cpu)) (sym was.0.state) ∙ there), tt) in
     subst (λ (l : List ℕ). Passed g a f l c i × IsFreeOfIdle a.state l) (sym (replicate_on n cpu)) (passed, free)
 
-pub turn_idle : (g : ℕ) (a b : KernelView) (f h : Followed) (cpu n count : ℕ) → n < count → Passed g a f (replicate n cpu) b h → is_some (turn b.state cpu) ≡ false →
-    IsFreeOfIdle a.state (replicate count cpu) → ⊥
-turn_idle g a b f h cpu n count less was idle free =
-    let split : replicate count cpu ≡ replicate n cpu ++ cpu ∷ replicate (count - (n + 1)) cpu =
-    (let e : count ≡ n + suc (count - (n + 1)) = omega arith in ap (λ (m : ℕ). replicate m cpu) e) ∙ sym (replicate-append-replicate n (suc (count - (n + 1))) cpu) in
-    let rest = free_after a.state (replicate n cpu) (cpu ∷ replicate (count - (n + 1)) cpu) (subst (λ (l : List ℕ). IsFreeOfIdle a.state l) split free) in
-    let there : is_some (turn (run a.state (replicate n cpu)) cpu) ≡ true = rest.0 in
-    none (sym (ap (λ (k : KernelState). is_some (turn k cpu)) (sym was.state) ∙ idle) ∙ there)
-  where
-    none : false ≡ true → ⊥
-    none both = cc
-
-pub count_passed : (g : ℕ) (a b : KernelView) (f h : Followed) (cpu n : ℕ) → Passed g a f (replicate n cpu) b h → (a.room ≤ b.room + n) × (b.state.turns ≤ a.state.turns + n)
-count_passed g a b f h cpu n was =
-    let long : length (replicate {A = ℕ} n cpu) ≡ n = length-replicate {A = ℕ} n cpu in
-    let room = was.room in
-    let count = was.count in
-    (omega (arith, long, room), omega (arith, long, count))
-
 -- A BLOCK
 abbrev pub IsAlong : ℕ → KernelView → Followed → List Block → KernelView → Followed → Type 0
 IsAlong g k f blocks l h = IsBlockTaken g k f (turns blocks) true l h
@@ -100,64 +74,26 @@ block_on g a b c f h i blocks block along turned =
       free_append a.state (turns blocks) list along.1 (subst (λ (s : KernelState). IsFreeOfIdle s list) along.0.state turned.1),
     )
 
-block_idle : (g : ℕ) (a b c : KernelView) (f h i : Followed) (before : List Block) (block : Block) (rest blocks : List Block) (line : ℕ) → IsAlong g a f before b h →
-    IsBlockTaken g b h (replicate block.count block.cpu) false c i → before ++ block ∷ rest ≡ blocks → line ≡ length before + 1 → IsIdleLine a.state blocks line
-unfolding turns
-block_idle g a b c f h i before block rest blocks line along idle whole number = record {
-  before = before;
-  block = block;
-  after = rest;
-  whole = whole;
-  number = number;
-  free = along.1;
-  idle = λ free. idle (subst (λ (s : KernelState). IsFreeOfIdle s (replicate block.count block.cpu)) (sym along.0.state)
-      (subst (IsFreeOfIdle (run a.state (turns before))) (append-nil (replicate block.count block.cpu)) free));
-}
-
--- the block at a place of an order, between those before it and those after it
-module _ (blocks : List Block) (n : ℕ) (d : Block) (less : n < length blocks) where
+-- the block at a place of an order
+module _ (blocks : List Block) (n : ℕ) (d : Block) (less : n < length blocks) (g : ℕ) (a b : KernelView) (f h : Followed) (along : IsAlong g a f (take n blocks) b h) where
   abbrev block_at : Block
   block_at = slice_index_or blocks n d
 
-  more_at : take (n + 1) blocks ≡ take n blocks ++ block_at ∷ []
-  more_at = take_more blocks n d less
+  pub cpu_at : IsTrue (list_all (λ block. nat_lt block.cpu a.state.cpus) blocks) → block_at.cpu < b.state.cpus
+  cpu_at within = let below = there_at blocks n d less a.state.cpus within in let same = along.0.cpus in omega (arith, below, same)
 
-  split_at : take n blocks ++ block_at ∷ drop (n + 1) blocks ≡ blocks
-  split_at =
-      sym (append_assoc (take n blocks) (block_at ∷ []) (drop (n + 1) blocks))
-      ∙ ap (λ (l : List Block). l ++ drop (n + 1) blocks) (sym more_at) ∙ take-append-drop (n + 1) blocks
+  pub room_at : total blocks ≤ a.room → block_at.count ≤ b.room
+  room_at fits = let long = length_turns (take n blocks) in let room = along.0.room in let at = fits_at blocks n d less in omega (arith, fits, long, room, at)
 
-  there_at : (cpus : ℕ) → IsTrue (list_all (λ block. nat_lt block.cpu cpus) blocks) → block_at.cpu < cpus
-  there_at cpus within =
-      let all = list_all-append (λ (b : Block). nat_lt b.cpu cpus) (take n blocks) (block_at ∷ drop (n + 1) blocks) in
-      let whole : IsTrue (list_all (λ block. nat_lt block.cpu cpus) (take n blocks ++ block_at ∷ drop (n + 1) blocks)) =
-      subst (λ (l : List Block). IsTrue (list_all (λ block. nat_lt block.cpu cpus) l)) (sym split_at) within in
-      grind (arith, all, whole)
+  pub count_at : a.state.turns + total blocks ≤ 2147483648 → b.state.turns + block_at.count ≤ 2147483648
+  count_at fits = let long = length_turns (take n blocks) in let count = along.0.count in let at = fits_at blocks n d less in omega (arith, fits, long, count, at)
 
-  fits_at : total (take n blocks) + block_at.count ≤ total blocks
-  fits_at =
-      let all = sum_by-append (λ (b : Block). b.count) (take n blocks) (block_at ∷ drop (n + 1) blocks) in
-      let one = sum_by-cons (λ (b : Block). b.count) block_at (drop (n + 1) blocks) in
-      let whole : total (take n blocks ++ block_at ∷ drop (n + 1) blocks) ≡ total blocks = ap total split_at in
-      omega (arith, all, one, whole)
+  pub on_at : (c : KernelView) (i : Followed) (all : Bool) → all ≡ true → IsBlockTaken g b h (replicate block_at.count block_at.cpu) all c i → IsAlong g a f (take (n + 1) blocks) c i
+  on_at c i all is turned =
+      subst (λ (l : List Block). IsAlong g a f l c i) (sym (more_at blocks n d less))
+      (block_on g a b c f h i (take n blocks) block_at along (subst (λ (t : Bool). IsBlockTaken g b h (replicate block_at.count block_at.cpu) t c i) is turned))
 
-  module _ (g : ℕ) (a b : KernelView) (f h : Followed) (along : IsAlong g a f (take n blocks) b h) where
-    pub cpu_at : IsTrue (list_all (λ block. nat_lt block.cpu a.state.cpus) blocks) → block_at.cpu < b.state.cpus
-    cpu_at within = let below = there_at a.state.cpus within in let same = along.0.cpus in omega (arith, below, same)
-
-    pub room_at : total blocks ≤ a.room → block_at.count ≤ b.room
-    room_at fits = let long = length_turns (take n blocks) in let room = along.0.room in let at = fits_at in omega (arith, fits, long, room, at)
-
-    pub count_at : a.state.turns + total blocks ≤ 2147483648 → b.state.turns + block_at.count ≤ 2147483648
-    count_at fits = let long = length_turns (take n blocks) in let count = along.0.count in let at = fits_at in omega (arith, fits, long, count, at)
-
-    pub on_at : (c : KernelView) (i : Followed) (all : Bool) → all ≡ true → IsBlockTaken g b h (replicate block_at.count block_at.cpu) all c i → IsAlong g a f (take (n + 1) blocks) c i
-    on_at c i all is turned =
-        subst (λ (l : List Block). IsAlong g a f l c i) (sym more_at)
-        (block_on g a b c f h i (take n blocks) block_at along (subst (λ (t : Bool). IsBlockTaken g b h (replicate block_at.count block_at.cpu) t c i) is turned))
-
-    pub idle_at : (c : KernelView) (i : Followed) (line : ℕ) (all : Bool) → all ≡ false → IsBlockTaken g b h (replicate block_at.count block_at.cpu) all c i → line ≡ n + 1 → IsIdleLine a.state blocks line
-    idle_at c i line all is turned number =
-        let len : length (take n blocks) ≡ n = omega (arith, length-take n blocks) in
-        block_idle g a b c f h i (take n blocks) block_at (drop (n + 1) blocks) blocks line along
-        (subst (λ (t : Bool). IsBlockTaken g b h (replicate block_at.count block_at.cpu) t c i) is turned) split_at (omega (arith, len, number))
+  pub idle_at : (c : KernelView) (i : Followed) (line : ℕ) (all : Bool) → all ≡ false → IsBlockTaken g b h (replicate block_at.count block_at.cpu) all c i → line ≡ n + 1 → IsIdleLine a.state blocks line
+  idle_at c i line all is turned number =
+      line_idle blocks n d less a.state b.state line along.0.state along.1
+      (subst (λ (t : Bool). IsBlockTaken g b h (replicate block_at.count block_at.cpu) t c i) is turned) number

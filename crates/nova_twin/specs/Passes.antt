@@ -1,14 +1,8 @@
 -- Turns of a kernel, in which a virtual CPU is followed.
-use Rattle.std.specs.Prelude.{◌≡◌, ◌≤◌, ℕ, ◌+◌, Bool, true, false, List, [], ◌∷◌, length, is_some, if◌then◌else◌}
+use Rattle.std.specs.Prelude.{◌≡◌, ◌≤◌, ℕ, ◌+◌, Bool, true, false, List, length}
 use Rattle.nova_kernel.specs.Views.{KernelView}
 use Rattle.nova_model.specs.Runs.{IsFreeOfIdle, run}
-use Rattle.nova_model.specs.State.{KernelState}
-use Rattle.nova_model.specs.Turn.{turn}
 use Rattle.nova_twin.specs.Follows.{Followed, followed}
-
--- a turn that is taken
-abbrev pub taken : KernelState → ℕ → List ℕ
-taken k cpu = if is_some (turn k cpu) then cpu ∷ [] else []
 
 -- turns of a kernel, in which a virtual CPU was followed
 pub record Passed (g : ℕ) (k : KernelView) (f : Followed) (turns : List ℕ) (l : KernelView) (h : Followed) : Type 0 where

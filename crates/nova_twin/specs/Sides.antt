@@ -1,15 +1,13 @@
 -- One side of a comparison: a virtual CPU of a run, followed from its birth.
-use Rattle.std.specs.Prelude.{◌≡◌, ℕ, ◌+◌, ◌-◌, ◌^◌, ◌≤◌, List, [], ◌∷◌, ◌++◌, length, Option, Some, None}
+use Rattle.std.specs.Prelude.{◌≡◌, ℕ, ◌-◌, ◌^◌, ◌≤◌, List, length, Option, Some, None}
 use Rattle.nova_guest.specs.Alone.{alone, outputs}
 use Rattle.law_isolation.specs.Shown.{shown}
 use Rattle.law_isolation.specs.Sound.{IsVirtual}
 use Rattle.nova_model.specs.Boot.{Scenario, boot}
 use Rattle.nova_model.specs.Guests.{inputs}
-use Rattle.nova_model.specs.Runs.{IsFreeOfIdle, run}
+use Rattle.nova_model.specs.Runs.{run}
 use Rattle.nova_model.specs.State.{KernelState}
 use Rattle.nova_model.specs.Views.{view}
-use Rattle.nova_order.specs.Blocks.{turns}
-use Rattle.nova_order.specs.declared.block.Block.{Block}
 use Rattle.law_origins.specs.Lives.{IsMade, born}
 use Rattle.nova_twin.specs.declared.side.Side.{Side}
 
@@ -47,13 +45,3 @@ pub record IsSide (side : Side) : Type 0 where
   pub turns : List ℕ
   pub guest : ℕ
   pub is : IsSideOf opening turns guest side
-
--- the first idle turn of an order is one of the block of this line, counted from 1
-pub record IsIdleLine (k : KernelState) (blocks : List Block) (line : ℕ) : Type 0 where
-  pub before : List Block
-  pub block : Block
-  pub after : List Block
-  pub whole : before ++ block ∷ after ≡ blocks
-  pub number : line ≡ length before + 1
-  pub free : IsFreeOfIdle k (turns before)
-  pub idle : IsFreeOfIdle (run k (turns before)) (turns (block ∷ [])) → ⊥

@@ -1,15 +1,16 @@
 ghost use Rattle.std.specs.Prelude.{ℕ, ◌≡◌, ◌+◌, ◌^◌, ◌≤◌, IfSome, IfOk, OnOk, IsTrue, Err};
 ghost use Rattle.nova_model.specs.Runs.{IsFreeOfIdle};
 ghost use Rattle.nova_order.specs.Blocks.{turns, is_within};
-ghost use Rattle.nova_twin.specs.Sides.{IsAlone, IsBeginning, IsFound, IsIdleLine, IsSide};
-ghost use Rattle.nova_twin.specs.declared.fault.CollectFault.TheVariants.{OrderIdle};
+ghost use Rattle.nova_shared.specs.Finished.{IsIdleLine};
+ghost use Rattle.nova_shared.specs.declared.fault.RunFault.TheVariants.{OrderIdle};
+ghost use Rattle.nova_twin.specs.Sides.{IsAlone, IsBeginning, IsFound, IsSide};
 
-use crate::fault::CollectFault;
 use crate::following::follow;
 use crate::side::Side;
 use crate::trail::Trail;
 use nova_kernel::Kernel;
 use nova_order::Order;
+use nova_shared::RunFault;
 use std::alloc::Global;
 
 /// Runs a kernel, which stays its owner's, along an order of turns, and collects what it shows of a virtual
@@ -20,7 +21,7 @@ fn gather(
     order: &Order,
     limit: u64,
     guest: u32,
-) -> Result<Option<Side>, CollectFault>
+) -> Result<Option<Side>, RunFault>
     requires begins { IsBeginning kernel.old.state }
     requires room { limit ≤ kernel.old.room }
     requires turns { kernel.old.state.turns + limit ≤ 2 ^ 31 }
@@ -50,7 +51,7 @@ pub fn collect(
     order: &Order,
     limit: u64,
     guest: u32,
-) -> Result<Option<Side>, CollectFault>
+) -> Result<Option<Side>, RunFault>
     requires begins { IsBeginning kernel.state }
     requires room { limit ≤ kernel.room }
     requires turns { kernel.state.turns + limit ≤ 2 ^ 31 }

@@ -3,14 +3,15 @@ ghost use Rattle.std.specs.List.{list_all};
 ghost use Rattle.nova_model.specs.Runs.{IsFreeOfIdle};
 ghost use Rattle.nova_model.specs.Turn.{turn};
 ghost use Rattle.nova_order.specs.Blocks.{total, turns};
-ghost use Rattle.nova_twin.specs.Passes.{IsBlockTaken, Passed, taken};
-ghost use Rattle.nova_twin.specs.Sides.{IsIdleLine};
-ghost use Rattle.nova_twin.specs.declared.fault.CollectFault.TheVariants.{OrderIdle};
+ghost use Rattle.nova_shared.specs.Finished.{IsIdleLine};
+ghost use Rattle.nova_shared.specs.UnderWay.{taken};
+ghost use Rattle.nova_shared.specs.declared.fault.RunFault.TheVariants.{OrderIdle};
+ghost use Rattle.nova_twin.specs.Passes.{IsBlockTaken, Passed};
 
-use crate::fault::CollectFault;
 use crate::trail::{Trail, input_of};
 use nova_kernel::{Kernel, Turn};
 use nova_order::Order;
+use nova_shared::RunFault;
 use std::alloc::AllocError;
 
 /// One turn of a processor, in which a virtual CPU is followed, and whether it was taken: it is not where
@@ -59,7 +60,7 @@ pub(crate) fn follow(
     trail: &mut Trail,
     order: &Order,
     guest: u32,
-) -> Result<(), CollectFault>
+) -> Result<(), RunFault>
     requires cpus { IsTrue (list_all (λ block. nat_lt block.cpu kernel.old.state.cpus) order.now.blocks) }
     requires room { total order.now.blocks ≤ kernel.old.room }
     requires turns { kernel.old.state.turns + total order.now.blocks ≤ 2 ^ 31 }
@@ -69,7 +70,7 @@ pub(crate) fn follow(
 {
     for (index, block) in order.blocks().iter().enumerate() {
         if !take(kernel, trail, guest, block.cpu, block.count)? {
-            return Err(CollectFault::OrderIdle(index as u64 + 1));
+            return Err(RunFault::OrderIdle(index as u64 + 1));
         }
     }
     Ok(())

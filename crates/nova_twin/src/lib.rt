@@ -5,7 +5,6 @@
 mod alike;
 mod collecting;
 mod comparing;
-mod fault;
 mod following;
 mod side;
 mod trail;
@@ -13,9 +12,9 @@ mod verdict;
 
 pub use collecting::collect;
 pub use comparing::compare;
-pub use fault::CollectFault;
 pub use nova_guest::{Guest, Input, Out};
 pub use nova_kernel::Kernel;
 pub use nova_order::Order;
+pub use nova_shared::RunFault;
 pub use side::Side;
 pub use verdict::Verdict;

@@ -4,7 +4,8 @@ use Rattle.nova_kernel.specs.Views.{KernelView}
 use Rattle.nova_boot.specs.Boot.{scenario_of}
 use Rattle.nova_boot.proofs.Started.{boot_cpus, boot_turns}
 use Rattle.nova_order.specs.Blocks.{is_within, turns}
-use Rattle.nova_debug.proofs.Made.{done_from, processors_of, turns_within}
+use Rattle.nova_order.proofs.BoundLemmas.{processors_of, turns_within}
+use Rattle.nova_debug.proofs.Made.{done_from}
 use Rattle.nova_debug.proofs.making.run_along.Goals as goal
 
 pub run_order-requires-clause-turns : goal.run_order-requires-clause-turns

@@ -2,7 +2,7 @@ use Rattle.std.proofs.Common.{ℕ, subst, sym}
 use Rattle.std.specs.Prelude.{IsTrue}
 use Rattle.nova_model.specs.State.{KernelState}
 use Rattle.nova_order.specs.Blocks.{turns, is_within}
-use Rattle.nova_run.specs.declared.fault.RunFault.TheVariants.{OrderIdle}
+use Rattle.nova_shared.specs.declared.fault.RunFault.TheVariants.{OrderIdle}
 use Rattle.nova_run.specs.Finished.{IsFinished}
 use Rattle.nova_run.specs.UnderWay.{IsAlong}
 use Rattle.nova_run.proofs.Blocks.{along_here, begun_here, idle_here}

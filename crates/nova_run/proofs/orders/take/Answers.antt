@@ -3,7 +3,8 @@ use Rattle.std.specs.Prelude.{is_some}
 use Rattle.nova_model.specs.Turn.{turn}
 use Rattle.nova_run.specs.Finished.{IsFreeOfIdle}
 use Rattle.nova_run.specs.UnderWay.{Passed}
-use Rattle.nova_run.proofs.Blocks.{turn_idle, turns_on}
+use Rattle.nova_shared.proofs.Going.{turns_on}
+use Rattle.nova_shared.proofs.Idle.{turn_idle}
 use Rattle.nova_run.proofs.orders.take.Goals as goal
 
 pub returns-then-taken-eq0 : goal.returns-then-taken-eq0
@@ -12,7 +13,7 @@ returns-then-taken-eq0 c =
     let idle : is_some (turn c.loop-left.run.kernel.state c.args.cpu) ≡ false = c.in_ok-taken.ensures.idle none in
     let some : 0 < c.loop-left.left = search rules in
     let few = c.loop-left.invariant.2 in
-    turn_idle c.args.run.now c.loop-left.run c.args.cpu (c.args.count - c.loop-left.left) c.args.count (omega (arith, some, few)) c.loop-left.invariant.0.0 idle
+    turn_idle c.args.run.now.kernel.state c.loop-left.run.kernel.state c.args.cpu (c.args.count - c.loop-left.left) c.args.count (omega (arith, some, few)) c.loop-left.invariant.0.0.kernel idle
 
 pub loop-left-preserved : goal.loop-left-preserved
 loop-left-preserved c =

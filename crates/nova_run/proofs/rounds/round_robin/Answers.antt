@@ -1,6 +1,6 @@
 use Rattle.std.proofs.Common.{◌≡◌}
 use Rattle.nova_model.specs.Runs.{rounds}
-use Rattle.nova_run.specs.declared.fault.RunFault.TheVariants.{Memory}
+use Rattle.nova_shared.specs.declared.fault.RunFault.TheVariants.{Memory}
 use Rattle.nova_run.specs.Finished.{IsFinished}
 use Rattle.nova_run.proofs.Kept.{kept_fails, kept_runs}
 use Rattle.nova_run.proofs.Passes.{Finished-rounds}

@@ -1,7 +1,7 @@
 use Rattle.std.proofs.Common.{◌≡◌, ◌+◌, ◌-◌, ◌∙◌, arith, subst, ℕ, replicate}
 use Rattle.nova_run.specs.Finished.{IsFreeOfIdle}
 use Rattle.nova_run.specs.UnderWay.{Passed}
-use Rattle.nova_run.proofs.Blocks.{turns_on}
+use Rattle.nova_shared.proofs.Going.{turns_on}
 use Rattle.nova_run.proofs.turns.ride_on.Goals as goal
 
 pub loop-left-preserved : goal.loop-left-preserved

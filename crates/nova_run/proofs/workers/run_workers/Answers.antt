@@ -1,7 +1,7 @@
 use Rattle.std.proofs.Common.{◌≡◌}
 use Rattle.law_turns.specs.Orders.{IsRunOut}
 use Rattle.nova_order.specs.Blocks.{turns}
-use Rattle.nova_run.specs.declared.fault.RunFault.TheVariants.{Memory}
+use Rattle.nova_shared.specs.declared.fault.RunFault.TheVariants.{Memory}
 use Rattle.nova_run.specs.Finished.{IsFinished}
 use Rattle.nova_run.proofs.Ends.{finished_out, all_out}
 use Rattle.nova_run.proofs.Kept.{kept_fails, kept_runs}

@@ -9,10 +9,8 @@ use Rattle.nova_scenario.specs.declared.fault.ScenarioFault.TheVariants.{At as A
 use Rattle.nova_scenario.specs.declared.fault.Why.{Why}
 use Rattle.nova_scenario.specs.declared.scenario.Scenario.{Scenario}
 use Rattle.nova_top.specs.Prepared.{IsAlone}
+use Rattle.nova_top.proofs.Results.{same_ok}
 use Rattle.nova_top.proofs.bench.bench_scenario.Goals as goal
-
-same_ok : {A B : Type 0} (r : Result A B) (is other : A) → r ≡ Ok is → r ≡ Ok other → is ≡ other
-same_ok r is other good too = cc
 
 no_fault : (r : Result Scenario At) (from : Scenario) (fault : ScenarioFault) (line : ℕ) (why_ : Why) → r ≡ Ok from → IsFault r fault → fault ≡ AtLine line why_ → ⊥
 no_fault r from fault line why_ good bad is = let wrong : r ≡ Err (record { line = line; why = why_ }) = subst (IsFault r) is bad in absurd (cc)
@@ -29,7 +27,7 @@ pub returns-in-Ok-clause-alone : goal.returns-in-Ok-clause-alone
 returns-in-Ok-clause-alone c =
     let law = c.a_bench_is_a_scenario.ensures c.args.number (size_is_word c.args.number c.requires.size) in
     let text = c.deref.ensures.value ∙ c.in_ok-text.ensures in
-    let same = same_ok (scenario (generated c.args.number)) law.0 c.in-Ok.scenario law.1 (ap scenario (sym text) ∙ c.in-Ok.ensures.exact) in
+    let same = sym (same_ok (scenario (generated c.args.number)) law.0 c.in-Ok.scenario law.1 (ap scenario (sym text) ∙ c.in-Ok.ensures.exact)) in
     subst IsAlone same (one_is_alone law.0 law.2)
 
 pub unreachable-requires : goal.unreachable-requires

@@ -3,7 +3,7 @@ use Rattle.std.specs.Prelude.{IsTrue, nat_lt}
 use Rattle.std.specs.List.{list_all}
 use Rattle.nova_order.specs.Blocks.{total}
 use Rattle.nova_order.specs.declared.block.Block.{Block}
-use Rattle.nova_twin.specs.Sides.{IsIdleLine}
+use Rattle.nova_shared.specs.Finished.{IsIdleLine}
 use Rattle.nova_twin.proofs.Blocks.{along_first, count_at, cpu_at, idle_at, on_at, room_at}
 use Rattle.nova_twin.proofs.following.follow.Goals as goal
 

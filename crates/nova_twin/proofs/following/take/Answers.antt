@@ -1,13 +1,14 @@
 use Rattle.std.proofs.Common.{rules, ◌≡◌, true, false, arith}
 use Rattle.std.specs.Prelude.{is_some}
 use Rattle.nova_model.specs.Turn.{turn}
-use Rattle.nova_twin.proofs.Blocks.{turn_on, turn_idle}
+use Rattle.nova_shared.proofs.Idle.{turn_idle}
+use Rattle.nova_twin.proofs.Blocks.{turn_on}
 use Rattle.nova_twin.proofs.following.take.Goals as goal
 
 pub returns-then-not-branch : goal.returns-then-not-branch
 returns-then-not-branch c =
     let idle : is_some (turn c.loop-turn.kernel.state c.args.cpu) ≡ false = search rules in
-    turn_idle c.args.guest c.args.kernel.now c.loop-turn.kernel c.args.trail.now c.loop-turn.trail c.args.cpu c.loop-turn._turn c.args.count (omega arith) c.loop-turn.invariant.0 idle
+    turn_idle c.args.kernel.now.state c.loop-turn.kernel.state c.args.cpu c.loop-turn._turn c.args.count (omega arith) c.loop-turn.invariant.0.state idle
 
 pub loop-turn-preserved : goal.loop-turn-preserved
 loop-turn-preserved c =

@@ -1,4 +1,5 @@
-use Rattle.std.proofs.Common.{◌≡◌, sym, subst}
+use Rattle.std.proofs.Common.{◌≡◌, ◌∙◌, sym, subst}
+use Rattle.std.proofs.lemmas.List.{length-set}
 use Rattle.std.specs.Prelude.{IsSome, Some}
 use Rattle.rv_model.specs.Step.{one}
 use Rattle.rv_core.specs.Steps.{space_of}
@@ -8,6 +9,7 @@ use Rattle.nova_ec.specs.Tables.{EcTable, StepsIn, Steps, with_items}
 use Rattle.nova_ec.proofs.Tables.{ec_of-there, ec_read, edges_kept, numbered_set}
 use Rattle.nova_ec.proofs.Callers.{callers_kept}
 use Rattle.nova_ec.proofs.Steps.{steady, steps_there}
+use Rattle.nova_ec.proofs.Waiting.{known_kept}
 use Rattle.nova_ec.proofs.ecs.Ecs.step.Given as given
 use Rattle.nova_ec.proofs.ecs.Ecs.step.Goals as goal
 
@@ -23,6 +25,9 @@ invariant_of-self g c =
       c.self.invariant.1,
       numbered_set c.self.inside.items.items c.args.ec c.in-Some.context c.step_in.new.context (there g c) kept.id c.self.invariant.2,
       callers_kept c.self.inside.items.items c.args.ec c.in-Some.context c.step_in.new.context c.self.invariant.3 (there g c) kept.cpu kept.caller,
+      c.self.invariant.4,
+      c.self.invariant.5 ∙ sym (length-set c.self.inside.items.items c.args.ec (Some c.step_in.new.context)),
+      known_kept c.self.inside.items.items c.self.inside.waiters.items c.args.ec c.in-Some.context c.step_in.new.context c.self.invariant.6 (there g c) kept.state,
     )
 
 pub returns : goal.returns

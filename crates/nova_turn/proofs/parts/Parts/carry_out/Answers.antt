@@ -34,12 +34,12 @@ perform-requires-clause-places c =
     let decided : IsDecided k c.args.ec c.in_ok-deed.deed = record {
       there = c.requires.there;
       is = c.in_ok-deed.ensures.deed;
-      all = law.all k c.args.ec c.requires.counted.kept c.requires.acts;
+      all = law.all k c.args.ec c.requires.ready.counted.kept c.requires.acts;
       begins = law.begins k c.args.ec;
     } in
     let more = c.in_ok-make_room.ensures.places in
     let same = ap (λ (r : RevokesState). r.places) c.in_ok-deed.ensures.revokes in
-    begins_within k c.args.ec c.in_ok-deed.deed c.args.self.now.revokes c.make_room.new.self.revokes decided c.requires.running
+    begins_within k c.args.ec c.in_ok-deed.deed c.args.self.now.revokes c.make_room.new.self.revokes decided c.requires.ready.running
     (c.in_ok-make_room.ensures.revokes ∙ ap (λ (r : RevokesState). r.list) c.in_ok-deed.ensures.revokes) (omega (arith, more, same))
 
 pub returns-in_ok-make_room-clause-running : goal.returns-in_ok-make_room-clause-running
@@ -49,15 +49,15 @@ returns-in_ok-make_room-clause-running c =
     let decided : IsDecided k c.args.ec c.in_ok-deed.deed = record {
       there = c.requires.there;
       is = c.in_ok-deed.ensures.deed;
-      all = law.all k c.args.ec c.requires.counted.kept c.requires.acts;
+      all = law.all k c.args.ec c.requires.ready.counted.kept c.requires.acts;
       begins = law.begins k c.args.ec;
     } in
     let later : is_done_when_decided c.in_ok-deed.deed ≡ false = sym c.is_done_when_decided.ensures ∙ c.if-not-is_done_when_decided.true in
     let same = begun-later k (state_of c.make_room.new.self) c.args.ec c.in_ok-deed.deed later (c.make_room.ensures.shown ∙ c.in_ok-deed.ensures.begun) in
     let more = c.in_ok-make_room.ensures.places in
     let stays = ap (λ (r : RevokesState). r.places) c.in_ok-deed.ensures.revokes in
-    done_runs c.args.self.now c.make_room.new.self c.perform.new.self c.args.ec _ c.in_ok-deed.deed decided c.requires.running c.in_ok-deed.ensures.fits
-    c.requires.counted.tables same (c.in_ok-make_room.ensures.revokes ∙ ap (λ (r : RevokesState). r.list) c.in_ok-deed.ensures.revokes) (omega (arith, more, stays))
+    done_runs c.args.self.now c.make_room.new.self c.perform.new.self c.args.ec _ c.in_ok-deed.deed decided c.requires.ready.running c.in_ok-deed.ensures.fits
+    c.requires.ready.counted.tables same (c.in_ok-make_room.ensures.revokes ∙ ap (λ (r : RevokesState). r.list) c.in_ok-deed.ensures.revokes) (omega (arith, more, stays))
     c.in_ok-make_room.ensures.room
     (act-does k (state_of c.make_room.new.self) (state_of c.perform.new.self) c.args.ec c.in_ok-deed.deed same c.perform.ensures.done)
     c.perform.ensures.revokes c.perform.ensures.places
@@ -69,8 +69,8 @@ returns-else-not-is_done_when_decided-clause-running c =
     let decided : IsDecided k c.args.ec c.in_ok-deed.deed = record {
       there = c.requires.there;
       is = c.in_ok-deed.ensures.deed;
-      all = law.all k c.args.ec c.requires.counted.kept c.requires.acts;
+      all = law.all k c.args.ec c.requires.ready.counted.kept c.requires.acts;
       begins = law.begins k c.args.ec;
     } in
-    over_runs c.args.self.now c.decide.new.self c.args.ec c.in_ok-deed.deed decided c.requires.running c.in_ok-deed.ensures.fits c.requires.counted.tables
+    over_runs c.args.self.now c.decide.new.self c.args.ec c.in_ok-deed.deed decided c.requires.ready.running c.in_ok-deed.ensures.fits c.requires.ready.counted.tables
     (sym c.is_done_when_decided.ensures ∙ c.if-not-is_done_when_decided.false) c.in_ok-deed.ensures.begun c.in_ok-deed.ensures.revokes

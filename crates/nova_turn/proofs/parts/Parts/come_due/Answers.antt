@@ -1,34 +1,21 @@
-use Rattle.std.proofs.Common.{rules, ◌≡◌, ◌+◌, ◌∙◌, ℕ, List, length, refl, ap, sym, subst}
-use Rattle.std.specs.Prelude.{true, false, slice_get, Option, Some, None, IsSome, IfSome, is_none}
-use Rattle.nova_range.specs.declared.status.Status.TheVariants.{Success, Timeout}
-use Rattle.nova_model.specs.Deeds.{ended_wait, woken_in}
+use Rattle.std.proofs.Common.{◌≡◌, ◌+◌, ◌∙◌, ℕ, length, ap, sym, subst}
+use Rattle.std.specs.Prelude.{Option, Some}
 use Rattle.nova_model.specs.Running.{revoke_of}
-use Rattle.nova_model.specs.Runs.{after}
-use Rattle.nova_model.specs.Semaphores.{Semaphores, left, semaphore, upped, woken}
-use Rattle.nova_model.specs.State.{KernelState, context_at, deadline_of}
-use Rattle.nova_model.specs.Times.{alarm_sm, deadline_sm, due_on, goes_on, next_moment, rung}
-use Rattle.nova_model.specs.Turn.{Step, answer_of, counted, expires, state_after, turn, whom_of}
+use Rattle.nova_model.specs.State.{KernelState}
+use Rattle.nova_model.specs.Times.{due_on}
+use Rattle.nova_model.specs.Turn.{answer_of, counted}
 use Rattle.nova_model.specs.Choice.{Candidate}
-use Rattle.nova_model.specs.declared.event.Event.{Event}
 use Rattle.nova_model.specs.declared.event.Turn.TheVariants.{Stepped}
-use Rattle.nova_model.specs.declared.times.AlarmState.{AlarmState}
-use Rattle.nova_model.specs.declared.times.Deadline.{Deadline}
-use Rattle.nova_model.specs.declared.times.Due.TheVariants as due
 use Rattle.law_turns.specs.Keeping.{IsKept}
 use Rattle.law_turns.specs.Revoking.{revoke_in_turn}
-use Rattle.law_turns.proofs.Dues.{due_is}
 use Rattle.law_forest.specs.Effects.{Falls}
 use Rattle.law_forest.proofs.Turning.{passing_none}
-use Rattle.nova_sched.specs.Queues.{QueuesState}
-use Rattle.nova_choice.specs.Schedules.{AreQueued, AreQueuedBut}
 use Rattle.nova_choice.proofs.Choosing.{turn_due}
 use Rattle.nova_deeds.specs.Counted.{IsCounted}
-use Rattle.nova_deeds.specs.Passing.{fallen, home_of}
-use Rattle.nova_deeds.proofs.Bounds.{there-set}
-use Rattle.nova_deeds.proofs.Keeps.{KeepsCounts-self}
-use Rattle.nova_deeds.proofs.Passing.{IsCounted-counted, after_due, fallen_delegations, fallen_keeps, fallen_long, queued_expired, queued_woken, whom_there}
+use Rattle.nova_deeds.specs.Passing.{fallen}
+use Rattle.nova_deeds.proofs.Passing.{IsCounted-counted, after_due, fallen_delegations, fallen_keeps, fallen_long}
 use Rattle.nova_turn.specs.Parts.{state_of}
-use Rattle.nova_turn.proofs.Dues.{late_there, still_runs, still_woken, tick_turn}
+use Rattle.nova_turn.proofs.Dues.{still_runs}
 use Rattle.nova_turn.proofs.parts.Parts.come_due.Goals as goal
 
 pub returns-clause-answer : goal.returns-clause-answer

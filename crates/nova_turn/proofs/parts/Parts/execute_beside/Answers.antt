@@ -1,4 +1,4 @@
-use Rattle.std.proofs.Common.{rules, refl, arith, ◌≡◌, ◌∙◌, ap}
+use Rattle.std.proofs.Common.{refl, ◌∙◌, ap}
 use Rattle.rv_model.specs.Step.{one}
 use Rattle.rv_core.specs.Steps.{space_of}
 use Rattle.nova_ec.specs.Tables.{EcTable}

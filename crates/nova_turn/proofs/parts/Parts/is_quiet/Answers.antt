@@ -1,4 +1,4 @@
-use Rattle.std.proofs.Common.{◌≡◌, ℕ, ◌∙◌, rules, arith}
+use Rattle.std.proofs.Common.{◌∙◌, rules, arith}
 use Rattle.nova_model.specs.Choice.{is_idle}
 use Rattle.nova_turn.specs.Parts.{state_of}
 use Rattle.nova_turn.proofs.Quiet.{quiet_more}

@@ -1,6 +1,5 @@
-use Rattle.std.proofs.Common.{◌≡◌, ◌∙◌, ap, sym, subst, IsSome}
-use Rattle.std.specs.Prelude.{Option, Some, None, IfSome}
-use Rattle.std.specs.declared.result.Result.TheVariants.{Ok}
+use Rattle.std.proofs.Common.{sym, subst, IsSome}
+use Rattle.std.specs.Prelude.{None, IfSome}
 use Rattle.nova_range.specs.declared.status.Status.TheVariants.{Success}
 use Rattle.nova_ec.specs.Tables.{EcTable}
 use Rattle.nova_model.specs.Deeds.{answered}

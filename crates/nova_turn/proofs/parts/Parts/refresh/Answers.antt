@@ -1,20 +1,27 @@
-use Rattle.std.proofs.Common.{◌∙◌, List, ap, length, refl}
-use Rattle.nova_objects.specs.declared.object.Object.{Object}
-use Rattle.nova_sched.specs.Queues.{members}
-use Rattle.nova_choice.specs.Schedules.{remarked}
+use Rattle.std.proofs.Common.{ℕ, ◌∙◌, subst}
+use Rattle.std.specs.Prelude.{Option}
+use Rattle.nova_ec.specs.Waiting.{IsAmong}
+use Rattle.nova_choice.specs.Schedules.{AreQueuedAfter}
+use Rattle.nova_choice.proofs.Marks.{beyond_nobody, beyond_only}
 use Rattle.nova_turn.specs.Parts.{state_of}
-use Rattle.nova_choice.proofs.Marks.{refreshed_queued, refreshed_shown}
 use Rattle.nova_turn.proofs.parts.Parts.refresh.Goals as goal
 
-pub returns-clause-shown : goal.returns-clause-shown
-returns-clause-shown c =
-    let p = c.args.self.now in
-    refreshed_shown (state_of p) p.queues.all c.mark_all.new.queues.all (length p.objects.items) c.args.cpu refl refl
-    (c.mark_all.ensures ∙ ap (λ (os : List Object). remarked os p.contexts.items (members p.queues.all c.args.cpu) p.queues.all) c.table.ensures)
+pub returns-in_default-clause-queued : goal.returns-in_default-clause-queued
+returns-in_default-clause-queued c =
+    let p = c.args.self.now in subst (λ (o : Option ℕ). AreQueuedAfter o (state_of p) p.queues.all) c.in_default.is c.requires
 
-pub returns-clause-queued : goal.returns-clause-queued
-returns-clause-queued c =
-    let p = c.args.self.now in
-    let is = c.mark_all.ensures ∙ ap (λ (os : List Object). remarked os p.contexts.items (members p.queues.all c.args.cpu) p.queues.all) c.table.ensures in
-    refreshed_queued (state_of p) _ p.queues.all c.mark_all.new.queues.all c.args.cpu c.requires
-    (refreshed_shown (state_of p) p.queues.all c.mark_all.new.queues.all (length p.objects.items) c.args.cpu refl refl is) is
+pub returns-in-Nobody-clause-queued : goal.returns-in-Nobody-clause-queued
+returns-in-Nobody-clause-queued c =
+    let p = c.refresh_own.new.self in
+    beyond_nobody (state_of p) p.queues.all c.in-Some.moved c.loop.at c.refresh_own.ensures.queued (λ z way. subst (IsAmong z) c.in-Nobody.is (c.waiters.ensures z way))
+
+pub loop-preserved : goal.loop-preserved
+loop-preserved c =
+    let p = c.refresh_own.new.self in
+    record {
+      queued = beyond_only (state_of p) p.queues.all c.in-Some.moved c.loop.at c.in-Only.waiter c.refresh_own.ensures.queued
+          (λ z way. subst (IsAmong z) c.in-Only.is (c.waiters.ensures z way));
+      shown = c.refresh_own.ensures.shown ∙ c.loop.invariant.shown;
+      revokes = c.refresh_own.ensures.revokes ∙ c.loop.invariant.revokes;
+      log = c.refresh_own.ensures.log ∙ c.loop.invariant.log;
+    }

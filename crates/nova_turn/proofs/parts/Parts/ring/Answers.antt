@@ -1,34 +1,17 @@
-use Rattle.std.proofs.Common.{rules, ◌≡◌, ◌+◌, ◌∙◌, ℕ, List, length, refl, ap, sym, subst}
-use Rattle.std.specs.Prelude.{true, false, slice_get, Option, Some, None, IsSome, IfSome, is_none}
-use Rattle.nova_range.specs.declared.status.Status.TheVariants.{Success, Timeout}
-use Rattle.nova_model.specs.Deeds.{ended_wait, woken_in}
-use Rattle.nova_model.specs.Running.{revoke_of}
-use Rattle.nova_model.specs.Runs.{after}
-use Rattle.nova_model.specs.Semaphores.{Semaphores, left, semaphore, upped, woken}
-use Rattle.nova_model.specs.State.{KernelState, context_at, deadline_of}
-use Rattle.nova_model.specs.Times.{alarm_sm, deadline_sm, due_on, goes_on, next_moment, rung}
-use Rattle.nova_model.specs.Turn.{Step, answer_of, counted, expires, state_after, turn, whom_of}
-use Rattle.nova_model.specs.Choice.{Candidate}
-use Rattle.nova_model.specs.declared.event.Event.{Event}
-use Rattle.nova_model.specs.declared.event.Turn.TheVariants.{Stepped}
+use Rattle.std.proofs.Common.{◌≡◌, ◌∙◌, ℕ, ap, sym, subst}
+use Rattle.std.specs.Prelude.{true, Option, Some, None, IsSome, IfSome}
+use Rattle.nova_model.specs.Deeds.{woken_in}
+use Rattle.nova_model.specs.Semaphores.{semaphore, upped, woken}
+use Rattle.nova_model.specs.State.{KernelState, context_at}
+use Rattle.nova_model.specs.Times.{goes_on, rung}
+use Rattle.nova_model.specs.Turn.{whom_of}
 use Rattle.nova_model.specs.declared.times.AlarmState.{AlarmState}
-use Rattle.nova_model.specs.declared.times.Deadline.{Deadline}
 use Rattle.nova_model.specs.declared.times.Due.TheVariants as due
-use Rattle.law_turns.specs.Keeping.{IsKept}
-use Rattle.law_turns.specs.Revoking.{revoke_in_turn}
 use Rattle.law_turns.proofs.Dues.{due_is}
-use Rattle.law_forest.specs.Effects.{Falls}
-use Rattle.law_forest.proofs.Turning.{passing_none}
 use Rattle.nova_sched.specs.Queues.{QueuesState}
-use Rattle.nova_choice.specs.Schedules.{AreQueued, AreQueuedBut}
-use Rattle.nova_choice.proofs.Choosing.{turn_due}
-use Rattle.nova_deeds.specs.Counted.{IsCounted}
-use Rattle.nova_deeds.specs.Passing.{fallen, home_of}
-use Rattle.nova_deeds.proofs.Bounds.{there-set}
-use Rattle.nova_deeds.proofs.Keeps.{KeepsCounts-self}
-use Rattle.nova_deeds.proofs.Passing.{IsCounted-counted, after_due, fallen_delegations, fallen_keeps, fallen_long, queued_expired, queued_woken, whom_there}
+use Rattle.nova_choice.specs.Schedules.{AreQueuedAfter}
+use Rattle.nova_deeds.proofs.Passing.{queued_woken, whom_there}
 use Rattle.nova_turn.specs.Parts.{state_of}
-use Rattle.nova_turn.proofs.Dues.{late_there, still_runs, still_woken, tick_turn}
 use Rattle.nova_turn.proofs.parts.Parts.ring.Goals as goal
 
 pub unreachable-requires : goal.unreachable-requires
@@ -55,8 +38,8 @@ wake-requires c =
     let up : KernelState = record k { semaphores = upped k.semaphores sm; times = rung k.times n } in
     record { there = subst (λ (s : KernelState). IfSome whom (λ w. IsSome (context_at s w))) (sym c.up_by-up.ensures.shown) there }
 
-pub requeue-requires-clause-there : goal.requeue-requires-clause-there
-requeue-requires-clause-there c =
+pub refresh-requires : goal.refresh-requires
+refresh-requires c =
     let k : KernelState = state_of c.args.self.now in
     let n = c.args.alarm in
     let sm = c.in-Some.state.alarm.sm in
@@ -65,18 +48,6 @@ requeue-requires-clause-there c =
     let there : IfSome whom (λ w. IsSome (context_at k w)) = subst (λ (o : Option ℕ). IfSome o (λ w. IsSome (context_at k w))) (sym same) (whom_there k sm c.requires.counted.kept.blocked) in
     let up : KernelState = record k { semaphores = upped k.semaphores sm; times = rung k.times n } in
     let shown : state_of c.wake.new.self ≡ woken_in up whom = c.wake.ensures.woken ∙ ap (λ (s : KernelState). woken_in s whom) c.up_by-up.ensures.shown in
-    subst (λ (s : KernelState). IfSome whom (λ w. IsSome (context_at s w))) (sym shown) (still_woken up whom there)
-
-pub requeue-requires-clause-queued : goal.requeue-requires-clause-queued
-requeue-requires-clause-queued c =
-    let k : KernelState = state_of c.args.self.now in
-    let n = c.args.alarm in
-    let sm = c.in-Some.state.alarm.sm in
-    let whom = c.whom_of-whom.result in
-    let same : whom ≡ whom_of (woken (semaphore k.semaphores sm)) = c.whom_of-whom.ensures ∙ ap whom_of c.up_by-up.ensures.up in
-    let there : IfSome whom (λ w. IsSome (context_at k w)) = subst (λ (o : Option ℕ). IfSome o (λ w. IsSome (context_at k w))) (sym same) (whom_there k sm c.requires.counted.kept.blocked) in
-    let up : KernelState = record k { semaphores = upped k.semaphores sm; times = rung k.times n } in
-    let shown : state_of c.wake.new.self ≡ woken_in up whom = c.wake.ensures.woken ∙ ap (λ (s : KernelState). woken_in s whom) c.up_by-up.ensures.shown in
-    subst (λ (s : KernelState). AreQueuedBut (home_of s whom) s c.wake.new.self.queues.all) (sym shown)
-    (subst (λ (q : QueuesState). AreQueuedBut (home_of (woken_in up whom) whom) (woken_in up whom) q.all) (sym (c.wake.ensures.queues ∙ c.up_by-up.ensures.queues))
+    subst (λ (s : KernelState). AreQueuedAfter whom s c.wake.new.self.queues.all) (sym shown)
+    (subst (λ (q : QueuesState). AreQueuedAfter whom (woken_in up whom) q.all) (sym (c.wake.ensures.rest.queues ∙ c.up_by-up.ensures.rest.queues))
     (queued_woken k (rung k.times n) (upped k.semaphores sm) whom c.args.self.now.queues.all c.requires.queued c.requires.counted.kept.edges there))

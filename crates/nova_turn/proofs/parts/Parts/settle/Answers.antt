@@ -1,4 +1,4 @@
-use Rattle.std.proofs.Common.{◌≡◌, IsSome, length, ap, subst, sym, ◌∙◌}
+use Rattle.std.proofs.Common.{◌≡◌, ◌<◌, ◌^◌, ℕ, IsSome, length, ap, subst, sym, ◌∙◌}
 use Rattle.std.specs.Prelude.{true, false}
 use Rattle.nova_model.specs.State.{KernelState}
 use Rattle.nova_model.specs.Turn.{charged}
@@ -10,7 +10,7 @@ use Rattle.nova_deeds.specs.Stirs.{is_stirring, risen_in}
 use Rattle.nova_sched.specs.Queues.{QueuesState, queued_at}
 use Rattle.nova_choice.proofs.Budgets.{still_queued}
 use Rattle.nova_deeds.proofs.Charges.{queued_risen}
-use Rattle.nova_deeds.proofs.Counts.{IsCharged-kept, IsCharged-risen}
+use Rattle.nova_deeds.proofs.Counts.{IsCharged-kept, IsCharged-risen, stirs-fit}
 use Rattle.nova_turn.proofs.Homes.{still_counted}
 use Rattle.nova_turn.proofs.Making.{making-wants}
 use Rattle.nova_turn.proofs.Ongoing.{settled_runs}
@@ -25,31 +25,35 @@ returns-in_err-deed-clause-making c =
     making-wants (state_of c.args.self.now) c.args.cpu c.args.chosen c.from_residual.result c.requires.none_due c.requires.told
     c.in_err-deed.ensures.making
 
-pub note-sign-requires-clause-charged : goal.note-sign-requires-clause-charged
-note-sign-requires-clause-charged c = IsCharged-kept (state_of c.args.self.now) (state_of c.act.new.self) c.in_ok-deed.ensures.kept c.requires.counted.charged
+pub stir-requires-clause-counted : goal.stir-requires-clause-counted
+stir-requires-clause-counted c =
+    still_counted (state_of c.args.self.now) (state_of c.act.new.self) c.args.chosen.actor c.in_ok-deed.deed c.in_ok-deed.ensures.done c.requires.ready.counted.kept.tables.guests
 
-pub note-sign-requires-clause-counted : goal.note-sign-requires-clause-counted
-note-sign-requires-clause-counted c =
-    still_counted (state_of c.args.self.now) (state_of c.act.new.self) c.args.chosen.actor c.in_ok-deed.deed c.in_ok-deed.ensures.done c.requires.counted.kept.tables.guests
+pub stir-requires-clause-few : goal.stir-requires-clause-few
+stir-requires-clause-few c =
+    let k : KernelState = state_of c.args.self.now in
+    let mid : KernelState = state_of c.act.new.self in
+    stirs-fit mid (IsCharged-kept k mid c.in_ok-deed.ensures.kept c.requires.ready.counted.charged)
+    (subst (λ (turns : ℕ). turns < 2 ^ 31) (sym c.in_ok-deed.ensures.kept.turns) c.requires.ready.turns)
 
 pub charge-requires-clause-charged : goal.charge-requires-clause-charged
 charge-requires-clause-charged c =
     let mid : KernelState = state_of c.act.new.self in
-    subst IsToBeCharged (sym c.note-sign.ensures.shown)
-    (IsCharged-risen mid _ (IsCharged-kept (state_of c.args.self.now) mid c.in_ok-deed.ensures.kept c.requires.counted.charged))
+    subst IsToBeCharged (sym c.stir.ensures.shown)
+    (IsCharged-risen mid _ (IsCharged-kept (state_of c.args.self.now) mid c.in_ok-deed.ensures.kept c.requires.ready.counted.charged))
 
 pub charge-requires-clause-queued : goal.charge-requires-clause-queued
 charge-requires-clause-queued c =
     let mid : KernelState = state_of c.act.new.self in
     let rises = is_stirring mid c.act.new.self.reach.written c.args.chosen.actor c.in_ok-deed.deed in
-    subst (λ (s : KernelState). AreQueued s c.note-sign.new.self.queues.all) (sym c.note-sign.ensures.shown)
-    (subst (λ (q : QueuesState). AreQueued (risen_in mid rises) q.all) (sym c.note-sign.ensures.queues)
+    subst (λ (s : KernelState). AreQueued s c.stir.new.self.queues.all) (sym c.stir.ensures.shown)
+    (subst (λ (q : QueuesState). AreQueued (risen_in mid rises) q.all) (sym c.stir.ensures.queues)
     (queued_risen mid rises c.act.new.self.queues.all c.in_ok-deed.ensures.queued))
 
 pub charge-requires-clause-there : goal.charge-requires-clause-there
 charge-requires-clause-there c =
     let p = c.args.self.now in
-    subst (λ (q : QueuesState). IsSome (queued_at q.all c.args.chosen.sc)) (sym c.note-sign.ensures.queues)
+    subst (λ (q : QueuesState). IsSome (queued_at q.all c.args.chosen.sc)) (sym c.stir.ensures.queues)
     (still_queued p.queues.all c.act.new.self.queues.all (length p.objects.items) (length c.act.new.self.objects.items) c.args.chosen.sc c.requires.pays
     (c.in_ok-deed.ensures.kept.budgets c.args.chosen.sc))
 
@@ -62,7 +66,7 @@ returns-clause-state c =
       decided = c.in_ok-deed.ensures.deed;
       does = c.in_ok-deed.ensures.done;
       wrote = λ is. let never : true ≡ false = sym (ap is_step is) ∙ c.in_ok-deed.ensures.no_step in absurd cc;
-      settled = c.charge.ensures.charged ∙ ap (λ (s : KernelState). charged s c.args.cpu c.args.chosen.sc) c.note-sign.ensures.shown;
+      settled = c.charge.ensures.charged ∙ ap (λ (s : KernelState). charged s c.args.cpu c.args.chosen.sc) c.stir.ensures.shown;
     } in
     settled_state k (state_of c.act.new.self) (state_of c.charge.new.self) c.args.cpu c.args.chosen c.in_ok-deed.deed c.act.new.self.reach.written settled
 
@@ -75,15 +79,15 @@ returns-clause-counted c =
       decided = c.in_ok-deed.ensures.deed;
       does = c.in_ok-deed.ensures.done;
       wrote = λ is. let never : true ≡ false = sym (ap is_step is) ∙ c.in_ok-deed.ensures.no_step in absurd cc;
-      settled = c.charge.ensures.charged ∙ ap (λ (s : KernelState). charged s c.args.cpu c.args.chosen.sc) c.note-sign.ensures.shown;
+      settled = c.charge.ensures.charged ∙ ap (λ (s : KernelState). charged s c.args.cpu c.args.chosen.sc) c.stir.ensures.shown;
     } in
     settled_counts k (state_of c.act.new.self) (state_of c.charge.new.self) c.args.cpu c.args.chosen c.in_ok-deed.deed c.act.new.self.reach.written settled
-    c.in_ok-deed.ensures.kept c.requires.turns (c.turns_keep_what_they_find.ensures.turns k c.args.cpu c.requires.counted.kept) c.requires.counted
+    c.in_ok-deed.ensures.kept c.requires.ready.turns (c.turns_keep_what_they_find.ensures.turns k c.args.cpu c.requires.ready.counted.kept) c.requires.ready.counted
 
 pub returns-clause-running : goal.returns-clause-running
 returns-clause-running c =
     let mid : KernelState = state_of c.act.new.self in
-    settled_runs mid (state_of c.note-sign.new.self) (state_of c.charge.new.self)
+    settled_runs mid (state_of c.stir.new.self) (state_of c.charge.new.self)
     (is_stirring mid c.act.new.self.reach.written c.args.chosen.actor c.in_ok-deed.deed) c.args.cpu c.args.chosen.sc c.act.new.self.revokes
-    c.note-sign.new.self.revokes c.charge.new.self.revokes c.in_ok-deed.ensures.running c.note-sign.ensures.shown c.note-sign.ensures.revokes
+    c.stir.new.self.revokes c.charge.new.self.revokes c.in_ok-deed.ensures.running c.stir.ensures.shown c.stir.ensures.revokes
     c.charge.ensures.charged c.charge.ensures.revokes

@@ -1,10 +1,10 @@
-use Rattle.std.proofs.Common.{◌≡◌, length, rules, ap, subst, sym, ◌∙◌}
+use Rattle.std.proofs.Common.{◌≡◌, ◌<◌, ◌≤◌, ◌+◌, ◌^◌, ℕ, length, rules, ap, subst, sym, ◌∙◌}
 use Rattle.std.specs.Prelude.{None, Some, IfOk, OnOk, OnErr, IsSome, option_map}
 use Rattle.nova_model.specs.State.{KernelState, context_at}
 use Rattle.nova_model.specs.Turn.{answer_of, charged, state_after, turn}
 use Rattle.nova_turn.specs.Parts.{state_of}
 use Rattle.nova_turn.specs.Revoking.{AreRunning}
-use Rattle.nova_turn.specs.Views.{IsMaking}
+use Rattle.nova_turn.specs.Views.{IsMaking, turns_taken}
 use Rattle.nova_model.specs.Choice.{choice}
 use Rattle.nova_choice.specs.Choices.{chosen_of}
 use Rattle.nova_deeds.specs.Counted.{IsCounted, IsToBeCharged}
@@ -16,6 +16,7 @@ use Rattle.nova_deeds.proofs.Charges.{queued_risen}
 use Rattle.nova_deeds.proofs.Counts.{IsCharged-kept, IsCharged-risen}
 use Rattle.nova_turn.specs.Going.{HasRaised, Stays, WentOn}
 use Rattle.nova_model.specs.declared.deed.Deed.TheVariants.{Steps}
+use Rattle.nova_model.specs.declared.event.Turn.TheVariants.{Idle}
 use Rattle.nova_model.specs.Times.{due_on}
 use Rattle.nova_turn.proofs.Dues.{none_due_at}
 use Rattle.nova_turn.proofs.Homes.{still_counted}
@@ -28,42 +29,42 @@ go_on-requires-clause-acts c = told_acts (state_of c.args.self.now) c.args.cpu c
 
 pub note_step-requires-clause-charged : goal.note_step-requires-clause-charged
 note_step-requires-clause-charged c =
-    let went : WentOn c.args.self.now c.go_on.new.self c.in-Some.chosen.actor = c.go_on.ensures.went c.in-Next.is in
+    let went : WentOn c.args.self.now c.go_on.new.self c.in-Some.chosen.actor = c.go_on.ensures.went c.in-WentOn.is in
     IsCharged-kept (state_of c.args.self.now) (state_of c.go_on.new.self) went.kept c.requires.counted.charged
 
 pub note_step-requires-clause-counted : goal.note_step-requires-clause-counted
 note_step-requires-clause-counted c =
-    let went : WentOn c.args.self.now c.go_on.new.self c.in-Some.chosen.actor = c.go_on.ensures.went c.in-Next.is in
+    let went : WentOn c.args.self.now c.go_on.new.self c.in-Some.chosen.actor = c.go_on.ensures.went c.in-WentOn.is in
     still_counted (state_of c.args.self.now) (state_of c.go_on.new.self) c.in-Some.chosen.actor Steps went.does c.requires.counted.kept.tables.guests
 
 pub charge-requires-clause-charged : goal.charge-requires-clause-charged
 charge-requires-clause-charged c =
-    let went : WentOn c.args.self.now c.go_on.new.self c.in-Some.chosen.actor = c.go_on.ensures.went c.in-Next.is in
+    let went : WentOn c.args.self.now c.go_on.new.self c.in-Some.chosen.actor = c.go_on.ensures.went c.in-WentOn.is in
     let mid : KernelState = state_of c.go_on.new.self in
     subst IsToBeCharged (sym c.note_step.ensures.shown)
     (IsCharged-risen mid _ (IsCharged-kept (state_of c.args.self.now) mid went.kept c.requires.counted.charged))
 
 pub charge-requires-clause-queued : goal.charge-requires-clause-queued
 charge-requires-clause-queued c =
-    let went : WentOn c.args.self.now c.go_on.new.self c.in-Some.chosen.actor = c.go_on.ensures.went c.in-Next.is in
+    let went : WentOn c.args.self.now c.go_on.new.self c.in-Some.chosen.actor = c.go_on.ensures.went c.in-WentOn.is in
     let mid : KernelState = state_of c.go_on.new.self in
     let rises = is_stirring mid c.go_on.new.self.reach.written c.in-Some.chosen.actor Steps in
     subst (λ (s : KernelState). AreQueued s c.note_step.new.self.queues.all) (sym c.note_step.ensures.shown)
-    (subst (λ (q : QueuesState). AreQueued (risen_in mid rises) q.all) (sym c.note_step.ensures.queues)
+    (subst (λ (q : QueuesState). AreQueued (risen_in mid rises) q.all) (sym c.note_step.ensures.rest.queues)
     (queued_risen mid rises c.go_on.new.self.queues.all went.queued))
 
 pub charge-requires-clause-there : goal.charge-requires-clause-there
 charge-requires-clause-there c =
-    let went : WentOn c.args.self.now c.go_on.new.self c.in-Some.chosen.actor = c.go_on.ensures.went c.in-Next.is in
+    let went : WentOn c.args.self.now c.go_on.new.self c.in-Some.chosen.actor = c.go_on.ensures.went c.in-WentOn.is in
     let p = c.args.self.now in
     let there : IsSome (queued_at p.queues.all c.in-Some.chosen.sc) = search rules in
-    subst (λ (q : QueuesState). IsSome (queued_at q.all c.in-Some.chosen.sc)) (sym c.note_step.ensures.queues)
+    subst (λ (q : QueuesState). IsSome (queued_at q.all c.in-Some.chosen.sc)) (sym c.note_step.ensures.rest.queues)
     (still_queued p.queues.all c.go_on.new.self.queues.all (length p.objects.items) (length c.go_on.new.self.objects.items) c.in-Some.chosen.sc there
     (went.kept.budgets c.in-Some.chosen.sc))
 
-pub returns-in-Next-clause-state : goal.returns-in-Next-clause-state
-returns-in-Next-clause-state c =
-    let went : WentOn c.args.self.now c.go_on.new.self c.in-Some.chosen.actor = c.go_on.ensures.went c.in-Next.is in
+pub returns-in-WentOn-clause-state : goal.returns-in-WentOn-clause-state
+returns-in-WentOn-clause-state c =
+    let went : WentOn c.args.self.now c.go_on.new.self c.in-Some.chosen.actor = c.go_on.ensures.went c.in-WentOn.is in
     let k : KernelState = state_of c.args.self.now in
     let settled : IsSettled k (state_of c.go_on.new.self) (state_of c.charge.new.self) c.args.cpu c.in-Some.chosen Steps c.go_on.new.self.reach.written = record {
       none_due = none_due_at (due_on k.times c.args.cpu) (sym c.is_due.ensures ∙ c.if-is_due.false);
@@ -75,9 +76,9 @@ returns-in-Next-clause-state c =
     } in
     settled_state k (state_of c.go_on.new.self) (state_of c.charge.new.self) c.args.cpu c.in-Some.chosen Steps c.go_on.new.self.reach.written settled
 
-pub returns-in-Next-clause-counted : goal.returns-in-Next-clause-counted
-returns-in-Next-clause-counted c =
-    let went : WentOn c.args.self.now c.go_on.new.self c.in-Some.chosen.actor = c.go_on.ensures.went c.in-Next.is in
+pub returns-in-WentOn-clause-counted : goal.returns-in-WentOn-clause-counted
+returns-in-WentOn-clause-counted c =
+    let went : WentOn c.args.self.now c.go_on.new.self c.in-Some.chosen.actor = c.go_on.ensures.went c.in-WentOn.is in
     let k : KernelState = state_of c.args.self.now in
     let settled : IsSettled k (state_of c.go_on.new.self) (state_of c.charge.new.self) c.args.cpu c.in-Some.chosen Steps c.go_on.new.self.reach.written = record {
       none_due = none_due_at (due_on k.times c.args.cpu) (sym c.is_due.ensures ∙ c.if-is_due.false);
@@ -90,48 +91,30 @@ returns-in-Next-clause-counted c =
     settled_counts k (state_of c.go_on.new.self) (state_of c.charge.new.self) c.args.cpu c.in-Some.chosen Steps c.go_on.new.self.reach.written settled
     went.kept c.requires.turns (c.turns_keep_what_they_find.ensures.turns k c.args.cpu c.requires.counted.kept) c.requires.counted
 
-pub returns-in-Next-clause-running : goal.returns-in-Next-clause-running
-returns-in-Next-clause-running c =
-    let went : WentOn c.args.self.now c.go_on.new.self c.in-Some.chosen.actor = c.go_on.ensures.went c.in-Next.is in
+pub returns-in-WentOn-clause-running : goal.returns-in-WentOn-clause-running
+returns-in-WentOn-clause-running c =
+    let went : WentOn c.args.self.now c.go_on.new.self c.in-Some.chosen.actor = c.go_on.ensures.went c.in-WentOn.is in
     let mid : KernelState = state_of c.go_on.new.self in
     settled_runs mid (state_of c.note_step.new.self) (state_of c.charge.new.self)
     (is_stirring mid c.go_on.new.self.reach.written c.in-Some.chosen.actor Steps) c.args.cpu c.in-Some.chosen.sc c.go_on.new.self.revokes
-    c.note_step.new.self.revokes c.charge.new.self.revokes went.running c.note_step.ensures.shown c.note_step.ensures.revokes
+    c.note_step.new.self.revokes c.charge.new.self.revokes went.running c.note_step.ensures.shown c.note_step.ensures.rest.revokes
     c.charge.ensures.charged c.charge.ensures.revokes
-
-pub settle-requires-clause-counted : goal.settle-requires-clause-counted
-settle-requires-clause-counted c =
-    let stays : Stays c.args.self.now c.go_on.new.self c.in-Some.chosen.actor c.in-Raise.reason c.in-Raise.q0 c.in-Raise.q1 = c.go_on.ensures.raised c.in-Raise.reason c.in-Raise.q0 c.in-Raise.q1 c.in-Raise.is in
-    let same = stays.state in
-    subst (λ (s : KernelState). IsCounted s) (sym same) c.requires.counted
-
-pub settle-requires-clause-queued : goal.settle-requires-clause-queued
-settle-requires-clause-queued c =
-    let stays : Stays c.args.self.now c.go_on.new.self c.in-Some.chosen.actor c.in-Raise.reason c.in-Raise.q0 c.in-Raise.q1 = c.go_on.ensures.raised c.in-Raise.reason c.in-Raise.q0 c.in-Raise.q1 c.in-Raise.is in
-    let same = stays.state in
-    subst (λ (s : KernelState). AreQueued s c.go_on.new.self.queues.all) (sym same) (subst (λ (q : QueuesState). AreQueued (state_of c.args.self.now) q.all) (sym c.go_on.ensures.queues) c.requires.queued)
-
-pub settle-requires-clause-running : goal.settle-requires-clause-running
-settle-requires-clause-running c =
-    let stays : Stays c.args.self.now c.go_on.new.self c.in-Some.chosen.actor c.in-Raise.reason c.in-Raise.q0 c.in-Raise.q1 = c.go_on.ensures.raised c.in-Raise.reason c.in-Raise.q0 c.in-Raise.q1 c.in-Raise.is in
-    let same = stays.state in
-    subst (λ (s : KernelState). AreRunning s c.go_on.new.self.revokes) (sym same) (subst (AreRunning (state_of c.args.self.now)) (sym c.go_on.ensures.revokes) c.requires.running)
 
 pub settle-requires-clause-none_due : goal.settle-requires-clause-none_due
 settle-requires-clause-none_due c =
-    let stays : Stays c.args.self.now c.go_on.new.self c.in-Some.chosen.actor c.in-Raise.reason c.in-Raise.q0 c.in-Raise.q1 = c.go_on.ensures.raised c.in-Raise.reason c.in-Raise.q0 c.in-Raise.q1 c.in-Raise.is in
+    let stays : Stays c.args.self.now c.go_on.new.self c.in-Some.chosen.actor c.in-Stayed.raised = c.go_on.ensures.stayed c.in-Stayed.raised c.in-Stayed.is in
     let same = stays.state in
     subst (λ (s : KernelState). due_on s.times c.args.cpu ≡ None) (sym same) (none_due_at (due_on (state_of c.args.self.now).times c.args.cpu) (sym c.is_due.ensures ∙ c.if-is_due.false))
 
 pub settle-requires-clause-told : goal.settle-requires-clause-told
 settle-requires-clause-told c =
-    let stays : Stays c.args.self.now c.go_on.new.self c.in-Some.chosen.actor c.in-Raise.reason c.in-Raise.q0 c.in-Raise.q1 = c.go_on.ensures.raised c.in-Raise.reason c.in-Raise.q0 c.in-Raise.q1 c.in-Raise.is in
+    let stays : Stays c.args.self.now c.go_on.new.self c.in-Some.chosen.actor c.in-Stayed.raised = c.go_on.ensures.stayed c.in-Stayed.raised c.in-Stayed.is in
     let same = stays.state in
     subst (λ (s : KernelState). Some c.in-Some.chosen ≡ option_map chosen_of (choice s c.args.cpu)) (sym same) (sym c.in-Some.is ∙ c.choice.ensures.choice)
 
 pub settle-requires-clause-there : goal.settle-requires-clause-there
 settle-requires-clause-there c =
-    let stays : Stays c.args.self.now c.go_on.new.self c.in-Some.chosen.actor c.in-Raise.reason c.in-Raise.q0 c.in-Raise.q1 = c.go_on.ensures.raised c.in-Raise.reason c.in-Raise.q0 c.in-Raise.q1 c.in-Raise.is in
+    let stays : Stays c.args.self.now c.go_on.new.self c.in-Some.chosen.actor c.in-Stayed.raised = c.go_on.ensures.stayed c.in-Stayed.raised c.in-Stayed.is in
     let same = stays.state in
     subst (λ (s : KernelState). IsSome (context_at s c.in-Some.chosen.actor)) (sym same) (search rules)
 
@@ -140,25 +123,70 @@ settle-requires-clause-pays c =
     let there : IsSome (queued_at c.args.self.now.queues.all c.in-Some.chosen.sc) = search rules in
     subst (λ (q : QueuesState). IsSome (queued_at q.all c.in-Some.chosen.sc)) (sym c.go_on.ensures.queues) there
 
-pub returns-in-Raise-clause-answer : goal.returns-in-Raise-clause-answer
-returns-in-Raise-clause-answer c =
-    let stays : Stays c.args.self.now c.go_on.new.self c.in-Some.chosen.actor c.in-Raise.reason c.in-Raise.q0 c.in-Raise.q1 = c.go_on.ensures.raised c.in-Raise.reason c.in-Raise.q0 c.in-Raise.q1 c.in-Raise.is in
+pub returns-in-Stayed-clause-answer : goal.returns-in-Stayed-clause-answer
+returns-in-Stayed-clause-answer c =
+    let stays : Stays c.args.self.now c.go_on.new.self c.in-Some.chosen.actor c.in-Stayed.raised = c.go_on.ensures.stayed c.in-Stayed.raised c.in-Stayed.is in
     let same = stays.state in
     subst (λ (s : KernelState). IfOk c.settle.result (λ t. t ≡ answer_of (turn s c.args.cpu))) same c.settle.ensures.answer
 
-pub returns-in-Raise-clause-state : goal.returns-in-Raise-clause-state
-returns-in-Raise-clause-state c =
-    let stays : Stays c.args.self.now c.go_on.new.self c.in-Some.chosen.actor c.in-Raise.reason c.in-Raise.q0 c.in-Raise.q1 = c.go_on.ensures.raised c.in-Raise.reason c.in-Raise.q0 c.in-Raise.q1 c.in-Raise.is in
+pub returns-in-Stayed-clause-state : goal.returns-in-Stayed-clause-state
+returns-in-Stayed-clause-state c =
+    let stays : Stays c.args.self.now c.go_on.new.self c.in-Some.chosen.actor c.in-Stayed.raised = c.go_on.ensures.stayed c.in-Stayed.raised c.in-Stayed.is in
     let same = stays.state in
     subst (λ (s : KernelState). OnOk c.settle.result (state_of c.settle.new.self ≡ state_after s (turn s c.args.cpu))) same c.settle.ensures.state
 
-pub returns-in-Raise-clause-making : goal.returns-in-Raise-clause-making
-returns-in-Raise-clause-making c =
-    let stays : Stays c.args.self.now c.go_on.new.self c.in-Some.chosen.actor c.in-Raise.reason c.in-Raise.q0 c.in-Raise.q1 = c.go_on.ensures.raised c.in-Raise.reason c.in-Raise.q0 c.in-Raise.q1 c.in-Raise.is in
+pub returns-in-Stayed-clause-making : goal.returns-in-Stayed-clause-making
+returns-in-Stayed-clause-making c =
+    let stays : Stays c.args.self.now c.go_on.new.self c.in-Some.chosen.actor c.in-Stayed.raised = c.go_on.ensures.stayed c.in-Stayed.raised c.in-Stayed.is in
     let same = stays.state in
     subst (λ (s : KernelState). OnErr c.settle.result (IsMaking s c.args.cpu)) same c.settle.ensures.making
 
 pub settle-requires-clause-raised : goal.settle-requires-clause-raised
 settle-requires-clause-raised c =
-    let stays : Stays c.args.self.now c.go_on.new.self c.in-Some.chosen.actor c.in-Raise.reason c.in-Raise.q0 c.in-Raise.q1 = c.go_on.ensures.raised c.in-Raise.reason c.in-Raise.q0 c.in-Raise.q1 c.in-Raise.is in
-    subst (λ (s : KernelState). HasRaised s c.in-Some.chosen.actor c.in-Raise.reason c.in-Raise.q0 c.in-Raise.q1) (sym stays.state) stays.raised
+    let stays : Stays c.args.self.now c.go_on.new.self c.in-Some.chosen.actor c.in-Stayed.raised = c.go_on.ensures.stayed c.in-Stayed.raised c.in-Stayed.is in
+    subst (λ (s : KernelState). HasRaised s c.in-Some.chosen.actor c.in-Stayed.raised) (sym stays.state) stays.raised
+
+pub settle-requires-clause-cpu : goal.settle-requires-clause-cpu
+settle-requires-clause-cpu c =
+    let stays : Stays c.args.self.now c.go_on.new.self c.in-Some.chosen.actor c.in-Stayed.raised = c.go_on.ensures.stayed c.in-Stayed.raised c.in-Stayed.is in
+    subst (λ (k : KernelState). c.args.cpu < k.cpus) (sym stays.state) c.requires.cpu
+
+pub returns-in-Stayed-clause-memory : goal.returns-in-Stayed-clause-memory
+returns-in-Stayed-clause-memory c =
+    let stays : Stays c.args.self.now c.go_on.new.self c.in-Some.chosen.actor c.in-Stayed.raised = c.go_on.ensures.stayed c.in-Stayed.raised c.in-Stayed.is in
+    subst (λ (room : ℕ). OnErr c.settle.result ((state_of c.settle.new.self ≡ state_of c.args.self.now) × (c.settle.new.self.reach.room ≡ room))) stays.log
+    (subst (λ (k : KernelState). OnErr c.settle.result ((state_of c.settle.new.self ≡ k) × (c.settle.new.self.reach.room ≡ c.go_on.new.self.reach.room)))
+    stays.state c.settle.ensures.memory)
+
+pub returns-in-Stayed-clause-log : goal.returns-in-Stayed-clause-log
+returns-in-Stayed-clause-log c =
+    let stays : Stays c.args.self.now c.go_on.new.self c.in-Some.chosen.actor c.in-Stayed.raised = c.go_on.ensures.stayed c.in-Stayed.raised c.in-Stayed.is in
+    subst (λ (room : ℕ). room ≤ c.settle.new.self.reach.room + 1) stays.log c.settle.ensures.log
+
+pub returns-in-Stayed-clause-idle : goal.returns-in-Stayed-clause-idle
+returns-in-Stayed-clause-idle c =
+    let stays : Stays c.args.self.now c.go_on.new.self c.in-Some.chosen.actor c.in-Stayed.raised = c.go_on.ensures.stayed c.in-Stayed.raised c.in-Stayed.is in
+    subst (λ (room : ℕ). IfOk c.settle.result (λ t. t ≡ Idle → c.settle.new.self.reach.room ≡ room)) stays.log c.settle.ensures.idle
+
+pub returns-in-Stayed-clause-turns : goal.returns-in-Stayed-clause-turns
+returns-in-Stayed-clause-turns c =
+    let stays : Stays c.args.self.now c.go_on.new.self c.in-Some.chosen.actor c.in-Stayed.raised = c.go_on.ensures.stayed c.in-Stayed.raised c.in-Stayed.is in
+    subst (λ (k : KernelState). IfOk c.settle.result (λ t. c.settle.new.self.turns ≡ k.turns + turns_taken t)) stays.state c.settle.ensures.turns
+
+pub returns-in-Stayed-clause-cpus : goal.returns-in-Stayed-clause-cpus
+returns-in-Stayed-clause-cpus c =
+    let stays : Stays c.args.self.now c.go_on.new.self c.in-Some.chosen.actor c.in-Stayed.raised = c.go_on.ensures.stayed c.in-Stayed.raised c.in-Stayed.is in
+    c.settle.ensures.cpus ∙ ap (λ (k : KernelState). k.cpus) stays.state
+
+pub settle-requires-clause-ready : goal.settle-requires-clause-ready
+settle-requires-clause-ready c =
+    let stays : Stays c.args.self.now c.go_on.new.self c.in-Some.chosen.actor c.in-Stayed.raised = c.go_on.ensures.stayed c.in-Stayed.raised c.in-Stayed.is in
+    record {
+      counted = subst (λ (s : KernelState). IsCounted s) (sym stays.state) c.requires.counted;
+      queued = subst (λ (s : KernelState). AreQueued s c.go_on.new.self.queues.all) (sym stays.state)
+          (subst (λ (q : QueuesState). AreQueued (state_of c.args.self.now) q.all) (sym c.go_on.ensures.queues) c.requires.queued);
+      running = subst (λ (s : KernelState). AreRunning s c.go_on.new.self.revokes) (sym stays.state)
+          (subst (AreRunning (state_of c.args.self.now)) (sym c.go_on.ensures.revokes) c.requires.running);
+      turns = subst (λ (k : KernelState). k.turns < 2 ^ 31) (sym stays.state) c.requires.turns;
+      log = subst (λ (room : ℕ). 0 < room) (sym stays.log) c.requires.log;
+    }

@@ -1,8 +1,0 @@
-use Rattle.std.proofs.Common.{◌≡◌, ◌+◌, drop}
-use Rattle.nova_trace.specs.Traces.{events_of}
-use Rattle.nova_report.specs.Summary.{count, is_made}
-use Rattle.nova_report.proofs.bench.count_made.Given as goal
-
--- those so far, and those that are left
-abbrev pub invariant-loop-entry : goal.invariant-loop-entry
-invariant-loop-entry l = l.made + count is_made (events_of (drop l.entry-index l.entries)) ≡ count is_made l.trace.items

@@ -1,0 +1,144 @@
+ghost use Rattle.std.specs.Prelude.{◌≡◌, ◌+◌, ◌-◌, ◌%◌, ◌^◌, ◌<◌, ◌≤◌, ◌++◌, [], length, replicate, IfOk, IfErr};
+ghost use Rattle.nova_model.specs.Runs.{run};
+ghost use Rattle.nova_order.specs.Blocks.{turns};
+ghost use Rattle.nova_shared.specs.Runs.{IsSharedRun};
+ghost use Rattle.nova_shared.specs.Told.{HasNone, IsTold, IsRefused};
+
+use crate::block::{Block, BlockDone};
+use crate::finished::Finished;
+use crate::turn::SharedTurn;
+use nova_kernel::Kernel;
+use nova_lock::Historied;
+use std::marker::Model;
+
+/// A run that is on its way, behind the lock. Its kernel is the run of its opening over its order, its trace is that run's, no turn of the
+/// order is idle, and there is room for as many turns as there may be.
+#[derive(Drop)]
+pub struct SharedRun {
+    run: Finished,
+    uses: u64,
+}
+
+/// What a run begins with. No value of it is made.
+pub struct Opening {
+    /// The kernel at the beginning.
+    pub kernel: Kernel,
+
+    /// How many turns there may be.
+    pub limit: u64,
+}
+
+impl Model for SharedRun {
+    ghost use Rattle.nova_order.specs.Blocks.{turns};
+    ghost use Rattle.nova_shared.specs.Ran.{Ran};
+    ghost use Rattle.nova_shared.specs.Runs.{IsSharedRun};
+
+    ghost Value = { Ran };
+
+    ghost view = { λ r. record { opening = record { kernel = r.run.opening; limit = r.run.limit }; kernel = r.run.kernel; order = turns r.run.order.blocks; uses = r.uses } };
+
+    ghost invariant = { λ r. IsSharedRun r.run };
+}
+
+impl Historied for SharedRun {
+    type Opening = Opening;
+
+    ghost opening = { λ r. r.opening };
+
+    ghost history = { λ r. r.order };
+
+    ghost uses = { λ r. r.uses };
+
+    fn blocks(&self) -> u64 {
+        self.uses
+    }
+}
+
+impl SharedRun {
+    /// A run that is on its way.
+    pub(crate) fn new(run: Finished) -> SharedRun
+        requires { IsSharedRun run }
+        ensures { result ≡ record { opening = record { kernel = run.opening; limit = run.limit }; kernel = run.kernel; order = turns run.order.blocks; uses = 0 } }
+    {
+        SharedRun { run, uses: 0 }
+    }
+
+    /// One turn of a processor, or what it found instead. Where memory is refused it tells how many turns were taken.
+    pub(crate) fn turn(&mut self, cpu: u32) -> Result<SharedTurn, u64>
+        requires cpu { cpu < self.old.opening.kernel.state.cpus }
+        ensures same { (self.new.opening ≡ self.old.opening) × (self.new.uses ≡ self.old.uses) }
+        ensures told { IfOk result (IsTold self.old.opening.kernel.state self.old.opening.limit cpu self.old.order self.new.order) }
+        ensures memory { IfErr result (λ taken. (taken ≡ length self.old.order) × IsRefused self.old.opening.kernel.state self.old.opening.limit cpu self.old.order self.new.order) }
+    {
+        let taken = self.run.trace.len();
+        if taken == self.run.limit {
+            return Ok(SharedTurn::AtLimit(taken));
+        }
+        let Ok(took) = self.run.turn(cpu) else {
+            return Err(taken);
+        };
+        if !took {
+            return Ok(SharedTurn::Idle(taken));
+        }
+        Ok(SharedTurn::Stepped(taken + 1))
+    }
+
+    /// So many turns of a processor as a block takes.
+    pub(crate) fn block<B: Block>(&mut self, cpu: u32, call: &mut B) -> BlockDone
+        requires cpu { cpu < self.old.opening.kernel.state.cpus }
+        requires fits { B.fits call.old cpu (run self.old.opening.kernel.state self.old.order) }
+        ensures same { (self.new.opening ≡ self.old.opening) × (self.new.uses ≡ self.old.uses) }
+        ensures order { self.new.order ≡ self.old.order ++ replicate result.taken cpu }
+        ensures seen { (result.seen ≡ length self.old.order + result.taken) × (result.seen ≤ self.old.opening.limit) }
+        ensures tells { B.tells call.old cpu (run self.old.opening.kernel.state self.old.order) (self.old.opening.limit - length self.old.order) call.new result.taken }
+    {
+        let taken = self.run.block(cpu, call);
+        BlockDone {
+            taken,
+            seen: self.run.trace.len(),
+        }
+    }
+
+    /// A turn of a processor, and after a plain step those that come next: at most so many. Where there may be one, none is taken only where the
+    /// processor is idle or memory is refused.
+    pub(crate) fn turns(&mut self, cpu: u32, most: u64) -> BlockDone
+        requires cpu { cpu < self.old.opening.kernel.state.cpus }
+        ensures same { (self.new.opening ≡ self.old.opening) × (self.new.uses ≡ self.old.uses) }
+        ensures order { self.new.order ≡ self.old.order ++ replicate result.taken cpu }
+        ensures seen { (result.seen ≡ length self.old.order + result.taken) × (result.seen ≤ self.old.opening.limit) }
+        ensures most { result.taken ≤ most }
+        ensures none { result.taken ≡ 0 → 0 < most → HasNone (run self.old.opening.kernel.state self.old.order) (self.old.opening.limit - length self.old.order) cpu }
+    {
+        let left = self.run.limit - self.run.trace.len();
+        let taken = self.run.go(cpu, most.min(left));
+        BlockDone {
+            taken,
+            seen: self.run.trace.len(),
+        }
+    }
+
+    /// Counts a use.
+    pub(crate) fn count(&mut self)
+        ensures { self.new ≡ record self.old { uses = (self.old.uses + 1) % 2 ^ 64 } }
+    {
+        self.uses = self.uses.wrapping_add(1);
+    }
+
+    /// The kernel as it is.
+    pub(crate) fn into_kernel(self) -> Kernel
+        ensures { result ≡ self.kernel }
+    {
+        self.into_run().kernel
+    }
+
+    /// The run as it is.
+    pub(crate) fn into_run(self) -> Finished
+        ensures opening { (result.opening ≡ self.opening.kernel) × (result.limit ≡ self.opening.limit) }
+        ensures kernel { result.kernel ≡ self.kernel }
+        ensures order { turns result.order.blocks ≡ self.order }
+        ensures run { IsSharedRun result }
+    {
+        let SharedRun { run, uses: _ } = self;
+        run
+    }
+}

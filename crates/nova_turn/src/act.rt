@@ -1,0 +1,15 @@
+//! A deed is done, counted for those for whom it is an input, and charged: a turn.
+
+mod calls;
+mod charge;
+mod creation;
+mod doing;
+mod due;
+mod exits;
+mod instructions;
+mod items;
+mod queues;
+mod revoking;
+mod semaphores;
+mod stirs;
+mod turn;

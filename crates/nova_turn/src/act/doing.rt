@@ -1,0 +1,123 @@
+ghost use Rattle.std.specs.Prelude.{◌≡◌, ◌<◌, ◌≤◌, length, true, false, IsSome};
+ghost use Rattle.nova_model.specs.Deeds.{done, performed, recalled};
+ghost use Rattle.nova_model.specs.Edges.{acts};
+ghost use Rattle.nova_model.specs.State.{context_at, pd_of};
+ghost use Rattle.nova_choice.specs.Schedules.{schedule_after};
+ghost use Rattle.nova_deeds.specs.Acts.{DeedFits, TakesFree, changes_actor_only, is_done_when_decided};
+ghost use Rattle.nova_deeds.specs.Counted.{IsCounted};
+ghost use Rattle.nova_turn.specs.Going.{KeepsRest};
+ghost use Rattle.nova_turn.specs.Parts.{state_of, HasRoomFor};
+ghost use Rattle.nova_turn.specs.Revoking.{BeginsWithin, revokes_after};
+
+use crate::parts::Parts;
+use nova_deeds::changes::change;
+use nova_exit::wait;
+use nova_ipc::help;
+use nova_model::{Deed, NewObject};
+use nova_revoke::Revoke;
+
+impl Parts {
+    /// The recall of an execution context is asked for.
+    fn ask_recall(&mut self, ec: u32)
+        requires { ec < length (state_of self.old).contexts }
+        ensures recalled { state_of self.new ≡ recalled (state_of self.old) ec (context_at (state_of self.old) ec) }
+        ensures rest { KeepsRest self.old self.new }
+    {
+        if self.contexts.get(ec).is_some() {
+            self.contexts.set_recall(ec, true);
+        }
+    }
+
+    /// The execution context does a deed that tells others nothing, in the room that was made.
+    fn perform_alone(&mut self, ec: u32, deed: Deed)
+        requires there { IsSome (context_at (state_of self.old) ec) }
+        requires counted { IsCounted (state_of self.old) }
+        requires fits { DeedFits (state_of self.old) ec deed }
+        requires alone { changes_actor_only deed ≡ true }
+        requires free { TakesFree (state_of self.old) (pd_of (state_of self.old) ec) deed }
+        requires room { HasRoomFor (pd_of (state_of self.old) ec) deed self.old }
+        requires few { length self.old.queues.all.entries ≤ length self.old.objects.items }
+        requires places { BeginsWithin self.old.revokes deed }
+        ensures performed { state_of self.new ≡ performed (state_of self.old) ec deed }
+        ensures queues { self.new.queues.all ≡ schedule_after (state_of self.old) ec self.old.queues.all deed }
+        ensures revokes { self.new.revokes.list ≡ revokes_after (pd_of (state_of self.old) ec) ec deed self.old.revokes.list }
+        ensures places { self.new.revokes.places ≡ self.old.revokes.places }
+        ensures log { self.new.reach.room ≡ self.old.reach.room }
+    {
+        let domain = self.pd(ec);
+        change(&mut self.contexts, ec, deed);
+        match deed {
+            Deed::Makes { target, new, .. } => self.add_object(domain, target, new),
+            Deed::Opens { target, .. } => self.add_object(domain, target, NewObject::Pd),
+            Deed::Recalls { ec } => self.ask_recall(ec),
+            Deed::Names { pt, identifier } => self.identifiers[pt as usize] = Some(identifier),
+            Deed::Revokes { range, own } => self.revokes.begin(
+                ec,
+                Revoke {
+                    pd: domain,
+                    range,
+                    own,
+                },
+            ),
+            Deed::Returns => self.revokes.end(ec),
+            _ => {}
+        }
+    }
+
+    /// The execution context does a deed that is not over, in the room that was made.
+    pub(crate) fn perform(&mut self, ec: u32, deed: Deed)
+        requires there { IsSome (context_at (state_of self.old) ec) }
+        requires acts { acts (state_of self.old).contexts ec ≡ true }
+        requires counted { IsCounted (state_of self.old) }
+        requires fits { DeedFits (state_of self.old) ec deed }
+        requires left { is_done_when_decided deed ≡ false }
+        requires free { TakesFree (state_of self.old) (pd_of (state_of self.old) ec) deed }
+        requires room { HasRoomFor (pd_of (state_of self.old) ec) deed self.old }
+        requires few { length self.old.queues.all.entries ≤ length self.old.objects.items }
+        requires places { BeginsWithin self.old.revokes deed }
+        ensures done { state_of self.new ≡ done (state_of self.old) ec deed }
+        ensures queues { self.new.queues.all ≡ schedule_after (state_of self.old) ec self.old.queues.all deed }
+        ensures revokes { self.new.revokes.list ≡ revokes_after (pd_of (state_of self.old) ec) ec deed self.old.revokes.list }
+        ensures places { self.new.revokes.places ≡ self.old.revokes.places }
+        ensures log { self.new.reach.room ≡ self.old.reach.room }
+    {
+        match deed {
+            Deed::Calls {
+                handler,
+                ip,
+                identifier,
+                ..
+            } => self.send(ec, handler, ip, identifier),
+            Deed::Helps { handler } => help(&mut self.contexts, ec, handler),
+            Deed::Waits {
+                handler,
+                reason,
+                q0,
+                q1,
+            } => wait(&mut self.contexts, ec, handler, reason, q0, q1),
+            Deed::Sends {
+                handler,
+                ip,
+                identifier,
+                mtd,
+                ..
+            } => self.send_exit(ec, handler, ip, identifier, mtd),
+            Deed::Aborts { handler, mark } => self.abort(ec, handler, mark),
+            Deed::Replies {
+                caller,
+                mark,
+                items,
+            } => self.reply_to(ec, caller, mark, items),
+            Deed::Ups { sm, woken } => self.raise_counter(ec, sm, woken),
+            Deed::Downs { sm } => self.lower_counter(ec, sm),
+            Deed::Blocks { sm, until } => self.block(ec, sm, until),
+            Deed::Finishes {
+                item,
+                words,
+                after,
+                ..
+            } => self.finish(ec, item, words, after),
+            _ => self.perform_alone(ec, deed),
+        }
+    }
+}

@@ -1,0 +1,60 @@
+ghost use Rattle.std.specs.Prelude.{◌≡◌, ◌<◌, IsSome};
+ghost use Rattle.nova_model.specs.Deeds.{after_item, done, followed, told, with_context};
+ghost use Rattle.nova_model.specs.State.{context_at, context};
+ghost use Rattle.nova_model.specs.declared.transfer.ItemEnd.{ItemEnd};
+ghost use Rattle.nova_deeds.specs.Acts.{IsSequel, IsToldThere};
+ghost use Rattle.nova_deeds.specs.Counted.{AreTables};
+ghost use Rattle.nova_turn.specs.Going.{KeepsRest};
+ghost use Rattle.nova_turn.specs.Parts.{state_of};
+
+use crate::parts::Parts;
+use nova_deeds::changes::transfer_after;
+use nova_model::{Deed, ItemWords, Sequel, State};
+use nova_range::Status;
+
+impl Parts {
+    /// The words of an item that ended are written where they are to be found.
+    fn tell(&mut self, item: u32, words: Option<ItemWords>)
+        requires item { item < 62 }
+        requires there { IsToldThere (state_of self.old) words }
+        requires tables { AreTables (state_of self.old) }
+        ensures told { state_of self.new ≡ told (state_of self.old) item words }
+        ensures rest { KeepsRest self.old self.new }
+    {
+        if let Some(ItemWords { ec, first, second }) = words {
+            let mut message = self.message(ec);
+            message.set_item(item, first, second);
+            self.set_message(ec, &message);
+        }
+    }
+
+    /// What follows an item that ended.
+    fn follow(&mut self, ec: u32, item: u32, after: Sequel)
+        requires there { IsSome (context_at (state_of self.old) ec) }
+        requires sequel { IsSequel (state_of self.old) ec item after }
+        ensures followed { state_of self.new ≡ followed (with_context (state_of self.old) ec (after_item (context (state_of self.old) ec) after)) ec after }
+        ensures rest { KeepsRest self.old self.new }
+    {
+        match after {
+            Sequel::Item => {}
+            Sequel::Opened => self.contexts.answer(ec, Status::Success, None),
+            Sequel::Taken => self.contexts.set_state(ec, State::Ready),
+            Sequel::Replied(caller, mark) => self.complete(ec, caller, mark),
+        }
+    }
+
+    /// An item ended: its words are written, and then the next item follows, or what ends it all.
+    pub(crate) fn finish(&mut self, ec: u32, item: u32, words: Option<ItemWords>, after: Sequel)
+        requires there { IsSome (context_at (state_of self.old) ec) }
+        requires item { item < 62 }
+        requires words { IsToldThere (state_of self.old) words }
+        requires sequel { IsSequel (state_of self.old) ec item after }
+        requires tables { AreTables (state_of self.old) }
+        ensures finished { (end : ItemEnd) → state_of self.new ≡ done (state_of self.old) ec (Deed.Finishes item end words after) }
+        ensures rest { KeepsRest self.old self.new }
+    {
+        self.tell(item, words);
+        self.follow(ec, item, after);
+        self.set_transfer(ec, transfer_after(item, after));
+    }
+}
