@@ -57,7 +57,7 @@ fn run_on(steps: &mut Steps, known: &mut Vec<Known>, most: u64) -> u64
         regs: steps.regs,
         copies,
     };
-    let mut readings = Readings::new(alloc);
+    let mut readings = Readings::new();
     let ran = burst.run(&mut readings, most);
     steps.count += ran;
     steps.regs = burst.regs;

@@ -6,6 +6,7 @@ pub mod Waiting
 pub mod Untouched
 pub mod Donors
 pub mod Steps
+pub mod Places
 pub mod Acting
 pub mod Changes
 pub mod Admitted

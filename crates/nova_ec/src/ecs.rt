@@ -5,13 +5,13 @@ ghost use Rattle.nova_model.specs.State.{ec_in, ec_of, with_ec};
 ghost use Rattle.nova_model.specs.Calls.{is_same_cpu, is_parked};
 ghost use Rattle.nova_model.specs.Edges.{cpu_in, is_dead, state_in, edge_of, edge, acts, stays, met, chase, circle, MayWait, MayServe, AreEdges, AreCallers};
 ghost use Rattle.nova_model.specs.Deeds.{answered, parked, serving};
-ghost use Rattle.nova_ec.specs.Tables.{Steps, StepsIn, MayBecome, IsServing, with_items, actor_in};
+ghost use Rattle.nova_ec.specs.Tables.{Steps, StepsIn, IsServing, with_items, actor_in};
 ghost use Rattle.nova_ec.specs.Waiting.{IsAmong};
 ghost use Rattle.nova_model.specs.declared.context.EcState.{EcState};
 ghost use Rattle.nova_model.specs.declared.context.State.TheVariants.{Ready};
 
-use crate::registers::{answered_registers, entered};
-use crate::states::{acts_by, edge_of, entry_state};
+use crate::contexts::{begin, end_hypercall};
+use crate::states::{acts_by, edge_of};
 use crate::waiters::{Waiters, join, leave};
 use nova_model::{EcState, Mark, State};
 use nova_range::Status;
@@ -65,7 +65,7 @@ impl Ecs {
             items: Vec::new(alloc),
             waiters: Vec::new(alloc),
             spare: 0,
-            readings: Readings::new(alloc),
+            readings: Readings::new(),
         }
     }
 
@@ -92,7 +92,7 @@ impl Ecs {
             items,
             waiters,
             spare: 0,
-            readings: Readings::new(alloc),
+            readings: Readings::new(),
         })
     }
 
@@ -263,17 +263,6 @@ impl Ecs {
         matches!(self.get(ec), Some(context) if matches!(context.state, State::Parked))
     }
 
-    /// An execution context changes, but for its processor.
-    fn put(&mut self, ec: u32, context: EcState)
-        requires { MayBecome self.old.items ec context }
-        ensures { self.new ≡ with_items self.old (with_ec self.old.items ec context) }
-    {
-        let left = self.edge(ec);
-        leave(&mut self.waiters, left, ec);
-        join(&mut self.waiters, edge_of(context.state), ec);
-        self.items[ec as usize] = Some(context);
-    }
-
     /// An execution context is about to do another thing. Where it is to wait for a handler, that one
     /// is of the same processor, and no circle closes.
     pub fn set_state(&mut self, ec: u32, state: State)
@@ -281,9 +270,12 @@ impl Ecs {
         requires edge { MayWait self.old.items ec (edge_of state) }
         ensures { self.new ≡ with_items self.old (with_ec self.old.items ec (record (ec_of self.old.items ec) { state = state })) }
     {
-        let mut context = *self.context(ec);
+        let Some(context) = &mut self.items[ec as usize] else {
+            unreachable!();
+        };
+        leave(&mut self.waiters, edge_of(context.state), ec);
+        join(&mut self.waiters, edge_of(state), ec);
         context.state = state;
-        self.put(ec, context);
     }
 
     /// Other registers.
@@ -291,9 +283,10 @@ impl Ecs {
         requires { IsSome (ec_in self.old.items ec) }
         ensures { self.new ≡ with_items self.old (with_ec self.old.items ec (record (ec_of self.old.items ec) { regs = regs.now })) }
     {
-        let mut context = *self.context(ec);
+        let Some(context) = &mut self.items[ec as usize] else {
+            unreachable!();
+        };
         context.regs = *regs;
-        self.put(ec, context);
     }
 
     /// Whether a recall is asked for.
@@ -301,9 +294,10 @@ impl Ecs {
         requires { IsSome (ec_in self.old.items ec) }
         ensures { self.new ≡ with_items self.old (with_ec self.old.items ec (record (ec_of self.old.items ec) { recall = recall })) }
     {
-        let mut context = *self.context(ec);
+        let Some(context) = &mut self.items[ec as usize] else {
+            unreachable!();
+        };
         context.recall = recall;
-        self.put(ec, context);
     }
 
     /// The caller that an execution context serves from now on: one that is there and of its processor, or
@@ -313,9 +307,10 @@ impl Ecs {
         requires caller { MayServe self.old.items ec caller }
         ensures { self.new ≡ with_items self.old (with_ec self.old.items ec (record (ec_of self.old.items ec) { caller = caller })) }
     {
-        let mut context = *self.context(ec);
+        let Some(context) = &mut self.items[ec as usize] else {
+            unreachable!();
+        };
         context.caller = caller;
-        self.put(ec, context);
     }
 
     /// The hypercall of an execution context ends with a status, and perhaps a value: its next is the
@@ -324,10 +319,11 @@ impl Ecs {
         requires { IsSome (ec_in self.old.items ec) }
         ensures { self.new ≡ with_items self.old (with_ec self.old.items ec (answered (ec_of self.old.items ec) status value)) }
     {
-        let mut context = *self.context(ec);
-        context.state = State::Ready;
-        context.regs = answered_registers(context.regs, status, value);
-        self.put(ec, context);
+        let Some(context) = &mut self.items[ec as usize] else {
+            unreachable!();
+        };
+        leave(&mut self.waiters, edge_of(context.state), ec);
+        end_hypercall(context, status, value);
     }
 
     /// An execution context whose exit is answered goes on, with these registers.
@@ -335,10 +331,12 @@ impl Ecs {
         requires { IsSome (ec_in self.old.items ec) }
         ensures { self.new ≡ with_items self.old (with_ec self.old.items ec (record (ec_of self.old.items ec) { regs = regs.now; state = Ready })) }
     {
-        let mut context = *self.context(ec);
-        context.state = State::Ready;
+        let Some(context) = &mut self.items[ec as usize] else {
+            unreachable!();
+        };
+        leave(&mut self.waiters, edge_of(context.state), ec);
         context.regs = *regs;
-        self.put(ec, context);
+        context.state = State::Ready;
     }
 
     /// A handler waits for a call, and serves no caller.
@@ -346,10 +344,12 @@ impl Ecs {
         requires { IsSome (ec_in self.old.items ec) }
         ensures { self.new ≡ with_items self.old (with_ec self.old.items ec (parked (ec_of self.old.items ec))) }
     {
-        let mut context = *self.context(ec);
+        let Some(context) = &mut self.items[ec as usize] else {
+            unreachable!();
+        };
+        leave(&mut self.waiters, edge_of(context.state), ec);
         context.state = State::Parked;
         context.caller = None;
-        self.put(ec, context);
     }
 
     /// A handler begins the call or the exit of a caller of its processor: at an instruction pointer, with a
@@ -359,11 +359,11 @@ impl Ecs {
         requires caller { MayServe self.old.items ec (Some (caller, mark)) }
         ensures { self.new ≡ with_items self.old (with_ec self.old.items ec (serving (ec_of self.old.items ec) caller mark ip identifier items)) }
     {
-        let mut context = *self.context(ec);
-        context.state = entry_state(items);
-        context.regs = entered(context.regs, ip, identifier);
-        context.caller = Some((caller, mark));
-        self.put(ec, context);
+        let Some(context) = &mut self.items[ec as usize] else {
+            unreachable!();
+        };
+        leave(&mut self.waiters, edge_of(context.state), ec);
+        begin(context, caller, mark, ip, identifier, items);
     }
 
     /// One instruction of an execution context over a bus. A raise leaves its registers, and the bus,

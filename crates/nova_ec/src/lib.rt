@@ -1,9 +1,9 @@
 //! Execution contexts at work, and whom they wait for.
 #![tactic(auto)]
 
+mod contexts;
 pub mod ecs;
 pub mod laws;
-mod registers;
 mod states;
 pub mod waiters;
 

@@ -5,6 +5,7 @@ ghost use Rattle.nova_model.specs.declared.context.State.TheVariants.{Granting, 
 use nova_model::State;
 
 /// The handler that an execution context in this state waits for.
+#[inline(always)]
 pub(crate) fn edge_of(state: State) -> Option<u32>
     ensures { result ≡ edge_of state }
 {
@@ -45,9 +46,9 @@ pub(crate) fn acts_by(state: State, handler: Option<State>) -> bool
 
 /// What a handler is about to do at the beginning of a call or an exit: it takes the items first, where
 /// there are any.
+#[inline(always)]
 pub(crate) fn entry_state(items: bool) -> State
-    ensures state { result ≡ (if items then Granting None else Ready) }
-    ensures edge { edge_of result ≡ None }
+    ensures { result ≡ (if items then Granting None else Ready) }
 {
     if items {
         State::Granting(None)

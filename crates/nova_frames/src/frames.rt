@@ -167,6 +167,7 @@ impl Frames {
     /// first (RV32I manual, stores). To a console, a store at offset 0 enters the low byte in the
     /// log, and any other does nothing. The frame exists, the offset is a multiple of the width, and
     /// the log has room.
+    #[inline(always)]
     pub fn store(&mut self, frame: u32, offset: u32, width: u32, value: u32)
         requires there { frame < length self.old.memory.ram + self.old.consoles }
         requires width { IsWidth width }
@@ -191,6 +192,7 @@ impl Frames {
     }
 
     /// Enters the low byte of a value, stored to a console, in the log.
+    #[inline(never)]
     fn enter(&mut self, console: u32, value: u32)
         requires { 0 < self.old.room }
         ensures { self.new ≡ record self.old {

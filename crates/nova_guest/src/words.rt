@@ -19,6 +19,7 @@ pub fn read_word(bytes: &[u8], width: u32) -> u32
 }
 
 /// Writes the lowest 1, 2 or 4 bytes of a value to the front of a slice, the lowest byte first.
+#[inline(always)]
 pub fn write_word(bytes: &mut [u8], width: u32, value: u32)
     requires width { IsWidth width }
     requires there { width ≤ length bytes.old }

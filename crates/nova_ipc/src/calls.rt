@@ -32,10 +32,21 @@ pub fn admit(ecs: &Ecs, caller: u32, handler: u32, flag: bool) -> Admit
     Admit::Help
 }
 
+/// A call begins at a handler that takes it, once its message is copied. The caller is then `Calling` the
+/// handler. The handler serves the caller: it begins at `ip` with the portal's identifier in x10, and takes
+/// the items first, where there are any.
+#[tactic(auto, using(crate::proofs::Admits::send_edge, crate::proofs::Admits::handler_stays, crate::proofs::Admits::may_serve))]
+pub fn begin(ecs: &mut Ecs, caller: u32, handler: u32, ip: u32, id: u32, items: bool)
+    requires { admitted ecs.old.items caller handler false ≡ Send }
+    ensures { ecs.new ≡ with_items ecs.old (sent_among ecs.old.items caller handler ip id items) }
+{
+    ecs.set_state(caller, State::Calling(handler));
+    ecs.serve(handler, caller, Mark::Call, ip, id, items);
+}
+
 /// Sends a call to a handler that takes it. The message is copied: word 0, and the untyped words that
 /// it counts. The caller is then `Calling` the handler. The handler serves the caller: it begins at
 /// `ip` with the portal's identifier in x10, and takes the items first, where there are any.
-#[tactic(auto, using(crate::proofs::Admits::send_edge, crate::proofs::Admits::handler_stays, crate::proofs::Admits::may_serve))]
 pub fn send(ecs: &mut Ecs, from: &Utcb, to: &mut Utcb, caller: u32, handler: u32, ip: u32, id: u32)
     requires taken { admitted ecs.old.items caller handler false ≡ Send }
     requires counts { IsTrue (has_counts from.now) }
@@ -43,8 +54,7 @@ pub fn send(ecs: &mut Ecs, from: &Utcb, to: &mut Utcb, caller: u32, handler: u32
     ensures message { to.new ≡ copied from.now to.old }
 {
     to.copy_words(from);
-    ecs.set_state(caller, State::Calling(handler));
-    ecs.serve(handler, caller, Mark::Call, ip, id, from.has_items());
+    begin(ecs, caller, handler, ip, id, from.has_items());
 }
 
 /// A call without the flag found its handler busy: the caller is then `Helping` it, and nothing else

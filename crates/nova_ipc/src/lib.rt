@@ -6,6 +6,6 @@ mod calls;
 pub mod laws;
 mod replies;
 
-pub use calls::{admit, help, send};
+pub use calls::{admit, begin, help, send};
 pub use nova_model::Admit;
 pub use replies::{abort, answer, complete};

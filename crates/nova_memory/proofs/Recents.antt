@@ -1,5 +1,5 @@
 -- What is remembered of pages that were looked up is what a search finds.
-use Rattle.std.proofs.Common.{◌≡◌, ℕ, ◌+◌, ◌-◌, ◌<◌, ◌≤◌, List, refl, ap, ap₂, sym, ◌∙◌, arith}
+use Rattle.std.proofs.Common.{◌≡◌, ℕ, ◌+◌, ◌-◌, ◌<◌, ◌≤◌, List, refl, ap, sym, ◌∙◌, arith}
 use Rattle.std.specs.Prelude.{◌≢◌, Bool, true, false, ◌==◌, ◌&&◌, ◌/◌, ◌^◌, if◌then◌else◌, is_some, length, Option, Some, None, IfSome, option_and_then, option_map}
 use Rattle.std.specs.List.{find}
 use Rattle.nova_guest.specs.Frames.{frame_with}
@@ -9,14 +9,9 @@ use Rattle.nova_model.specs.AddressSpaces.{frame_for, own_page}
 use Rattle.nova_model.specs.Delegations.{covers, page_in, reach}
 use Rattle.nova_model.specs.declared.delegation.Derivation.{Derivation}
 use Rattle.nova_memory.specs.Reach.{LeadToFrames, ReachState, own_of, reached}
-use Rattle.nova_memory.specs.Recents.{AreRecent, IsRecent}
+use Rattle.nova_memory.specs.Recents.{IsRecent}
 use Rattle.nova_memory.specs.declared.recent.Recent.{Recent}
-use Rattle.nova_memory.specs.declared.recent.Recents.{Recents}
 use Rattle.nova_memory.proofs.Placed.{page_found}
-
--- of none nothing is said
-pub none_recent : (list : List Derivation) → AreRecent list (record { fetched = record { pd = 0; page = 1048576; frame = 0 }; loaded = record { pd = 0; page = 1048576; frame = 0 }; stored = record { pd = 0; page = 1048576; frame = 0 } })
-none_recent list = record { fetched = λ low. absurd (omega (arith, low)); loaded = λ low. absurd (omega (arith, low)); stored = λ low. absurd (omega (arith, low)) }
 
 -- a page that isn't a thread's own
 passes : (own : Option (List ℕ)) (page : ℕ) → page ≢ own_page → (is_some own && (page == own_page)) ≡ false
@@ -32,20 +27,24 @@ there_by frames right page frame (Some d) leads is = by_right (allows d.rights r
     by_right true is = let same : d.target + (page - d.base) ≡ frame = cc in let less = leads.1 in omega (arith, same, less)
     by_right false is = absurd (cc)
 
-pub hit : (s : ReachState) (right address : ℕ) (r : Recent) → address < 2 ^ 32 → r.page ≡ address / 4096 → r.pd ≡ s.pd → LeadToFrames (length s.memory.ram + s.consoles) s.nodes.delegations.list →
-    IsRecent s.nodes.delegations.list right r → (frame_for (reached s) right address ≡ Some r.frame) × (r.frame < length s.memory.ram + s.consoles)
-hit s right address r low page pd leads is =
-    let on = is (omega (arith, low, page)) in
-    let other : address / 4096 ≢ own_page = λ same. on.own (page ∙ same) in (
+-- the page that was the last
+module _ (s : ReachState) (right address : ℕ) (r : Recent) (low : address < 2 ^ 32) (page : r.page ≡ address / 4096) (is : IsRecent s.nodes.delegations.list s.pd right r) where
+  pub hit : frame_for (reached s) right address ≡ Some r.frame
+  hit =
+      let on = is (omega (arith, low, page)) in
+      let other : address / 4096 ≢ own_page = λ same. on.own (page ∙ same) in
       ap (λ (t : Bool). option_and_then (frame_with right) (if t then None else reach s.nodes.delegations.list s.pd (address / 4096))) (passes (own_of s) (address / 4096) other)
-          ∙ (ap₂ (λ (d p : ℕ). option_and_then (frame_with right) (reach s.nodes.delegations.list d p)) (sym pd) (sym page) ∙ on.frame),
-      there_by (length s.memory.ram + s.consoles) right r.page r.frame (find (covers Mem r.pd r.page) s.nodes.delegations.list)
-          (page_found (length s.memory.ram + s.consoles) r.pd r.page s.nodes.delegations.list (find (covers Mem r.pd r.page) s.nodes.delegations.list) refl leads) on.frame,
-    )
+      ∙ (ap (λ (p : ℕ). option_and_then (frame_with right) (reach s.nodes.delegations.list s.pd p)) (sym page) ∙ on.frame)
+
+  pub hit_there : LeadToFrames (length s.memory.ram + s.consoles) s.nodes.delegations.list → r.frame < length s.memory.ram + s.consoles
+  hit_there leads =
+      let on = is (omega (arith, low, page)) in
+      there_by (length s.memory.ram + s.consoles) right r.page r.frame (find (covers Mem s.pd r.page) s.nodes.delegations.list)
+      (page_found (length s.memory.ram + s.consoles) s.pd r.page s.nodes.delegations.list (find (covers Mem s.pd r.page) s.nodes.delegations.list) refl leads) on.frame
 
 -- what a search found may be remembered
 pub learned : (s : ReachState) (right address frame : ℕ) → frame_for (reached s) right address ≡ Some frame → address / 4096 ≢ own_page →
-    IsRecent s.nodes.delegations.list right (record { pd = s.pd; page = address / 4096; frame = frame })
+    IsRecent s.nodes.delegations.list s.pd right (record { page = address / 4096; frame = frame })
 learned s right address frame is other = λ low. record {
   own = other;
   frame = sym (ap (λ (t : Bool). option_and_then (frame_with right) (if t then None else reach s.nodes.delegations.list s.pd (address / 4096))) (passes (own_of s) (address / 4096) other)) ∙ is;

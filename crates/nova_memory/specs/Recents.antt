@@ -1,5 +1,5 @@
--- The pages that were looked up last, with the frames that they lead to.
-use Rattle.std.specs.Prelude.{◌≡◌, ◌≢◌, ℕ, ◌<◌, ◌^◌, List, Option, Some, option_and_then}
+-- The pages of a protection domain that were looked up last, with the frames that they lead to.
+use Rattle.std.specs.Prelude.{◌≡◌, ◌≢◌, ℕ, ◌<◌, ◌^◌, List, Some, option_and_then}
 use Rattle.nova_guest.specs.Frames.{frame_with}
 use Rattle.nova_range.specs.Rights.{execute_right, read_right, write_right}
 use Rattle.nova_model.specs.AddressSpaces.{own_page}
@@ -8,16 +8,16 @@ use Rattle.nova_model.specs.declared.delegation.Derivation.{Derivation}
 use Rattle.nova_memory.specs.declared.recent.Recent.{Recent}
 use Rattle.nova_memory.specs.declared.recent.Recents.{Recents}
 
--- a page that isn't a thread's own leads to its frame, with a right
-pub record LeadsOn (list : List Derivation) (right : ℕ) (r : Recent) : Type 0 where
+-- a page of a protection domain that isn't a thread's own leads to its frame, with a right
+pub record LeadsOn (list : List Derivation) (pd right : ℕ) (r : Recent) : Type 0 where
   pub own : r.page ≢ own_page
-  pub frame : option_and_then (frame_with right) (reach list r.pd r.page) ≡ Some r.frame
+  pub frame : option_and_then (frame_with right) (reach list pd r.page) ≡ Some r.frame
 
 -- unless none was looked up yet
-abbrev pub IsRecent : List Derivation → ℕ → Recent → Type 0
-IsRecent list right r = r.page < 2 ^ 20 → LeadsOn list right r
+abbrev pub IsRecent : List Derivation → ℕ → ℕ → Recent → Type 0
+IsRecent list pd right r = r.page < 2 ^ 20 → LeadsOn list pd right r
 
 pub record AreRecent (list : List Derivation) (r : Recents) : Type 0 where
-  pub fetched : IsRecent list execute_right r.fetched
-  pub loaded : IsRecent list read_right r.loaded
-  pub stored : IsRecent list write_right r.stored
+  pub fetched : IsRecent list r.pd execute_right r.fetched
+  pub loaded : IsRecent list r.pd read_right r.loaded
+  pub stored : IsRecent list r.pd write_right r.stored

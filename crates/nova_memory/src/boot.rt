@@ -7,7 +7,7 @@ ghost use Rattle.nova_memory.specs.Reach.{page_range, selector_range};
 
 use crate::messages::Messages;
 use crate::reach::Reach;
-use crate::recent::NONE;
+use crate::recent::Recents;
 use crate::sights::Sights;
 use bitflags::Flags;
 use nova_frames::Frames;
@@ -144,10 +144,10 @@ impl Reach {
             last: None,
             sights,
             ec: 1,
-            pd: 0,
             is_thread: true,
             written: None,
-            recents: NONE,
+            recents: Recents::new(0),
+            others: Recents::new(0),
         })
     }
 }

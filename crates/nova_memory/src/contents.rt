@@ -1,4 +1,5 @@
-ghost use Rattle.std.specs.Prelude.{◌≡◌, ◌≤◌, ◌<◌, ◌*◌, ◌+◌, ◌-◌, [], ◌∷◌, ◌++◌, length, max, slice_get, slice_set, Some, IsOk, OnOk, OnErr};
+ghost use Rattle.std.specs.Prelude.{◌≡◌, ◌≤◌, ◌<◌, ◌*◌, ◌+◌, ◌-◌, [], ◌∷◌, ◌++◌, length, max, slice_get, slice_set, true, Some, IsOk, OnOk, OnErr};
+ghost use Rattle.nova_utcb.specs.Messages.{copied, has_counts};
 ghost use Rattle.nova_model.specs.Boot.{laid};
 ghost use Rattle.nova_model.specs.State.{entry, message_in};
 
@@ -85,5 +86,15 @@ impl Reach {
         ensures { self.new ≡ record self.old { messages = record self.old.messages { items = slice_set self.old.messages.items ec (Some words.now) } } }
     {
         self.messages.set(ec, words);
+    }
+
+    /// Copies the message of an execution context to another one: word 0, and the untyped words that it counts. All
+    /// other words stay. The counts aren't `BadCounts`.
+    pub fn pass_message(&mut self, from: u32, to: u32)
+        requires counts { has_counts (message_in (entry (slice_get self.old.messages.items from))) ≡ true }
+        requires there { to < length self.old.messages.items }
+        ensures { self.new ≡ record self.old { messages = record self.old.messages { items = slice_set self.old.messages.items to (Some (copied (message_in (entry (slice_get self.old.messages.items from))) (message_in (entry (slice_get self.old.messages.items to))))) } } }
+    {
+        self.messages.pass(from, to);
     }
 }

@@ -11,7 +11,6 @@ ghost use Rattle.nova_memory.specs.Reach.{selector_range};
 ghost use Rattle.nova_revoke.specs.Runners.{busy_under};
 
 use crate::reach::Reach;
-use crate::recent::NONE;
 use nova_delegate::{PartDone, part, translate};
 use nova_model::{Derivation, Job, Kind, Rights};
 use nova_range::Range;
@@ -64,7 +63,8 @@ impl Reach {
             order: 0,
         };
         self.sights.forget();
-        self.recents = NONE;
+        self.recents.forget();
+        self.others.forget();
         self.nodes.root(pd, place, rights, object);
     }
 
@@ -108,7 +108,8 @@ impl Reach {
         ensures log { self.new.room ≡ self.old.room }
     {
         self.sights.forget();
-        self.recents = NONE;
+        self.recents.forget();
+        self.others.forget();
         part(&mut self.nodes, job, revokes)
     }
 

@@ -1,5 +1,5 @@
-ghost use Rattle.std.specs.Prelude.{◌≡◌, ◌-◌, ◌<◌, ◌≤◌, ◌%◌, ◌*◌, ◌^◌, [], ◌∷◌, ◌++◌, length, max, slice_set, slice_get, is_some, IsSome, false, Some, IfOk, IsOk, OnOk, OnErr, option_map};
-ghost use Rattle.nova_utcb.specs.Messages.{loaded, stored};
+ghost use Rattle.std.specs.Prelude.{◌≡◌, ◌-◌, ◌<◌, ◌≤◌, ◌%◌, ◌*◌, ◌^◌, [], ◌∷◌, ◌++◌, length, max, slice_set, slice_get, is_some, IsSome, true, false, Some, IfOk, IsOk, OnOk, OnErr, option_map};
+ghost use Rattle.nova_utcb.specs.Messages.{copied, has_counts, loaded, stored};
 ghost use Rattle.nova_utcb.specs.Pages.{IsWidth};
 ghost use Rattle.nova_model.specs.State.{entry, message_in, no_words};
 
@@ -47,6 +47,55 @@ fn stored_at_birth(offset: u32, width: u32, value: u32) -> Utcb
     let mut words = Utcb::new();
     words.store(offset, width, value);
     words
+}
+
+/// Copies a message over the words of an entry: word 0, and the untyped words that it counts. An entry without
+/// words has those at birth.
+#[inline(always)]
+fn copy_message(from: &Option<Utcb>, to: &mut Option<Utcb>)
+    requires { has_counts (message_in from.now) ≡ true }
+    ensures { to.new ≡ Some (copied (message_in from.now) (message_in to.old)) }
+{
+    if let Some(from) = from {
+        if let Some(to) = to {
+            to.copy_words(from);
+            return;
+        }
+    }
+    copy_at_birth(from, to);
+}
+
+/// The same, where one of both has no words.
+#[inline(never)]
+fn copy_at_birth(from: &Option<Utcb>, to: &mut Option<Utcb>)
+    requires { has_counts (message_in from.now) ≡ true }
+    ensures { to.new ≡ Some (copied (message_in from.now) (message_in to.old)) }
+{
+    let mut words = to.unwrap_or(Utcb::new());
+    words.copy_words(&from.unwrap_or(Utcb::new()));
+    *to = Some(words);
+}
+
+/// Copies the message of an entry to one of a higher number.
+fn copy_up(items: &mut [Option<Utcb>], from: usize, to: usize)
+    requires counts { has_counts (message_in (entry (slice_get items.old from))) ≡ true }
+    requires order { from < to }
+    requires there { to < length items.old }
+    ensures { items.new ≡ slice_set items.old to (Some (copied (message_in (entry (slice_get items.old from))) (message_in (entry (slice_get items.old to))))) }
+{
+    let (front, back) = items.split_at_mut(to);
+    copy_message(&front[from], &mut back[0]);
+}
+
+/// Copies the message of an entry to one of a lower number.
+fn copy_down(items: &mut [Option<Utcb>], from: usize, to: usize)
+    requires counts { has_counts (message_in (entry (slice_get items.old from))) ≡ true }
+    requires order { to < from }
+    requires there { from < length items.old }
+    ensures { items.new ≡ slice_set items.old to (Some (copied (message_in (entry (slice_get items.old from))) (message_in (entry (slice_get items.old to))))) }
+{
+    let (front, back) = items.split_at_mut(from);
+    copy_message(&back[0], &mut front[to]);
 }
 
 impl Messages {
@@ -112,6 +161,34 @@ impl Messages {
         ensures { self.new ≡ record self.old { items = slice_set self.old.items ec (Some words.now) } }
     {
         self.items[ec as usize] = Some(*words);
+    }
+
+    /// Copies the message of a number to one that has an entry: word 0, and the untyped words that it counts. All
+    /// other words stay. The counts aren't `BadCounts`.
+    pub fn pass(&mut self, from: u32, to: u32)
+        requires counts { has_counts (message_in (entry (slice_get self.old.items from))) ≡ true }
+        requires there { to < length self.old.items }
+        ensures { self.new ≡ record self.old { items = slice_set self.old.items to (Some (copied (message_in (entry (slice_get self.old.items from))) (message_in (entry (slice_get self.old.items to))))) } }
+    {
+        if from < to {
+            copy_up(&mut self.items, from as usize, to as usize);
+        } else if to < from && (from as usize) < self.items.len() {
+            copy_down(&mut self.items, from as usize, to as usize);
+        } else {
+            self.pass_by_value(from, to);
+        }
+    }
+
+    /// The same, where both are one number or the first has no entry.
+    #[inline(never)]
+    fn pass_by_value(&mut self, from: u32, to: u32)
+        requires counts { has_counts (message_in (entry (slice_get self.old.items from))) ≡ true }
+        requires there { to < length self.old.items }
+        ensures { self.new ≡ record self.old { items = slice_set self.old.items to (Some (copied (message_in (entry (slice_get self.old.items from))) (message_in (entry (slice_get self.old.items to))))) } }
+    {
+        let mut words = self.get(to);
+        words.copy_words(&self.get(from));
+        self.set(to, &words);
     }
 
     /// What a load finds in the words of a number, which are all 0 where it has none. The width is 1, 2 or

@@ -10,7 +10,7 @@ ghost use Rattle.nova_memory.specs.Previews.{entered};
 ghost use Rattle.nova_memory.specs.Reach.{ReachState, loaded, reached, stored, takes};
 
 use crate::messages::Messages;
-use crate::recent::{NONE, Recent, Recents, frame_of};
+use crate::recent::{Recent, Recents, frame_of};
 use crate::sights::Sights;
 use bitflags::Flags;
 use nova_frames::Frames;
@@ -28,8 +28,9 @@ pub(crate) const OWN_PAGE: u32 = 0xfffff;
 const MESSAGE_SIZE: u32 = 512;
 
 /// What an instruction reaches: the frames, through the derivations of the protection domain of the
-/// execution context that acts, and the message words of one that is a thread. The last pages to fetch from, to load from and to store to
-/// are looked at first, then the derivation of the page that was looked up last, and who sees a frame that was stored to is remembered.
+/// execution context that acts, and the message words of one that is a thread. The domain's last pages to fetch from, to load from and to
+/// store to are looked at first, then the derivation of the page that was looked up last, and who sees a frame that was stored to is
+/// remembered.
 #[derive(Drop)]
 pub struct Reach {
     pub(crate) frames: Frames,
@@ -38,11 +39,13 @@ pub struct Reach {
     pub(crate) last: Option<Derivation>,
     pub(crate) sights: Sights,
     pub(crate) ec: u32,
-    pub(crate) pd: u32,
     pub(crate) is_thread: bool,
     /// The frame that the last store went to; none after one to message words.
     pub(crate) written: Option<u32>,
+    /// Pages of the protection domain of the execution context that acts.
     pub(crate) recents: Recents,
+    /// Pages of the protection domain that was left last.
+    pub(crate) others: Recents,
 }
 
 impl Model for Reach {
@@ -58,14 +61,14 @@ impl Model for Reach {
       memory = r.frames.memory;
       messages = r.messages;
       ec = r.ec;
-      pd = r.pd;
+      pd = r.recents.pd;
       is_thread = r.is_thread;
       written = r.written;
       consoles = r.frames.consoles;
       room = r.frames.room;
     } };
 
-    ghost invariant = { λ r. LeadToFrames (length r.frames.memory.ram + r.frames.consoles) r.nodes.delegations.list × (IfSome r.last (IsFound r.nodes.delegations.list) × (AreSeen r.nodes.delegations.list r.sights × AreRecent r.nodes.delegations.list r.recents)) };
+    ghost invariant = { λ r. LeadToFrames (length r.frames.memory.ram + r.frames.consoles) r.nodes.delegations.list × (IfSome r.last (IsFound r.nodes.delegations.list) × (AreSeen r.nodes.delegations.list r.sights × (AreRecent r.nodes.delegations.list r.recents × AreRecent r.nodes.delegations.list r.others))) };
 }
 
 /// Whether a derivation lies in the memory space of a protection domain and covers a page.
@@ -119,9 +122,11 @@ impl Reach {
         ensures { self.new ≡ record self.old { ec = ec; pd = pd; is_thread = is_thread; written = None } }
     {
         self.ec = ec;
-        self.pd = pd;
         self.is_thread = is_thread;
         self.written = None;
+        if self.recents.pd != pd {
+            self.change_domain(pd);
+        }
     }
 
     /// Whether the present instruction stored to a frame.
@@ -150,10 +155,10 @@ impl Reach {
             last: self.last,
             sights,
             ec: self.ec,
-            pd: self.pd,
             is_thread: self.is_thread,
             written: self.written,
-            recents: NONE,
+            recents: Recents::new(self.recents.pd),
+            others: Recents::new(self.recents.pd),
         })
     }
 
@@ -170,7 +175,7 @@ impl Reach {
         ensures there { IfSome result (λ p. p.frame < length self.now.memory.ram + self.now.consoles) }
     {
         let last = self.last.as_ref()?;
-        if covers(last, self.pd, page) {
+        if covers(last, self.recents.pd, page) {
             Some(page_in(last, page))
         } else {
             None
@@ -186,7 +191,7 @@ impl Reach {
         ensures few { length self.old.memory.ram + self.old.consoles ≤ 2 ^ 32 }
         ensures kept { self.new ≡ self.old }
     {
-        self.last = self.nodes.at(self.pd, Kind::Mem, page);
+        self.last = self.nodes.at(self.recents.pd, Kind::Mem, page);
         self.last
     }
 
@@ -237,7 +242,6 @@ impl Reach {
         let frame = self.frame_for(Rights::EXECUTE, address)?;
         if address / 4096 != OWN_PAGE {
             self.recents.fetched = Recent {
-                pd: self.pd,
                 page: address / 4096,
                 frame,
             };
@@ -252,7 +256,7 @@ impl Reach {
         ensures there { IfSome result (λ frame. frame < length self.old.memory.ram + self.old.consoles) }
         ensures kept { self.new ≡ self.old }
     {
-        if let Some(frame) = frame_of(&self.recents.fetched, self.pd, address) {
+        if let Some(frame) = frame_of(&self.recents.fetched, address) {
             return Some(frame);
         }
         self.fetch_elsewhere(address)
@@ -268,7 +272,6 @@ impl Reach {
         let frame = self.frame_for(Rights::READ, address)?;
         if address / 4096 != OWN_PAGE {
             self.recents.loaded = Recent {
-                pd: self.pd,
                 page: address / 4096,
                 frame,
             };
@@ -283,7 +286,7 @@ impl Reach {
         ensures there { IfSome result (λ frame. frame < length self.old.memory.ram + self.old.consoles) }
         ensures kept { self.new ≡ self.old }
     {
-        if let Some(frame) = frame_of(&self.recents.loaded, self.pd, address) {
+        if let Some(frame) = frame_of(&self.recents.loaded, address) {
             return Some(frame);
         }
         self.load_elsewhere(address)
@@ -299,7 +302,6 @@ impl Reach {
         let frame = self.frame_for(Rights::WRITE, address)?;
         if address / 4096 != OWN_PAGE {
             self.recents.stored = Recent {
-                pd: self.pd,
                 page: address / 4096,
                 frame,
             };
@@ -314,7 +316,7 @@ impl Reach {
         ensures there { IfSome result (λ frame. frame < length self.old.memory.ram + self.old.consoles) }
         ensures kept { self.new ≡ self.old }
     {
-        if let Some(frame) = frame_of(&self.recents.stored, self.pd, address) {
+        if let Some(frame) = frame_of(&self.recents.stored, address) {
             return Some(frame);
         }
         self.store_elsewhere(address)

@@ -3,7 +3,6 @@ ghost use Rattle.nova_model.specs.Revokes.{next_leaf, revoked};
 ghost use Rattle.nova_revoke.specs.Done.{done_of};
 
 use crate::reach::Reach;
-use crate::recent::NONE;
 use nova_revoke::{Revoke, RevokeDone, part};
 
 impl Reach {
@@ -18,7 +17,8 @@ impl Reach {
     {
         self.last = None;
         self.sights.forget();
-        self.recents = NONE;
+        self.recents.forget();
+        self.others.forget();
         part(&mut self.nodes, revoke)
     }
 }

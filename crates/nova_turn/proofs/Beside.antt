@@ -1,9 +1,9 @@
 -- One instruction on registers that lie beside the table of execution contexts.
-use Rattle.std.proofs.Common.{◌≡◌, ℕ, List, refl, ap, ap₂, sym, ◌∙◌, subst}
-use Rattle.std.specs.Prelude.{Option, Some, None, IsSome}
+use Rattle.std.proofs.Common.{◌≡◌, ℕ, refl, ap, ap₂, sym, ◌∙◌, subst}
+use Rattle.std.specs.Prelude.{Some, None, IsSome}
 use Rattle.std.proofs.lemmas.List.{set-set}
 use Rattle.rv_model.specs.Registers.{Registers}
-use Rattle.rv_model.specs.Step.{Once, Raised, Went, Store, one}
+use Rattle.rv_model.specs.Step.{Once, Raised, Went, one}
 use Rattle.rv_core.specs.Steps.{Follows, space_of}
 use Rattle.rv_core.specs.declared.outcome.Outcome.{Outcome}
 use Rattle.rv_core.specs.declared.outcome.Outcome.TheVariants.{Raise}

@@ -18,7 +18,7 @@ use Rattle.nova_model.specs.declared.transfer.Sequel.TheVariants.{Replied}
 use Rattle.nova_deeds.specs.StirCounts.{count_in, risen, risen_at, risen_from}
 use Rattle.nova_deeds.specs.Stirs.{is_seen, is_stirring}
 use Rattle.nova_deeds.proofs.StirTables.{risen_calm}
-use Rattle.nova_memory.specs.Sights.{AreViewers, domains_of, sees}
+use Rattle.nova_memory.specs.Sights.{AreViewers, domains_of}
 use Rattle.nova_memory.specs.declared.viewers.Viewers.{Viewers}
 use Rattle.nova_turn.specs.Homes.{AreOthers, AreOthersOf, AreSeers, AreStirred, HasCounts, Includes, home_of}
 use Rattle.nova_turn.specs.declared.tables.inventory.Numbers.{Numbers}

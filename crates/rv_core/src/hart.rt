@@ -12,7 +12,7 @@ use crate::outcome::{
     BREAKPOINT, ENVIRONMENT_CALL, FETCH_FAULT, ILLEGAL, LOAD_FAULT, MISALIGNED, Outcome,
     STORE_FAULT,
 };
-use crate::readings::{Reading, Readings};
+use crate::readings::Readings;
 use rv_model::{Mnemonic, Operands, Regs};
 
 /// On to the next instruction.
@@ -242,25 +242,6 @@ pub fn step<B: Bus>(regs: &mut Regs, bus: &mut B) -> Outcome
     execute(regs, bus, mnemonic, operands)
 }
 
-/// One instruction whose word is fetched and not remembered. Few are, so that it stays out of the code of each.
-#[inline(never)]
-fn step_anew<B: Bus>(regs: &mut Regs, bus: &mut B, readings: &mut Readings, word: u32) -> Outcome
-    requires room { B.room (B.state bus.old) }
-    ensures { let space = space_of B.fetched B.loaded B.takes (B.state bus.old) in
-        let once = decoded regs.old space word (instr_of word) in
-        Follows B.stored once regs.old (B.state bus.old) result regs.new (B.state bus.new) }
-{
-    let Some((mnemonic, operands)) = decoder::parts(word) else {
-        return raise(ILLEGAL, word, 0);
-    };
-    readings.remember(Reading {
-        word,
-        mnemonic,
-        operands,
-    });
-    execute(regs, bus, mnemonic, operands)
-}
-
 /// One instruction, as `step` does it. What words read as is remembered.
 #[inline(always)]
 #[tactic(auto, unfolding(rv_model::specs::Step::one))]
@@ -277,8 +258,8 @@ pub fn step_read<B: Bus>(regs: &mut Regs, bus: &mut B, readings: &mut Readings) 
     let Some(word) = bus.fetch(pc) else {
         return raise(FETCH_FAULT, pc, 0);
     };
-    let Some(reading) = readings.find(word) else {
-        return step_anew(regs, bus, readings, word);
+    let Some(reading) = readings.read(word) else {
+        return raise(ILLEGAL, word, 0);
     };
     execute(regs, bus, reading.mnemonic, reading.operands)
 }

@@ -1,10 +1,10 @@
-ghost use Rattle.std.specs.Prelude.{◌≡◌, ◌<◌, ◌^◌, Some, IfSome};
+ghost use Rattle.std.specs.Prelude.{◌≡◌, ◌<◌, ◌^◌, true, false, Some, None, IfSome};
 ghost use Rattle.rv_model.specs.Table.{instr_from};
 ghost use Rattle.rv_model.specs.Codes.{instr_of};
 ghost use Rattle.rv_core.specs.Rows.{HasRegisters};
 
+use crate::decoder;
 use rv_model::{Mnemonic, Operands};
-use std::alloc::Global;
 
 /// How many words are remembered.
 const PLACES: usize = 256;
@@ -19,16 +19,38 @@ pub(crate) struct Reading {
     pub ghost registers: { HasRegisters operands },
 }
 
+impl Reading {
+    /// Becomes the reading of a word, or answers false where that is no instruction. Few words are decoded, so that
+    /// this stays out of the code of each.
+    #[inline(never)]
+    fn learn(&mut self, word: u32) -> bool
+        ensures word { result ≡ true → self.new.word ≡ word }
+        ensures none { result ≡ false → instr_of word ≡ None }
+    {
+        let Some((mnemonic, operands)) = decoder::parts(word) else {
+            return false;
+        };
+        *self = Reading {
+            word,
+            mnemonic,
+            operands,
+        };
+        true
+    }
+}
+
 /// Words that were decoded, with what they read as, so that few are decoded twice. What a word reads as depends on
 /// the word alone, so that nothing has to be forgotten.
 #[derive(Drop)]
 pub struct Readings {
-    places: Vec<Reading>,
+    places: [Reading; PLACES],
 }
 
 /// The place of a word.
 #[inline(always)]
-fn place_of(word: u32) -> usize {
+fn place_of(word: u32) -> usize
+    ensures { result < PLACES }
+{
     (word.wrapping_mul(0x9e37_79b1) >> 24) as usize
 }
 
@@ -47,30 +69,24 @@ fn nothing() -> Reading {
 }
 
 impl Readings {
-    /// Nothing is remembered. Where memory is refused, nothing ever will be.
-    pub fn new(alloc: Global) -> Readings {
-        let mut places = Vec::new(alloc);
-        let _ = places.resize(PLACES, nothing());
-        Readings { places }
-    }
-
-    /// What a word reads as, where that is remembered.
-    #[inline(always)]
-    pub(crate) fn find(&self, word: u32) -> Option<&Reading>
-        ensures { IfSome result (λ r. r.now.word ≡ word) }
-    {
-        let place = self.places.get(place_of(word))?;
-        if place.word == word {
-            Some(place)
-        } else {
-            None
+    /// Nothing is remembered yet.
+    pub fn new() -> Readings {
+        Readings {
+            places: [nothing(); PLACES],
         }
     }
 
-    /// Remembers what a word reads as.
-    pub(crate) fn remember(&mut self, reading: Reading) {
-        if let Some(place) = self.places.get_mut(place_of(reading.word)) {
-            *place = reading;
+    /// What a word reads as, from now on remembered; nothing where it is no instruction.
+    #[inline(always)]
+    pub(crate) fn read(&mut self, word: u32) -> Option<&Reading>
+        ensures word { IfSome result (λ r. r.now.word ≡ word) }
+        ensures none { result ≡ None → instr_of word ≡ None }
+    {
+        let place = &mut self.places[place_of(word)];
+        if place.word == word || place.learn(word) {
+            Some(place)
+        } else {
+            None
         }
     }
 }

@@ -10,8 +10,9 @@ ghost use Rattle.nova_turn.specs.Parts.{state_of};
 
 use crate::parts::Parts;
 use nova_exit::write_back;
-use nova_ipc::{answer, complete, send};
+use nova_ipc::{begin, complete};
 use nova_model::{Admit, Deed, Mark, Sequel, State};
+use nova_utcb::Utcb;
 
 impl Parts {
     /// Its call is sent: the handler gets the message, and begins.
@@ -23,18 +24,9 @@ impl Parts {
         ensures sent { state_of self.new ≡ performed (state_of self.old) ec (Deed.Calls handler ip identifier (has_items (message (state_of self.old) ec))) }
         ensures rest { KeepsRest self.old self.new }
     {
-        let from = self.message(ec);
-        let mut to = self.message(handler);
-        send(
-            &mut self.contexts,
-            &from,
-            &mut to,
-            ec,
-            handler,
-            ip,
-            identifier,
-        );
-        self.set_message(handler, &to);
+        let items = self.has_items(ec);
+        self.pass_message(ec, handler);
+        begin(&mut self.contexts, ec, handler, ip, identifier, items);
     }
 
     /// A reply brings a caller who called its message; one who came by an exit gets none.
@@ -45,12 +37,7 @@ impl Parts {
         ensures rest { KeepsRest self.old self.new }
     {
         match mark {
-            Mark::Call => {
-                let from = self.message(ec);
-                let mut to = self.message(caller);
-                answer(&from, &mut to);
-                self.set_message(caller, &to);
-            }
+            Mark::Call => self.pass_message(ec, caller),
             Mark::Exit => {}
         }
     }
@@ -63,10 +50,10 @@ impl Parts {
     {
         match mark {
             Mark::Call => complete(&mut self.contexts, ec),
-            Mark::Exit => {
-                let message = self.message(ec);
-                write_back(&mut self.contexts, &message, ec);
-            }
+            Mark::Exit => match self.reach.words(ec) {
+                Some(words) => write_back(&mut self.contexts, words, ec),
+                None => write_back(&mut self.contexts, &Utcb::new(), ec),
+            },
         }
     }
 

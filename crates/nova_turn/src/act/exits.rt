@@ -26,7 +26,7 @@ impl Parts {
             state_of self.new ≡ performed (state_of self.old) ec (Deed.Sends handler ip identifier mtd reason q0 q1) }
         ensures rest { KeepsRest self.old self.new }
     {
-        let mut to = self.message(handler);
+        let mut to = self.reach.message(handler);
         send(
             &mut self.contexts,
             &mut to,

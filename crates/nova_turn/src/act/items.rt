@@ -22,7 +22,7 @@ impl Parts {
         ensures rest { KeepsRest self.old self.new }
     {
         if let Some(ItemWords { ec, first, second }) = words {
-            let mut message = self.message(ec);
+            let mut message = self.reach.message(ec);
             message.set_item(item, first, second);
             self.set_message(ec, &message);
         }

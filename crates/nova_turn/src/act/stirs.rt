@@ -133,7 +133,21 @@ impl Parts {
         }
     }
 
+    /// Counts a deed of an execution context for each virtual CPU for which it is an input from outside. Where there is none, turns pass
+    /// this by.
+    #[inline(never)]
+    pub(crate) fn stir_guests(&mut self, ec: u32, deed: Deed)
+        requires counted { HasCounts (state_of self.old) }
+        requires few { (g : ℕ) → IfSome (entry (slice_get (state_of self.old).stirs.guests g)) (λ n. n < 2 ^ 64 - 1) }
+        ensures counts { self.new.guests.counts ≡ risen_from (is_stirring (state_of self.old) self.old.reach.written ec deed) 0 self.old.guests.counts }
+        ensures rest { self.new ≡ record self.old { guests = self.new.guests } }
+    {
+        let guests = self.whom(ec, deed);
+        self.stir_these(ec, deed, guests);
+    }
+
     /// Counts what a deed that an execution context did is for virtual CPUs.
+    #[inline(always)]
     pub(crate) fn stir(&mut self, ec: u32, deed: Deed)
         requires counted { HasCounts (state_of self.old) }
         requires few { (g : ℕ) → IfSome (entry (slice_get (state_of self.old).stirs.guests g)) (λ n. n < 2 ^ 64 - 1) }
@@ -148,7 +162,8 @@ impl Parts {
         ensures cpus { self.new.cpus ≡ self.old.cpus }
         ensures log { self.new.reach.room ≡ self.old.reach.room }
     {
-        let guests = self.whom(ec, deed);
-        self.stir_these(ec, deed, guests);
+        if !self.guests.numbers().is_empty() {
+            self.stir_guests(ec, deed);
+        }
     }
 }

@@ -86,19 +86,6 @@ impl Parts {
         Ok(deed)
     }
 
-    /// Counts a store to a frame for the virtual CPUs for which it is an input. Few turns need it, so that it stays
-    /// out of the code of each.
-    #[inline(never)]
-    fn note_store(&mut self, ec: u32)
-        requires counted { HasCounts (state_of self.old) }
-        requires charged { IsToBeStirred (state_of self.old) }
-        requires turns { self.old.turns < 2 ^ 31 }
-        ensures shown { state_of self.new ≡ risen_in (state_of self.old) (is_stirring (state_of self.old) self.old.reach.written ec Deed.Steps) }
-        ensures rest { KeepsRest self.old self.new }
-    {
-        self.stir(ec, Deed::Steps);
-    }
-
     /// Counts what an instruction that went on is for virtual CPUs: it may be an input for one only where it stored to a frame.
     #[inline(always)]
     fn note_step(&mut self, ec: u32)
@@ -109,7 +96,7 @@ impl Parts {
         ensures rest { KeepsRest self.old self.new }
     {
         if self.reach.has_stored() && !self.guests.numbers().is_empty() {
-            self.note_store(ec);
+            self.stir_guests(ec, Deed::Steps);
         }
     }
 
@@ -144,7 +131,7 @@ impl Parts {
     /// their code.
     #[inline(never)]
     #[tactic(auto, unfolding(nova_model::specs::Turn::turn))]
-    fn settle(
+    pub fn settle(
         &mut self,
         cpu: u32,
         chosen: Chosen,

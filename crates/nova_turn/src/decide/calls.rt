@@ -19,20 +19,19 @@ impl Parts {
         ensures row { result ≡ call (state_of self.now) ec domain portal flag }
         ensures fits { IfOk result (IsToBeDone (state_of self.now) ec) }
     {
-        let message = self.message(ec);
-        if !message.has_counts() {
+        if !self.has_counts(ec) {
             return Err(Status::BadPar);
         }
         let pt = self.named(domain, ObjectType::Pt, Rights::CALL, portal)?;
-        let handler = self.handler_of(pt);
+        let (handler, ip, _) = self.portal(pt);
         match admit(&self.contexts, ec, handler, flag) {
             Admit::Refused(status) => Err(status),
             Admit::Help => Ok(Deed::Helps { handler }),
             Admit::Send => Ok(Deed::Calls {
                 handler,
-                ip: self.ip_of(pt),
+                ip,
                 identifier: self.identifier(pt),
-                items: message.has_items(),
+                items: self.has_items(ec),
             }),
         }
     }
@@ -44,15 +43,14 @@ impl Parts {
         ensures row { result ≡ reply (state_of self.now) ec }
         ensures fits { IfOk result (IsToBeDone (state_of self.now) ec) }
     {
-        let message = self.message(ec);
-        if !self.is_local_thread(ec) || !message.has_counts() {
+        if !self.is_local_thread(ec) || !self.has_counts(ec) {
             return Err(Status::BadPar);
         }
         match self.contexts.context(ec).caller {
             Some((caller, mark)) => Ok(Deed::Replies {
                 caller,
                 mark,
-                items: message.has_items(),
+                items: self.has_items(ec),
             }),
             None => Err(Status::BadPar),
         }

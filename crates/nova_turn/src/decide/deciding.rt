@@ -19,7 +19,7 @@ pub(crate) const STARTUP: u32 = 0;
 
 /// What a raise tells: its reason, and two words that say more of it.
 #[derive(Clone, Copy)]
-pub(crate) struct Raised {
+pub struct Raised {
     pub reason: u32,
     pub q0: u32,
     pub q1: u32,

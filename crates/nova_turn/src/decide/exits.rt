@@ -46,7 +46,7 @@ impl Parts {
         let Ok(pt) = self.exit_portal(ec, reason) else {
             return Deed::Dies { reason, q0 };
         };
-        let handler = self.handler_of(pt);
+        let (handler, ip, mtd) = self.portal(pt);
         match admit(&self.contexts, ec, handler) {
             ExitAdmit::Dies => Deed::Dies { reason, q0 },
             ExitAdmit::Waits => Deed::Waits {
@@ -57,9 +57,9 @@ impl Parts {
             },
             ExitAdmit::Sends => Deed::Sends {
                 handler,
-                ip: self.ip_of(pt),
+                ip,
                 identifier: self.identifier(pt),
-                mtd: self.descriptor(pt),
+                mtd,
                 reason,
                 q0,
                 q1,

@@ -112,11 +112,11 @@ impl Parts {
                 caller,
                 mark: Mark::Exit,
                 items: false,
-            } => reply_if(caller == guest, &self.message(ec)),
+            } => reply_if(caller == guest, &self.reach.message(ec)),
             Deed::Finishes {
                 after: Sequel::Replied(whose, Mark::Exit),
                 ..
-            } => reply_if(whose == guest, &self.message(ec)),
+            } => reply_if(whose == guest, &self.reach.message(ec)),
             Deed::Gives { child, .. } => given_if(alloc, &self.reach, pd, &child)?,
             Deed::Removes { leaf } => {
                 let Derivation { base, order, .. } = leaf;

@@ -39,7 +39,7 @@ impl Parts {
         ensures { result ≡ translations_to (state_of self.now) to }
     {
         if self.is_thread(to) {
-            self.message(to).translation_window()
+            self.reach.message(to).translation_window()
         } else {
             0
         }
@@ -51,7 +51,7 @@ impl Parts {
         ensures { result ≡ delegations_to (state_of self.now) to range_word }
     {
         if self.is_thread(to) {
-            self.message(to).delegation_window()
+            self.reach.message(to).delegation_window()
         } else {
             whole_of(range_word)
         }
@@ -70,7 +70,7 @@ impl Parts {
         ensures delivery { result ≡ delivery_between (state_of self.now) from to item told last }
         ensures items { result.items ≤ 62 }
     {
-        let message = self.message(from);
+        let message = self.reach.message(from);
         let (range_word, second_word) = message.item(item);
         Delivery {
             range_word,

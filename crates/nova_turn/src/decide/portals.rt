@@ -8,33 +8,16 @@ use nova_model::Object;
 use nova_range::Mtd;
 
 impl Parts {
-    /// The handler of a portal.
-    pub(crate) fn handler_of(&self, pt: u32) -> u32
-        ensures { result ≡ handler_of (state_of self.now) pt }
+    /// The handler of a portal, where it begins, and which groups of an exit message the portal fills; each is 0
+    /// where there is none.
+    pub(crate) fn portal(&self, pt: u32) -> (u32, u32, Mtd)
+        ensures handler { result.0 ≡ handler_of (state_of self.now) pt }
+        ensures ip { result.1 ≡ ip_of (state_of self.now) pt }
+        ensures descriptor { result.2 ≡ descriptor (state_of self.now) pt }
     {
         match self.objects.get(pt) {
-            Some(Object::Pt { ec, .. }) => *ec,
-            _ => 0,
-        }
-    }
-
-    /// Where the handler of a portal begins.
-    pub(crate) fn ip_of(&self, pt: u32) -> u32
-        ensures { result ≡ ip_of (state_of self.now) pt }
-    {
-        match self.objects.get(pt) {
-            Some(Object::Pt { ip, .. }) => *ip,
-            _ => 0,
-        }
-    }
-
-    /// Which groups of an exit message a portal fills.
-    pub(crate) fn descriptor(&self, pt: u32) -> Mtd
-        ensures { result ≡ descriptor (state_of self.now) pt }
-    {
-        match self.objects.get(pt) {
-            Some(Object::Pt { mtd, .. }) => Mtd::from_bits_retain(*mtd),
-            _ => Mtd::from_bits_retain(0),
+            Some(Object::Pt { ec, mtd, ip }) => (*ec, *ip, Mtd::from_bits_retain(*mtd)),
+            _ => (0, 0, Mtd::from_bits_retain(0)),
         }
     }
 

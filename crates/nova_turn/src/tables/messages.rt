@@ -1,4 +1,6 @@
-ghost use Rattle.std.specs.Prelude.{◌≡◌, ◌<◌, length};
+ghost use Rattle.std.specs.Prelude.{◌≡◌, ◌<◌, true, length};
+ghost use Rattle.nova_utcb.specs.Messages.{has_counts, has_items};
+ghost use Rattle.nova_model.specs.Deeds.{passed};
 ghost use Rattle.nova_model.specs.State.{with_message, message};
 ghost use Rattle.nova_turn.specs.Going.{KeepsRest};
 ghost use Rattle.nova_turn.specs.Parts.{state_of};
@@ -7,11 +9,36 @@ use crate::parts::Parts;
 use nova_utcb::Utcb;
 
 impl Parts {
-    /// The message words of an execution context; they are all 0 where it has none.
-    pub(crate) fn message(&self, ec: u32) -> Utcb
-        ensures { result ≡ message (state_of self.now) ec }
+    /// Whether the data words of an execution context hold what its message counts.
+    #[inline(always)]
+    pub(crate) fn has_counts(&self, ec: u32) -> bool
+        ensures { result ≡ has_counts (message (state_of self.now) ec) }
     {
-        self.reach.message(ec)
+        match self.reach.words(ec) {
+            Some(words) => words.has_counts(),
+            None => true,
+        }
+    }
+
+    /// Whether the message of an execution context counts items.
+    #[inline(always)]
+    pub(crate) fn has_items(&self, ec: u32) -> bool
+        ensures { result ≡ has_items (message (state_of self.now) ec) }
+    {
+        match self.reach.words(ec) {
+            Some(words) => words.has_items(),
+            None => false,
+        }
+    }
+
+    /// The message of an execution context is copied to another one.
+    pub(crate) fn pass_message(&mut self, from: u32, to: u32)
+        requires counts { has_counts (message (state_of self.old) from) ≡ true }
+        requires there { to < length (state_of self.old).messages }
+        ensures passed { state_of self.new ≡ passed (state_of self.old) from to }
+        ensures rest { KeepsRest self.old self.new }
+    {
+        self.reach.pass_message(from, to);
     }
 
     /// An execution context finds other message words.

@@ -8,7 +8,6 @@ use Rattle.law_forest.proofs.Members.{all_more, none_found}
 use Rattle.nova_memory.specs.Reach.{IsFound, LeadToFrames, LeadsToFrames, ReachState, selector_range}
 use Rattle.nova_memory.proofs.Placed.{last_more}
 use Rattle.nova_memory.proofs.Seen.{blank_seen}
-use Rattle.nova_memory.proofs.Recents.{none_recent}
 use Rattle.nova_memory.proofs.reach.Reach.add_capability.Goals as goal
 
 pub root-requires-clause-fits : goal.root-requires-clause-fits
@@ -28,6 +27,6 @@ invariant_of-self c =
           (record { few = c.self.invariant.0.few; each = all_more (LeadsToFrames (length r.frames.memory.ram + r.frames.consoles)) f.list x c.self.invariant.0.each (λ is. cc) }),
       (
         subst (λ (g : Delegations). IfSome r.last (IsFound g.list)) (sym c.root.ensures.added) (last_more f.list x r.last c.self.invariant.1.0),
-        (blank_seen c.root.new.self.delegations.list c.forget.new.self c.forget.ensures, none_recent c.root.new.self.delegations.list),
+        (blank_seen c.root.new.self.delegations.list c.forget.new.self c.forget.ensures, (c.forget-2.ensures.none c.root.new.self.delegations.list, c.forget-3.ensures.none c.root.new.self.delegations.list)),
       ),
     )

@@ -5,7 +5,6 @@ use Rattle.nova_model.specs.Memory.{Memory}
 use Rattle.nova_memory.specs.Reach.{IsFound, LeadToFrames}
 use Rattle.nova_memory.specs.Sights.{AreSeen}
 use Rattle.nova_memory.specs.declared.viewers.Viewers.{Viewers}
-use Rattle.nova_memory.proofs.Recents.{none_recent}
 use Rattle.nova_memory.proofs.reach.Reach.copy.Goals as goal
 
 pub invariant_of-result : goal.invariant_of-result
@@ -22,7 +21,7 @@ invariant_of-result c =
         (
           subst (λ (s : List (Option Viewers)). AreSeen c.in_ok-nodes.nodes.delegations.list s) (sym c.in_ok-sights.ensures)
               (subst (λ (f : Delegations). AreSeen f.list r.sights) (sym same) c.self.invariant.1.1.0),
-          none_recent c.in_ok-nodes.nodes.delegations.list,
+          (c.new.ensures.none c.in_ok-nodes.nodes.delegations.list, c.new-2.ensures.none c.in_ok-nodes.nodes.delegations.list),
         ),
       ),
     )

@@ -8,7 +8,6 @@ use Rattle.nova_memory.specs.Reach.{ReachState}
 use Rattle.nova_delegate.specs.Parts.{HasChild, MakesChild, done_of}
 use Rattle.nova_memory.proofs.Placed.{given_leads, last_given, last_kept, part_leads}
 use Rattle.nova_memory.proofs.Seen.{blank_seen}
-use Rattle.nova_memory.proofs.Recents.{none_recent}
 use Rattle.nova_memory.proofs.reach.Reach.give.Goals as goal
 
 pub invariant_of-self : goal.invariant_of-self
@@ -22,7 +21,7 @@ invariant_of-self c =
           (given_leads frames busy r.nodes.delegations c.args.job.now forest c.requires.job.source c.requires.job.dest c.self.invariant.0),
       (
         last_kept _ c.part.result r.nodes.delegations c.part.new.nodes.delegations _ r.last c.part.ensures.delegations c.part.ensures.memory c.self.invariant.1.0 last,
-        (blank_seen c.part.new.nodes.delegations.list c.forget.new.self c.forget.ensures, none_recent c.part.new.nodes.delegations.list),
+        (blank_seen c.part.new.nodes.delegations.list c.forget.new.self c.forget.ensures, (c.forget-2.ensures.none c.part.new.nodes.delegations.list, c.forget-3.ensures.none c.part.new.nodes.delegations.list)),
       ),
     )
 

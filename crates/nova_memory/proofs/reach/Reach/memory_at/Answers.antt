@@ -16,11 +16,11 @@ invariant_of-self c =
     let same : c.at-self-inside.new.self ≡ r.nodes = c.at-self-inside.ensures.kept in (
       subst (λ (n : NodesState). LeadToFrames (length r.frames.memory.ram + r.frames.consoles) n.delegations.list) (sym same) c.self.invariant.0,
       (
-        at_found c.at-self-inside.new.self.delegations r.pd c.args.page c.at-self-inside.result c.at-self-inside.ensures.sound c.at-self-inside.ensures.found
+        at_found c.at-self-inside.new.self.delegations r.recents.pd c.args.page c.at-self-inside.result c.at-self-inside.ensures.sound c.at-self-inside.ensures.found
             c.at-self-inside.ensures.placed,
         (
           subst (λ (n : NodesState). AreSeen n.delegations.list r.sights) (sym same) c.self.invariant.1.1.0,
-          subst (λ (n : NodesState). AreRecent n.delegations.list r.recents) (sym same) c.self.invariant.1.1.1,
+          subst (λ (n : NodesState). AreRecent n.delegations.list r.recents × AreRecent n.delegations.list r.others) (sym same) c.self.invariant.1.1.1,
         ),
       ),
     )
@@ -29,5 +29,5 @@ pub returns-clause-leads : goal.returns-clause-leads
 returns-clause-leads c =
     let r = c.self.inside in
     subst (λ (s : ReachState). IfSome c.at-self-inside.result (λ d. (d.base ≤ c.args.page) × (d.target + (c.args.page - d.base) < length s.memory.ram + s.consoles))) c.self.view_is
-    (page_found (length r.frames.memory.ram + r.frames.consoles) r.pd c.args.page r.nodes.delegations.list c.at-self-inside.result
-    (c.at-self-inside.ensures.found ∙ ap (λ (n : NodesState). find (covers Mem r.pd c.args.page) n.delegations.list) c.at-self-inside.ensures.kept) c.self.invariant.0)
+    (page_found (length r.frames.memory.ram + r.frames.consoles) r.recents.pd c.args.page r.nodes.delegations.list c.at-self-inside.result
+    (c.at-self-inside.ensures.found ∙ ap (λ (n : NodesState). find (covers Mem r.recents.pd c.args.page) n.delegations.list) c.at-self-inside.ensures.kept) c.self.invariant.0)

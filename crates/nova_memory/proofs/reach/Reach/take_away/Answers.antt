@@ -1,7 +1,6 @@
 use Rattle.std.proofs.Common.{◌+◌, length}
 use Rattle.nova_memory.proofs.Placed.{revoked_leads}
 use Rattle.nova_memory.proofs.Seen.{blank_seen}
-use Rattle.nova_memory.proofs.Recents.{none_recent}
 use Rattle.nova_memory.proofs.reach.Reach.take_away.Goals as goal
 
 pub invariant_of-self : goal.invariant_of-self
@@ -11,6 +10,6 @@ invariant_of-self c =
           c.self.invariant.0,
       (
         tt,
-        (blank_seen c.part.new.nodes.delegations.list c.forget.new.self c.forget.ensures, none_recent c.part.new.nodes.delegations.list),
+        (blank_seen c.part.new.nodes.delegations.list c.forget.new.self c.forget.ensures, (c.forget-2.ensures.none c.part.new.nodes.delegations.list, c.forget-3.ensures.none c.part.new.nodes.delegations.list)),
       ),
     )

@@ -3,8 +3,8 @@ use Rattle.nova_turn.specs.Parts.{state_of}
 use Rattle.nova_deeds.proofs.Served.{admitted_near, message_below, near_there}
 use Rattle.nova_turn.proofs.parts.Parts.send.Goals as goal
 
-pub set_message-requires : goal.set_message-requires
-set_message-requires c =
+pub pass_message-requires-clause-there : goal.pass_message-requires-clause-there
+pass_message-requires-clause-there c =
     let k : KernelState = state_of c.args.self.now in
     message_below k c.args.handler c.requires.tables
     (near_there k.contexts c.args.ec c.args.handler c.requires.there (admitted_near k.contexts c.args.ec c.args.handler c.requires.admitted))

@@ -1,0 +1,12 @@
+use Rattle.std.proofs.Common.{◌+◌, length, subst}
+use Rattle.nova_range.specs.Rights.{execute_right}
+use Rattle.nova_memory.specs.Reach.{LeadToFrames, ReachState}
+use Rattle.nova_memory.specs.Recents.{IsRecent}
+use Rattle.nova_memory.proofs.reach.Reach.frame_to_fetch.Goals as goal
+
+pub returns-in-Some-clause-there : goal.returns-in-Some-clause-there
+returns-in-Some-clause-there c =
+    let r = c.self.inside in
+    let leads = subst (λ (s : ReachState). LeadToFrames (length s.memory.ram + s.consoles) s.nodes.delegations.list) c.self.view_is c.self.invariant.0 in
+    let recent = subst (λ (s : ReachState). IsRecent s.nodes.delegations.list s.pd execute_right r.recents.fetched) c.self.view_is c.self.invariant.1.1.1.0.fetched in
+    c.in-Some.ensures.there c.args.self.now execute_right leads recent
