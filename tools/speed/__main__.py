@@ -65,7 +65,7 @@ def commands(program: Program) -> Rows:
     cases = {"threads alone": scenarios.jump(10), "a guest, quantum 10": scenarios.guests(1, 10), "a guest, quantum 1,000": scenarios.guests(1, 1_000)}
     for name, text in cases.items():
         scenario = program.scenario(text)
-        run, solo = (program.best(command, scenario, 3_000_000).user for command in ("run", "solo"))
+        run, solo = (program.best(command, scenario, MOST).user for command in ("run", "solo"))
         yield f"run against solo, {name}: user time", f"{run / solo:.2f}"
 
 

@@ -1,6 +1,6 @@
 -- How a kernel begins: images and sources leave a state of boot, and a turn is counted.
 use Rattle.std.proofs.Common.{◌≡◌, ℕ, zero, suc, ◌+◌, ◌≤◌, List, [], ◌∷◌, ◌++◌, refl, sym, ap, ◌∙◌, subst, arith}
-use Rattle.std.specs.Prelude.{length, map, Option, Some, None, option_and_then}
+use Rattle.std.specs.Prelude.{length, map, Option, None, option_and_then}
 use Rattle.std.specs.List.{AllByRecursion}
 use Rattle.std.proofs.lemmas.List.{length-append}
 use Rattle.nova_model.specs.Boot.{Image, Scenario, bare, boot, laid, with_image, with_images}
@@ -8,13 +8,12 @@ use Rattle.nova_model.specs.Memory.{Memory}
 use Rattle.nova_model.specs.Running.{revoke_by}
 use Rattle.nova_model.specs.Runs.{after, run}
 use Rattle.nova_model.specs.Sources.{Source, with_source, with_sources}
-use Rattle.nova_model.specs.State.{KernelState, context_at}
+use Rattle.nova_model.specs.State.{KernelState}
 use Rattle.nova_model.specs.Turn.{answer_of, turn}
 use Rattle.nova_model.specs.declared.context.EcState.{EcState}
 use Rattle.nova_model.specs.declared.root.Root.{Root}
 use Rattle.nova_model.specs.declared.times.Alarm.{Alarm}
 use Rattle.nova_model.specs.declared.times.AlarmState.{AlarmState}
-use Rattle.nova_objects.specs.declared.object.Object.{Object}
 use Rattle.nova_objects.specs.declared.object.Object.TheVariants.{Sm}
 use Rattle.law_forest.specs.Turns.{Comes, Idles, Takes}
 use Rattle.law_forest.proofs.Turning.{after_keeps, comes}

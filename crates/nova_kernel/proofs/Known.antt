@@ -2,6 +2,8 @@
 use Rattle.std.proofs.Common.{◌≡◌, ℕ, zero, suc, List, [], ◌∷◌, refl, ap, sym, ◌∙◌, subst, IsSome}
 use Rattle.std.specs.Prelude.{Bool, if◌then◌else◌, nat_lt, true, false, Option, Some, None, is_some, option_map, replicate, slice_get, slice_set}
 use Rattle.rv_model.specs.Step.{Once, Raised, Went}
+use Rattle.std.proofs.lemmas.Option.{same_Some}
+use Rattle.law_turns.proofs.Candidates.{schedule_of, the_chosen}
 use Rattle.nova_ec.proofs.Acting.{awake}
 use Rattle.nova_ec.proofs.Donors.{same_state_keeps_chases}
 use Rattle.nova_ec.proofs.Untouched.{same_actor}
@@ -117,8 +119,17 @@ event_known k cpu c other known there here all = none_known k 8
 
 -- A TURN
 
-chosen_there : (k : KernelState) (cpu : ℕ) (c : Chosen) → Some c ≡ option_map chosen_of (choice k cpu) → IsSome (context_at k c.actor)
+pub chosen_there : (k : KernelState) (cpu : ℕ) (c : Chosen) → Some c ≡ option_map chosen_of (choice k cpu) → IsSome (context_at k c.actor)
 chosen_there k cpu c told = ap is_some (awake k.contexts c.actor (told_acts k cpu c told)).there
+
+-- and has a budget
+pub chosen_budget : (k : KernelState) (cpu : ℕ) (c : Chosen) → Some c ≡ option_map chosen_of (choice k cpu) → IsSome (budget_at k c.sc)
+chosen_budget k cpu c told = by_choice (choice k cpu) refl told
+  where
+    by_choice : (o : Option Candidate) → choice k cpu ≡ o → Some c ≡ option_map chosen_of o → IsSome (budget_at k c.sc)
+    by_choice None is told = absurd (cc)
+    by_choice (Some d) is told =
+        ap (λ (x : Chosen). is_some (budget_at k x.sc)) (same_Some c (chosen_of d) told) ∙ ap is_some (schedule_of k cpu d (the_chosen k cpu d is)).there
 
 -- after what comes by itself nothing is known
 passing_known : (k new : KernelState) (cpu : ℕ) (p : Passing) (known : List (Option Chosen)) → AreKnown new (known_after (Stepped (passing_event k cpu p)) known)

@@ -8,5 +8,9 @@ pub mod Stores
 pub mod Advancing
 pub mod Spending
 pub mod Rides
+pub mod LastTurns
+pub mod Beside
+pub mod Charging
+pub mod Quanta
 pub mod Begun
 pub mod Sourced

@@ -1,7 +1,8 @@
 -- Instructions that go on one after another, from what each of them came to.
 use Rattle.std.proofs.Common.{◌≡◌, ◌+◌, ◌^◌, ◌<◌, ◌≤◌, ℕ, zero, suc, ap, ap₂, sym, subst, ◌∙◌, refl, length, arith, List, [], ◌∷◌, false}
-use Rattle.std.specs.Prelude.{Option, Some, None, IsSome, IfSome, option_and_then, option_map, replicate, slice_get}
+use Rattle.std.specs.Prelude.{Option, Some, None, IsSome, IfSome, is_some, option_and_then, option_map, replicate, slice_get}
 use Rattle.rv_core.specs.declared.outcome.Outcome.TheVariants.{Next, Raise}
+use Rattle.rv_model.specs.Registers.{Registers}
 use Rattle.rv_model.specs.Step.{Once, Raised, Went}
 use Rattle.nova_model.specs.Deeds.{deed, done, instruction, stepped}
 use Rattle.nova_model.specs.State.{KernelState}
@@ -9,7 +10,6 @@ use Rattle.nova_model.specs.declared.deed.Deed.TheVariants.{Steps}
 use Rattle.nova_turn.specs.Acts.{outcome_of}
 use mathlib.Core.Path.{fun_ext}
 use Rattle.std.proofs.lemmas.Option.{same_Some}
-use Rattle.std.specs.List.{AllByRecursion}
 use Rattle.nova_model.specs.declared.context.State.TheVariants.{Ready}
 use Rattle.nova_turn.specs.StirCounts.{numbers_from}
 use Rattle.nova_turn.specs.Views.{left_of}
@@ -21,6 +21,7 @@ use Rattle.law_turns.specs.Keeping.{IsKept}
 use Rattle.nova_turn.specs.Runners.{RevokesState}
 use Rattle.std.specs.List.{filter_map, range_with_len}
 use Rattle.nova_model.specs.Choice.{Candidate, choice, next_to_act}
+use Rattle.nova_model.specs.Edges.{AreEdges}
 use Rattle.law_forest.proofs.Turning.{acts_chosen}
 use Rattle.law_turns.specs.Moments.{IsEarly}
 use Rattle.law_turns.proofs.Moments.{early_fewer}
@@ -28,7 +29,6 @@ use Rattle.nova_model.specs.Runs.{after, run, trace}
 use Rattle.nova_model.specs.Turn.{charged, counted, paid_by, quantum_in}
 use Rattle.nova_model.specs.declared.budget.Budget.{Budget}
 use Rattle.nova_model.specs.declared.context.EcState.{EcState}
-use Rattle.nova_model.specs.declared.event.Event.{Event}
 use Rattle.nova_ec.specs.Tables.{actor_in}
 use Rattle.nova_ec.proofs.Donors.{same_state_keeps_chases}
 use Rattle.nova_ec.proofs.Untouched.{same_actor}
@@ -52,7 +52,8 @@ use Rattle.nova_sched.specs.declared.queued.Queued.{Queued}
 use Rattle.law_leases.specs.Paging.{charged_times}
 use Rattle.law_leases.specs.Rides.{ride, rides, rides_by}
 use Rattle.law_leases.proofs.Riding.{IsRidden, kept_along, ridden, rode}
-use Rattle.nova_kernel.specs.Rides.{AreOnly, MayRide}
+use Rattle.nova_kernel.specs.Rides.{AreOnly, MayRide, step_by}
+use Rattle.nova_choice.proofs.Budgets.{budget_queued}
 use Rattle.nova_kernel.proofs.Advancing.{revoke_set, to_be_charged}
 use Rattle.nova_kernel.proofs.Spending.{left_queued}
 
@@ -70,9 +71,22 @@ raise_leaves k new g reason q0 q1 raises does = does ∙ by_outcome (instruction
   by_outcome (Raised r a b) raises = refl
   by_outcome (Went regs store) raises = absurd (cc)
 
+-- so that the next instruction is the one that raised
+pub raise_stays : (k new : KernelState) (g reason q0 q1 : ℕ) → Raise reason q0 q1 ≡ outcome_of (instruction k g) → new ≡ done k g Steps → Raise reason q0 q1 ≡ outcome_of (instruction new g)
+raise_stays k new g reason q0 q1 raises does = subst (λ (s : KernelState). Raise reason q0 q1 ≡ outcome_of (instruction s g)) (sym (raise_leaves k new g reason q0 q1 raises does)) raises
+
+pub rides_stay : (n : ℕ) (k p new : KernelState) (g reason q0 q1 : ℕ) → rides n k g ≡ Some p → Raise reason q0 q1 ≡ outcome_of (instruction p g) → new ≡ done p g Steps → rides n k g ≡ Some new
+rides_stay n k p new g reason q0 q1 goes raises does = goes ∙ ap Some (sym (raise_leaves p new g reason q0 q1 raises does))
+
 -- where the registers beside are its own, all is as it was
 pub beside_own : (k : KernelState) (ec : ℕ) → IsSome (context_at k ec) → with_regs k ec (context k ec).regs ≡ k
 beside_own k ec there = ap (λ (cs : Contexts). record k { contexts = cs }) (set_there k.contexts ec (context k ec) (there_at k.contexts ec there))
+
+-- where none went on, what lies beside is its own
+pub beside_none : (k mid : KernelState) (ec n : ℕ) (regs : Registers) → n ≡ 0 → mid.contexts ≡ k.contexts → rides n k ec ≡ Some (with_regs mid ec regs) → with_regs mid ec regs ≡ mid
+beside_none k mid ec n regs none same goes =
+    let is : k ≡ with_regs mid ec regs = same_Some k (with_regs mid ec regs) (subst (λ (i : ℕ). rides i k ec ≡ Some (with_regs mid ec regs)) none goes) in
+    sym is ∙ ap (λ (cs : Contexts). record k { contexts = cs }) (sym same) ∙ ap (λ (s : KernelState). record s { contexts = mid.contexts }) is
 
 -- WHAT INSTRUCTIONS LEAVE OF THE REST
 
@@ -81,7 +95,7 @@ ridden_bounds k m g is charged =
     let h = to_be_charged k charged in
     subst IsToBeCharged (sym is.rest) (record { turns = h.turns; processors = h.processors; stamps = h.stamps; ticks = h.ticks; stirs = h.stirs; guests = h.guests })
 
-ridden_queued : (k m : KernelState) (g : ℕ) (q : Schedule) → IsSome (context_at k g) → IsRidden k m g → AreQueued k q → AreQueued m q
+pub ridden_queued : (k m : KernelState) (g : ℕ) (q : Schedule) → IsSome (context_at k g) → IsRidden k m g → AreQueued k q → AreQueued m q
 ridden_queued k m g q there is queued =
     subst (λ (s : KernelState). AreQueued s q) (sym is.rest)
     (queued_kept None k (record k { contexts = m.contexts; memory = m.memory; messages = m.messages }) q queued (record {
@@ -117,7 +131,7 @@ charged_running zero k cpu sc r are = are
 charged_running (suc n) k cpu sc r are = one_running (charged_times n k cpu sc) cpu sc r (charged_running n k cpu sc r are)
 
 -- the same ones act in all turns
-ridden_on : (k m : KernelState) (g : ℕ) → IsSome (context_at k g) → IsRidden k m g → AreLedOn k m
+pub ridden_on : (k m : KernelState) (g : ℕ) → IsSome (context_at k g) → IsRidden k m g → AreLedOn k m
 ridden_on k m g there is =
     let y : EcState = record (context k g) { regs = is.regs } in record {
       objects = ap (λ (s : KernelState). s.objects) is.rest;
@@ -125,7 +139,7 @@ ridden_on k m g there is =
           (same_actor k.contexts (with_ec k.contexts g y) e (same_state_keeps_chases k.contexts g e (context k g) y (there_at k.contexts g there) refl));
     }
 
-times_on : (n : ℕ) (k s : KernelState) (cpu sc : ℕ) → AreLedOn k s → AreLedOn k (charged_times n s cpu sc)
+pub times_on : (n : ℕ) (k s : KernelState) (cpu sc : ℕ) → AreLedOn k s → AreLedOn k (charged_times n s cpu sc)
 times_on zero k s cpu sc on = on
 times_on (suc n) k s cpu sc on = paid_on k (charged_times n s cpu sc) cpu sc (times_on n k s cpu sc on)
 
@@ -147,6 +161,14 @@ counted_turn law cpu c q acts does few counts =
     } in
     subst IsCounted (settled_state q mid new cpu (chosen_of c) Steps (written_frame q g) s)
     (settled_counts q mid new cpu (chosen_of c) Steps (written_frame q g) s (done-keeps q g Steps tt) few (law q cpu counts.kept) counts)
+
+-- who has a budget is queued
+pub queued_there : (q : Schedule) (count sc : ℕ) → IsSome (entry (slice_get (budgets_of q count) sc)) → IsSome (queued_at q sc)
+queued_there q count sc there = by_entry (queued_at q sc) (subst (λ (o : Option Budget). IsSome o) (budget_queued q count sc) there)
+  where
+    by_entry : (o : Option Queued) → IsSome (option_map (λ (e : Queued). e.budget) o) → IsSome o
+    by_entry None there = there
+    by_entry (Some e) there = refl
 
 module _ (k m : KernelState) (cpu : ℕ) (chosen : Chosen) (n most : ℕ) (may : MayRide k cpu chosen most) (few : n ≤ most) (goes : rides n k chosen.actor ≡ Some m) where
   actor : chosen.actor ≡ may.candidate.actor
@@ -182,16 +204,21 @@ module _ (k m : KernelState) (cpu : ℕ) (chosen : Chosen) (n most : ℕ) (may :
       (rode n k m cpu may.candidate may.budget may.may (omega (arith, few, left)) soon (subst (λ (g : ℕ). rides n k g ≡ Some m) actor goes)).state
       ∙ ap (λ (s : ℕ). charged_times n m cpu s) (sym payer)
 
-  pub events_rode : (c : Candidate) → choice k cpu ≡ Some c → trace k (replicate n cpu) ≡ replicate n (step_of cpu c)
-  events_rode c is =
+  pub events_rode : trace k (replicate n cpu) ≡ replicate n (step_by cpu chosen)
+  events_rode =
       let left = may.left in
-      subst (λ (d : Candidate). trace k (replicate n cpu) ≡ replicate n (step_of cpu d)) (same_Some may.candidate c (sym may.may.chosen ∙ is))
       (rode n k m cpu may.candidate may.budget may.may (omega (arith, few, left)) soon (subst (λ (g : ℕ). rides n k g ≡ Some m) actor goes)).events
+      ∙ ap (λ (d : Chosen). replicate n (step_by cpu d)) (sym may.same)
 
   pub known_after_ride : (known : List (Option Chosen)) → AreKnown k known → AreKnown (charged_times n m cpu chosen.sc) known
   known_after_ride known all =
       let new : KernelState = charged_times n m cpu chosen.sc in
       known_along k new (known_on k new (times_on n k m cpu chosen.sc (ridden_on k m chosen.actor acts_there are))) known all
+
+  pub pays_for : (q : Schedule) → k.budgets ≡ budgets_of q (length k.objects) → IsSome (queued_at q chosen.sc)
+  pays_for q budgets =
+      queued_there q (length k.objects) chosen.sc (subst (λ (bs : List (Option Budget)). IsSome (entry (slice_get bs chosen.sc))) budgets
+      (ap is_some (ap (budget_at k) payer ∙ may.may.budget)))
 
   pub left_for : (q : Schedule) → k.budgets ≡ budgets_of q (length k.objects) → IfSome (queued_at q chosen.sc) (λ (e : Queued). n ≤ e.budget.left)
   left_for q budgets =
@@ -209,15 +236,9 @@ module _ (k m : KernelState) (cpu : ℕ) (chosen : Chosen) (n most : ℕ) (may :
 
 -- THE EVENT OF EACH
 
-pub told_event : (cpu : ℕ) (chosen : Chosen) (e : Event) (o : Option Candidate) → ((c : Candidate) → chosen ≡ chosen_of c → e ≡ step_of cpu c) → Some chosen ≡ option_map chosen_of o →
-    Some e ≡ option_map (step_of cpu) o
-told_event cpu chosen e None says told = absurd (cc)
-told_event cpu chosen e (Some c) says told = ap Some (says c (same_Some chosen (chosen_of c) told))
-
-pub told_events : (k : KernelState) (cpu n : ℕ) (chosen : Chosen) (e : Event) (o : Option Candidate) → choice k cpu ≡ o → ((c : Candidate) → chosen ≡ chosen_of c → e ≡ step_of cpu c) →
-    Some chosen ≡ option_map chosen_of o → ((c : Candidate) → choice k cpu ≡ Some c → trace k (replicate n cpu) ≡ replicate n (step_of cpu c)) → trace k (replicate n cpu) ≡ replicate n e
-told_events k cpu n chosen e None is says told each = absurd (cc)
-told_events k cpu n chosen e (Some c) is says told each = each c is ∙ ap (replicate n) (sym (says c (same_Some chosen (chosen_of c) told)))
+pub told_event : (cpu : ℕ) (chosen : Chosen) (o : Option Candidate) → Some chosen ≡ option_map chosen_of o → Some (step_by cpu chosen) ≡ option_map (step_of cpu) o
+told_event cpu chosen None told = absurd (cc)
+told_event cpu chosen (Some c) told = ap (λ (d : Chosen). Some (step_by cpu d)) (same_Some chosen (chosen_of c) told)
 
 -- WHERE ONE MAY
 
@@ -246,10 +267,10 @@ left_by_budget : (k : KernelState) (sc left : ℕ) (o : Option Budget) → budge
 left_by_budget k sc left None is told = absurd (cc)
 left_by_budget k sc left (Some b) is told = record { budget = b; is = is; same = same_Some left b.left told }
 
-pub may_ride : (k : KernelState) (cpu : ℕ) (chosen : Chosen) (left most : ℕ) → IsReached k → Some chosen ≡ option_map chosen_of (choice k cpu) → Some left ≡ left_of k chosen.sc →
+pub may_ride_on : (k : KernelState) (cpu : ℕ) (chosen : Chosen) (left most : ℕ) → AreEdges k.contexts → Some chosen ≡ option_map chosen_of (choice k cpu) → Some left ≡ left_of k chosen.sc →
     IsSome (context_at k chosen.actor) → (context k chosen.actor).state ≡ Ready → (context k chosen.actor).recall ≡ false → cpu < length k.stirs.processors → cpu < length k.times.clocks → AreOnly chosen.actor (numbers_from 0 k.stirs.guests) → most ≤ left → IsEarly k.times cpu most →
     MayRide k cpu chosen most
-may_ride k cpu chosen left most reached told lefts there is_ready free within clocked alone few early =
+may_ride_on k cpu chosen left most edges told lefts there is_ready free within clocked alone few early =
     let by = chosen_by k cpu chosen (choice k cpu) refl told in
     let its = left_by_budget k chosen.sc left (budget_at k chosen.sc) refl lefts in
     let actor : chosen.actor ≡ by.candidate.actor = ap (λ (d : Chosen). d.actor) by.same in
@@ -260,7 +281,7 @@ may_ride k cpu chosen left most reached told lefts there is_ready free within cl
       may = record {
         chosen = by.is;
         there = subst (λ (g : ℕ). IsSome (context_at k g)) actor there;
-        edges = reached.sound.kept.edges;
+        edges = edges;
         ready = subst (λ (g : ℕ). (context k g).state ≡ Ready) actor is_ready;
         recall = subst (λ (g : ℕ). (context k g).recall ≡ false) actor free;
         budget = subst (λ (s : ℕ). budget_at k s ≡ Some its.budget) payer its.is;
@@ -272,3 +293,8 @@ may_ride k cpu chosen left most reached told lefts there is_ready free within cl
       left = omega (arith, same, few);
       early = early;
     }
+
+pub may_ride : (k : KernelState) (cpu : ℕ) (chosen : Chosen) (left most : ℕ) → IsReached k → Some chosen ≡ option_map chosen_of (choice k cpu) → Some left ≡ left_of k chosen.sc →
+    IsSome (context_at k chosen.actor) → (context k chosen.actor).state ≡ Ready → (context k chosen.actor).recall ≡ false → cpu < length k.stirs.processors → cpu < length k.times.clocks → AreOnly chosen.actor (numbers_from 0 k.stirs.guests) → most ≤ left → IsEarly k.times cpu most →
+    MayRide k cpu chosen most
+may_ride k cpu chosen left most reached = may_ride_on k cpu chosen left most reached.sound.kept.edges

@@ -1,12 +1,11 @@
 -- What a source more leaves of what always holds.
-use Rattle.std.proofs.Common.{◌≡◌, ℕ, zero, suc, ◌+◌, ◌≤◌, ◌<◌, ◌^◌, List, [], ◌∷◌, ◌++◌, refl, sym, ap, ap₂, ◌∙◌, subst, arith}
-use Rattle.std.specs.Prelude.{false, length, find, is_some, Option, Some, None}
+use Rattle.std.proofs.Common.{◌≡◌, ℕ, ◌≤◌, ◌<◌, ◌^◌, List, [], ◌∷◌, refl, sym, ap, ◌∙◌, subst, arith}
+use Rattle.std.specs.Prelude.{false, length, find, is_some, Option, None}
 use Rattle.std.specs.List.{AllByRecursion, cons_option, filter_map, range_with_len}
 use Rattle.std.proofs.lemmas.List.{length-append}
 use Rattle.nova_range.specs.declared.range.Kind.TheVariants.{Obj}
 use Rattle.nova_model.specs.Capabilities.{is_held}
 use Rattle.nova_model.specs.Delegations.{covers}
-use Rattle.nova_model.specs.Forest.{IsForest}
 use Rattle.nova_model.specs.Running.{Running, revoke_of, running, running_of}
 use Rattle.nova_model.specs.Sources.{Source, with_source}
 use Rattle.nova_model.specs.State.{KernelState, pd_of}

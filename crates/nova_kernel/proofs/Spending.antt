@@ -1,5 +1,5 @@
 -- So many turns charged at once, as the queues and counts show them.
-use Rattle.std.proofs.Common.{◌≡◌, ◌<◌, ◌≤◌, ℕ, zero, suc, ◌+◌, ◌-◌, ◌^◌, List, length, ap, sym, ◌∙◌, refl, arith, subst, [], ◌∷◌, slice_index_or}
+use Rattle.std.proofs.Common.{◌≡◌, ◌<◌, ◌≤◌, ℕ, zero, suc, ◌+◌, ◌^◌, List, length, ap, sym, ◌∙◌, refl, arith, subst, [], ◌∷◌, slice_index_or}
 use Rattle.std.specs.Prelude.{slice_get, slice_set, slice_index, Option, Some, None, IsSome, IfSome, option_map}
 use Rattle.std.proofs.lemmas.List.{set-get_or, set-set, get_or-set_same}
 use Rattle.nova_model.specs.State.{KernelState, budget_at, entry}

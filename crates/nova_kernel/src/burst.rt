@@ -58,27 +58,6 @@ fn count_stores(parts: &mut Parts, ec: u32, pages: &[Page])
     }
 }
 
-/// So many turns of the processor, fewer than are left of the quantum, are charged to the scheduling context at once.
-fn spend(parts: &mut Parts, cpu: u32, sc: u32, count: u64)
-    requires charged { IsToBeCharged (state_of parts.old) }
-    requires queued { AreQueued (state_of parts.old) parts.old.queues.all }
-    requires turns { parts.old.turns + count ≤ 2 ^ 31 }
-    requires cpu { cpu < parts.old.cpus }
-    requires there { IsSome (queues.queued_at parts.old.queues.all sc) }
-    requires left { IfSome (queues.queued_at parts.old.queues.all sc) (λ e. count < e.budget.left) }
-    ensures charged { state_of parts.new ≡ charged_times count (state_of parts.old) cpu sc }
-    ensures queued { AreQueued (state_of parts.new) parts.new.queues.all }
-    ensures turns { parts.new.turns ≡ parts.old.turns + count }
-    ensures cpus { parts.new.cpus ≡ parts.old.cpus }
-    ensures there { IsSome (queues.queued_at parts.new.queues.all sc) }
-    ensures revokes { parts.new.revokes ≡ parts.old.revokes }
-    ensures log { parts.new.reach.room ≡ parts.old.reach.room }
-{
-    parts.queues.spend(sc, count as u32);
-    parts.turns += count;
-    parts.times.pass(cpu, count);
-}
-
 /// So many turns of the processor, at most what is left of the quantum, are charged to the scheduling context.
 pub(crate) fn charge_times(parts: &mut Parts, cpu: u32, sc: u32, count: u64)
     requires charged { IsToBeCharged (state_of parts.old) }
@@ -89,16 +68,19 @@ pub(crate) fn charge_times(parts: &mut Parts, cpu: u32, sc: u32, count: u64)
     requires left { IfSome (queues.queued_at parts.old.queues.all sc) (λ e. count ≤ e.budget.left) }
     ensures charged { state_of parts.new ≡ charged_times count (state_of parts.old) cpu sc }
     ensures queued { AreQueued (state_of parts.new) parts.new.queues.all }
+    ensures there { IsSome (queues.queued_at parts.new.queues.all sc) }
     ensures turns { parts.new.turns ≡ parts.old.turns + count }
     ensures cpus { parts.new.cpus ≡ parts.old.cpus }
     ensures revokes { parts.new.revokes ≡ parts.old.revokes }
-    ensures log { parts.new.reach.room ≡ parts.old.reach.room }
+    ensures reach { parts.new.reach ≡ parts.old.reach }
 {
     if count == 0 {
         return;
     }
-    spend(parts, cpu, sc, count - 1);
-    parts.charge(cpu, sc);
+    parts.queues.spend(sc, (count - 1) as u32);
+    parts.queues.charge(sc);
+    parts.turns += count;
+    parts.times.pass(cpu, count);
 }
 
 /// As many turns of a processor as the virtual CPU that acts there took instructions, at once: they are

@@ -24,7 +24,6 @@ ghost use Rattle.nova_kernel.specs.Views.{ticks_of, left_of, semaphore_at, deriv
 
 use crate::burst::advance;
 use crate::choices::{keep, next_to_act};
-use crate::riding::{StepsTaken, plain_step, rides_alone, steps, turns_before};
 use crate::view::guest_of;
 use law_leases::Steps;
 use nova_choice::Chosen;
@@ -39,7 +38,7 @@ use std::marker::Model;
 #[derive(Drop)]
 pub struct Kernel {
     pub(crate) parts: Parts,
-    known: [Option<Chosen>; 8],
+    pub(crate) known: [Option<Chosen>; 8],
 }
 
 impl Model for Kernel {
@@ -149,38 +148,6 @@ impl Kernel {
     {
         advance(&mut self.parts, cpu, steps);
         self.known = [None; 8];
-    }
-
-    /// As many turns of a processor as instructions of the execution context that acts there go on one after another, at once: at most
-    /// so many, what is left of the chosen quantum, and what is left until something is due there. None is taken so where there is another
-    /// virtual CPU. Needs spare log for them all; with the turns taken before they are at most 2^31.
-    pub fn steps(&mut self, cpu: u32, most: u64) -> StepsTaken
-        requires cpu { cpu < self.old.state.cpus }
-        requires room { most ≤ self.old.room }
-        requires turns { self.old.state.turns + most ≤ 2 ^ 31 }
-        ensures most { result.count ≤ most }
-        ensures event { result.event ≡ option_map (step_of cpu) (choice self.old.state cpu) }
-        ensures none { result.event ≡ None → result.count ≡ 0 }
-        ensures state { self.new.state ≡ run self.old.state (replicate result.count cpu) }
-        ensures events { IfSome result.event (λ e. trace self.old.state (replicate result.count cpu) ≡ replicate result.count e) }
-        ensures room { self.old.room ≤ self.new.room + result.count }
-    {
-        let Some(chosen) = self.parts.choice(cpu, &self.known) else {
-            return StepsTaken {
-                event: None,
-                count: 0,
-            };
-        };
-        let event = Some(plain_step(cpu, chosen));
-        let Some(left) = self.parts.left(chosen.sc) else {
-            return StepsTaken { event, count: 0 };
-        };
-        if !rides_alone(&self.parts, chosen.actor) {
-            return StepsTaken { event, count: 0 };
-        }
-        let most = turns_before(most, left, self.parts.times.until_due(cpu));
-        let count = steps(&mut self.parts, cpu, chosen, most);
-        StepsTaken { event, count }
     }
 
     /// The scheduling context that the processor's next turn is charged to; none where it is idle.

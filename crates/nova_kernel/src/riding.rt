@@ -1,4 +1,4 @@
-ghost use Rattle.std.specs.Prelude.{◌≡◌, ◌+◌, ◌^◌, ◌<◌, ◌≤◌, List, Option, replicate, [], false, Some, IsSome, IfSome};
+ghost use Rattle.std.specs.Prelude.{◌≡◌, ◌+◌, ◌^◌, ◌<◌, ◌≤◌, None, List, Option, replicate, [], false, Some, IsSome, IfSome};
 ghost use Rattle.std.specs.Bool.{OnTrue};
 ghost use Rattle.nova_turn.specs.StirCounts.{numbers_from};
 ghost use Rattle.nova_model.specs.Choice.{Candidate, choice};
@@ -10,7 +10,8 @@ ghost use Rattle.nova_sched.specs.Queues.{queued_at};
 ghost use Rattle.nova_choice.specs.Choices.{chosen_of};
 ghost use Rattle.nova_choice.specs.Schedules.{AreQueued};
 ghost use Rattle.nova_turn.specs.Counted.{IsCounted};
-ghost use Rattle.nova_kernel.specs.Rides.{AreOnly, MayRide};
+ghost use Rattle.law_turns.specs.Moments.{IsEarly};
+ghost use Rattle.nova_kernel.specs.Rides.{AreOnly, IsBeside, IsHalted, IsLater, IsNext, Raises, RidesAlone, after_turns, beside, step_by};
 ghost use Rattle.nova_model.specs.State.{context, context_at};
 ghost use Rattle.law_leases.specs.Rides.{rides};
 ghost use Rattle.nova_turn.specs.Beside.{IsEntered, with_regs};
@@ -20,7 +21,7 @@ ghost use Rattle.nova_turn.specs.Revoking.{AreRunning};
 use crate::burst::charge_times;
 use nova_choice::Chosen;
 use nova_model::{Event, EventKind, State};
-use nova_turn::Parts;
+use nova_turn::{Parts, Raised};
 use rv_core::Regs;
 use rv_core::outcome::Outcome;
 
@@ -32,9 +33,27 @@ pub struct StepsTaken {
     pub count: u64,
 }
 
+/// What instructions came to that were tried one after another: how many went on, and what the next one raised, where one was tried.
+#[derive(Clone, Copy)]
+pub(crate) struct Ridden {
+    pub count: u64,
+    pub raised: Option<Raised>,
+}
+
+/// No instruction was tried.
+pub(crate) fn none_tried() -> Ridden
+    ensures count { result.count ≡ 0 }
+    ensures raised { result.raised ≡ None }
+{
+    Ridden {
+        count: 0,
+        raised: None,
+    }
+}
+
 /// The event of a plain step of the one who acts, paid by the chosen scheduling context.
 pub(crate) fn plain_step(cpu: u32, chosen: Chosen) -> Event
-    ensures { (c : Candidate) → chosen ≡ chosen_of c → result ≡ step_of cpu c }
+    ensures { result ≡ step_by cpu chosen }
 {
     Event {
         cpu,
@@ -47,43 +66,38 @@ pub(crate) fn plain_step(cpu: u32, chosen: Chosen) -> Event
 }
 
 /// Instructions of an execution context whose address space was entered, on registers that lie beside the table: at most so many, one
-/// after another while they go on; and how many they are. No turn is charged.
+/// after another while they go on. No turn is charged.
 #[inline(never)]
-fn ride_beside(parts: &mut Parts, ec: u32, regs: &mut Regs, most: u64) -> u64
+fn ride_beside(parts: &mut Parts, ec: u32, regs: &mut Regs, most: u64) -> Ridden
     requires there { IsSome (context_at (state_of parts.old) ec) }
     requires entered { IsEntered parts.old ec }
     requires log { most ≤ parts.old.reach.room }
-    ensures most { result ≤ most }
-    ensures rides { rides result (with_regs (state_of parts.old) ec regs.old) ec ≡ Some (with_regs (state_of parts.new) ec regs.new) }
+    ensures most { result.count ≤ most }
+    ensures raised { IfSome result.raised (λ r. (result.count < most) × Raises (with_regs (state_of parts.new) ec regs.new) ec r) }
+    ensures all { result.raised ≡ None → result.count ≡ most }
+    ensures rides { rides result.count (with_regs (state_of parts.old) ec regs.old) ec ≡ Some (with_regs (state_of parts.new) ec regs.new) }
+    ensures entered { IsEntered parts.new ec }
     ensures contexts { parts.new.contexts ≡ parts.old.contexts }
     ensures queues { parts.new.queues ≡ parts.old.queues }
     ensures revokes { parts.new.revokes ≡ parts.old.revokes }
-    ensures log { parts.old.reach.room ≤ parts.new.reach.room + result }
+    ensures log { parts.old.reach.room ≤ parts.new.reach.room + result.count }
 {
-    for i in 0..most {
+    let mut left = most;
+    while left > 0 {
         match parts.execute_beside(ec, regs) {
-            Outcome::Next => {}
-            Outcome::Raise { .. } => return i,
+            Outcome::Next => left -= 1,
+            Outcome::Raise { reason, q0, q1 } => {
+                return Ridden {
+                    count: most - left,
+                    raised: Some(Raised { reason, q0, q1 }),
+                };
+            }
         }
     }
-    most
-}
-
-/// Instructions of an execution context, at most so many, one after another while they go on; and how many they are. No turn is charged.
-pub(crate) fn ride(parts: &mut Parts, ec: u32, most: u64) -> u64
-    requires there { IsSome (context_at (state_of parts.old) ec) }
-    requires log { most ≤ parts.old.reach.room }
-    ensures most { result ≤ most }
-    ensures rides { rides result (state_of parts.old) ec ≡ Some (state_of parts.new) }
-    ensures queues { parts.new.queues ≡ parts.old.queues }
-    ensures revokes { parts.new.revokes ≡ parts.old.revokes }
-    ensures log { parts.old.reach.room ≤ parts.new.reach.room + result }
-{
-    parts.enter(ec);
-    let mut regs = parts.contexts.context(ec).regs;
-    let count = ride_beside(parts, ec, &mut regs, most);
-    parts.contexts.set_regs(ec, &regs);
-    count
+    Ridden {
+        count: most,
+        raised: None,
+    }
 }
 
 /// Whether there is no virtual CPU but, where it is one, this execution context, so that nobody else could see what it stores.
@@ -121,27 +135,126 @@ pub(crate) fn turns_before(most: u64, left: u32, until: Option<u64>) -> u64
     }
 }
 
-/// As many turns of a processor as instructions of the one who acts there go on one after another, at most so many, at once; and how many they are.
-pub(crate) fn steps(parts: &mut Parts, cpu: u32, chosen: Chosen, most: u64) -> u64
-    requires counted { IsCounted (state_of parts.old) }
-    requires queued { AreQueued (state_of parts.old) parts.old.queues.all }
-    requires running { AreRunning (state_of parts.old) parts.old.revokes }
-    requires may { MayRide (state_of parts.old) cpu chosen most }
-    requires pays { IsSome (queued_at parts.old.queues.all chosen.sc) }
+/// How many turns may be taken at once: at most so many, what is left of the quantum, and what is left until something is due.
+fn turns_at_once(parts: &Parts, cpu: u32, sc: u32, most: u64) -> u64
+    requires { IsSome (queued_at parts.now.queues.all sc) }
+    ensures most { result ≤ most }
+    ensures left { IfSome (queued_at parts.now.queues.all sc) (λ e. result ≤ e.budget.left) }
+    ensures early { IsEarly (state_of parts.now).times cpu result }
+{
+    turns_before(most, parts.queues.left(sc), parts.times.until_due(cpu))
+}
+
+/// Whether the next turn of a processor is still one of this scheduling context's, in which the same one acts.
+fn is_still_chosen(parts: &Parts, known: &[Option<Chosen>], cpu: u32, chosen: Chosen) -> bool
+    requires queued { AreQueued (state_of parts.now) parts.now.queues.all }
+    requires known { AreKnown (state_of parts.now) known.now }
+    ensures { OnTrue result (IsNext parts.now cpu chosen) }
+{
+    match parts.choice(cpu, known) {
+        Some(next) => next.sc == chosen.sc && next.actor == chosen.actor,
+        None => false,
+    }
+}
+
+/// Plain steps on registers that lie beside the table, as many as instructions go on one after another: at most so many, all of one quantum
+/// and before anything is due. They are charged.
+fn ride_quantum(parts: &mut Parts, cpu: u32, chosen: Chosen, regs: &mut Regs, most: u64) -> Ridden
+    requires beside { IsBeside parts.old chosen regs.old }
+    requires next { IsNext parts.old cpu chosen }
+    requires left { IfSome (queued_at parts.old.queues.all chosen.sc) (λ e. most ≤ e.budget.left) }
+    requires early { IsEarly (state_of parts.old).times cpu most }
     requires cpu { cpu < parts.old.cpus }
     requires turns { parts.old.turns + most ≤ 2 ^ 31 }
     requires log { most ≤ parts.old.reach.room }
-    ensures most { result ≤ most }
-    ensures state { state_of parts.new ≡ run (state_of parts.old) (replicate result cpu) }
-    ensures events { (c : Candidate) → choice (state_of parts.old) cpu ≡ Some c → trace (state_of parts.old) (replicate result cpu) ≡ replicate result (step_of cpu c) }
+    ensures most { result.count ≤ most }
+    ensures halted { IfSome result.raised (λ r. (result.count < most) × IsHalted (beside parts.new chosen regs.new) cpu chosen r) }
+    ensures all { result.raised ≡ None → result.count ≡ most }
+    ensures beside { IsBeside parts.new chosen regs.new }
+    ensures later { IsLater parts.old regs.old parts.new regs.new cpu chosen result.count }
+{
+    law_turns::turns_keep_what_they_find();
+    let ridden = ride_beside(parts, chosen.actor, regs, most);
+    charge_times(parts, cpu, chosen.sc, ridden.count);
+    ridden
+}
+
+/// Plain steps on registers that lie beside the table, at most so many, quantum by quantum while the same one acts, paid by the same
+/// scheduling context, and nothing is due.
+fn ride_quanta(
+    parts: &mut Parts,
+    known: &[Option<Chosen>],
+    cpu: u32,
+    chosen: Chosen,
+    regs: &mut Regs,
+    most: u64,
+) -> Ridden
+    requires beside { IsBeside parts.old chosen regs.old }
+    requires next { IsNext parts.old cpu chosen }
+    requires known { AreKnown (state_of parts.old) known.now }
+    requires cpu { cpu < parts.old.cpus }
+    requires turns { parts.old.turns + most ≤ 2 ^ 31 }
+    requires log { most ≤ parts.old.reach.room }
+    ensures most { result.count ≤ most }
+    ensures halted { IfSome result.raised (λ r. (result.count < most) × IsHalted (beside parts.new chosen regs.new) cpu chosen r) }
+    ensures beside { IsBeside parts.new chosen regs.new }
+    ensures later { IsLater parts.old regs.old parts.new regs.new cpu chosen result.count }
+{
+    let mut count = 0;
+    while count < most {
+        let quantum = turns_at_once(parts, cpu, chosen.sc, most - count);
+        let ridden = ride_quantum(parts, cpu, chosen, regs, quantum);
+        count += ridden.count;
+        if ridden.raised.is_some()
+            || ridden.count == 0
+            || !is_still_chosen(parts, known, cpu, chosen)
+        {
+            return Ridden {
+                count,
+                raised: ridden.raised,
+            };
+        }
+    }
+    Ridden {
+        count,
+        raised: None,
+    }
+}
+
+/// As many turns of a processor as instructions of the one who acts there go on one after another, at most so many, at once: quantum
+/// by quantum, while the same one acts, paid by the same scheduling context, and nothing is due. Where the next instruction raises,
+/// its turn is the one that comes next.
+pub(crate) fn quanta(
+    parts: &mut Parts,
+    known: &[Option<Chosen>],
+    cpu: u32,
+    chosen: Chosen,
+    most: u64,
+) -> Ridden
+    requires counted { IsCounted (state_of parts.old) }
+    requires queued { AreQueued (state_of parts.old) parts.old.queues.all }
+    requires running { AreRunning (state_of parts.old) parts.old.revokes }
+    requires next { IsNext parts.old cpu chosen }
+    requires alone { RidesAlone (state_of parts.old) chosen.actor }
+    requires known { AreKnown (state_of parts.old) known.now }
+    requires cpu { cpu < parts.old.cpus }
+    requires turns { parts.old.turns + most ≤ 2 ^ 31 }
+    requires log { most ≤ parts.old.reach.room }
+    ensures most { result.count ≤ most }
+    ensures halted { IfSome result.raised (λ r. (result.count < most) × IsHalted (state_of parts.new) cpu chosen r) }
+    ensures state { state_of parts.new ≡ after_turns (state_of parts.old) cpu result.count }
+    ensures events { trace (state_of parts.old) (replicate result.count cpu) ≡ replicate result.count (step_by cpu chosen) }
     ensures known { (known : List (Option Chosen)) → AreKnown (state_of parts.old) known → AreKnown (state_of parts.new) known }
     ensures queued { AreQueued (state_of parts.new) parts.new.queues.all }
     ensures counted { IsCounted (state_of parts.new) }
     ensures running { AreRunning (state_of parts.new) parts.new.revokes }
-    ensures log { parts.old.reach.room ≤ parts.new.reach.room + result }
+    ensures turns { parts.new.turns ≡ parts.old.turns + result.count }
+    ensures cpus { parts.new.cpus ≡ parts.old.cpus }
+    ensures log { parts.old.reach.room ≤ parts.new.reach.room + result.count }
 {
-    law_turns::turns_keep_what_they_find();
-    let count = ride(parts, chosen.actor, most);
-    charge_times(parts, cpu, chosen.sc, count);
-    count
+    parts.enter(chosen.actor);
+    let mut regs = parts.contexts.context(chosen.actor).regs;
+    let ridden = ride_quanta(parts, known, cpu, chosen, &mut regs, most);
+    parts.contexts.set_regs(chosen.actor, &regs);
+    ridden
 }

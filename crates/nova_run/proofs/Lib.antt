@@ -1,5 +1,5 @@
 pub mod Kept
-pub mod Steps
+pub mod Taken
 pub mod Passes
 pub mod Lone
 pub mod Blocks

@@ -7,6 +7,9 @@ const LOOKS: u64 = 16384;
 /// An odd number whose multiples are spread over 64 bits: 2^64 by the golden ratio.
 const SPREAD: u64 = 0x9e37_79b9_7f4a_7c15;
 
+/// How often each of several workers stirs the noise once all have begun.
+const STIRS: u64 = 256;
+
 /// How long pauses are at most, in looks at nothing.
 static PACES: [u64; 6] = [16, 256, 2048, 8192, 16384, 32768];
 
@@ -17,7 +20,7 @@ pub(crate) struct Crew {
     begun: AtomicU64,
     resting: AtomicU64,
 
-    // How often they looked for each other and paused. It differs from run to run, as their threads come to begin.
+    // What they draw pauses from. Of two who stir it at once one is lost, so that it differs from run to run.
     noise: AtomicU64,
 }
 
@@ -47,20 +50,34 @@ impl Crew {
         self.begun.fetch_add(1, Ordering::SeqCst);
         for _look in 0..LOOKS {
             if self.begun.load(Ordering::SeqCst) >= self.workers {
+                self.shake();
                 return;
             }
-            self.noise.fetch_add(1, Ordering::SeqCst);
+            self.draw();
             thread::yield_now();
         }
     }
 
-    /// A number that nobody foresees.
+    /// All stir the noise at once, and lose the more of it the closer they come together.
+    fn shake(&self) {
+        if self.is_lone() {
+            return;
+        }
+        for _stir in 0..STIRS {
+            self.draw();
+        }
+    }
+
+    /// A number that nobody foresees. It is the noise, stirred by a step that reaches each number once.
     fn draw(&self) -> u64 {
-        let drawn = self
+        let stirred = self
             .noise
-            .fetch_add(1, Ordering::SeqCst)
+            .load(Ordering::SeqCst)
+            .wrapping_add(1)
             .wrapping_mul(SPREAD);
-        (drawn ^ (drawn >> 32)).wrapping_mul(SPREAD)
+        let stirred = stirred ^ (stirred >> 32);
+        self.noise.store(stirred, Ordering::SeqCst);
+        stirred.wrapping_mul(SPREAD)
     }
 
     /// How long the pauses of a worker are at most in its next step. It differs by much from step to step, and from run to run.
@@ -83,7 +100,8 @@ impl Crew {
         self.resting.load(Ordering::SeqCst) >= self.workers
     }
 
-    /// A pause of a worker that isn't alone: nobody foresees how long, but it is less than so many looks at nothing. It tells how many they were.
+    /// A pause of a worker that isn't alone: nobody foresees how long, but it is less than so many looks at nothing. It tells how many they were. Now
+    /// and then the worker also yields, since two that begin together often share a core of the host.
     pub(crate) fn pause(&self, longest: u64) -> u64 {
         if self.is_lone() {
             return 0;

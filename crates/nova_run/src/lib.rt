@@ -5,7 +5,6 @@ mod bursts;
 mod crew;
 mod gate;
 mod orders;
-mod riding;
 mod rounds;
 mod turns;
 mod workers;

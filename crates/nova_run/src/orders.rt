@@ -4,7 +4,6 @@ ghost use Rattle.nova_shared.specs.declared.fault.RunFault.TheVariants.{OrderIdl
 ghost use Rattle.nova_run.specs.Finished.{IsFinished, IsIdleLine, IsFreeOfIdle};
 ghost use Rattle.nova_run.specs.UnderWay.{IsReady, Passed, IsAlong, IsBegun, IsBlockTaken};
 
-use crate::riding::Riding;
 use crate::turns::{begin, go, kept, make_places};
 use nova_kernel::Kernel;
 use nova_order::Order;
@@ -12,7 +11,7 @@ use nova_shared::{Finished, RunFault};
 use std::alloc::{AllocError, Global};
 
 /// Turns of one processor, until one is idle; and whether none was.
-fn take(run: &mut Finished, riding: &mut Riding, cpu: u32, count: u64) -> Result<bool, AllocError>
+fn take(run: &mut Finished, cpu: u32, count: u64) -> Result<bool, AllocError>
     requires ready { IsReady run.old }
     requires more { length run.old.trace.items + count ≤ run.old.limit }
     requires cpu { cpu < run.old.kernel.state.cpus }
@@ -21,7 +20,7 @@ fn take(run: &mut Finished, riding: &mut Riding, cpu: u32, count: u64) -> Result
     make_places(run, count)?;
     let mut left = count;
     while left > 0 {
-        let taken = go(run, riding, cpu, left)?;
+        let taken = go(run, cpu, left)?;
         if taken == 0 {
             return Ok(false);
         }
@@ -37,9 +36,8 @@ fn take_all(run: &mut Finished, order: &Order) -> Result<(), RunFault>
     ensures along { OnOk result (IsAlong run.old.kernel.state run.old.limit run.new order.now.blocks) }
     ensures idle { (line : ℕ) → result ≡ Err (OrderIdle line) → IsIdleLine run.old.kernel.state order.now.blocks line }
 {
-    let mut riding = Riding::new();
     for (index, block) in order.blocks().iter().enumerate() {
-        if !take(run, &mut riding, block.cpu, block.count)? {
+        if !take(run, block.cpu, block.count)? {
             return Err(RunFault::OrderIdle(index as u64 + 1));
         }
     }

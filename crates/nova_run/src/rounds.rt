@@ -4,7 +4,6 @@ ghost use Rattle.nova_shared.specs.declared.fault.RunFault.TheVariants.{Memory};
 ghost use Rattle.nova_run.specs.Finished.{IsFinished};
 ghost use Rattle.nova_run.specs.UnderWay.{IsReady, Passed, left};
 
-use crate::riding::Riding;
 use crate::turns::{begin, go, kept, make_places, turn};
 use nova_kernel::Kernel;
 use nova_shared::{Finished, RunFault};
@@ -73,9 +72,8 @@ fn run_lone(run: &mut Finished) -> Result<(), AllocError>
     ensures { OnOk result (Passed run.old (rounds run.old.kernel.state (left run.old)) run.new) }
 {
     let mut more = run.limit - run.trace.len();
-    let mut riding = Riding::new();
     while more > 0 {
-        let taken = go(run, &mut riding, 0, more)?;
+        let taken = go(run, 0, more)?;
         if taken == 0 {
             return Ok(());
         }

@@ -1,10 +1,13 @@
-ghost use Rattle.std.specs.Prelude.{[], ◌≡◌, ◌+◌, ◌^◌, ◌<◌, ◌≤◌, length, replicate, is_some, false, IsOk, IfOk, IfErr, OnOk, Err};
+ghost use Rattle.std.specs.Prelude.{[], ◌≡◌, ◌+◌, ◌^◌, ◌<◌, ◌≤◌, ◌++◌, length, replicate, is_some, false, IfSome, IsOk, IfOk, IfErr, OnOk, Err};
+ghost use Rattle.nova_kernel.specs.Rides.{last_turns};
 ghost use Rattle.nova_model.specs.Turn.{turn};
+ghost use Rattle.nova_order.specs.Blocks.{turns, total};
+ghost use Rattle.nova_shared.specs.Steps.{repeated};
 ghost use Rattle.nova_run.specs.Finished.{IsFinished, IsFreeOfIdle};
+ghost use Rattle.nova_run.specs.Taken.{last_events};
 ghost use Rattle.nova_run.specs.UnderWay.{IsReady, Passed, taken};
 
-use crate::riding::{FEW, Riding};
-use nova_kernel::{Kernel, StepsTaken, Turn};
+use nova_kernel::{Kernel, StepsTaken, Turn, TurnsTaken};
 use nova_order::Order;
 use nova_shared::{Finished, RunFault};
 use nova_trace::Trace;
@@ -105,62 +108,65 @@ pub(crate) fn turn(run: &mut Finished, cpu: u32) -> Result<bool, AllocError>
     }
 }
 
-/// Plain steps of a processor, one after another: how many, at most so many. None is taken where who acts there is about to do something else.
-/// There are places for their events.
-fn steps(run: &mut Finished, cpu: u32, most: u64) -> Result<u64, AllocError>
-    requires ready { IsReady run.old }
-    requires more { length run.old.trace.items + most ≤ run.old.limit }
-    requires places { length run.old.trace.items + most ≤ run.old.trace.capacity }
-    requires cpu { cpu < run.old.kernel.state.cpus }
-    ensures most { IfOk result (λ n. n ≤ most) }
-    ensures passed { IfOk result (λ n. Passed run.old (replicate n cpu) run.new) }
-    ensures no_idle { IfOk result (λ n. IsFreeOfIdle run.old.kernel.state (replicate n cpu)) }
+/// Enters plain steps that were taken at once. There are places for their events.
+#[inline(always)]
+fn enter_steps(trace: &mut Trace, steps: StepsTaken)
+    requires places { length trace.old.items + steps.count ≤ trace.old.capacity }
+    ensures items { trace.new.items ≡ trace.old.items ++ repeated steps.event steps.count }
+    ensures places { trace.new.capacity ≡ trace.old.capacity }
+{
+    if let Some(event) = steps.event
+        && steps.count > 0
+    {
+        trace.add(event, steps.count);
+    }
+}
+
+/// Enters the turn that came after them, if one was tried: how many turns it is. There is a place for its event.
+#[inline(always)]
+fn enter_last(trace: &mut Trace, last: Option<Result<Turn, AllocError>>) -> Result<u64, AllocError>
+    requires places { length trace.old.items + last_turns last ≤ trace.old.capacity }
+    ensures turns { IfOk result (λ n. n ≡ last_turns last) }
+    ensures items { OnOk result (trace.new.items ≡ trace.old.items ++ last_events last) }
+    ensures went { OnOk result (IfSome last (λ answer. IsOk answer)) }
+    ensures places { trace.new.capacity ≡ trace.old.capacity }
+{
+    match last {
+        Some(Ok(Turn::Stepped(event))) => {
+            trace.add(event, 1);
+            Ok(1)
+        }
+        Some(Ok(Turn::Idle)) | None => Ok(0),
+        Some(Err(refused)) => Err(refused),
+    }
+}
+
+/// Enters turns of a processor that its kernel took in one call: how many they are. There are places for their events.
+fn enter(run: &mut Finished, cpu: u32, taken: &TurnsTaken) -> Result<u64, AllocError>
+    requires places { length run.old.trace.items + (taken.now.steps.count + last_turns taken.now.last) ≤ run.old.trace.capacity }
+    requires order { total run.old.order.blocks ≡ length run.old.trace.items }
+    requires more { length run.old.trace.items + (taken.now.steps.count + last_turns taken.now.last) ≤ run.old.limit }
+    ensures turns { IfOk result (λ n. n ≡ taken.now.steps.count + last_turns taken.now.last) }
+    ensures same { (run.new.opening ≡ run.old.opening) × (run.new.kernel ≡ run.old.kernel) × (run.new.limit ≡ run.old.limit) }
+    ensures order { IfOk result (λ n. turns run.new.order.blocks ≡ turns run.old.order.blocks ++ replicate n cpu) }
+    ensures sum { IfOk result (λ n. total run.new.order.blocks ≡ total run.old.order.blocks + n) }
+    ensures trace { OnOk result (run.new.trace.items ≡ (run.old.trace.items ++ repeated taken.now.steps.event taken.now.steps.count) ++ last_events taken.now.last) }
+    ensures went { OnOk result (IfSome taken.now.last (λ answer. IsOk answer)) }
     ensures places { run.new.trace.capacity ≡ run.old.trace.capacity }
 {
-    let StepsTaken { event, count } = run.kernel.steps(cpu, most);
-    let Some(event) = event else {
-        return Ok(0);
-    };
-    if count == 0 {
-        return Ok(0);
+    let _limit = run.limit;
+    enter_steps(&mut run.trace, taken.steps);
+    let count = taken.steps.count + enter_last(&mut run.trace, taken.last)?;
+    if count > 0 {
+        run.order.extend(cpu, count)?;
     }
-    run.trace.add(event, count);
-    run.order.extend(cpu, count)?;
     Ok(count)
 }
 
-/// The same on and on, until none is taken: a quantum may end on the way.
-#[inline(never)]
-fn ride_on(run: &mut Finished, cpu: u32, most: u64) -> Result<u64, AllocError>
-    requires ready { IsReady run.old }
-    requires more { length run.old.trace.items + most ≤ run.old.limit }
-    requires places { length run.old.trace.items + most ≤ run.old.trace.capacity }
-    requires cpu { cpu < run.old.kernel.state.cpus }
-    ensures most { IfOk result (λ n. n ≤ most) }
-    ensures passed { IfOk result (λ n. Passed run.old (replicate n cpu) run.new) }
-    ensures no_idle { IfOk result (λ n. IsFreeOfIdle run.old.kernel.state (replicate n cpu)) }
-    ensures places { run.new.trace.capacity ≡ run.old.trace.capacity }
-{
-    let mut left = most;
-    while left > 0 {
-        let taken = steps(run, cpu, left)?;
-        if taken == 0 {
-            return Ok(most - left);
-        }
-        left -= taken;
-    }
-    Ok(most)
-}
-
-/// A turn of a processor, and where plain steps are to be taken at once those that come next: how many turns, at most so many; none where the processor
-/// is idle. There are places for their events.
+/// Turns of a processor that its kernel takes in one call: how many, at most so many; none where the processor is idle. There are places for their
+/// events.
 #[inline(always)]
-pub(crate) fn go(
-    run: &mut Finished,
-    riding: &mut Riding,
-    cpu: u32,
-    most: u64,
-) -> Result<u64, AllocError>
+pub(crate) fn go(run: &mut Finished, cpu: u32, most: u64) -> Result<u64, AllocError>
     requires ready { IsReady run.old }
     requires some { 0 < most }
     requires more { length run.old.trace.items + most ≤ run.old.limit }
@@ -172,13 +178,6 @@ pub(crate) fn go(
     ensures no_idle { IfOk result (λ n. IsFreeOfIdle run.old.kernel.state (replicate n cpu)) }
     ensures places { run.new.trace.capacity ≡ run.old.trace.capacity }
 {
-    if !turn(run, cpu)? {
-        return Ok(0);
-    }
-    if !riding.follows(run.trace.ends_with_step()) || most < FEW {
-        return Ok(1);
-    }
-    let more = ride_on(run, cpu, most - 1)?;
-    riding.went(more);
-    Ok(more + 1)
+    let taken = run.kernel.take_turns(cpu, most);
+    enter(run, cpu, &taken)
 }

@@ -1,4 +1,4 @@
-use Rattle.std.proofs.Common.{◌≡◌, sym, ◌∙◌}
+use Rattle.std.proofs.Common.{sym, ◌∙◌}
 use Rattle.nova_turn.specs.Parts.{state_of}
 use Rattle.nova_kernel.proofs.Inputs.{next_chosen, next_none}
 use Rattle.nova_kernel.proofs.choices.next_to_act.Goals as goal

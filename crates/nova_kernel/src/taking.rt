@@ -1,0 +1,139 @@
+ghost use Rattle.std.specs.Prelude.{◌≡◌, ◌+◌, ◌^◌, ◌<◌, ◌≤◌, replicate, None, Some, IfSome, IfOk, OnOk, OnErr, option_map};
+ghost use Rattle.std.specs.Bool.{OnTrue};
+ghost use Rattle.nova_model.specs.Choice.{choice};
+ghost use Rattle.nova_model.specs.Runs.{run, trace};
+ghost use Rattle.nova_model.specs.Turn.{turn, state_after, answer_of};
+ghost use Rattle.nova_choice.specs.Choices.{chosen_of};
+ghost use Rattle.law_leases.specs.Advances.{step_of};
+ghost use Rattle.nova_kernel.specs.Rides.{IsHalted, after_turns, last_turns, step_by};
+ghost use Rattle.nova_kernel.specs.Views.{IsMaking, turns_taken};
+
+use crate::choices::keep;
+use crate::kernel::Kernel;
+use crate::riding::{Ridden, StepsTaken, none_tried, plain_step, quanta, rides_alone};
+use nova_choice::Chosen;
+use nova_model::Turn;
+use nova_turn::Raised;
+use std::alloc::AllocError;
+
+/// Turns of a processor that were taken in one call: plain steps, and after them perhaps a turn of any kind.
+#[derive(Drop)]
+pub struct TurnsTaken {
+    pub steps: StepsTaken,
+    /// The turn behind the plain steps, where one was tried: it refuses as `Kernel::turn`.
+    pub last: Option<Result<Turn, AllocError>>,
+}
+
+impl Kernel {
+    /// Instructions of the one who is chosen on a processor, each a turn of it, at most so many: quantum by quantum, as long as it is this one
+    /// who is chosen, and nothing is due. None is tried where there is another virtual CPU.
+    fn ride_on(&mut self, cpu: u32, chosen: Chosen, most: u64) -> Ridden
+        requires cpu { cpu < self.old.state.cpus }
+        requires room { most ≤ self.old.room }
+        requires turns { self.old.state.turns + most ≤ 2 ^ 31 }
+        requires told { Some chosen ≡ option_map chosen_of (choice self.old.state cpu) }
+        ensures most { result.count ≤ most }
+        ensures state { self.new.state ≡ after_turns self.old.state cpu result.count }
+        ensures events { trace self.old.state (replicate result.count cpu) ≡ replicate result.count (step_by cpu chosen) }
+        ensures halted { IfSome result.raised (λ r. (result.count < most) × IsHalted self.new.state cpu chosen r) }
+        ensures room { self.old.room ≤ self.new.room + result.count }
+        ensures counted { self.new.state.turns ≡ self.old.state.turns + result.count }
+        ensures cpus { self.new.state.cpus ≡ self.old.state.cpus }
+    {
+        if !rides_alone(&self.parts, chosen.actor) {
+            return none_tried();
+        }
+        quanta(&mut self.parts, &self.known, cpu, chosen, most)
+    }
+
+    /// The turn of the one who is chosen on a processor, where nothing is due and the instruction that is next raised this. It refuses as `turn`.
+    fn settle(&mut self, cpu: u32, chosen: Chosen, raised: Raised) -> Result<Turn, AllocError>
+        requires cpu { cpu < self.old.state.cpus }
+        requires room { 0 < self.old.room }
+        requires turns { self.old.state.turns < 2 ^ 31 }
+        requires halted { IsHalted self.old.state cpu chosen raised }
+        ensures answer { IfOk result (λ t. t ≡ answer_of (turn self.old.state cpu)) }
+        ensures state { OnOk result (self.new.state ≡ state_after self.old.state (turn self.old.state cpu)) }
+        ensures memory { OnErr result (self.new ≡ self.old) }
+        ensures making { OnErr result (IsMaking self.old.state cpu) }
+        ensures room { self.old.room ≤ self.new.room + 1 }
+        ensures idle { IfOk result (λ t. t ≡ Turn.Idle → self.new.room ≡ self.old.room) }
+        ensures counted { IfOk result (λ t. self.new.state.turns ≡ self.old.state.turns + turns_taken t) }
+        ensures cpus { self.new.state.cpus ≡ self.old.state.cpus }
+    {
+        law_leases::laws::what_bursts_stand_on_is_kept();
+        let turn = self.parts.settle(cpu, chosen, Some(raised))?;
+        keep(&mut self.known, &turn);
+        Ok(turn)
+    }
+
+    /// As many turns of a processor as instructions of the execution context that acts there go on one after another, at once: at most
+    /// so many, and what is left until something is due there, through several quanta as long as the same one is chosen. None is taken
+    /// so where there is another virtual CPU. Needs spare log for them all; with the turns taken before they are at most 2^31.
+    pub fn steps(&mut self, cpu: u32, most: u64) -> StepsTaken
+        requires cpu { cpu < self.old.state.cpus }
+        requires room { most ≤ self.old.room }
+        requires turns { self.old.state.turns + most ≤ 2 ^ 31 }
+        ensures most { result.count ≤ most }
+        ensures event { result.event ≡ option_map (step_of cpu) (choice self.old.state cpu) }
+        ensures none { result.event ≡ None → result.count ≡ 0 }
+        ensures state { self.new.state ≡ run self.old.state (replicate result.count cpu) }
+        ensures events { IfSome result.event (λ e. trace self.old.state (replicate result.count cpu) ≡ replicate result.count e) }
+        ensures room { self.old.room ≤ self.new.room + result.count }
+    {
+        let Some(chosen) = self.parts.choice(cpu, &self.known) else {
+            return StepsTaken {
+                event: None,
+                count: 0,
+            };
+        };
+        let event = Some(plain_step(cpu, chosen));
+        let count = self.ride_on(cpu, chosen, most).count;
+        StepsTaken { event, count }
+    }
+
+    /// Turns of a processor in one call, at most so many: plain steps as `steps` takes them, and where the next instruction raises, or none
+    /// could be taken so, the turn that comes next, which may be idle. Where that is refused memory, the plain steps were taken. Needs spare log
+    /// for them all; with the turns taken before they are at most 2^31.
+    pub fn take_turns(&mut self, cpu: u32, most: u64) -> TurnsTaken
+        requires cpu { cpu < self.old.state.cpus }
+        requires some { 0 < most }
+        requires room { most ≤ self.old.room }
+        requires turns { self.old.state.turns + most ≤ 2 ^ 31 }
+        ensures most { result.steps.count ≤ most }
+        ensures event { result.steps.event ≡ option_map (step_of cpu) (choice self.old.state cpu) }
+        ensures none { result.steps.event ≡ None → result.steps.count ≡ 0 }
+        ensures events { IfSome result.steps.event (λ e. trace self.old.state (replicate result.steps.count cpu) ≡ replicate result.steps.count e) }
+        ensures some { result.last ≡ None → 0 < result.steps.count }
+        ensures fewer { IfSome result.last (λ l. result.steps.count < most) }
+        ensures alone { result.last ≡ None → self.new.state ≡ after_turns self.old.state cpu result.steps.count }
+        ensures answer { IfSome result.last (λ l. IfOk l (λ t. t ≡ answer_of (turn (after_turns self.old.state cpu result.steps.count) cpu))) }
+        ensures state { IfSome result.last (λ l. OnOk l (self.new.state ≡ state_after (after_turns self.old.state cpu result.steps.count) (turn (after_turns self.old.state cpu result.steps.count) cpu))) }
+        ensures memory { IfSome result.last (λ l. OnErr l (self.new.state ≡ after_turns self.old.state cpu result.steps.count)) }
+        ensures making { IfSome result.last (λ l. OnErr l (IsMaking (after_turns self.old.state cpu result.steps.count) cpu)) }
+        ensures room { self.old.room ≤ self.new.room + (result.steps.count + last_turns result.last) }
+        ensures counted { self.new.state.turns ≡ self.old.state.turns + (result.steps.count + last_turns result.last) }
+        ensures cpus { self.new.state.cpus ≡ self.old.state.cpus }
+    {
+        let Some(chosen) = self.parts.choice(cpu, &self.known) else {
+            let steps = StepsTaken {
+                event: None,
+                count: 0,
+            };
+            let last = Some(self.turn(cpu));
+            return TurnsTaken { steps, last };
+        };
+        let event = Some(plain_step(cpu, chosen));
+        let Ridden { count, raised } = self.ride_on(cpu, chosen, most);
+        let steps = StepsTaken { event, count };
+        if let Some(raised) = raised {
+            let last = Some(self.settle(cpu, chosen, raised));
+            return TurnsTaken { steps, last };
+        }
+        if count == 0 {
+            let last = Some(self.turn(cpu));
+            return TurnsTaken { steps, last };
+        }
+        TurnsTaken { steps, last: None }
+    }
+}
