@@ -101,7 +101,7 @@ impl Crew {
     }
 
     /// A pause of a worker that isn't alone: nobody foresees how long, but it is less than so many looks at nothing. It tells how many they were. Now
-    /// and then the worker also yields, since two that begin together often share a core of the host.
+    /// and then the worker also yields, so that another can go on where they share a core.
     pub(crate) fn pause(&self, longest: u64) -> u64 {
         if self.is_lone() {
             return 0;
