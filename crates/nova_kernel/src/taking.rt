@@ -95,6 +95,7 @@ impl Kernel {
     /// Turns of a processor in one call, at most so many: plain steps as `steps` takes them, and where the next instruction raises, or none
     /// could be taken so, the turn that comes next, which may be idle. Where that is refused memory, the plain steps were taken. Needs spare log
     /// for them all; with the turns taken before they are at most 2^31.
+    #[inline(always)]
     pub fn take_turns(&mut self, cpu: u32, most: u64) -> TurnsTaken
         requires cpu { cpu < self.old.state.cpus }
         requires some { 0 < most }

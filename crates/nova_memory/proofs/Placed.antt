@@ -3,7 +3,7 @@ use Rattle.std.proofs.Common.{◌≡◌, ℕ, ◌+◌, ◌-◌, ◌<◌, ◌≤�
 use Rattle.std.specs.Prelude.{Bool, true, false, ◌==◌, not, if◌then◌else◌, Option, Some, None, option_map, Result, Ok, Err, IfSome, OnOk, OnErr}
 use Rattle.std.specs.List.{AllByRecursion, find}
 use Rattle.nova_range.specs.declared.range.Kind.{Kind}
-use Rattle.nova_range.specs.declared.range.Kind.TheVariants.{Mem, Obj}
+use Rattle.nova_range.specs.declared.range.Kind.TheVariants.{Mem}
 use Rattle.nova_range.specs.Ranges.{IsRange}
 use Rattle.nova_model.specs.Delegations.{Delegations, covers, has_place, is_memory, range_of, without}
 use Rattle.nova_model.specs.Revokes.{Revocation, next_leaf, revoked, taken_away}
@@ -14,7 +14,7 @@ use Rattle.nova_model.specs.declared.transfer.Reason.{Reason}
 use Rattle.law_forest.proofs.Members.{IsIn, all_at, all_from, all_more, filtered_in, found_in}
 use Rattle.nova_nodes.specs.NodesStates.{IsPlaced, IsSound}
 use Rattle.nova_nodes.proofs.Found.{find_only}
-use Rattle.nova_nodes.proofs.Indexed.{meeting}
+use Rattle.nova_nodes.proofs.Indexed.{in_space, meeting}
 use Rattle.law_forest.proofs.Transfers.{left_facts, next_facts, judged_facts, child_targets}
 use Rattle.nova_model.specs.declared.delegation.Derivation.{Derivation}
 use Rattle.nova_memory.specs.Reach.{IsFound, LeadsToFrames, LeadToFrames}
@@ -72,44 +72,32 @@ pub part_leads : {T E : Type 0} (X : Type 0) (r : Result T E) (frames : ℕ) (f 
 part_leads X (Ok x) frames f g h ok err old new = rw ok new
 part_leads X (Err e) frames f g h ok err old new = rw err.0 old
 
--- in a sound forest a derivation is found at each page that it covers
-pages_alone : (a b : Kind) → is_memory a ≡ true → is_memory b ≡ true → a ≡ b
-pages_alone Mem Mem h k = refl
-pages_alone Obj b h k = absurd (cc)
-pages_alone a Obj h k = absurd (cc)
+-- in a sound forest a derivation is found at each place that it covers
+one_alone : (kind : Kind) (f : Delegations) (d e : Derivation) (pd place : ℕ) → IsForest f → IsIn f.list e → IsIn f.list d → covers kind pd place e ≡ true →
+    covers kind pd place d ≡ true → e ≡ d
+one_alone kind f d e pd place forest i j k h =
+    let other = in_space pd kind (has_place (range_of e) place) e k in
+    let it = in_space pd kind (has_place (range_of d) place) d h in
+    meeting f e d place forest i j (other.domain ∙ sym it.domain) (other.space ∙ sym it.space) other.passes it.passes
 
--- what covers a page, in the words of its parts
-record Covers (pd page : ℕ) (d : Derivation) : Type 0 where
-  memory : is_memory d.kind ≡ true
-  domain : d.pd ≡ pd
-  place : has_place (range_of d) page ≡ true
-
-covering_parts : (pd page : ℕ) (d : Derivation) → covers Mem pd page d ≡ true → Covers pd page d
-covering_parts pd page d h = record { memory = grind (arith, h); domain = grind (arith, h); place = grind (arith, h) }
-
-one_alone : (f : Delegations) (d e : Derivation) (pd page : ℕ) → IsForest f → IsIn f.list e → IsIn f.list d → covers Mem pd page e ≡ true →
-    covers Mem pd page d ≡ true → e ≡ d
-one_alone f d e pd page forest i j k h =
-    let ke = covering_parts pd page e k in
-    let kd = covering_parts pd page d h in
-    meeting f e d page forest i j (ke.domain ∙ sym kd.domain) (pages_alone e.kind d.kind ke.memory kd.memory) ke.place kd.place
-
-pub found_always : (f : Delegations) (pd page : ℕ) (d : Derivation) → IsSound f → find (covers Mem pd page) f.list ≡ Some d → d.order ≤ 20 → IsFound f.list d
-found_always f pd page d sound found order = record {
-  order = order;
-  always = λ other place covered.
-      let there = (found_in (covers Mem pd page) f.list d found).0 in
-      find_only (covers Mem other place) f.list d there covered (λ e i k. one_alone f d e other place sound.forest i there k covered);
+found_always : (kind : Kind) (f : Delegations) (pd place : ℕ) (d : Derivation) → IsSound f → find (covers kind pd place) f.list ≡ Some d → IsPlaced d → IsFound kind f.list d
+found_always kind f pd place d sound found placed = record {
+  order = placed.range.order;
+  placed = placed;
+  always = λ other at covered.
+      let there = (found_in (covers kind pd place) f.list d found).0 in
+      find_only (covers kind other at) f.list d there covered (λ e i k. one_alone kind f d e other at sound.forest i there k covered);
 }
 
 -- what was found last is looked at first
-pub last_found : (list : List Derivation) (last : Option Derivation) (d : Derivation) (pd page : ℕ) → last ≡ Some d → IfSome last (IsFound list) →
+pub last_found : (list : List Derivation) (last : Option Derivation) (d : Derivation) (pd page : ℕ) → last ≡ Some d → IfSome last (IsFound Mem list) →
     covers Mem pd page d ≡ true → find (covers Mem pd page) list ≡ Some d
-last_found list last d pd page is found covered = (subst (λ (o : Option Derivation). IfSome o (IsFound list)) is found).always pd page covered
+last_found list last d pd page is found covered = (subst (λ (o : Option Derivation). IfSome o (IsFound Mem list)) is found).always pd page covered
 
-pub at_found : (f : Delegations) (pd page : ℕ) (o : Option Derivation) → IsSound f → o ≡ find (covers Mem pd page) f.list → IfSome o IsPlaced → IfSome o (IsFound f.list)
-at_found f pd page None sound is placed = tt
-at_found f pd page (Some d) sound is placed = found_always f pd page d sound (sym is) placed.range.order
+pub at_found : (kind : Kind) (f : Delegations) (pd place : ℕ) (o : Option Derivation) → IsSound f → o ≡ find (covers kind pd place) f.list → IfSome o IsPlaced →
+    IfSome o (IsFound kind f.list)
+at_found kind f pd place None sound is placed = tt
+at_found kind f pd place (Some d) sound is placed = found_always kind f pd place d sound (sym is) placed
 
 -- and also after another joined
 find_more : {T : Type 0} (p : T → Bool) (xs : List T) (y x : T) → find p xs ≡ Some x → find p (xs ++ y ∷ []) ≡ Some x
@@ -121,27 +109,28 @@ find_more p (z ∷ zs) y x h = by_test (p z) h (λ g. find_more p zs y x g)
     by_test true g rest = g
     by_test false g rest = rest g
 
-found_more : (list : List Derivation) (x d : Derivation) → IsFound list d → IsFound (list ++ x ∷ []) d
+found_more : (list : List Derivation) (x d : Derivation) → IsFound Mem list d → IsFound Mem (list ++ x ∷ []) d
 found_more list x d found = record {
   order = found.order;
+  placed = found.placed;
   always = λ pd page covered. find_more (covers Mem pd page) list x d (found.always pd page covered);
 }
 
-pub last_more : (list : List Derivation) (x : Derivation) (last : Option Derivation) → IfSome last (IsFound list) → IfSome last (IsFound (list ++ x ∷ []))
+pub last_more : (list : List Derivation) (x : Derivation) (last : Option Derivation) → IfSome last (IsFound Mem list) → IfSome last (IsFound Mem (list ++ x ∷ []))
 last_more list x None found = tt
 last_more list x (Some d) found = found_more list x d found
 
-pub last_given : (f : Delegations) (p : Option Part) (last : Option Derivation) → IfSome last (IsFound f.list) → IfSome last (IsFound (given f p).list)
+pub last_given : (f : Delegations) (p : Option Part) (last : Option Derivation) → IfSome last (IsFound Mem f.list) → IfSome last (IsFound Mem (given f p).list)
 last_given f None last found = found
 last_given f (Some p) last found = by_child p.child
   where
-    by_child : (r : Result Derivation Reason) → IfSome last (IsFound (joined f r).list)
+    by_child : (r : Result Derivation Reason) → IfSome last (IsFound Mem (joined f r).list)
     by_child (Ok x) = last_more f.list x last found
     by_child (Err reason) = found
 
 -- after what changes delegations or leaves them
 pub last_kept : {T E : Type 0} (X : Type 0) (r : Result T E) (f g h : Delegations) (last : Option Derivation) → OnOk r (g ≡ h) → OnErr r ((g ≡ f) × X) →
-    IfSome last (IsFound f.list) → IfSome last (IsFound h.list) → IfSome last (IsFound g.list)
+    IfSome last (IsFound Mem f.list) → IfSome last (IsFound Mem h.list) → IfSome last (IsFound Mem g.list)
 last_kept X (Ok x) f g h last ok err old new = rw ok new
 last_kept X (Err e) f g h last ok err old new = rw err.0 old
 

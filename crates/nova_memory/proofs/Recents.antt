@@ -4,13 +4,14 @@ use Rattle.std.specs.Prelude.{◌≢◌, Bool, true, false, ◌==◌, ◌&&◌, 
 use Rattle.std.specs.List.{find}
 use Rattle.nova_guest.specs.Frames.{frame_with}
 use Rattle.nova_range.specs.Rights.{allows}
-use Rattle.nova_range.specs.declared.range.Kind.TheVariants.{Mem}
+use Rattle.nova_range.specs.declared.range.Kind.TheVariants.{Mem, Obj}
 use Rattle.nova_model.specs.AddressSpaces.{frame_for, own_page}
 use Rattle.nova_model.specs.Delegations.{covers, page_in, reach}
 use Rattle.nova_model.specs.declared.delegation.Derivation.{Derivation}
-use Rattle.nova_memory.specs.Reach.{LeadToFrames, ReachState, own_of, reached}
-use Rattle.nova_memory.specs.Recents.{IsRecent}
+use Rattle.nova_memory.specs.Reach.{IsFound, LeadToFrames, ReachState, own_of, reached}
+use Rattle.nova_memory.specs.Recents.{AreRecent, IsRecent}
 use Rattle.nova_memory.specs.declared.recent.Recent.{Recent}
+use Rattle.nova_memory.specs.declared.recent.Recents.{Recents}
 use Rattle.nova_memory.proofs.Placed.{page_found}
 
 -- a page that isn't a thread's own
@@ -49,3 +50,8 @@ learned s right address frame is other = λ low. record {
   own = other;
   frame = sym (ap (λ (t : Bool). option_and_then (frame_with right) (if t then None else reach s.nodes.delegations.list s.pd (address / 4096))) (passes (own_of s) (address / 4096) other)) ∙ is;
 }
+
+-- and a capability that was found may be at hand
+pub at_hand : (list : List Derivation) (r : Recents) (capability : Option Derivation) → AreRecent list r → IfSome capability (IsFound Obj list) →
+    AreRecent list (record r { capability = capability })
+at_hand list r capability are found = record { fetched = are.fetched; loaded = are.loaded; stored = are.stored; capability = found }

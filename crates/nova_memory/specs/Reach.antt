@@ -3,6 +3,7 @@ use Rattle.std.specs.Prelude.{◌≡◌, true, ◌-◌, ℕ, ◌+◌, ◌^◌, �
 use Rattle.std.specs.List.{AllByRecursion, find}
 use Rattle.rv_model.specs.Step.{Store}
 use Rattle.nova_range.specs.Rights.{write_right}
+use Rattle.nova_range.specs.declared.range.Kind.{Kind}
 use Rattle.nova_range.specs.declared.range.Kind.TheVariants.{Mem, Obj}
 use Rattle.nova_range.specs.declared.range.Range.{Range}
 use Rattle.nova_model.specs.Memory.{Memory}
@@ -10,7 +11,7 @@ use Rattle.nova_model.specs.Delegations.{covers, is_memory}
 use Rattle.nova_model.specs.AddressSpaces.{AddressSpace, frame_for, space, space_through, after_store, words_after_store}
 use Rattle.nova_model.specs.State.{entry, message_in}
 use Rattle.nova_model.specs.declared.delegation.Derivation.{Derivation}
-use Rattle.nova_nodes.specs.NodesStates.{NodesState}
+use Rattle.nova_nodes.specs.NodesStates.{IsPlaced, NodesState}
 use Rattle.nova_memory.specs.Messages.{MessageTable}
 
 -- the derivations, the memory, the message words of all, the execution context that acts, its protection domain, whether it is a thread, the frame that the
@@ -52,10 +53,11 @@ pub record LeadToFrames (frames : ℕ) (list : List Derivation) : Type 0 where
   pub few : frames ≤ 2 ^ 32
   pub each : AllByRecursion (LeadsToFrames frames) list
 
--- a derivation that is found at each page that it covers
-pub record IsFound (list : List Derivation) (d : Derivation) : Type 0 where
+-- a derivation that is found at each place of a space that it covers
+pub record IsFound (kind : Kind) (list : List Derivation) (d : Derivation) : Type 0 where
   pub order : d.order ≤ 20
-  pub always : (pd page : ℕ) → covers Mem pd page d ≡ true → find (covers Mem pd page) list ≡ Some d
+  pub placed : IsPlaced d
+  pub always : (pd place : ℕ) → covers kind pd place d ≡ true → find (covers kind pd place) list ≡ Some d
 
 -- the state that a store leaves: what the log grows by is taken from the room
 abbrev pub stored : Store → ReachState → ReachState

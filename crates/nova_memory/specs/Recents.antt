@@ -1,10 +1,12 @@
--- The pages of a protection domain that were looked up last, with the frames that they lead to.
-use Rattle.std.specs.Prelude.{◌≡◌, ◌≢◌, ℕ, ◌<◌, ◌^◌, List, Some, option_and_then}
+-- The pages of a protection domain that were looked up last, with the frames that they lead to, and the capability that is at hand.
+use Rattle.std.specs.Prelude.{◌≡◌, ◌≢◌, ℕ, ◌<◌, ◌^◌, List, Some, IfSome, option_and_then}
 use Rattle.nova_guest.specs.Frames.{frame_with}
 use Rattle.nova_range.specs.Rights.{execute_right, read_right, write_right}
+use Rattle.nova_range.specs.declared.range.Kind.TheVariants.{Obj}
 use Rattle.nova_model.specs.AddressSpaces.{own_page}
 use Rattle.nova_model.specs.Delegations.{reach}
 use Rattle.nova_model.specs.declared.delegation.Derivation.{Derivation}
+use Rattle.nova_memory.specs.Reach.{IsFound}
 use Rattle.nova_memory.specs.declared.recent.Recent.{Recent}
 use Rattle.nova_memory.specs.declared.recent.Recents.{Recents}
 
@@ -21,3 +23,4 @@ pub record AreRecent (list : List Derivation) (r : Recents) : Type 0 where
   pub fetched : IsRecent list r.pd execute_right r.fetched
   pub loaded : IsRecent list r.pd read_right r.loaded
   pub stored : IsRecent list r.pd write_right r.stored
+  pub capability : IfSome r.capability (IsFound Obj list)

@@ -1,4 +1,4 @@
-ghost use Rattle.std.specs.Prelude.{false, ◌≡◌, ◌≤◌, ◌-◌, ◌^◌, ◌<◌, ℕ, is_some, None, IfSome, IsOk, OnOk, OnErr, IfOk};
+ghost use Rattle.std.specs.Prelude.{false, ◌≡◌, ◌≤◌, ◌-◌, ◌^◌, ◌<◌, ℕ, is_some, None, Some, IfSome, IsOk, OnOk, OnErr, IfOk};
 ghost use Rattle.std.specs.List.{find};
 ghost use Rattle.nova_range.specs.Rights.{IsRights};
 ghost use Rattle.nova_model.specs.Delegations.{added, covers, derived, from_id, with_id};
@@ -16,6 +16,20 @@ use nova_model::{Derivation, Job, Kind, Rights};
 use nova_range::Range;
 use nova_revoke::Running;
 use std::alloc::AllocError;
+
+/// Whether a derivation lies in a space of a protection domain and covers a place.
+#[inline(always)]
+pub(crate) fn covers(derivation: &Derivation, kind: Kind, pd: u32, place: u32) -> bool
+    requires { derivation.now.order ≤ 20 }
+    ensures { result ≡ covers kind pd place derivation.now }
+{
+    matches!(
+        (kind, derivation.kind),
+        (Kind::Mem, Kind::Mem) | (Kind::Obj, Kind::Obj)
+    ) && derivation.pd == pd
+        && derivation.base <= place
+        && place - derivation.base < 1 << derivation.order
+}
 
 impl Reach {
     /// Makes room for one more derivation of a protection domain. Where there is room, this succeeds.
@@ -68,12 +82,61 @@ impl Reach {
         self.nodes.root(pd, place, rights, object);
     }
 
-    /// The derivation that covers a place of a protection domain, or nothing.
-    pub fn covering(&self, pd: u32, kind: Kind, place: u32) -> Option<Derivation>
+    /// The capability at hand, where it is the one at a selector of a protection domain.
+    #[inline(always)]
+    fn at_hand(&self, pd: u32, selector: u32) -> Option<Derivation>
+        ensures found { IfSome result (λ d. find (covers Kind.Obj pd selector) self.now.nodes.delegations.list ≡ Some d) }
+        ensures placed { IfSome result IsPlaced }
+    {
+        let capability = self.recents.capability.as_ref()?;
+        if covers(capability, Kind::Obj, pd, selector) {
+            Some(*capability)
+        } else {
+            None
+        }
+    }
+
+    /// Takes the capability at a selector of a protection domain to hand. Where the same one is named again and again, this is
+    /// seldom done, and stays out of the code of each call.
+    #[inline(never)]
+    fn take_to_hand(&mut self, pd: u32, selector: u32)
+        ensures { self.new ≡ self.old }
+    {
+        self.recents.capability = self.nodes.covering(pd, Kind::Obj, selector);
+    }
+
+    /// Keeps the capability at a selector of a protection domain at hand, if there is one: until delegations change or another one
+    /// is kept, it is found there without a search.
+    #[inline(always)]
+    pub fn keep_at_hand(&mut self, pd: u32, selector: u32)
+        ensures { self.new ≡ self.old }
+    {
+        if self.at_hand(pd, selector).is_none() {
+            self.take_to_hand(pd, selector);
+        }
+    }
+
+    /// The search for the derivation that covers a place of a protection domain.
+    #[inline(never)]
+    fn search(&self, pd: u32, kind: Kind, place: u32) -> Option<Derivation>
         ensures found { result ≡ find (covers kind pd place) self.now.nodes.delegations.list }
         ensures placed { IfSome result IsPlaced }
     {
         self.nodes.covering(pd, kind, place)
+    }
+
+    /// The derivation that covers a place of a protection domain, or nothing.
+    #[inline(always)]
+    pub fn covering(&self, pd: u32, kind: Kind, place: u32) -> Option<Derivation>
+        ensures found { result ≡ find (covers kind pd place) self.now.nodes.delegations.list }
+        ensures placed { IfSome result IsPlaced }
+    {
+        if let Kind::Obj = kind
+            && let Some(capability) = self.at_hand(pd, place)
+        {
+            return Some(capability);
+        }
+        self.search(pd, kind, place)
     }
 
     /// The derivation of an id, or nothing.

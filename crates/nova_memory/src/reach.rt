@@ -9,6 +9,7 @@ ghost use Rattle.nova_model.specs.Delegations.{covers, page_in, reach};
 ghost use Rattle.nova_memory.specs.Previews.{entered};
 ghost use Rattle.nova_memory.specs.Reach.{ReachState, loaded, reached, stored, takes};
 
+use crate::delegations::covers;
 use crate::messages::Messages;
 use crate::recent::{Recent, Recents, frame_of};
 use crate::sights::Sights;
@@ -42,14 +43,15 @@ pub struct Reach {
     pub(crate) is_thread: bool,
     /// The frame that the last store went to; none after one to message words.
     pub(crate) written: Option<u32>,
-    /// Pages of the protection domain of the execution context that acts.
+    /// Pages and a capability of the protection domain of the execution context that acts.
     pub(crate) recents: Recents,
-    /// Pages of the protection domain that was left last.
+    /// Pages and a capability of the protection domain that was left last.
     pub(crate) others: Recents,
 }
 
 impl Model for Reach {
     ghost use Rattle.std.specs.Prelude.{◌+◌, length, IfSome};
+    ghost use Rattle.nova_range.specs.declared.range.Kind.TheVariants.{Mem};
     ghost use Rattle.nova_memory.specs.Reach.{ReachState, IsFound, LeadToFrames};
     ghost use Rattle.nova_memory.specs.Sights.{AreSeen};
     ghost use Rattle.nova_memory.specs.Recents.{AreRecent};
@@ -68,18 +70,7 @@ impl Model for Reach {
       room = r.frames.room;
     } };
 
-    ghost invariant = { λ r. LeadToFrames (length r.frames.memory.ram + r.frames.consoles) r.nodes.delegations.list × (IfSome r.last (IsFound r.nodes.delegations.list) × (AreSeen r.nodes.delegations.list r.sights × (AreRecent r.nodes.delegations.list r.recents × AreRecent r.nodes.delegations.list r.others))) };
-}
-
-/// Whether a derivation lies in the memory space of a protection domain and covers a page.
-fn covers(derivation: &Derivation, pd: u32, page: u32) -> bool
-    requires { derivation.now.order ≤ 20 }
-    ensures { result ≡ covers Kind.Mem pd page derivation.now }
-{
-    matches!(derivation.kind, Kind::Mem)
-        && derivation.pd == pd
-        && derivation.base <= page
-        && page - derivation.base < 1 << derivation.order
+    ghost invariant = { λ r. LeadToFrames (length r.frames.memory.ram + r.frames.consoles) r.nodes.delegations.list × (IfSome r.last (IsFound Mem r.nodes.delegations.list) × (AreSeen r.nodes.delegations.list r.sights × (AreRecent r.nodes.delegations.list r.recents × AreRecent r.nodes.delegations.list r.others))) };
 }
 
 /// What a page leads to through a derivation that covers it.
@@ -175,7 +166,7 @@ impl Reach {
         ensures there { IfSome result (λ p. p.frame < length self.now.memory.ram + self.now.consoles) }
     {
         let last = self.last.as_ref()?;
-        if covers(last, self.recents.pd, page) {
+        if covers(last, Kind::Mem, self.recents.pd, page) {
             Some(page_in(last, page))
         } else {
             None

@@ -5,6 +5,7 @@ ghost use Rattle.nova_memory.specs.Reach.{LeadToFrames, ReachState, reached};
 ghost use Rattle.nova_memory.specs.Recents.{AreRecent, IsRecent};
 
 use crate::reach::Reach;
+use nova_model::Derivation;
 
 /// A page that was looked up, and the frame that it leads to. Beyond all pages before any was.
 #[derive(Clone, Copy)]
@@ -13,13 +14,15 @@ pub(crate) struct Recent {
     pub frame: u32,
 }
 
-/// The pages of a protection domain that were looked up last: to fetch, to load, and to store.
+/// What is remembered of a protection domain: the pages that were looked up last, to fetch, to load and to store, and the capability that
+/// is at hand.
 #[derive(Clone, Copy)]
 pub(crate) struct Recents {
     pub pd: u32,
     pub fetched: Recent,
     pub loaded: Recent,
     pub stored: Recent,
+    pub capability: Option<Derivation>,
 }
 
 /// No page was looked up.
@@ -29,7 +32,7 @@ const NOWHERE: Recent = Recent {
 };
 
 impl Recents {
-    /// No page of a protection domain was looked up yet.
+    /// Nothing of a protection domain was looked up yet.
     pub(crate) fn new(pd: u32) -> Recents
         ensures pd { result.pd ≡ pd }
         ensures none { (list : List Derivation) → AreRecent list result }
@@ -39,10 +42,11 @@ impl Recents {
             fetched: NOWHERE,
             loaded: NOWHERE,
             stored: NOWHERE,
+            capability: None,
         }
     }
 
-    /// None is remembered any more, since delegations change where pages lead.
+    /// Nothing is remembered any more, since delegations change where pages and selectors lead.
     pub(crate) fn forget(&mut self)
         ensures pd { self.new.pd ≡ self.old.pd }
         ensures none { (list : List Derivation) → AreRecent list self.new }
@@ -50,7 +54,7 @@ impl Recents {
         *self = Recents::new(self.pd);
     }
 
-    /// These, where they are of a protection domain, or else none of its pages.
+    /// These, where they are of a protection domain, or else nothing of it.
     pub(crate) fn kept_for(&self, pd: u32) -> Recents
         ensures pd { result.pd ≡ pd }
         ensures recent { (list : List Derivation) → AreRecent list self.now → AreRecent list result }
@@ -64,7 +68,7 @@ impl Recents {
 }
 
 impl Reach {
-    /// Another protection domain is entered. The pages of the one that is left stay remembered, and those of the one before that only where
+    /// Another protection domain is entered. What is known of the one that is left stays remembered, and of the one before that only where
     /// it is the one that is entered. Few turns leave their domain, so that this stays out of the code of each.
     #[inline(never)]
     pub(crate) fn change_domain(&mut self, pd: u32)

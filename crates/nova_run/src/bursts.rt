@@ -19,6 +19,9 @@ const LEAST: u32 = 256;
 
 const LEAST_ALONE: u32 = 4096;
 
+/// How many instructions the share of a worker is at least: the last bursts of all would get ever shorter.
+const LEAST_SHARE: u64 = 16_384;
+
 /// For how many instructions a lease is worth its cost, among so many workers.
 fn least_among(workers: u64) -> u32 {
     if workers < 2 { LEAST_ALONE } else { LEAST }
@@ -109,7 +112,7 @@ impl Block for Committing {
 /// all workers can be committed. More than there was room for would be run in vain.
 fn share_of(left: u64, workers: u64) -> u64 {
     let share = left / workers.max(1);
-    share.max(u64::from(LEAST)).min(left)
+    share.max(LEAST_SHARE).min(left)
 }
 
 /// A burst of the processor of a seat, of at most so many instructions, beside other workers; and how many turns it was. It is leased in one use of the

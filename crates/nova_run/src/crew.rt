@@ -7,11 +7,13 @@ const LOOKS: u64 = 16384;
 /// An odd number whose multiples are spread over 64 bits: 2^64 by the golden ratio.
 const SPREAD: u64 = 0x9e37_79b9_7f4a_7c15;
 
-/// How often each of several workers stirs the noise once all have begun.
-const STIRS: u64 = 256;
+/// How often a worker has to find the noise stirred by another, and how often it stirs it at most until then: some milliseconds long.
+const MEETINGS: u64 = 256;
+
+const STIRS: u64 = 262_144;
 
 /// How long pauses are at most, in looks at nothing.
-static PACES: [u64; 6] = [16, 256, 2048, 8192, 16384, 32768];
+static PACES: [u64; 6] = [16, 64, 256, 1024, 4096, 8192];
 
 /// The workers of one round: how many there are, how many have begun, and how many have nothing to do, or no more.
 #[derive(Drop)]
@@ -22,6 +24,12 @@ pub(crate) struct Crew {
 
     // What they draw pauses from. Of two who stir it at once one is lost, so that it differs from run to run.
     noise: AtomicU64,
+}
+
+/// The noise that comes after one: each number comes after one other.
+fn stirred(noise: u64) -> u64 {
+    let spread = noise.wrapping_add(1).wrapping_mul(SPREAD);
+    spread ^ (spread >> 32)
 }
 
 impl Crew {
@@ -50,7 +58,6 @@ impl Crew {
         self.begun.fetch_add(1, Ordering::SeqCst);
         for _look in 0..LOOKS {
             if self.begun.load(Ordering::SeqCst) >= self.workers {
-                self.shake();
                 return;
             }
             self.draw();
@@ -58,26 +65,30 @@ impl Crew {
         }
     }
 
-    /// All stir the noise at once, and lose the more of it the closer they come together.
-    fn shake(&self) {
+    /// Stirs the noise until others were seen to stir it at the same time, so often that nobody foresees what it is. New threads may begin on one
+    /// core, where each goes on for long before another does, and the same order comes again and again: workers that have met have a core each.
+    pub(crate) fn mingle(&self) {
         if self.is_lone() {
             return;
         }
+        let mut met = 0;
+        let mut mine = 0;
         for _stir in 0..STIRS {
-            self.draw();
+            if met >= MEETINGS {
+                return;
+            }
+            let found = self.noise.load(Ordering::SeqCst);
+            met += u64::from(found != mine);
+            mine = stirred(found);
+            self.noise.store(mine, Ordering::SeqCst);
         }
     }
 
-    /// A number that nobody foresees. It is the noise, stirred by a step that reaches each number once.
+    /// A number that nobody foresees. It is the noise, stirred.
     fn draw(&self) -> u64 {
-        let stirred = self
-            .noise
-            .load(Ordering::SeqCst)
-            .wrapping_add(1)
-            .wrapping_mul(SPREAD);
-        let stirred = stirred ^ (stirred >> 32);
-        self.noise.store(stirred, Ordering::SeqCst);
-        stirred.wrapping_mul(SPREAD)
+        let drawn = stirred(self.noise.load(Ordering::SeqCst));
+        self.noise.store(drawn, Ordering::SeqCst);
+        drawn.wrapping_mul(SPREAD)
     }
 
     /// How long the pauses of a worker are at most in its next step. It differs by much from step to step, and from run to run.

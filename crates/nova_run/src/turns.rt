@@ -142,6 +142,7 @@ fn enter_last(trace: &mut Trace, last: Option<Result<Turn, AllocError>>) -> Resu
 }
 
 /// Enters turns of a processor that its kernel took in one call: how many they are. There are places for their events.
+#[inline(always)]
 fn enter(run: &mut Finished, cpu: u32, taken: &TurnsTaken) -> Result<u64, AllocError>
     requires places { length run.old.trace.items + (taken.now.steps.count + last_turns taken.now.last) ≤ run.old.trace.capacity }
     requires order { total run.old.order.blocks ≡ length run.old.trace.items }

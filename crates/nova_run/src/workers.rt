@@ -20,24 +20,25 @@ use std::sync::Wait;
 use std::thread;
 use std::thread::Threads;
 
-/// How many turns a worker takes in the first round, before it ends with the step in which it took the last; in each later one it takes `GROWTH`
-/// times as many, up to `MOST_TURNS`. A burst has as many instructions at most, or `FIRST_TURNS` after a step of one turn.
+/// How many turns a worker takes in the first round, before it ends with the step in which it took the last, and how many in each later one: all
+/// wait for the slowest at the end of a round. A burst has as many instructions at most, or `FIRST_TURNS` after a step of one turn, and then
+/// `GROWTH` times as many with each burst.
 const FIRST_TURNS: u64 = 4096;
 
-const GROWTH: u64 = 16;
+const MOST_TURNS: u64 = 4_194_304;
 
-const MOST_TURNS: u64 = 1048576;
+const GROWTH: u64 = 16;
 
 /// How many turns a worker takes in one use of the kernel at most, so that others aren't kept waiting for long. It is one in the first round, where
 /// there are others, so that short runs come in many orders.
 const MOST_AT_ONCE: u64 = 4096;
 
 /// How often a worker looks again at an idle processor in one round.
-const LOOKS: u64 = 1024;
+const LOOKS: u64 = 2048;
 
 /// How long the pauses between the steps of a worker are in all in the first round, so that short runs come in many orders; and what each counts for
 /// beside its length.
-const PAUSES: u64 = 262144;
+const PAUSES: u64 = 65_536;
 
 const SHORTEST: u64 = 64;
 
@@ -184,20 +185,20 @@ fn work<R: Wait, G: Gate>(
     ensures { seat.new ≡ record seat.old { front = seat.new.front } }
 {
     crew.meet();
+    let is_first = turns <= FIRST_TURNS;
+    if is_first {
+        crew.mingle();
+    }
     let mut left = turns;
     let mut burst = turns;
-    let at_once = if turns > FIRST_TURNS || crew.is_lone() {
-        MOST_AT_ONCE
-    } else {
+    let at_once = if is_first && !crew.is_lone() {
         1
+    } else {
+        MOST_AT_ONCE
     };
-    let mut pauses = if turns > FIRST_TURNS { 0 } else { PAUSES };
+    let mut pauses = if is_first { PAUSES } else { 0 };
     while left > 0 {
-        let pace = if turns > FIRST_TURNS {
-            SHORTEST
-        } else {
-            crew.pace()
-        };
+        let pace = if is_first { crew.pace() } else { SHORTEST };
         if pauses > 0 {
             pauses = pauses
                 .saturating_sub(SHORTEST)
@@ -298,7 +299,7 @@ fn work_together<R: Threads + Wait + Sync, G: Gate + Sync>(
         if !go_on(rt, alloc, shared, gate, turns, seats) {
             return;
         }
-        turns = turns.saturating_mul(GROWTH).min(MOST_TURNS);
+        turns = MOST_TURNS;
     }
 }
 
@@ -332,7 +333,7 @@ fn share<R: Threads + Wait + Sync, G: Gate + Sync>(
 
 /// Runs a kernel with a thread for each of its processors, of which there is one or more, for at most `limit` turns; the kernel has room in its
 /// log for as many. In turn come sweeps, in which each processor has a turn that is not idle, and rounds, until a sweep takes no turn or there are
-/// `limit` turns. The workers of a round begin together. Each takes steps until it took 4,096 turns, in later rounds up to 1,048,576; while its
+/// `limit` turns. The workers of a round begin together. Each takes steps until it took 4,096 turns, in later rounds 4,194,304; while its
 /// processor is idle it looks again and again, some thousand times at most, until no other worker has anything to do. A step is a burst where a
 /// virtual CPU acts, can be leased, and has 256 turns of its quantum left, or 4,096 where there is one worker: instructions up to the end of its
 /// quantum, and no more than its worker's share of the turns that may follow. They run on copies of up to 16 frames beside the other processors, and

@@ -25,6 +25,9 @@ impl Parts {
         ensures rest { KeepsRest self.old self.new }
     {
         let items = self.has_items(ec);
+        let domain = self.pd(ec);
+        let portal = self.contexts.context(ec).regs.get(10);
+        self.reach.keep_at_hand(domain, portal);
         self.pass_message(ec, handler);
         begin(&mut self.contexts, ec, handler, ip, identifier, items);
     }
@@ -43,6 +46,7 @@ impl Parts {
     }
 
     /// A reply completes: the execution context waits for a call, and its caller goes on.
+    #[inline(always)]
     pub(crate) fn complete(&mut self, ec: u32, caller: u32, mark: Mark)
         requires { caller_in (state_of self.old).contexts ec ≡ Some (caller, mark) }
         ensures completed { state_of self.new ≡ followed (with_context (state_of self.old) ec (after_item (context (state_of self.old) ec) (Sequel.Replied caller mark))) ec (Sequel.Replied caller mark) }

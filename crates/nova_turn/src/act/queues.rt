@@ -45,19 +45,16 @@ impl Parts {
         }
     }
 
-    /// Where an execution context has moved, scheduling contexts are marked anew whose turns that may have led
-    /// elsewhere: its own, and those of whoever waits for it, one after another; or all of its processor, where
-    /// several may wait for one.
-    pub(crate) fn refresh(&mut self, moved: Option<u32>)
-        requires { AreQueuedAfter moved (state_of self.old) self.old.queues.all }
+    /// An execution context has moved: scheduling contexts are marked anew whose turns that may have led elsewhere, which
+    /// are its own, and those of whoever waits for it, one after another; or all of its processor, where several may wait
+    /// for one.
+    fn refresh_after(&mut self, moved: u32)
+        requires { AreQueuedBy moved moved (state_of self.old) self.old.queues.all }
         ensures queued { AreQueued (state_of self.new) self.new.queues.all }
         ensures shown { state_of self.new ≡ state_of self.old }
         ensures revokes { self.new.revokes ≡ self.old.revokes }
         ensures log { self.new.reach.room ≡ self.old.reach.room }
     {
-        let Some(moved) = moved else {
-            return;
-        };
         let mut at = moved;
         for _ in 0..self.objects.len() {
             self.refresh_own(moved, at);
@@ -71,5 +68,19 @@ impl Parts {
             }
         }
         self.refresh_all(moved);
+    }
+
+    /// Where an execution context has moved, scheduling contexts are marked anew whose turns that may have led elsewhere.
+    #[inline(always)]
+    pub(crate) fn refresh(&mut self, moved: Option<u32>)
+        requires { AreQueuedAfter moved (state_of self.old) self.old.queues.all }
+        ensures queued { AreQueued (state_of self.new) self.new.queues.all }
+        ensures shown { state_of self.new ≡ state_of self.old }
+        ensures revokes { self.new.revokes ≡ self.old.revokes }
+        ensures log { self.new.reach.room ≡ self.old.reach.room }
+    {
+        if let Some(moved) = moved {
+            self.refresh_after(moved);
+        }
     }
 }

@@ -148,12 +148,12 @@ impl Parts {
 
     /// Counts what a deed that an execution context did is for virtual CPUs.
     #[inline(always)]
-    pub(crate) fn stir(&mut self, ec: u32, deed: Deed)
+    pub(crate) fn stir(&mut self, ec: u32, deed: &Deed)
         requires counted { HasCounts (state_of self.old) }
         requires few { (g : ℕ) → IfSome (entry (slice_get (state_of self.old).stirs.guests g)) (λ n. n < 2 ^ 64 - 1) }
         ensures shown { state_of self.new ≡ record (state_of self.old) {
           stirs = record (state_of self.old).stirs {
-            guests = risen_from (is_stirring (state_of self.old) self.old.reach.written ec deed) 0 (state_of self.old).stirs.guests;
+            guests = risen_from (is_stirring (state_of self.old) self.old.reach.written ec deed.now) 0 (state_of self.old).stirs.guests;
           };
         } }
         ensures queues { self.new.queues ≡ self.old.queues }
@@ -163,7 +163,7 @@ impl Parts {
         ensures log { self.new.reach.room ≡ self.old.reach.room }
     {
         if !self.guests.numbers().is_empty() {
-            self.stir_guests(ec, deed);
+            self.stir_guests(ec, *deed);
         }
     }
 }

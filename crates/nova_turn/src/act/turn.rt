@@ -157,7 +157,7 @@ impl Parts {
         ensures cpus { self.new.cpus ≡ self.old.cpus }
     {
         let deed = self.act(chosen.actor, raised)?;
-        self.stir(chosen.actor, deed);
+        self.stir(chosen.actor, &deed);
         self.charge(cpu, chosen.sc);
         law_turns::turns_keep_what_they_find();
         Ok(Turn::Stepped(event(cpu, chosen, sign_of(deed))))

@@ -247,7 +247,8 @@ impl Parts {
         }
     }
 
-    /// The rows of the table of hypercalls.
+    /// The rows of the table of hypercalls. Most that are asked are calls and replies, so that the table stays out of their code.
+    #[inline(never)]
     fn row(&self, ec: u32, domain: u32, call: Call) -> Result<Deed, Status>
         requires there { IsSome (context_at (state_of self.now) ec) }
         requires counted { IsCounted (state_of self.now) }
@@ -311,7 +312,7 @@ impl Parts {
         }
     }
 
-    /// What the hypercall of these registers asks for, in a protection domain.
+    /// What the hypercall of these registers asks for, in a protection domain: its row of the table.
     fn asked(&self, ec: u32, domain: u32, regs: &Regs) -> Result<Deed, Status>
         requires there { IsSome (context_at (state_of self.now) ec) }
         requires counted { IsCounted (state_of self.now) }
@@ -319,7 +320,11 @@ impl Parts {
         ensures asked { result ≡ asked (state_of self.now) ec domain regs.now }
         ensures fits { IfOk result (IsToBeDone (state_of self.now) ec) }
     {
-        self.row(ec, domain, read_call(regs)?)
+        match read_call(regs)? {
+            Call::Call { portal, flag } => self.call(ec, domain, portal, flag),
+            Call::Reply => self.reply(ec),
+            call => self.row(ec, domain, call),
+        }
     }
 
     /// The deed of the hypercall that an execution context's registers ask for: a refusal is one too.

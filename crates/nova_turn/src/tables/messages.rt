@@ -32,6 +32,7 @@ impl Parts {
     }
 
     /// The message of an execution context is copied to another one.
+    #[inline(always)]
     pub(crate) fn pass_message(&mut self, from: u32, to: u32)
         requires counts { has_counts (message (state_of self.old) from) ≡ true }
         requires there { to < length (state_of self.old).messages }

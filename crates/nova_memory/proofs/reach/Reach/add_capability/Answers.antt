@@ -1,7 +1,7 @@
 use Rattle.std.proofs.Common.{◌≡◌, ◌+◌, length, refl, sym, subst}
 use Rattle.std.specs.Prelude.{false, is_some, None, IfSome}
 use Rattle.std.specs.List.{find}
-use Rattle.nova_range.specs.declared.range.Kind.TheVariants.{Obj}
+use Rattle.nova_range.specs.declared.range.Kind.TheVariants.{Mem, Obj}
 use Rattle.nova_model.specs.Delegations.{Delegations, covers, derived}
 use Rattle.law_forest.proofs.Boots.{capability_fits}
 use Rattle.law_forest.proofs.Members.{all_more, none_found}
@@ -26,7 +26,7 @@ invariant_of-self c =
       subst (λ (g : Delegations). LeadToFrames (length r.frames.memory.ram + r.frames.consoles) g.list) (sym c.root.ensures.added)
           (record { few = c.self.invariant.0.few; each = all_more (LeadsToFrames (length r.frames.memory.ram + r.frames.consoles)) f.list x c.self.invariant.0.each (λ is. cc) }),
       (
-        subst (λ (g : Delegations). IfSome r.last (IsFound g.list)) (sym c.root.ensures.added) (last_more f.list x r.last c.self.invariant.1.0),
+        subst (λ (g : Delegations). IfSome r.last (IsFound Mem g.list)) (sym c.root.ensures.added) (last_more f.list x r.last c.self.invariant.1.0),
         (blank_seen c.root.new.self.delegations.list c.forget.new.self c.forget.ensures, (c.forget-2.ensures.none c.root.new.self.delegations.list, c.forget-3.ensures.none c.root.new.self.delegations.list)),
       ),
     )

@@ -1,5 +1,6 @@
 use Rattle.std.proofs.Common.{◌≡◌, ℕ, ◌+◌, List, length, ap₂, sym, subst}
 use Rattle.std.specs.Prelude.{IfSome, Option}
+use Rattle.nova_range.specs.declared.range.Kind.TheVariants.{Mem}
 use Rattle.nova_model.specs.Delegations.{Delegations}
 use Rattle.nova_model.specs.Memory.{Memory}
 use Rattle.nova_memory.specs.Reach.{IsFound, LeadToFrames}
@@ -17,7 +18,7 @@ invariant_of-result c =
       subst (λ (n : ℕ). LeadToFrames n c.in_ok-nodes.nodes.delegations.list) (sym many)
           (subst (λ (f : Delegations). LeadToFrames (length r.frames.memory.ram + r.frames.consoles) f.list) (sym same) c.self.invariant.0),
       (
-        subst (λ (f : Delegations). IfSome r.last (IsFound f.list)) (sym same) c.self.invariant.1.0,
+        subst (λ (f : Delegations). IfSome r.last (IsFound Mem f.list)) (sym same) c.self.invariant.1.0,
         (
           subst (λ (s : List (Option Viewers)). AreSeen c.in_ok-nodes.nodes.delegations.list s) (sym c.in_ok-sights.ensures)
               (subst (λ (f : Delegations). AreSeen f.list r.sights) (sym same) c.self.invariant.1.1.0),

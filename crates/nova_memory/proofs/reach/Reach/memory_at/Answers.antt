@@ -16,7 +16,7 @@ invariant_of-self c =
     let same : c.at-self-inside.new.self ≡ r.nodes = c.at-self-inside.ensures.kept in (
       subst (λ (n : NodesState). LeadToFrames (length r.frames.memory.ram + r.frames.consoles) n.delegations.list) (sym same) c.self.invariant.0,
       (
-        at_found c.at-self-inside.new.self.delegations r.recents.pd c.args.page c.at-self-inside.result c.at-self-inside.ensures.sound c.at-self-inside.ensures.found
+        at_found Mem c.at-self-inside.new.self.delegations r.recents.pd c.args.page c.at-self-inside.result c.at-self-inside.ensures.sound c.at-self-inside.ensures.found
             c.at-self-inside.ensures.placed,
         (
           subst (λ (n : NodesState). AreSeen n.delegations.list r.sights) (sym same) c.self.invariant.1.1.0,

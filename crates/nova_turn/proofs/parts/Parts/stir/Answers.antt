@@ -12,7 +12,7 @@ pub returns-else-not-is_empty-clause-shown : goal.returns-else-not-is_empty-clau
 returns-else-not-is_empty-clause-shown c =
     let p = c.args.self.now in
     let k : KernelState = state_of p in
-    let stirs : ℕ → Bool = is_stirring k p.reach.written c.args.ec c.args.deed in
+    let stirs : ℕ → Bool = is_stirring k p.reach.written c.args.ec c.args.deed.now in
     let none : (length (numbers_from 0 p.guests.counts) == 0) ≡ true = search rules in
     let few : length (numbers_from 0 p.guests.counts) ≤ 0 = grind (arith, nat_tests, none) in
     ap (λ (counts : List (Option ℕ)). record k { stirs = record k.stirs { guests = counts } }) (but_all stirs p.guests.counts ∙ but_none stirs p.guests.counts 0 few)
