@@ -2,13 +2,14 @@
 ghost use Rattle.std.specs.Prelude.{◌≡◌, ◌+◌, ◌^◌, ◌<◌, ◌≤◌};
 ghost use Rattle.nova_burst.specs.Lending.{ComesAfter};
 
+use crate::drops::let_go;
 use crate::scenarios::{GUEST, LOOPS, apart};
 use crate::turns::take;
 use bitflags::Flags;
 use law_leases::CommitDone;
 use nova_boot::boot;
 use nova_burst::{Lease, commit, lease};
-use nova_guest::GuestState;
+use nova_guest::{Guest, GuestState};
 use nova_kernel::{EcKind, Kernel, Object};
 use nova_report::report;
 use nova_scenario::read;
@@ -62,6 +63,7 @@ fn booted(rt: &impl Abort, alloc: Global, text: &str) -> Kernel
 {
     let scenario = read(alloc, text.as_bytes()).expect(rt, "a scenario");
     let kernel = boot(alloc, &scenario, 200).expect(rt, "ample memory");
+    let_go(scenario);
     assert!(rt; kernel.turns() == 0 && kernel.cpus() == 2);
     kernel
 }
@@ -85,10 +87,30 @@ fn prepared(rt: &impl Abort, alloc: Global, rest: &str) -> Kernel
     ensures turns { result.state.turns ≤ 100 }
 {
     let text = apart(alloc, rest).expect(rt, "ample memory");
-    prepared_from(rt, alloc, text.as_str())
+    let kernel = prepared_from(rt, alloc, text.as_str());
+    let_go(text);
+    kernel
 }
 
-/// Whether the guest is Ready without recall flag, with all registers 0 and the page of frame 1 alone.
+/// Whether a guest has the page of frame 1 alone.
+fn has_its_page(guest: &Guest) -> bool {
+    let ([map], [cell]) = (guest.maps.as_slice(), guest.cells.as_slice()) else {
+        return false;
+    };
+    (map.base, map.order, map.rights.bits(), map.frame) == (0, 0, 7, 1) && cell.frame == 1
+}
+
+/// Whether a guest is Ready without recall flag, with all registers 0.
+fn is_at_its_beginning(guest: &Guest) -> bool {
+    for n in 0..32 {
+        if guest.regs.get(n) != 0 {
+            return false;
+        }
+    }
+    guest.regs.pc() == 0 && !guest.recall && matches!(guest.state, GuestState::Ready)
+}
+
+/// Whether the guest is at its beginning, and has its page.
 fn is_prepared(rt: &impl Abort, alloc: Global, kernel: &Kernel) -> bool {
     let Some(
         Object::Ec {
@@ -100,17 +122,9 @@ fn is_prepared(rt: &impl Abort, alloc: Global, kernel: &Kernel) -> bool {
         return false;
     };
     let guest = kernel.view(alloc, GUEST).expect(rt, "ample memory");
-    for n in 0..32 {
-        if guest.regs.get(n) != 0 {
-            return false;
-        }
-    }
-    let ([map], [cell]) = (guest.maps.as_slice(), guest.cells.as_slice()) else {
-        return false;
-    };
-    let is_page = (map.base, map.order, map.rights.bits(), map.frame) == (0, 0, 7, 1)
-        && cell.frame == 1;
-    is_page && guest.regs.pc() == 0 && !guest.recall && matches!(guest.state, GuestState::Ready)
+    let is_prepared = has_its_page(&guest) && is_at_its_beginning(&guest);
+    let_go(guest);
+    is_prepared
 }
 
 /// A lease of the guest, which has executed the one instruction that it can.
@@ -148,7 +162,9 @@ fn burst(
 /// The report of a machine, without its events.
 fn eventless(rt: &impl Abort, alloc: Global, kernel: &Kernel) -> Vec<u8> {
     let none = Trace::with_capacity(alloc, 0).expect(rt, "ample memory");
-    report(alloc, kernel, &none).expect(rt, "ample memory")
+    let text = report(alloc, kernel, &none).expect(rt, "ample memory");
+    let_go(none);
+    text
 }
 
 /// The report of that machine after those turns and so many more of a processor, without its events.
@@ -158,7 +174,9 @@ fn after(rt: &impl Abort, alloc: Global, rest: &str, cpu: u32, turns: u64) -> Ve
 {
     let mut kernel = prepared(rt, alloc, rest);
     take(&mut kernel, cpu, turns).expect(rt, "ample memory");
-    eventless(rt, alloc, &kernel)
+    let text = eventless(rt, alloc, &kernel);
+    let_go(kernel);
+    text
 }
 
 /// A burst of the guest: what it shows, what the root goes on with, the turns that come between its lease and its commit, how many turns there
@@ -212,18 +230,26 @@ static ROWS: [Row; 4] = [
 ];
 
 /// Whether a burst ends as its row says, and leaves the kernel as after the turns that its row says.
-fn is_so(rt: &impl Abort, alloc: Global, row: &Row) -> bool {
-    let mut kernel = prepared(rt, alloc, row.rest);
+fn ends(rt: &impl Abort, alloc: Global, kernel: &mut Kernel, row: &Row) -> bool
+    requires cpus { kernel.old.state.cpus ≡ 2 }
+    requires room { 100 ≤ kernel.old.room }
+    requires turns { kernel.old.state.turns ≤ 100 }
+{
     let (cpu, turns) = row.between;
     let (other, taken) = row.taken;
     assert!(rt; cpu < 2 && other < 2 && turns <= 100 && taken <= 100 && row.left <= 100);
-    if !is_prepared(rt, alloc, &kernel) {
-        return false;
-    }
-    let told = burst(rt, alloc, &mut kernel, cpu, turns, row.left);
-    let text = eventless(rt, alloc, &kernel);
+    let told = burst(rt, alloc, kernel, cpu, turns, row.left);
+    let text = eventless(rt, alloc, kernel);
     let wanted = after(rt, alloc, row.rest, other, taken);
     told == row.told && text.as_slice() == wanted.as_slice()
+}
+
+/// Whether the guest of a row is prepared, and its burst ends so.
+fn is_so(rt: &impl Abort, alloc: Global, row: &Row) -> bool {
+    let mut kernel = prepared(rt, alloc, row.rest);
+    let is_so = is_prepared(rt, alloc, &kernel) && ends(rt, alloc, &mut kernel, row);
+    let_go(kernel);
+    is_so
 }
 
 #[test]
@@ -233,11 +259,20 @@ fn a_burst_is_committed_dropped_away_or_without_room(rt: HostRuntime) {
     }
 }
 
+/// Whether anything is leased of the first processor.
+fn is_leased(rt: &impl Abort, alloc: Global, kernel: &mut Kernel) -> bool {
+    let lent = lease(kernel, alloc, 0, 16).expect(rt, "ample memory");
+    let is_leased = lent.is_some();
+    let_go(lent);
+    is_leased
+}
+
 #[test]
 fn what_is_no_guest_is_not_leased(rt: HostRuntime) {
-    let alloc = rt.alloc();
-    let scenario = read(alloc, ALONE.as_bytes()).expect(&rt, "a scenario");
-    let mut kernel = boot(alloc, &scenario, 200).expect(&rt, "ample memory");
-    let lent = lease(&mut kernel, alloc, 0, 16).expect(&rt, "ample memory");
-    assert!(rt; lent.is_none());
+    let scenario = read(rt.alloc(), ALONE.as_bytes()).expect(&rt, "a scenario");
+    let mut kernel = boot(rt.alloc(), &scenario, 200).expect(&rt, "ample memory");
+    let_go(scenario);
+    let is_leased = is_leased(&rt, rt.alloc(), &mut kernel);
+    let_go(kernel);
+    assert!(rt; !is_leased);
 }

@@ -2,6 +2,7 @@
 ghost use Rattle.std.specs.Prelude.{◌≡◌, ◌+◌, ◌^◌, ◌≤◌};
 
 use crate::commits::prepared_from;
+use crate::drops::let_go;
 use crate::scenarios::{LOOPS, joined, on_second};
 use nova_burst::{commit, lease};
 use nova_kernel::Kernel;
@@ -19,7 +20,10 @@ fn prepared(rt: &impl Abort, alloc: Global, moment: &str) -> Kernel
     let head = "ram 2\nconsoles 1\nroot 0 0 1 10\nsource 1 ";
     let root = joined(alloc, &[head, moment, " 1 1\nimage 0 asm\n"]).expect(rt, "ample memory");
     let text = on_second(alloc, root.as_str(), LOOPS, LOOP).expect(rt, "ample memory");
-    prepared_from(rt, alloc, text.as_str())
+    let kernel = prepared_from(rt, alloc, text.as_str());
+    let_go(root);
+    let_go(text);
+    kernel
 }
 
 /// A burst to its end: how many instructions it has; none where nothing is leased.
@@ -37,7 +41,9 @@ fn burst(rt: &impl Abort, alloc: Global, kernel: &mut Kernel) -> Option<u64>
 fn before(rt: &impl Abort, alloc: Global, moment: &str) -> (Option<u64>, Option<u64>) {
     let mut kernel = prepared(rt, alloc, moment);
     let ran = burst(rt, alloc, &mut kernel);
-    (ran, kernel.until_due(1))
+    let until_due = kernel.until_due(1);
+    let_go(kernel);
+    (ran, until_due)
 }
 
 #[test]

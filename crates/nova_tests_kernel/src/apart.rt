@@ -1,22 +1,30 @@
 // A guest on a processor of its own under two orders: all its turns in a row, or one by one with those of another processor.
-use nova_boot::boot;
+use crate::machines::booted;
 use nova_order::Order;
 use nova_report::report;
-use nova_run::run_order;
-use nova_scenario::read;
+use nova_run::{Finished, run_order};
+use nova_tests_bursts::drops::let_go;
 use nova_tests_bursts::scenarios::{LOOPS, apart, joined};
 use std::alloc::Global;
 use std::process::Abort;
 
-/// The report of a run along an order, of at most 200 turns.
-fn report_of(rt: &impl Abort, alloc: Global, order: &str) -> Vec<u8> {
+/// The run of a guest apart from a root that loops, along an order of at most 200 turns.
+fn run(rt: &impl Abort, alloc: Global, order: &str) -> Finished {
     let text = apart(alloc, LOOPS).expect(rt, "ample memory");
-    let scenario = read(alloc, text.as_bytes()).expect(rt, "a scenario");
-    let kernel = boot(alloc, &scenario, 200).expect(rt, "ample memory");
-    assert!(rt; kernel.turns() == 0);
+    let kernel = booted(rt, alloc, text.as_str());
     let order = Order::read(alloc, order.as_bytes(), kernel.cpus(), 200).expect(rt, "an order");
     let run = run_order(alloc, kernel, &order, 200).expect(rt, "no turn is idle");
-    report(alloc, &run.kernel, &run.trace).expect(rt, "ample memory")
+    let_go(text);
+    let_go(order);
+    run
+}
+
+/// The report of that run.
+fn report_of(rt: &impl Abort, alloc: Global, order: &str) -> Vec<u8> {
+    let run = run(rt, alloc, order);
+    let text = report(alloc, &run.kernel, &run.trace).expect(rt, "ample memory");
+    let_go(run);
+    text
 }
 
 /// The order in which each of the guest's 34 turns is followed by one of the root.
@@ -122,13 +130,22 @@ fn wanted(rt: &impl Abort, alloc: Global, turns: &str, events: &str, paid: &str)
     joined(alloc, &parts).expect(rt, "ample memory")
 }
 
+/// Whether the guest that takes its turns in a row ends so.
+fn ends_in_a_row(rt: &impl Abort, alloc: Global) -> bool {
+    let report = report_of(rt, alloc, "0 38\n1 34\n");
+    let wanted = wanted(rt, alloc, "72", IN_A_ROW, "38");
+    report.as_slice() == wanted.as_bytes()
+}
+
+/// Whether the one that takes them one by one does.
+fn ends_in_turns(rt: &impl Abort, alloc: Global) -> bool {
+    let order = in_turns(rt, alloc);
+    let report = report_of(rt, alloc, order.as_str());
+    let wanted = wanted(rt, alloc, "106", IN_TURNS, "72");
+    report.as_slice() == wanted.as_bytes()
+}
+
 #[test]
 fn a_guest_ends_equal_under_two_orders(rt: HostRuntime) {
-    let alloc = rt.alloc();
-    let in_a_row = report_of(&rt, alloc, "0 38\n1 34\n");
-    let in_turns = report_of(&rt, alloc, in_turns(&rt, alloc).as_str());
-    let once = wanted(&rt, alloc, "72", IN_A_ROW, "38");
-    let again = wanted(&rt, alloc, "106", IN_TURNS, "72");
-    assert!(rt; in_a_row.as_slice() == once.as_bytes());
-    assert!(rt; in_turns.as_slice() == again.as_bytes());
+    assert!(rt; ends_in_a_row(&rt, rt.alloc()) && ends_in_turns(&rt, rt.alloc()));
 }

@@ -2,9 +2,10 @@
 ghost use Rattle.std.specs.Prelude.{◌≡◌};
 
 use crate::machines::{ROOT, lay};
-use crate::runs::{Told, tell};
+use crate::runs::{Told, is_same, tell};
 use nova_kernel::Kernel;
 use nova_run::{Open, Order, run_order, run_workers};
+use nova_tests_bursts::drops::let_go;
 use std::alloc::Global;
 use std::process::Abort;
 use std::sync::Wait;
@@ -65,6 +66,7 @@ fn take(rt: &impl Abort, alloc: Global, text: &[u8]) -> Told {
     let order = Order::read(alloc, text, 8, 20_000).expect(rt, "an order");
     let kernel = booted(rt, alloc);
     let run = run_order(alloc, kernel, &order, 20_000).expect(rt, "no idle turn");
+    let_go(order);
     tell(rt, run)
 }
 
@@ -72,7 +74,6 @@ fn take(rt: &impl Abort, alloc: Global, text: &[u8]) -> Told {
 fn eight_workers_come_to_an_end(rt: HostRuntime) {
     let run = work(&rt, rt.alloc());
     let again = take(&rt, rt.alloc(), &run.order);
-    assert_eq!(rt; (run.turns, run.is_quiet), (20_000, false));
-    assert_eq!(rt; again.events, run.events);
-    assert_eq!(rt; again.order.as_slice(), run.order.as_slice());
+    let is_so = run.turns == 20_000 && !run.is_quiet && is_same(&run, &again);
+    assert!(rt; is_so);
 }

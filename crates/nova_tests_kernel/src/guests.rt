@@ -5,6 +5,7 @@ use crate::machines::{ROOT, lay};
 use bitflags::Flags;
 use nova_guest::{Guest, GuestState};
 use nova_kernel::{EcKind, Kernel, Object};
+use nova_tests_bursts::drops::let_go;
 use nova_tests_bursts::turns::take;
 use std::alloc::Global;
 use std::process::Abort;
@@ -124,7 +125,7 @@ fn tell(rt: &impl Abort, alloc: Global, kernel: &Kernel, sc: u32) -> Told
     requires { 0 < kernel.now.state.cpus }
 {
     let (guest, stirs) = seen(rt, alloc, kernel);
-    Told {
+    let told = Told {
         is_fresh: matches!(guest.state, GuestState::Fresh),
         is_ready: matches!(guest.state, GuestState::Ready),
         is_as_born: is_as_born(&guest),
@@ -135,7 +136,9 @@ fn tell(rt: &impl Abort, alloc: Global, kernel: &Kernel, sc: u32) -> Told
         chosen: kernel.choose(0),
         ticks: kernel.ticks(sc),
         left: kernel.left(sc),
-    }
+    };
+    let_go(guest);
+    told
 }
 
 /// Right after the root has made the guest, and after the reply to its startup exit, which has brought a page.
@@ -169,11 +172,13 @@ static WANTED: [Told; 2] = [
 /// What a copy of the kernel tells: which scheduling context it charges next, and what is left of the quantum of the root's.
 fn copied(rt: &impl Abort, kernel: &Kernel) -> (Option<u32>, Option<u32>) {
     let copy = kernel.copy().expect(rt, "ample memory");
-    (copy.choose(0), copy.left(2))
+    let told = (copy.choose(0), copy.left(2));
+    let_go(copy);
+    told
 }
 
-/// Runs a machine until its root has made the guest, and then until the guest has its page.
-fn run(rt: &impl Abort, alloc: Global, kernel: &mut Kernel)
+/// Whether a machine tells so when its root has made the guest, and when the guest has its page.
+fn is_told(rt: &impl Abort, alloc: Global, kernel: &mut Kernel) -> bool
     requires ram { length kernel.old.state.memory.ram ≡ 2 }
     requires cpus { 0 < kernel.old.state.cpus }
     requires room { 42 ≤ kernel.old.room }
@@ -187,12 +192,13 @@ fn run(rt: &impl Abort, alloc: Global, kernel: &mut Kernel)
     let same = copied(rt, kernel);
     take(kernel, 0, 19).expect(rt, "ample memory");
     let with_page = tell(rt, alloc, kernel, 7);
-    assert!(rt; [made, with_page] == WANTED);
-    assert_eq!(rt; same, (Some(2), Some(7)));
+    [made, with_page] == WANTED && same == (Some(2), Some(7))
 }
 
 #[test]
 fn a_guest_is_seen_when_it_is_made_and_with_its_page(rt: HostRuntime) {
     let mut kernel = Kernel::new(rt.alloc(), 1, 1, 0, ROOT, 64).expect(&rt, "ample memory");
-    run(&rt, rt.alloc(), &mut kernel);
+    let is_told = is_told(&rt, rt.alloc(), &mut kernel);
+    let_go(kernel);
+    assert!(rt; is_told);
 }

@@ -1,12 +1,12 @@
 // What turns are for a guest, as the kernel tells it before they are taken.
 ghost use Rattle.std.specs.Prelude.{◌+◌, ◌^◌, ◌<◌, ◌≤◌};
 
+use crate::machines::booted;
 use crate::scenarios::{busy, served};
 use bitflags::Flags;
-use nova_boot::boot;
-use nova_guest::{Guest, GuestState, Input, Map};
+use nova_guest::{Cell, Guest, GuestState, Input, Map};
 use nova_kernel::{EcKind, Kernel, Object};
-use nova_scenario::read;
+use nova_tests_bursts::drops::let_go;
 use nova_tests_bursts::scenarios::GUEST;
 use std::alloc::Global;
 use std::process::Abort;
@@ -83,7 +83,9 @@ fn next(rt: &impl Abort, alloc: Global, kernel: &Kernel, cpu: u32) -> Option<Tol
         return None;
     };
     let input = kernel.input(alloc, cpu, GUEST).expect(rt, "ample memory")?;
-    Some(tell(kernel, &input))
+    let told = tell(kernel, &input);
+    let_go(input);
+    Some(told)
 }
 
 /// Which processor takes which turn.
@@ -133,15 +135,6 @@ fn inputs(
     all
 }
 
-/// What those turns were, without their numbers.
-fn without_numbers(rt: &impl Abort, alloc: Global, all: &[(u32, Told)]) -> Vec<Told> {
-    let mut told = Vec::new(alloc);
-    for &(_, input) in all {
-        told.push(input).expect(rt, "ample memory");
-    }
-    told
-}
-
 /// The guest.
 fn guest(rt: &impl Abort, alloc: Global, kernel: &Kernel) -> Guest {
     let Some(
@@ -156,21 +149,42 @@ fn guest(rt: &impl Abort, alloc: Global, kernel: &Kernel) -> Guest {
     kernel.view(alloc, GUEST).expect(rt, "ample memory")
 }
 
-/// A run of a scenario: what its turns were for the guest, and the guest at the end.
-fn run(
-    rt: &impl Abort,
-    alloc: Global,
-    text: &str,
-    order: Order,
-    turns: u32,
-) -> (Vec<(u32, Told)>, Guest)
+/// What the turns of a run were for the guest, and the guest at the end.
+#[derive(Drop)]
+struct GuestRun {
+    inputs: Vec<(u32, Told)>,
+    guest: Guest,
+}
+
+/// A run of a scenario.
+fn run(rt: &impl Abort, alloc: Global, text: &str, order: Order, turns: u32) -> GuestRun
     requires { turns ≤ 200 }
 {
-    let scenario = read(alloc, text.as_bytes()).expect(rt, "a scenario");
-    let mut kernel = boot(alloc, &scenario, 200).expect(rt, "ample memory");
-    assert!(rt; kernel.turns() == 0);
-    let told = inputs(rt, alloc, &mut kernel, order, turns);
-    (told, guest(rt, alloc, &kernel))
+    let mut kernel = booted(rt, alloc, text);
+    let inputs = inputs(rt, alloc, &mut kernel, order, turns);
+    let guest = guest(rt, alloc, &kernel);
+    let_go(kernel);
+    GuestRun { inputs, guest }
+}
+
+/// A run in which the root goes on.
+fn busy_run(rt: &impl Abort, alloc: Global, order: Order, turns: u32) -> GuestRun
+    requires { turns ≤ 200 }
+{
+    let text = busy(alloc).expect(rt, "ample memory");
+    let run = run(rt, alloc, text.as_str(), order, turns);
+    let_go(text);
+    run
+}
+
+/// Whether turns were the same for the guest, whatever their numbers.
+fn have_same_inputs(a: &[(u32, Told)], b: &[(u32, Told)]) -> bool {
+    for (a, b) in a.iter().zip(b) {
+        if a.1 != b.1 {
+            return false;
+        }
+    }
+    a.len() == b.len()
 }
 
 /// A map as a test compares it.
@@ -178,20 +192,24 @@ fn map_of(map: &Map) -> (u32, u8, u8, u32) {
     (map.base, map.order, map.rights.bits(), map.frame)
 }
 
-/// Whether two guests have the same maps, and cells with the same bytes.
-fn have_same_memory(a: &Guest, b: &Guest) -> bool {
-    for (a, b) in a.maps.as_slice().iter().zip(b.maps.as_slice()) {
+/// Whether two guests have the same maps.
+fn have_same_maps(a: &[Map], b: &[Map]) -> bool {
+    for (a, b) in a.iter().zip(b) {
         if map_of(a) != map_of(b) {
             return false;
         }
     }
-    for (a, b) in a.cells.as_slice().iter().zip(b.cells.as_slice()) {
+    a.len() == b.len()
+}
+
+/// Whether they have cells with the same bytes.
+fn have_same_cells(a: &[Cell], b: &[Cell]) -> bool {
+    for (a, b) in a.iter().zip(b) {
         if a.frame != b.frame || a.contents.as_slice() != b.contents.as_slice() {
             return false;
         }
     }
-    a.maps.as_slice().len() == b.maps.as_slice().len()
-        && a.cells.as_slice().len() == b.cells.as_slice().len()
+    a.len() == b.len()
 }
 
 /// Whether two guests have the same registers, and either both have ended or none.
@@ -204,6 +222,13 @@ fn have_same_registers(a: &Guest, b: &Guest) -> bool {
     a.regs.pc() == b.regs.pc()
         && a.recall == b.recall
         && matches!(a.state, GuestState::Dead) == matches!(b.state, GuestState::Dead)
+}
+
+/// Whether two guests have the same maps, bytes and registers.
+fn are_alike(a: &Guest, b: &Guest) -> bool {
+    have_same_maps(a.maps.as_slice(), b.maps.as_slice())
+        && have_same_cells(a.cells.as_slice(), b.cells.as_slice())
+        && have_same_registers(a, b)
 }
 
 /// What the turns are for a guest from its startup to its end. Its monitor says where it begins, gives it a page and writes its byte.
@@ -226,37 +251,46 @@ static SERVED_INPUTS: [(u32, Told); 14] = [
 
 #[test]
 fn each_turn_is_one_input_of_a_guest_or_nothing(rt: HostRuntime) {
-    let alloc = rt.alloc();
-    let text = served(alloc).expect(&rt, "ample memory");
-    let (told, _) = run(&rt, alloc, &text, Order::Alone, 73);
-    assert!(rt; told.as_slice() == SERVED_INPUTS.as_slice());
+    let text = served(rt.alloc()).expect(&rt, "ample memory");
+    let run = run(&rt, rt.alloc(), text.as_str(), Order::Alone, 73);
+    let is_so = run.inputs.as_slice() == SERVED_INPUTS.as_slice();
+    let_go(run);
+    assert!(rt; is_so);
+}
+
+/// Whether a run has 15 inputs, after which register 11 is 0, and another one has the same.
+fn are_equal(run: &GuestRun, other: &GuestRun) -> bool {
+    run.inputs.len() == 15
+        && run.guest.regs.get(11) == 0
+        && have_same_inputs(&run.inputs, &other.inputs)
+        && are_alike(&run.guest, &other.guest)
 }
 
 #[test]
 fn others_may_revoke_delegate_help_and_store_between_equal_inputs(rt: HostRuntime) {
-    let alloc = rt.alloc();
-    let text = busy(alloc).expect(&rt, "ample memory");
-    let (before, guest) = run(&rt, alloc, &text, Order::Before, 154);
-    let (mixed, other) = run(&rt, alloc, &text, Order::Mixed, 154);
-    let before = without_numbers(&rt, alloc, &before);
-    let mixed = without_numbers(&rt, alloc, &mixed);
-    assert!(rt; before.len() == 15);
-    assert!(rt; before.as_slice() == mixed.as_slice());
-    assert!(rt; have_same_memory(&guest, &other) && have_same_registers(&guest, &other));
-    assert_eq!(rt; guest.regs.get(11), 0);
+    let before = busy_run(&rt, rt.alloc(), Order::Before, 154);
+    let mixed = busy_run(&rt, rt.alloc(), Order::Mixed, 154);
+    let are_equal = are_equal(&before, &mixed);
+    let_go(before);
+    let_go(mixed);
+    assert!(rt; are_equal);
+}
+
+/// Whether a run has 15 inputs, after which register 11 is 0, and another one a store of 7 more, which the guest then loads.
+fn shows_the_store(run: &GuestRun, other: &GuestRun) -> bool {
+    run.inputs.len() == 15
+        && run.guest.regs.get(11) == 0
+        && other.inputs.len() == 16
+        && other.guest.regs.get(11) == 7
+        && other.inputs.contains(&(139, Told::Foreign(1, 32, 4, 7)))
 }
 
 #[test]
 fn a_guest_shows_the_one_input_that_differs(rt: HostRuntime) {
-    let alloc = rt.alloc();
-    let text = busy(alloc).expect(&rt, "ample memory");
-    let (before, guest) = run(&rt, alloc, &text, Order::Before, 154);
-    let (stored, other) = run(&rt, alloc, &text, Order::Stored, 155);
-    assert_eq!(rt; (before.len(), stored.len()), (15, 16));
-    assert!(rt;
-        stored
-            .as_slice()
-            .contains(&(139, Told::Foreign(1, 32, 4, 7)))
-    );
-    assert_eq!(rt; (guest.regs.get(11), other.regs.get(11)), (0, 7));
+    let before = busy_run(&rt, rt.alloc(), Order::Before, 154);
+    let stored = busy_run(&rt, rt.alloc(), Order::Stored, 155);
+    let shows_the_store = shows_the_store(&before, &stored);
+    let_go(before);
+    let_go(stored);
+    assert!(rt; shows_the_store);
 }

@@ -1,7 +1,12 @@
-// The root of a machine, and what tests lay into its RAM.
+// The machine of a scenario, the root of a machine, and what tests lay into its RAM.
 ghost use Rattle.std.specs.Prelude.{◌≡◌, ◌+◌, ◌*◌, ◌≤◌, length};
 
+use nova_boot::boot;
 use nova_kernel::{Kernel, Root};
+use nova_scenario::read;
+use nova_tests_bursts::drops::let_go;
+use std::alloc::Global;
+use std::process::Abort;
 
 /// A root thread at pc 0.
 pub const ROOT: Root = Root {
@@ -24,4 +29,16 @@ pub fn lay(kernel: &mut Kernel, address: u32, words: &[u32])
     for (i, word) in words.iter().enumerate() {
         kernel.put(address + 4 * i as u32, &word.to_le_bytes());
     }
+}
+
+/// The machine of a scenario as it boots, with room for 200 turns.
+pub fn booted(rt: &impl Abort, alloc: Global, text: &str) -> Kernel
+    ensures room { result.room ≡ 200 }
+    ensures turns { result.state.turns ≡ 0 }
+{
+    let scenario = read(alloc, text.as_bytes()).expect(rt, "a scenario");
+    let kernel = boot(alloc, &scenario, 200).expect(rt, "ample memory");
+    let_go(scenario);
+    assert!(rt; kernel.turns() == 0);
+    kernel
 }

@@ -1,8 +1,7 @@
 // Two callers revoke at a time, one within what the other takes away, while a third domain gives on.
 ghost use Rattle.std.specs.Prelude.{◌≤◌, ◌^◌, ◌<◌};
-ghost use Rattle.nova_delegate.specs.Parts.{IsUnderWay};
 
-use nova_delegate::{Job, PartDone, Reason, job, part as give};
+use nova_delegate::{PartDone, Reason, job, part as give};
 use nova_nodes::Nodes;
 use nova_range::{Kind, Range, Rights};
 use nova_revoke::{Revoke, RevokeDone, part};
@@ -22,21 +21,6 @@ const PAGE_RANGE: Range = Range {
     order: 0,
 };
 
-/// Page 0 goes from domain 0 to domain 1, to domain 2 and to domain 3, each time as the derivation of
-/// the domain's number.
-fn nodes(rt: &impl Abort, alloc: Global) -> Nodes<Space> {
-    let mut nodes = Nodes::new(alloc);
-    nodes.reserve(0, 1).expect(rt, "ample memory");
-    nodes.root(0, PAGE_RANGE, Rights::READ, 32);
-    nodes.reserve(1, 1).expect(rt, "ample memory");
-    nodes.child(0, 1, PAGE_RANGE, Rights::READ, 32);
-    nodes.reserve(2, 1).expect(rt, "ample memory");
-    nodes.child(1, 2, PAGE_RANGE, Rights::READ, 32);
-    nodes.reserve(3, 1).expect(rt, "ample memory");
-    nodes.child(2, 3, PAGE_RANGE, Rights::READ, 32);
-    nodes
-}
-
 /// A revoke of page 0 by a domain.
 fn of_page(pd: u32) -> Revoke {
     Revoke {
@@ -54,22 +38,31 @@ fn told(done: RevokeDone) -> Option<(u32, u32)> {
     }
 }
 
-/// Page 0 of domain 2, to be given to domain 3.
-fn item(rt: &impl Abort) -> Job
-    ensures { IsUnderWay result }
-{
-    match job(PAGE, 0, WINDOW, 2, 3) {
-        Ok(item) => item,
-        Err(_) => panic!(rt; "the item is skipped"),
-    }
+/// Gives page 0 of a domain on to the next one, as far as its window goes, while these revokes run.
+fn give_on(
+    rt: &impl Abort,
+    nodes: &mut Nodes<Space>,
+    pd: u32,
+    window: u32,
+    revokes: &[Revoke],
+) -> PartDone {
+    assert!(rt; pd < 3 && nodes.next() <= 4);
+    let Ok(mut item) = job(PAGE, 0, window, pd, pd + 1) else {
+        panic!(rt; "the item is skipped");
+    };
+    give(nodes, &mut item, revokes).expect(rt, "ample memory")
 }
 
-/// Whether domain 2's page is busy for domain 3, while domains 0 and 1 revoke it.
-fn is_busy(rt: &impl Abort, nodes: &mut Nodes<Space>) -> bool {
-    assert!(rt; nodes.next() == 4);
-    let mut item = item(rt);
-    let done = give(nodes, &mut item, &[of_page(0), of_page(1)]).expect(rt, "ample memory");
-    matches!(done, PartDone::Skipped(Reason::Busy, 0))
+/// Page 0 goes from domain 0 to domain 1, to domain 2 and to domain 3, each time as the derivation of
+/// the domain's number.
+fn nodes(rt: &impl Abort, alloc: Global) -> Nodes<Space> {
+    let mut nodes = Nodes::new(alloc);
+    nodes.reserve(0, 1).expect(rt, "ample memory");
+    nodes.root(0, PAGE_RANGE, Rights::READ, 32);
+    for pd in 0..3 {
+        give_on(rt, &mut nodes, pd, PAGE, &[]);
+    }
+    nodes
 }
 
 /// The parts that follow: domains 0, 1, 0 and 0 revoke.
@@ -89,7 +82,8 @@ static TAKEN: [Option<(u32, u32)>; 4] = [Some((2, 2)), None, Some((1, 1)), None]
 fn nested_revokes_take_leaf_by_leaf_and_nothing_joins(rt: HostRuntime) {
     let mut nodes = nodes(&rt, rt.alloc());
     let first = told(part(&mut nodes, &of_page(1)));
-    let is_busy = is_busy(&rt, &mut nodes);
+    let given = give_on(&rt, &mut nodes, 2, WINDOW, &[of_page(0), of_page(1)]);
+    let is_busy = nodes.next() == 4 && matches!(given, PartDone::Skipped(Reason::Busy, 0));
     let rest = parts(&mut nodes);
     let is_so = first == Some((3, 3)) && is_busy && rest == TAKEN;
     assert!(rt; is_so);

@@ -1,8 +1,11 @@
 // Runs by one thread, along an order of turns and by round robin.
+ghost use Rattle.std.specs.Prelude.{◌≡◌, ◌≤◌};
+
 use crate::machines::ROOT;
 use crate::runs::{Told, tell};
 use nova_kernel::Kernel;
-use nova_run::{Order, RunFault, round_robin, run_order};
+use nova_run::{Finished, Order, RunFault, round_robin, run_order};
+use nova_tests_bursts::drops::let_go;
 use std::alloc::Global;
 use std::process::Abort;
 
@@ -69,28 +72,46 @@ static ROWS: [Row; 6] = [
     },
 ];
 
-/// What the run of a row comes to, on a machine of two processors. The root runs zeros: in two turns it raises an exit and dies.
-fn run_of(rt: &impl Abort, alloc: Global, row: &Row) -> Result<Told, RunFault> {
-    let limit = row.limit;
-    assert!(rt; limit <= 8);
-    let Some(text) = row.order else {
-        let kernel = Kernel::new(alloc, 2, 0, 0, ROOT, 8).expect(rt, "ample memory");
-        return Ok(tell(rt, round_robin(alloc, kernel, limit)?));
-    };
+/// A machine of two processors. The root runs zeros: in two turns it raises an exit and dies.
+fn booted(rt: &impl Abort, alloc: Global) -> Kernel
+    ensures cpus { result.state.cpus ≡ 2 }
+    ensures room { result.room ≡ 8 }
+    ensures turns { result.state.turns ≡ 0 }
+{
+    Kernel::new(alloc, 2, 0, 0, ROOT, 8).expect(rt, "ample memory")
+}
+
+/// Its run along an order of at most so many turns.
+fn along(rt: &impl Abort, alloc: Global, text: &str, limit: u64) -> Result<Finished, RunFault>
+    requires { limit ≤ 8 }
+{
     let order = Order::read(alloc, text.as_bytes(), 2, limit).expect(rt, "an order");
-    let kernel = Kernel::new(alloc, 2, 0, 0, ROOT, 8).expect(rt, "ample memory");
-    Ok(tell(rt, run_order(alloc, kernel, &order, limit)?))
+    let run = run_order(alloc, booted(rt, alloc), &order, limit);
+    let_go(order);
+    run
+}
+
+/// The run of a row.
+fn run_of(rt: &impl Abort, alloc: Global, row: &Row) -> Result<Finished, RunFault> {
+    assert!(rt; row.limit <= 8);
+    match row.order {
+        Some(text) => along(rt, alloc, text, row.limit),
+        None => round_robin(alloc, booted(rt, alloc), row.limit),
+    }
+}
+
+/// Whether a run comes to what a row says.
+fn is_told(row: &Row, run: &Told) -> bool {
+    run.order.as_slice() == row.turns.as_bytes()
+        && run.events == run.turns
+        && run.is_quiet == row.is_quiet
+        && row.fault == None
 }
 
 /// Whether the run of a row is as the row says.
 fn is_so(rt: &impl Abort, alloc: Global, row: &Row) -> bool {
     match run_of(rt, alloc, row) {
-        Ok(run) => {
-            run.order.as_slice() == row.turns.as_bytes()
-                && run.events == run.turns
-                && run.is_quiet == row.is_quiet
-                && row.fault == None
-        }
+        Ok(run) => is_told(row, &tell(rt, run)),
         Err(fault) => row.fault == Some(fault),
     }
 }

@@ -1,6 +1,7 @@
 // Reports and summaries, byte for byte.
 use nova_kernel::{Event, EventKind, Kernel, Root};
 use nova_report::{report, summary};
+use nova_tests_bursts::drops::let_go;
 use nova_trace::{Repeated, Trace};
 use std::alloc::Global;
 use std::process::Abort;
@@ -97,15 +98,25 @@ fn trace(rt: &impl Abort, alloc: Global) -> Trace {
     trace
 }
 
-/// Whether what is written of a kernel and of those events is the report and the summary.
-fn is_written(rt: &impl Abort, alloc: Global, kernel: &Kernel) -> [bool; 2] {
+/// Whether what is written of a kernel and of those events is the report.
+fn is_reported(rt: &impl Abort, alloc: Global, kernel: &Kernel, trace: &Trace) -> bool {
+    let lines = report(alloc, kernel, trace).expect(rt, "ample memory");
+    lines.as_slice() == REPORT.as_bytes()
+}
+
+/// Whether it is the summary.
+fn is_summed_up(rt: &impl Abort, alloc: Global, kernel: &Kernel, trace: &Trace) -> bool {
+    let line = summary(alloc, 7, kernel, trace).expect(rt, "ample memory");
+    line.as_slice() == SUMMARY.as_bytes()
+}
+
+/// Whether both are written.
+fn are_written(rt: &impl Abort, alloc: Global, kernel: &Kernel) -> bool {
     let trace = trace(rt, alloc);
-    let lines = report(alloc, kernel, &trace).expect(rt, "ample memory");
-    let line = summary(alloc, 7, kernel, &trace).expect(rt, "ample memory");
-    [
-        lines.as_slice() == REPORT.as_bytes(),
-        line.as_slice() == SUMMARY.as_bytes(),
-    ]
+    let are_written = is_reported(rt, alloc, kernel, &trace)
+        && is_summed_up(rt, alloc, kernel, &trace);
+    let_go(trace);
+    are_written
 }
 
 #[test]
@@ -117,6 +128,7 @@ fn a_machine_and_events_are_reported(rt: HostRuntime) {
         quantum: 10,
     };
     let kernel = Kernel::new(rt.alloc(), 1, 0, 1, root, 0).expect(&rt, "ample memory");
-    let is_written = is_written(&rt, rt.alloc(), &kernel);
-    assert_eq!(rt; is_written, [true, true]);
+    let are_written = are_written(&rt, rt.alloc(), &kernel);
+    let_go(kernel);
+    assert!(rt; are_written);
 }

@@ -3,6 +3,7 @@ ghost use Rattle.std.specs.Prelude.{◌≡◌, ◌+◌, ◌*◌, ◌^◌, ◌<�
 
 use crate::machines::{ROOT, lay};
 use nova_kernel::{Alarm, Kernel};
+use nova_tests_bursts::drops::let_go;
 use std::alloc::Global;
 use std::process::Abort;
 
@@ -69,15 +70,26 @@ fn until(kernel: &Kernel) -> [Option<u64>; 2] {
     [kernel.until_due(0), kernel.until_due(1)]
 }
 
+/// The three sources.
+static SOURCES: [(u32, u32, u64, u64, u64); 3] = [
+    (1, 3, 0, 1, 2),
+    (0, 4, 5, 1, 1),
+    (0, 5, 7, 1 << 40, 1 << 20),
+];
+
+/// Whether the three sources are told as they were added.
+fn are_told(rt: &impl Abort, kernel: &mut Kernel) -> bool
+    requires cpus { kernel.old.state.cpus ≡ 2 }
+    requires turns { kernel.old.state.turns ≡ 0 }
+{
+    let added = add_all(rt, kernel);
+    added == [3, 4, 5] && sources(rt, kernel) == SOURCES && until(kernel) == [Some(5), Some(0)]
+}
+
 #[test]
 fn added_sources_are_told(rt: HostRuntime) {
     let mut kernel = bare(&rt, rt.alloc());
-    let added = add_all(&rt, &mut kernel);
-    let told = (added, sources(&rt, &kernel), until(&kernel));
-    let rows = [
-        (1, 3, 0, 1, 2),
-        (0, 4, 5, 1, 1),
-        (0, 5, 7, 1 << 40, 1 << 20),
-    ];
-    assert!(&rt; told == ([3, 4, 5], rows, [Some(5), Some(0)]));
+    let are_told = are_told(&rt, &mut kernel);
+    let_go(kernel);
+    assert!(rt; are_told);
 }
