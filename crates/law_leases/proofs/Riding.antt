@@ -34,11 +34,11 @@ use Rattle.law_leases.proofs.Paid.{charged_all}
 
 -- WHAT INSTRUCTIONS LEAVE
 
--- registers, memory and message words alone change
+-- registers, memory, message words and the counts of virtual CPUs alone change
 pub record IsRidden (k m : KernelState) (g : ℕ) : Type 0 where
   pub regs : Registers
   pub contexts : m.contexts ≡ with_ec k.contexts g (record (context k g) { regs = regs })
-  pub rest : m ≡ record k { contexts = m.contexts; memory = m.memory; messages = m.messages }
+  pub rest : m ≡ record k { contexts = m.contexts; memory = m.memory; messages = m.messages; stirs = record k.stirs { guests = m.stirs.guests } }
 
 some_context : (o : Option EcState) → IsSome o → o ≡ Some (context_in o)
 some_context (Some x) h = refl
@@ -55,13 +55,13 @@ ridden_context : (k m : KernelState) (g : ℕ) → IsSome (context_at k g) → (
 ridden_context k m g there is =
     ap (λ (cs : Contexts). ec_of cs g) is.contexts ∙ ap context_in (entry_itself k.contexts g (record (context k g) { regs = is.regs }) there)
 
-one_ridden : (k m : KernelState) (g : ℕ) → IsSome (context_at k g) → IsRidden k m g → (regs : Registers) (store : Option Store) → IsRidden k (stepped m g (Went regs store)) g
+one_ridden : (k m : KernelState) (g : ℕ) → IsSome (context_at k g) → IsRidden k m g → (regs : Registers) (store : Option Store) → IsRidden k (stirred m g Steps (stepped m g (Went regs store))) g
 one_ridden k m g there is regs store =
-    let next : KernelState = stepped m g (Went regs store) in record {
+    let next : KernelState = stirred m g Steps (stepped m g (Went regs store)) in record {
       regs = regs;
       contexts = ap₂ (λ (cs : Contexts) (x : EcState). with_ec cs g (record x { regs = regs })) is.contexts (ridden_context k m g there is)
           ∙ set-set k.contexts g (Some (record (context k g) { regs = is.regs })) (Some (record (context k g) { regs = regs }));
-      rest = ap (λ (s : KernelState). record s { contexts = next.contexts; memory = next.memory; messages = next.messages }) is.rest;
+      rest = ap (λ (s : KernelState). record s { contexts = next.contexts; memory = next.memory; messages = next.messages; stirs = record s.stirs { guests = next.stirs.guests } }) is.rest;
     }
 
 -- THE CHOICE STAYS
@@ -104,22 +104,19 @@ charged_calm k m cpu n c b may is early =
 
 -- A TURN
 
--- its own instruction is no input from outside
-own_unseen : (q : KernelState) (g count : ℕ) → stirred_count q g Steps g count ≡ count
+-- what an instruction is for others doesn't depend on what turns charge
+same_input : (p : KernelState) (cpu sc n : ℕ) (b : Budget) (g i : ℕ) → input_of (charged_at_once p cpu sc b n) g i Steps ≡ input_of p g i Steps
 unfolding input_of
-own_unseen q g count =
-    let same : (g == g) ≡ true = grind arith in
-    ap (λ (t : Bool). if is_some (option_and_then (λ (i : Input). only_if (is_outside i) i) (if t then own_input Steps else others_input q g g Steps)) then count + 1 else count) same
+same_input p cpu sc n b g i = refl
 
-none_stirred : (q : KernelState) (g n : ℕ) (gs : List (Option ℕ)) → ((i : ℕ) → IsSome (entry (slice_get gs i)) → n + i ≡ g) → stirred_from q g Steps n gs ≡ gs
-none_stirred q g n [] only = refl
-none_stirred q g n (o ∷ gs) only = ap₂ (λ (p : Option ℕ) (ps : List (Option ℕ)). p ∷ ps) (by_entry o (only 0)) (none_stirred q g (n + 1) gs (λ i there. let e = only (suc i) there in omega (arith, e)))
-  where
-    by_entry : (o : Option ℕ) → (IsSome o → n + 0 ≡ g) → option_map (stirred_count q g Steps n) o ≡ o
-    by_entry None here = refl
-    by_entry (Some count) here =
-        let e = here refl in
-        let same : g ≡ n = omega (arith, e) in ap Some (subst (λ (m : ℕ). stirred_count q g Steps m count ≡ count) same (own_unseen q g count))
+same_count : (p : KernelState) (cpu sc n : ℕ) (b : Budget) (g i : ℕ) (o : Option ℕ) → option_map (stirred_count (charged_at_once p cpu sc b n) g Steps i) o ≡ option_map (stirred_count p g Steps i) o
+same_count p cpu sc n b g i None = refl
+same_count p cpu sc n b g i (Some count) =
+    ap (λ (o : Option Input). Some (if is_some (option_and_then (λ (x : Input). only_if (is_outside x) x) o) then count + 1 else count)) (same_input p cpu sc n b g i)
+
+same_stirs : (p : KernelState) (cpu sc n : ℕ) (b : Budget) (g i : ℕ) (gs : List (Option ℕ)) → stirred_from (charged_at_once p cpu sc b n) g Steps i gs ≡ stirred_from p g Steps i gs
+same_stirs p cpu sc n b g i [] = refl
+same_stirs p cpu sc n b g i (o ∷ gs) = ap₂ (λ (x : Option ℕ) (xs : List (Option ℕ)). x ∷ xs) (same_count p cpu sc n b g i o) (same_stirs p cpu sc n b g (i + 1) gs)
 
 pub record IsTaken (q : KernelState) (cpu : ℕ) (c : Candidate) (new : KernelState) : Type 0 where
   pub turn : turn q cpu ≡ Some (record { kernel = new; event = step_of cpu c })
@@ -128,16 +125,14 @@ deed_steps : (q : KernelState) (g : ℕ) (regs : Registers) (store : Option Stor
 unfolding deed
 deed_steps q g regs store is_ready free went = ap (deed_in q g) is_ready ∙ (ap (ready q g) free ∙ ap (stepping q g) went)
 
--- of an instruction that goes on, where nobody else could see its store
+-- of an instruction that goes on
 plain_turn : (q : KernelState) (cpu : ℕ) (c : Candidate) (regs : Registers) (store : Option Store) → choice q cpu ≡ Some c → due_on q.times cpu ≡ None → (context q c.actor).state ≡ Ready → (context q c.actor).recall ≡ false →
-    instruction q c.actor ≡ Went regs store → ((i : ℕ) → IsSome (entry (slice_get q.stirs.guests i)) → i ≡ c.actor) → IsTaken q cpu c (charged (stepped q c.actor (Went regs store)) cpu c.sc)
+    instruction q c.actor ≡ Went regs store → IsTaken q cpu c (charged (stirred q c.actor Steps (stepped q c.actor (Went regs store))) cpu c.sc)
 unfolding turn
-plain_turn q cpu c regs store chosen calm is_ready free went alone = record {
+plain_turn q cpu c regs store chosen calm is_ready free went = record {
   turn = ap (turn_by q cpu) calm ∙ ap (chosen_by q cpu) chosen
       ∙ (ap (λ (d : Deed). Some (taken q cpu c d)) (deed_steps q c.actor regs store is_ready free went)
-      ∙ ap (λ (s : KernelState). Some (record { kernel = charged s cpu c.sc; event = step_of cpu c }))
-      (ap (λ (o : Once). stirred q c.actor Steps (stepped q c.actor o)) went
-      ∙ ap (λ (gs : List (Option ℕ)). record (stepped q c.actor (Went regs store)) { stirs = record q.stirs { guests = gs } }) (none_stirred q c.actor 0 q.stirs.guests (λ i there. let e = alone i there in omega (arith, e)))));
+      ∙ ap (λ (o : Once). Some (record { kernel = charged (stirred q c.actor Steps (stepped q c.actor o)) cpu c.sc; event = step_of cpu c })) went);
 }
 
 -- SEVERAL TURNS
@@ -166,21 +161,21 @@ pub record IsRode (n : ℕ) (k m : KernelState) (cpu : ℕ) (c : Candidate) : Ty
   pub events : trace k (replicate n cpu) ≡ replicate n (step_of cpu c)
 
 one_rode : (n : ℕ) (k p : KernelState) (cpu : ℕ) (c : Candidate) (b : Budget) (regs : Registers) (store : Option Store) → IsRideable k cpu c b → n < b.left → IsEarly k.times cpu (suc n) → IsRode n k p cpu c →
-    instruction p c.actor ≡ Went regs store → IsRode (suc n) k (stepped p c.actor (Went regs store)) cpu c
+    instruction p c.actor ≡ Went regs store → IsRode (suc n) k (stirred p c.actor Steps (stepped p c.actor (Went regs store))) cpu c
 one_rode n k p cpu c b regs store may more early was went =
     let q : KernelState = charged_at_once p cpu c.sc b n in
-    let next : KernelState = stepped p c.actor (Went regs store) in
+    let next : KernelState = stirred p c.actor Steps (stepped p c.actor (Went regs store)) in
     let budget : budget_at p c.sc ≡ Some b = ap (λ (s : KernelState). budget_at s c.sc) was.ridden.rest ∙ may.budget in
     let within : cpu < length p.stirs.processors = subst (λ (s : KernelState). cpu < length s.stirs.processors) (sym was.ridden.rest) may.processor in
     let clocked : cpu < length p.times.clocks = subst (λ (s : KernelState). cpu < length s.times.clocks) (sym was.ridden.rest) may.clock in
-    let alone : (i : ℕ) → IsSome (entry (slice_get p.stirs.guests i)) → i ≡ c.actor = subst (λ (s : KernelState). (i : ℕ) → IsSome (entry (slice_get s.stirs.guests i)) → i ≡ c.actor) (sym was.ridden.rest) may.alone in
     let same = ridden_context k p c.actor may.there was.ridden in
     let at : charged_times n p cpu c.sc ≡ q = charged_all n p cpu c.sc b (omega (arith, more)) budget within clocked in
-    let took : IsTaken q cpu c (charged (stepped q c.actor (Went regs store)) cpu c.sc) = plain_turn q cpu c regs store (charged_choice k p cpu n c b may was.ridden more) (charged_calm k p cpu n c b may was.ridden early) (ap (λ (x : EcState). x.state) same ∙ may.ready)
-    (ap (λ (x : EcState). x.recall) same ∙ may.recall) went alone in
+    let took : IsTaken q cpu c (charged (stirred q c.actor Steps (stepped q c.actor (Went regs store))) cpu c.sc) = plain_turn q cpu c regs store (charged_choice k p cpu n c b may was.ridden more) (charged_calm k p cpu n c b may was.ridden early) (ap (λ (x : EcState). x.state) same ∙ may.ready)
+    (ap (λ (x : EcState). x.recall) same ∙ may.recall) went in
     let found : run k (replicate n cpu) ≡ q = was.state ∙ at in
-    let charges : charged (stepped q c.actor (Went regs store)) cpu c.sc ≡ charged_times (suc n) next cpu c.sc =
-    ap (λ (s : KernelState). charged s cpu c.sc) (sym (charged_all n next cpu c.sc b (omega (arith, more)) budget within clocked)) in record {
+    let charges : charged (stirred q c.actor Steps (stepped q c.actor (Went regs store))) cpu c.sc ≡ charged_times (suc n) next cpu c.sc =
+    ap (λ (gs : List (Option ℕ)). charged (record (stepped q c.actor (Went regs store)) { stirs = record q.stirs { guests = gs } }) cpu c.sc) (same_stirs p cpu c.sc n b c.actor 0 p.stirs.guests)
+    ∙ ap (λ (s : KernelState). charged s cpu c.sc) (sym (charged_all n next cpu c.sc b (omega (arith, more)) budget within clocked)) in record {
       ridden = one_ridden k p c.actor may.there was.ridden regs store;
       state = run_more n k cpu ∙ (ap (λ (s : KernelState). after s cpu) found ∙ (ap (state_after q) took.turn ∙ charges));
       events = trace_more n k cpu
@@ -196,7 +191,7 @@ by_once : (n : ℕ) (k p m : KernelState) (cpu : ℕ) (c : Candidate) (b : Budge
     rides_by p c.actor o ≡ Some m → IsRode (suc n) k m cpu c
 by_once n k p m cpu c b may more early was (Raised reason q0 q1) went rode = absurd (cc)
 by_once n k p m cpu c b may more early was (Went regs store) went rode =
-    subst (λ (s : KernelState). IsRode (suc n) k s cpu c) (same_Some (stepped p c.actor (Went regs store)) m rode) (one_rode n k p cpu c b regs store may more early was went)
+    subst (λ (s : KernelState). IsRode (suc n) k s cpu c) (same_Some (stirred p c.actor Steps (stepped p c.actor (Went regs store))) m rode) (one_rode n k p cpu c b regs store may more early was went)
 
 by_before : (n : ℕ) (k m : KernelState) (cpu : ℕ) (c : Candidate) (b : Budget) → IsRideable k cpu c b → n < b.left → IsEarly k.times cpu (suc n) → (o : Option KernelState) →
     ((p : KernelState) → o ≡ Some p → IsRode n k p cpu c) → option_and_then (ride c.actor) o ≡ Some m → IsRode (suc n) k m cpu c
@@ -215,7 +210,7 @@ rode (suc n) k m cpu c b may most early goes =
 
 ridden_once : (k p m : KernelState) (g : ℕ) → IsSome (context_at k g) → IsRidden k p g → (o : Once) → rides_by p g o ≡ Some m → IsRidden k m g
 ridden_once k p m g there was (Raised reason q0 q1) goes = absurd (cc)
-ridden_once k p m g there was (Went regs store) goes = subst (λ (s : KernelState). IsRidden k s g) (same_Some (stepped p g (Went regs store)) m goes) (one_ridden k p g there was regs store)
+ridden_once k p m g there was (Went regs store) goes = subst (λ (s : KernelState). IsRidden k s g) (same_Some (stirred p g Steps (stepped p g (Went regs store))) m goes) (one_ridden k p g there was regs store)
 
 ridden_more : (k m : KernelState) (g : ℕ) → IsSome (context_at k g) → (o : Option KernelState) → ((p : KernelState) → o ≡ Some p → IsRidden k p g) → option_and_then (ride g) o ≡ Some m → IsRidden k m g
 ridden_more k m g there None before goes = absurd (cc)

@@ -88,8 +88,8 @@ pub fn what_bursts_stand_on_is_kept()
 {}
 
 /// So many instructions of whoever acts on a processor, each of which goes on, within what is left of the chosen quantum and before anything
-/// is due there, where there is no other virtual CPU that could see a store, and then as many turns charged, are as many turns of the
-/// processor. Each is a plain step of that one, paid by the chosen scheduling context.
+/// is due there, with the store of each counted for the other virtual CPUs that could see it, and then as many turns charged, are as many
+/// turns of the processor. Each is a plain step of that one, paid by the chosen scheduling context.
 pub fn rides_are_turns()
     ensures state { (n : ℕ) (k m : KernelState) (cpu : ℕ) (c : Candidate) (b : Budget) → IsRideable k cpu c b → n ≤ b.left → IsEarly k.times cpu n
         → rides n k c.actor ≡ Some m → run k (replicate n cpu) ≡ charged_times n m cpu c.sc }

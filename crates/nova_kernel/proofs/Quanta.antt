@@ -39,29 +39,52 @@ use Rattle.nova_turn.specs.Parts.{state_of}
 use Rattle.nova_turn.specs.Reach.{ReachState}
 use Rattle.nova_turn.specs.Revoking.{AreRunning}
 use Rattle.nova_turn.specs.Runners.{RevokesState}
-use Rattle.nova_turn.specs.StirCounts.{numbers_from}
 use Rattle.nova_turn.specs.declared.decide.deciding.Raised.{Raised}
 use Rattle.nova_turn.specs.declared.parts.Parts.{Parts}
-use Rattle.nova_kernel.specs.Rides.{AreOnly, AreSteps, IsBeside, IsLater, IsNext, IsHalted, MayRide, Raises, RidesAlone, beside, step_by}
+use Rattle.nova_kernel.specs.Rides.{AreSteps, IsBeside, IsLater, IsNext, IsHalted, IsStepping, MayCount, MayRide, Raises, beside, step_by, without_counts}
 use Rattle.nova_kernel.proofs.Known.{chosen_budget, known_along, known_on}
-use Rattle.nova_kernel.proofs.Rides.{bounds_after, counted_along, events_rode, may_ride_on, ridden_on, ridden_queued, running_after_ride, same_cpus, same_turns, times_on, turns_rode}
+use Rattle.nova_kernel.proofs.Rides.{bounds_after, counted_along, events_rode, may_count, may_ride_on, ridden_on, ridden_queued, running_after_ride, same_cpus, same_turns, times_on, turns_rode}
 use Rattle.nova_kernel.proofs.Beside.{KeepsTables, beside_context, beside_there, choice_back, still_calm, still_chosen, times_beside, times_keep}
 
 -- WHO MAY RIDE, AS THE QUEUES HAVE IT
 
-may_queued : (k : KernelState) (q : Schedule) (cpu : ℕ) (chosen : Chosen) (most : ℕ) → AreEdges k.contexts → Some chosen ≡ option_map chosen_of (choice k cpu) → RidesAlone k chosen.actor →
+may_queued : (k : KernelState) (q : Schedule) (cpu : ℕ) (chosen : Chosen) (most : ℕ) → AreEdges k.contexts → Some chosen ≡ option_map chosen_of (choice k cpu) → IsStepping k chosen.actor →
     cpu < length k.stirs.processors → cpu < length k.times.clocks → k.budgets ≡ budgets_of q (length k.objects) → IsSome (queued_at q chosen.sc) →
     IfSome (queued_at q chosen.sc) (λ (e : Queued). most ≤ e.budget.left) → IsEarly k.times cpu most → MayRide k cpu chosen most
-may_queued k q cpu chosen most edges told alone within clocked budgets pays left early = by_queued (queued_at q chosen.sc) refl pays left
+may_queued k q cpu chosen most edges told acts within clocked budgets pays left early = by_queued (queued_at q chosen.sc) refl pays left
   where
     by_queued : (o : Option Queued) → queued_at q chosen.sc ≡ o → IsSome o → IfSome o (λ (e : Queued). most ≤ e.budget.left) → MayRide k cpu chosen most
     by_queued None is some few = absurd (cc)
     by_queued (Some e) is some few =
         may_ride_on k cpu chosen e.budget.left most edges told
         (sym (ap (option_map (λ (b : Budget). b.left)) (ap (λ (bs : List (Option Budget)). entry (slice_get bs chosen.sc)) budgets ∙ (budget_queued q (length k.objects) chosen.sc ∙ ap (option_map (λ (e : Queued). e.budget)) is))))
-        alone.there alone.ready alone.recall within clocked alone.alone few early
+        acts.there acts.ready acts.recall within clocked few early
 
 -- A QUANTUM
+
+acts_beside : (p : Parts) (chosen : Chosen) (x : Registers) → IsBeside p chosen x → IsStepping (beside p chosen x) chosen.actor
+acts_beside p chosen x was = record {
+  there = beside_there (state_of p) chosen.actor x was.acts.there;
+  ready = ap (λ (e : EcState). e.state) (beside_context (state_of p) chosen.actor x was.acts.there) ∙ was.acts.ready;
+  recall = ap (λ (e : EcState). e.recall) (beside_context (state_of p) chosen.actor x was.acts.there) ∙ was.acts.recall;
+}
+
+may_beside : (p : Parts) (cpu : ℕ) (chosen : Chosen) (x : Registers) (most : ℕ) → IsBeside p chosen x → IsNext p cpu chosen → IfSome (queued_at p.queues.all chosen.sc) (λ (e : Queued). most ≤ e.budget.left) →
+    IsEarly (state_of p).times cpu most → cpu < p.cpus → MayRide (beside p chosen x) cpu chosen most
+may_beside p cpu chosen x most was next left early there =
+    let edges : AreEdges (beside p chosen x).contexts = was.counted.kept.edges in
+    let within : cpu < length (beside p chosen x).stirs.processors = subst (λ (m : ℕ). cpu < m) (sym was.counted.charged.processors) there in
+    may_queued (beside p chosen x) p.queues.all cpu chosen most edges (next.told ∙ ap (option_map chosen_of) (choice_back (state_of p) cpu chosen.actor x edges was.acts.there)) (acts_beside p chosen x was) within within refl next.pays left early
+
+-- a store of each instruction on the way can be counted
+pub counts_along : (p : Parts) (cpu : ℕ) (chosen : Chosen) (x : Registers) (most : ℕ) → IsBeside p chosen x → IsNext p cpu chosen → IfSome (queued_at p.queues.all chosen.sc) (λ (e : Queued). most ≤ e.budget.left) →
+    IsEarly (state_of p).times cpu most → cpu < p.cpus → ((k : KernelState) (cpu : ℕ) → IsKept k → IsKept (after k cpu)) → p.turns + most ≤ 2 ^ 31 →
+    (n : ℕ) (m : KernelState) → n < most → rides n (beside p chosen x) chosen.actor ≡ Some m → MayCount m
+counts_along p cpu chosen x most was next left early there law turns n m few goes =
+    let may : MayRide (beside p chosen x) cpu chosen most = may_beside p cpu chosen x most was next left early there in
+    let fewer : n ≤ most = omega (arith, few) in
+    may_count n m cpu chosen.sc
+    (subst IsCounted (turns_rode (beside p chosen x) m cpu chosen n most may fewer goes) (counted_along (beside p chosen x) m cpu chosen n most may fewer goes law turns was.counted))
 
 -- instructions that went on, before they are charged
 pub record HasRidden (p q : Parts) (cpu : ℕ) (chosen : Chosen) (x y : Registers) (n most : ℕ) : Type 0 where
@@ -79,26 +102,13 @@ pub record HasRidden (p q : Parts) (cpu : ℕ) (chosen : Chosen) (x y : Register
 
 module _ (p q : Parts) (cpu : ℕ) (chosen : Chosen) (x y : Registers) (n most : ℕ) (is : HasRidden p q cpu chosen x y n most) where
   there : IsSome (context_at (state_of p) chosen.actor)
-  there = is.was.alone.there
-
-  edges : AreEdges (beside p chosen x).contexts
-  edges = is.was.counted.kept.edges
-
-  alone_now : RidesAlone (beside p chosen x) chosen.actor
-  alone_now = record {
-    there = beside_there (state_of p) chosen.actor x there;
-    ready = ap (λ (e : EcState). e.state) (beside_context (state_of p) chosen.actor x there) ∙ is.was.alone.ready;
-    recall = ap (λ (e : EcState). e.recall) (beside_context (state_of p) chosen.actor x there) ∙ is.was.alone.recall;
-    alone = is.was.alone.alone;
-  }
+  there = is.was.acts.there
 
   may : MayRide (beside p chosen x) cpu chosen most
-  may =
-      let within : cpu < length (beside p chosen x).stirs.processors = subst (λ (m : ℕ). cpu < m) (sym is.was.counted.charged.processors) is.within in
-      may_queued (beside p chosen x) p.queues.all cpu chosen most edges (is.next.told ∙ ap (option_map chosen_of) (choice_back (state_of p) cpu chosen.actor x edges there)) alone_now within within refl is.next.pays is.left is.early
+  may = may_beside p cpu chosen x most is.was is.next is.left is.early is.within
 
   are : IsRidden (beside p chosen x) (beside q chosen y) chosen.actor
-  are = ridden n (beside p chosen x) (beside q chosen y) chosen.actor alone_now.there is.goes
+  are = ridden n (beside p chosen x) (beside q chosen y) chosen.actor (acts_beside p chosen x is.was).there is.goes
 
   -- the table itself keeps old registers meanwhile
   stale : IsRidden (state_of p) (state_of q) chosen.actor
@@ -108,7 +118,7 @@ module _ (p q : Parts) (cpu : ℕ) (chosen : Chosen) (x y : Registers) (n most :
     rest = ap (λ (s : KernelState). record s { contexts = (state_of q).contexts }) are.rest;
   }
 
-  pub bounds_ridden : IsToBeCharged (state_of q)
+  pub bounds_ridden : IsToBeCharged (without_counts (state_of q))
   bounds_ridden =
       let h = bounds_after (beside p chosen x) (beside q chosen y) cpu chosen n most may is.few is.goes is.was.counted.charged in
       record { turns = h.turns; processors = h.processors; stamps = h.stamps; ticks = h.ticks; stirs = h.stirs; guests = h.guests }
@@ -162,7 +172,7 @@ module _ (p q r : Parts) (cpu : ℕ) (chosen : Chosen) (x y : Registers) (n most
         };
         known = λ known all. subst (λ (s : KernelState). AreKnown s known) (sym paid.charged)
             (known_along (state_of p) paid_state
-            (known_on (state_of p) paid_state (times_on n (state_of p) (state_of q) cpu chosen.sc (ridden_on (state_of p) (state_of q) chosen.actor is.was.alone.there (stale p q cpu chosen x y n most is)))) known all);
+            (known_on (state_of p) paid_state (times_on n (state_of p) (state_of q) cpu chosen.sc (ridden_on (state_of p) (state_of q) chosen.actor is.was.acts.there (stale p q cpu chosen x y n most is)))) known all);
         turns = paid.turns ∙ ap (λ (t : ℕ). t + n) (turns_ridden p q cpu chosen x y n most is);
         cpus = paid.cpus ∙ cpus_ridden p q cpu chosen x y n most is;
         log = subst (λ (u : ReachState). p.reach.room ≤ u.room + n) (sym paid.reach) log;
@@ -177,15 +187,11 @@ module _ (p q r : Parts) (cpu : ℕ) (chosen : Chosen) (x y : Registers) (n most
   same_objects : (state_of q).objects ≡ (state_of r).objects
   same_objects = sym (ap (λ (s : KernelState). s.objects) paid.charged ∙ keeps.objects)
 
-  same_guests : (state_of r).stirs.guests ≡ (state_of p).stirs.guests
-  same_guests = ap (λ (s : KernelState). s.stirs.guests) paid.charged ∙ (keeps.guests ∙ ap (λ (s : KernelState). s.stirs.guests) (stale p q cpu chosen x y n most is).rest)
-
-  still_alone : RidesAlone (state_of r) chosen.actor
-  still_alone = record {
-    there = subst (λ (cs : Contexts). IsSome (entry (slice_get cs chosen.actor))) (sym same_contexts) is.was.alone.there;
-    ready = ap (λ (cs : Contexts). (ec_of cs chosen.actor).state) same_contexts ∙ is.was.alone.ready;
-    recall = ap (λ (cs : Contexts). (ec_of cs chosen.actor).recall) same_contexts ∙ is.was.alone.recall;
-    alone = subst (λ (gs : List (Option ℕ)). AreOnly chosen.actor (numbers_from 0 gs)) (sym same_guests) is.was.alone.alone;
+  still_acts : IsStepping (state_of r) chosen.actor
+  still_acts = record {
+    there = subst (λ (cs : Contexts). IsSome (entry (slice_get cs chosen.actor))) (sym same_contexts) is.was.acts.there;
+    ready = ap (λ (cs : Contexts). (ec_of cs chosen.actor).state) same_contexts ∙ is.was.acts.ready;
+    recall = ap (λ (cs : Contexts). (ec_of cs chosen.actor).recall) same_contexts ∙ is.was.acts.recall;
   }
 
   still_entered : IsEntered r chosen.actor
@@ -198,7 +204,7 @@ module _ (p q r : Parts) (cpu : ℕ) (chosen : Chosen) (x y : Registers) (n most
   pub quantum_beside : ((k : KernelState) (cpu : ℕ) → IsKept k → IsKept (after k cpu)) → p.turns + most ≤ 2 ^ 31 → IsBeside r chosen y
   quantum_beside law turns =
       let rides_on = may p q cpu chosen x y n most is in record {
-        alone = still_alone;
+        acts = still_acts;
         entered = still_entered;
         queued = paid.queued;
         counted = subst IsCounted (sym taken) (counted_along (beside p chosen x) (beside q chosen y) cpu chosen n most rides_on is.few is.goes law turns is.was.counted);
@@ -209,8 +215,8 @@ module _ (p q r : Parts) (cpu : ℕ) (chosen : Chosen) (x y : Registers) (n most
 
   executes : is_executing (context (beside r chosen y) chosen.actor) ≡ true
   executes =
-      ap is_executing (beside_context (state_of r) chosen.actor y still_alone.there)
-      ∙ ap₂ (λ (s : State) (asked : Bool). is_ready s && not asked) still_alone.ready still_alone.recall
+      ap is_executing (beside_context (state_of r) chosen.actor y still_acts.there)
+      ∙ ap₂ (λ (s : State) (asked : Bool). is_ready s && not asked) still_acts.ready still_acts.recall
 
   pub quantum_raises : (raised : Raised) → n < most → Raises (beside q chosen y) chosen.actor raised → IsHalted (beside r chosen y) cpu chosen raised
   quantum_raises raised fewer raises =
@@ -231,7 +237,7 @@ module _ (p q r : Parts) (cpu : ℕ) (chosen : Chosen) (x y : Registers) (n most
         none_due = subst (λ (s : KernelState). due_on s.times cpu ≡ None) (sym landed)
             (still_calm k m cpu n c b rides_on.may went (early_fewer k.times cpu (suc n) most (omega (arith, fewer)) rides_on.early));
         told = told;
-        there = beside_there (state_of r) chosen.actor y still_alone.there;
+        there = beside_there (state_of r) chosen.actor y still_acts.there;
         pays = chosen_budget (beside r chosen y) cpu chosen told;
         raised = (executes, subst (λ (s : KernelState). Raises s chosen.actor raised) (sym landed) raises);
       }
@@ -284,9 +290,9 @@ later_on p q r x y z cpu chosen a b first then =
 -- WITH THE REGISTERS OF THE TABLE
 
 pub entered_beside : (p e : Parts) (chosen : Chosen) (x : Registers) → state_of e ≡ state_of p → e.queues ≡ p.queues → e.revokes ≡ p.revokes → IsEntered e chosen.actor → beside e chosen x ≡ state_of p →
-    RidesAlone (state_of p) chosen.actor → IsCounted (state_of p) → AreQueued (state_of p) p.queues.all → AreRunning (state_of p) p.revokes → IsBeside e chosen x
-entered_beside p e chosen x state queues revokes entered own alone counts queued runs = record {
-  alone = subst (λ (k : KernelState). RidesAlone k chosen.actor) (sym state) alone;
+    IsStepping (state_of p) chosen.actor → IsCounted (state_of p) → AreQueued (state_of p) p.queues.all → AreRunning (state_of p) p.revokes → IsBeside e chosen x
+entered_beside p e chosen x state queues revokes entered own acts counts queued runs = record {
+  acts = subst (λ (k : KernelState). IsStepping k chosen.actor) (sym state) acts;
   entered = entered;
   queued = subst (λ (k : KernelState). AreQueued k e.queues.all) (sym state) (subst (λ (q : QueuesState). AreQueued (state_of p) q.all) (sym queues) queued);
   counted = subst IsCounted (sym own) counts;

@@ -1,17 +1,18 @@
 -- Instructions that go on one after another, from what each of them came to.
-use Rattle.std.proofs.Common.{◌≡◌, ◌+◌, ◌^◌, ◌<◌, ◌≤◌, ℕ, zero, suc, ap, ap₂, sym, subst, ◌∙◌, refl, length, arith, List, [], ◌∷◌, false}
-use Rattle.std.specs.Prelude.{Option, Some, None, IsSome, IfSome, is_some, option_and_then, option_map, replicate, slice_get}
+use Rattle.std.proofs.Common.{◌≡◌, ◌+◌, ◌-◌, ◌^◌, ◌<◌, ◌≤◌, ℕ, zero, suc, ap, ap₂, sym, subst, ◌∙◌, refl, length, arith, List, [], ◌∷◌, false}
+use Rattle.std.specs.Prelude.{map, Option, Some, None, IsSome, IfSome, is_some, option_and_then, option_map, replicate, slice_get}
 use Rattle.rv_core.specs.declared.outcome.Outcome.TheVariants.{Next, Raise}
 use Rattle.rv_model.specs.Registers.{Registers}
 use Rattle.rv_model.specs.Step.{Once, Raised, Went}
 use Rattle.nova_model.specs.Deeds.{deed, done, instruction, stepped}
+use Rattle.nova_model.specs.Inputs.{stirred}
+use Rattle.nova_model.specs.Capabilities.{is_vcpu}
 use Rattle.nova_model.specs.State.{KernelState}
 use Rattle.nova_model.specs.declared.deed.Deed.TheVariants.{Steps}
 use Rattle.nova_turn.specs.Acts.{outcome_of}
 use mathlib.Core.Path.{fun_ext}
 use Rattle.std.proofs.lemmas.Option.{same_Some}
 use Rattle.nova_model.specs.declared.context.State.TheVariants.{Ready}
-use Rattle.nova_turn.specs.StirCounts.{numbers_from}
 use Rattle.nova_turn.specs.Views.{left_of}
 use Rattle.law_leases.specs.Commits.{IsReached}
 use Rattle.std.proofs.lemmas.List.{length-set}
@@ -38,7 +39,8 @@ use Rattle.nova_turn.specs.Known.{AreKnown}
 use Rattle.law_leases.proofs.Advanced.{set_there}
 use Rattle.nova_kernel.proofs.Known.{AreLedOn, known_along, known_on, paid_on}
 use Rattle.nova_turn.specs.Revoking.{AreRunning}
-use Rattle.nova_turn.specs.Stirs.{is_stirring, risen_in, written_frame}
+use Rattle.nova_turn.specs.Homes.{HasCounts}
+use Rattle.nova_turn.specs.Stirs.{IsStirredWithin, is_stirring, risen_in, written_frame}
 use Rattle.nova_turn.proofs.Keeps.{done-keeps}
 use Rattle.nova_turn.proofs.Taken.{IsSettled, settled_counts, settled_state}
 use Rattle.nova_choice.specs.Choices.{chosen_of}
@@ -52,31 +54,24 @@ use Rattle.nova_sched.specs.declared.queued.Queued.{Queued}
 use Rattle.law_leases.specs.Paging.{charged_times}
 use Rattle.law_leases.specs.Rides.{ride, rides, rides_by}
 use Rattle.law_leases.proofs.Riding.{IsRidden, kept_along, ridden, rode}
-use Rattle.nova_kernel.specs.Rides.{AreOnly, MayRide, step_by}
+use Rattle.nova_kernel.specs.Rides.{MayCount, MayRide, step_by, without_counts}
 use Rattle.nova_choice.proofs.Budgets.{budget_queued}
 use Rattle.nova_kernel.proofs.Advancing.{revoke_set, to_be_charged}
 use Rattle.nova_kernel.proofs.Spending.{left_queued}
 
 -- one more, from what an instruction came to
-pub rides_more : (n : ℕ) (k p new : KernelState) (g : ℕ) → rides n k g ≡ Some p → Next ≡ outcome_of (instruction p g) → new ≡ done p g Steps → rides (suc n) k g ≡ Some new
+pub rides_more : (n : ℕ) (k p new : KernelState) (g : ℕ) → rides n k g ≡ Some p → Next ≡ outcome_of (instruction p g) → new ≡ stirred p g Steps (done p g Steps) → rides (suc n) k g ≡ Some new
 rides_more n k p new g goes next does = ap (option_and_then (ride g)) goes ∙ (by_outcome (instruction p g) next ∙ ap Some (sym does)) where
-  by_outcome : (o : Once) → Next ≡ outcome_of o → rides_by p g o ≡ Some (stepped p g o)
+  by_outcome : (o : Once) → Next ≡ outcome_of o → rides_by p g o ≡ Some (stirred p g Steps (stepped p g o))
   by_outcome (Raised reason q0 q1) next = absurd (cc)
   by_outcome (Went regs store) next = refl
 
--- a raise leaves all as it was
-pub raise_leaves : (k new : KernelState) (g reason q0 q1 : ℕ) → Raise reason q0 q1 ≡ outcome_of (instruction k g) → new ≡ done k g Steps → new ≡ k
-raise_leaves k new g reason q0 q1 raises does = does ∙ by_outcome (instruction k g) raises where
-  by_outcome : (o : Once) → Raise reason q0 q1 ≡ outcome_of o → stepped k g o ≡ k
-  by_outcome (Raised r a b) raises = refl
-  by_outcome (Went regs store) raises = absurd (cc)
+-- a raise leaves all as it was, so that the next instruction is the one that raised
+pub raise_stays : (k new : KernelState) (g reason q0 q1 : ℕ) → Raise reason q0 q1 ≡ outcome_of (instruction k g) → new ≡ k → Raise reason q0 q1 ≡ outcome_of (instruction new g)
+raise_stays k new g reason q0 q1 raises same = subst (λ (s : KernelState). Raise reason q0 q1 ≡ outcome_of (instruction s g)) (sym same) raises
 
--- so that the next instruction is the one that raised
-pub raise_stays : (k new : KernelState) (g reason q0 q1 : ℕ) → Raise reason q0 q1 ≡ outcome_of (instruction k g) → new ≡ done k g Steps → Raise reason q0 q1 ≡ outcome_of (instruction new g)
-raise_stays k new g reason q0 q1 raises does = subst (λ (s : KernelState). Raise reason q0 q1 ≡ outcome_of (instruction s g)) (sym (raise_leaves k new g reason q0 q1 raises does)) raises
-
-pub rides_stay : (n : ℕ) (k p new : KernelState) (g reason q0 q1 : ℕ) → rides n k g ≡ Some p → Raise reason q0 q1 ≡ outcome_of (instruction p g) → new ≡ done p g Steps → rides n k g ≡ Some new
-rides_stay n k p new g reason q0 q1 goes raises does = goes ∙ ap Some (sym (raise_leaves p new g reason q0 q1 raises does))
+pub rides_stay : (n : ℕ) (k p new : KernelState) (g : ℕ) → rides n k g ≡ Some p → new ≡ p → rides n k g ≡ Some new
+rides_stay n k p new g goes same = goes ∙ ap Some (sym same)
 
 -- where the registers beside are its own, all is as it was
 pub beside_own : (k : KernelState) (ec : ℕ) → IsSome (context_at k ec) → with_regs k ec (context k ec).regs ≡ k
@@ -90,15 +85,23 @@ beside_none k mid ec n regs none same goes =
 
 -- WHAT INSTRUCTIONS LEAVE OF THE REST
 
-ridden_bounds : (k m : KernelState) (g : ℕ) → IsRidden k m g → IsCharged k → IsToBeCharged m
+none_within : (turns : ℕ) (o : Option ℕ) → o ≡ None → IsStirredWithin turns o
+none_within turns None is = omega arith
+none_within turns (Some n) is = absurd (cc)
+
+pub bounds_without : (k : KernelState) → IsToBeCharged k → IsToBeCharged (without_counts k)
+bounds_without k h = record { turns = h.turns; processors = h.processors; stamps = h.stamps; ticks = h.ticks; stirs = h.stirs; guests = λ g. none_within (k.turns + 1) _ refl }
+
+ridden_bounds : (k m : KernelState) (g : ℕ) → IsRidden k m g → IsCharged k → IsToBeCharged (without_counts m)
 ridden_bounds k m g is charged =
     let h = to_be_charged k charged in
-    subst IsToBeCharged (sym is.rest) (record { turns = h.turns; processors = h.processors; stamps = h.stamps; ticks = h.ticks; stirs = h.stirs; guests = h.guests })
+    subst (λ (s : KernelState). IsToBeCharged (without_counts s)) (sym is.rest)
+    (record { turns = h.turns; processors = h.processors; stamps = h.stamps; ticks = h.ticks; stirs = h.stirs; guests = λ n. none_within (k.turns + 1) _ refl })
 
 pub ridden_queued : (k m : KernelState) (g : ℕ) (q : Schedule) → IsSome (context_at k g) → IsRidden k m g → AreQueued k q → AreQueued m q
 ridden_queued k m g q there is queued =
     subst (λ (s : KernelState). AreQueued s q) (sym is.rest)
-    (queued_kept None k (record k { contexts = m.contexts; memory = m.memory; messages = m.messages }) q queued (record {
+    (queued_kept None k (record k { contexts = m.contexts; memory = m.memory; messages = m.messages; stirs = record k.stirs { guests = m.stirs.guests } }) q queued (record {
       contexts = subst (λ (cs : Contexts). LeadsBut None k.contexts cs) (sym is.contexts)
           (kept_steady k.contexts g (context k g) (record (context k g) { regs = is.regs }) (there_at k.contexts g there) refl refl);
       objects = refl;
@@ -110,8 +113,8 @@ ridden_queued k m g q there is queued =
 -- the revokes that run
 ridden_running : (k m : KernelState) (g : ℕ) (r : RevokesState) → IsSome (context_at k g) → IsRidden k m g → AreRunning k r → AreRunning m r
 ridden_running k m g r there is are =
-    let last : KernelState = record k { contexts = with_ec k.contexts g (record (context k g) { regs = is.regs }); memory = m.memory; messages = m.messages } in
-    let same : m ≡ last = is.rest ∙ ap (λ (cs : Contexts). record k { contexts = cs; memory = m.memory; messages = m.messages }) is.contexts in
+    let last : KernelState = record k { contexts = with_ec k.contexts g (record (context k g) { regs = is.regs }); memory = m.memory; messages = m.messages; stirs = record k.stirs { guests = m.stirs.guests } } in
+    let same : m ≡ last = is.rest ∙ ap (λ (cs : Contexts). record k { contexts = cs; memory = m.memory; messages = m.messages; stirs = record k.stirs { guests = m.stirs.guests } }) is.contexts in
     let places = are.places in
     let long : length last.contexts ≡ length k.contexts = length-set k.contexts g (Some (record (context k g) { regs = is.regs })) in
     let runs : running last ≡ running k = ap₂ (λ (f : ℕ → Option Revocation) (n : ℕ). filter_map (λ ec. running_of ec (f ec)) (range_with_len 0 n))
@@ -192,7 +195,7 @@ module _ (k m : KernelState) (cpu : ℕ) (chosen : Chosen) (n most : ℕ) (may :
   pub same_cpus : m.cpus ≡ k.cpus
   same_cpus = ap (λ (s : KernelState). s.cpus) are.rest
 
-  pub bounds_after : IsCharged k → IsToBeCharged m
+  pub bounds_after : IsCharged k → IsToBeCharged (without_counts m)
   bounds_after = ridden_bounds k m chosen.actor are
 
   pub queued_after_ride : (q : Schedule) → AreQueued k q → AreQueued m q
@@ -234,6 +237,37 @@ module _ (k m : KernelState) (cpu : ℕ) (chosen : Chosen) (n most : ℕ) (may :
       kept_along IsCounted cpu may.candidate (counted_turn law cpu may.candidate) n k m may.budget may.may (omega (arith, few, left)) soon (omega (arith, few, turns))
       (subst (λ (g : ℕ). rides n k g ≡ Some m) actor goes) counts
 
+-- COUNTS OF VIRTUAL CPUS, WHILE NO TURN IS CHARGED
+
+few_within : (turns : ℕ) (o : Option ℕ) → turns ≤ 2 ^ 31 → IsStirredWithin turns o → IfSome o (λ n. n < 2 ^ 64 - 1)
+few_within turns None few within = tt
+few_within turns (Some n) few within = omega (arith, few, within)
+
+record KeepsCounted (k new : KernelState) : Type 0 where
+  objects : new.objects ≡ k.objects
+  guests : new.stirs.guests ≡ k.stirs.guests
+
+one_counted : (k s : KernelState) (cpu sc : ℕ) → KeepsCounted k s → KeepsCounted k (charged s cpu sc)
+unfolding charged
+one_counted k s cpu sc keeps = by_budget (budget_at s sc)
+  where
+    by_budget : (o : Option Budget) → KeepsCounted k (counted (paid_by s sc (quantum_in (slice_get s.objects sc)) o) cpu)
+    by_budget None = record { objects = keeps.objects; guests = keeps.guests }
+    by_budget (Some b) = record { objects = keeps.objects; guests = keeps.guests }
+
+times_counted : (n : ℕ) (k : KernelState) (cpu sc : ℕ) → KeepsCounted k (charged_times n k cpu sc)
+times_counted zero k cpu sc = record { objects = refl; guests = refl }
+times_counted (suc n) k cpu sc = one_counted k (charged_times n k cpu sc) cpu sc (times_counted n k cpu sc)
+
+pub may_count : (n : ℕ) (m : KernelState) (cpu sc : ℕ) → IsCounted (charged_times n m cpu sc) → MayCount m
+may_count n m cpu sc counts =
+    let keeps = times_counted n m cpu sc in
+    let had : HasCounts (charged_times n m cpu sc) = counts.kept.tables.guests in record {
+      counted = ap (map is_some) (sym keeps.guests) ∙ (had ∙ ap (map is_vcpu) keeps.objects);
+      few = λ g. subst (λ (gs : List (Option ℕ)). IfSome (entry (slice_get gs g)) (λ n. n < 2 ^ 64 - 1)) keeps.guests
+          (few_within (charged_times n m cpu sc).turns (entry (slice_get (charged_times n m cpu sc).stirs.guests g)) counts.charged.turns (counts.charged.guests g));
+    }
+
 -- THE EVENT OF EACH
 
 pub told_event : (cpu : ℕ) (chosen : Chosen) (o : Option Candidate) → Some chosen ≡ option_map chosen_of o → Some (step_by cpu chosen) ≡ option_map (step_of cpu) o
@@ -241,13 +275,6 @@ told_event cpu chosen None told = absurd (cc)
 told_event cpu chosen (Some c) told = ap (λ (d : Chosen). Some (step_by cpu d)) (same_Some chosen (chosen_of c) told)
 
 -- WHERE ONE MAY
-
-only_guest : (g n : ℕ) (gs : List (Option ℕ)) → AreOnly g (numbers_from n gs) → (i : ℕ) → IsSome (entry (slice_get gs i)) → n + i ≡ g
-only_guest g n [] only i there = absurd (cc)
-only_guest g n (None ∷ gs) only zero there = absurd (cc)
-only_guest g n (None ∷ gs) only (suc i) there = let e = only_guest g (n + 1) gs only i there in omega (arith, e)
-only_guest g n (Some count ∷ gs) only zero there = let e = only.0 in omega (arith, e)
-only_guest g n (Some count ∷ gs) only (suc i) there = let e = only_guest g (n + 1) gs only.1 i there in omega (arith, e)
 
 record IsChosen (k : KernelState) (cpu : ℕ) (chosen : Chosen) : Type 0 where
   candidate : Candidate
@@ -268,9 +295,9 @@ left_by_budget k sc left None is told = absurd (cc)
 left_by_budget k sc left (Some b) is told = record { budget = b; is = is; same = same_Some left b.left told }
 
 pub may_ride_on : (k : KernelState) (cpu : ℕ) (chosen : Chosen) (left most : ℕ) → AreEdges k.contexts → Some chosen ≡ option_map chosen_of (choice k cpu) → Some left ≡ left_of k chosen.sc →
-    IsSome (context_at k chosen.actor) → (context k chosen.actor).state ≡ Ready → (context k chosen.actor).recall ≡ false → cpu < length k.stirs.processors → cpu < length k.times.clocks → AreOnly chosen.actor (numbers_from 0 k.stirs.guests) → most ≤ left → IsEarly k.times cpu most →
+    IsSome (context_at k chosen.actor) → (context k chosen.actor).state ≡ Ready → (context k chosen.actor).recall ≡ false → cpu < length k.stirs.processors → cpu < length k.times.clocks → most ≤ left → IsEarly k.times cpu most →
     MayRide k cpu chosen most
-may_ride_on k cpu chosen left most edges told lefts there is_ready free within clocked alone few early =
+may_ride_on k cpu chosen left most edges told lefts there is_ready free within clocked few early =
     let by = chosen_by k cpu chosen (choice k cpu) refl told in
     let its = left_by_budget k chosen.sc left (budget_at k chosen.sc) refl lefts in
     let actor : chosen.actor ≡ by.candidate.actor = ap (λ (d : Chosen). d.actor) by.same in
@@ -287,7 +314,6 @@ may_ride_on k cpu chosen left most edges told lefts there is_ready free within c
         budget = subst (λ (s : ℕ). budget_at k s ≡ Some its.budget) payer its.is;
         processor = within;
         clock = clocked;
-        alone = λ g there. let e = only_guest by.candidate.actor 0 k.stirs.guests (subst (λ (n : ℕ). AreOnly n (numbers_from 0 k.stirs.guests)) actor alone) g there in omega (arith, e);
       };
       same = by.same;
       left = omega (arith, same, few);
@@ -295,6 +321,6 @@ may_ride_on k cpu chosen left most edges told lefts there is_ready free within c
     }
 
 pub may_ride : (k : KernelState) (cpu : ℕ) (chosen : Chosen) (left most : ℕ) → IsReached k → Some chosen ≡ option_map chosen_of (choice k cpu) → Some left ≡ left_of k chosen.sc →
-    IsSome (context_at k chosen.actor) → (context k chosen.actor).state ≡ Ready → (context k chosen.actor).recall ≡ false → cpu < length k.stirs.processors → cpu < length k.times.clocks → AreOnly chosen.actor (numbers_from 0 k.stirs.guests) → most ≤ left → IsEarly k.times cpu most →
+    IsSome (context_at k chosen.actor) → (context k chosen.actor).state ≡ Ready → (context k chosen.actor).recall ≡ false → cpu < length k.stirs.processors → cpu < length k.times.clocks → most ≤ left → IsEarly k.times cpu most →
     MayRide k cpu chosen most
 may_ride k cpu chosen left most reached = may_ride_on k cpu chosen left most reached.sound.kept.edges

@@ -13,6 +13,7 @@ use Rattle.nova_sched.proofs.Stamps.{set_same}
 use Rattle.nova_choice.proofs.Budgets.{budget_queued}
 use Rattle.nova_turn.specs.Counted.{IsToBeCharged}
 use Rattle.nova_turn.proofs.Bursts.{still_charged}
+use Rattle.nova_kernel.specs.Rides.{without_counts}
 use Rattle.nova_turn.proofs.Charges.{charged_there, paid_shown}
 
 pay_some : (s : Schedule) (sc : ℕ) (o : Option Queued) → queued_at s sc ≡ o → IsSome o → IsSome (queued_at (charged_by s sc o) sc)
@@ -107,6 +108,19 @@ pub to_be_charged_still : (n : ℕ) (k : KernelState) (cpu sc : ℕ) → k.turns
 to_be_charged_still zero k cpu sc few h = h
 to_be_charged_still (suc n) k cpu sc few h =
     still_charged (charged_times n k cpu sc) cpu sc (let all = turns_times n k cpu sc in omega (arith, all, few)) (to_be_charged_still n k cpu sc (omega (arith, few)) h)
+
+-- a charge asks for no counts of virtual CPUs
+one_without : (k : KernelState) (cpu sc : ℕ) → charged (without_counts k) cpu sc ≡ without_counts (charged k cpu sc)
+unfolding charged
+one_without k cpu sc = by_budget (budget_at k sc)
+  where
+    by_budget : (o : Option Budget) → counted (paid_by (without_counts k) sc (quantum_in (slice_get k.objects sc)) o) cpu ≡ without_counts (counted (paid_by k sc (quantum_in (slice_get k.objects sc)) o) cpu)
+    by_budget None = refl
+    by_budget (Some b) = refl
+
+pub times_without : (n : ℕ) (k : KernelState) (cpu sc : ℕ) → charged_times n (without_counts k) cpu sc ≡ without_counts (charged_times n k cpu sc)
+times_without zero k cpu sc = refl
+times_without (suc n) k cpu sc = ap (λ (s : KernelState). charged s cpu sc) (times_without n k cpu sc) ∙ one_without (charged_times n k cpu sc) cpu sc
 
 -- what is left of a quantum, as the queues have it
 left_by : (o : Option Queued) (b : Budget) (n : ℕ) → option_map (λ (e : Queued). e.budget) o ≡ Some b → n ≤ b.left → IfSome o (λ (e : Queued). n ≤ e.budget.left)

@@ -1,12 +1,11 @@
 -- Where the one who acts on a processor may take so many instructions at once.
-use Rattle.std.specs.Prelude.{◌≡◌, ◌+◌, ◌≤◌, ℕ, List, replicate, false, Option, Some, None, IsSome, option_map, Result, Ok, Err}
-use Rattle.std.specs.List.{AllByRecursion}
+use Rattle.std.specs.Prelude.{◌≡◌, ◌+◌, ◌-◌, ◌^◌, ◌<◌, ◌≤◌, ℕ, List, [], replicate, slice_get, false, Option, Some, None, IsSome, IfSome, option_map, Result, Ok, Err}
 use Rattle.rv_core.specs.declared.outcome.Outcome.TheVariants.{Raise}
 use Rattle.rv_model.specs.Registers.{Registers}
 use Rattle.nova_model.specs.Choice.{Candidate, choice}
 use Rattle.nova_model.specs.Deeds.{instruction}
 use Rattle.nova_model.specs.Runs.{run, trace}
-use Rattle.nova_model.specs.State.{KernelState, budget_at, context, context_at}
+use Rattle.nova_model.specs.State.{KernelState, budget_at, context, context_at, entry}
 use Rattle.nova_model.specs.Times.{due_on}
 use Rattle.nova_model.specs.declared.context.State.TheVariants.{Ready}
 use Rattle.nova_model.specs.declared.event.Event.{Event}
@@ -23,7 +22,7 @@ use Rattle.nova_turn.specs.Going.{HasRaised}
 use Rattle.nova_turn.specs.Known.{AreKnown}
 use Rattle.nova_turn.specs.Parts.{state_of}
 use Rattle.nova_turn.specs.Revoking.{AreRunning}
-use Rattle.nova_turn.specs.StirCounts.{numbers_from}
+use Rattle.nova_turn.specs.Homes.{HasCounts}
 use Rattle.nova_turn.specs.Views.{turns_taken}
 use Rattle.nova_turn.specs.declared.decide.deciding.Raised.{Raised}
 use Rattle.nova_turn.specs.declared.parts.Parts.{Parts}
@@ -57,10 +56,6 @@ pub record IsHalted (k : KernelState) (cpu : ℕ) (chosen : Chosen) (r : Raised)
   pub pays : IsSome (budget_at k chosen.sc)
   pub raised : HasRaised k chosen.actor (Some r)
 
--- there are no other numbers than this one
-abbrev pub AreOnly : ℕ → List ℕ → Type 0
-AreOnly n ns = AllByRecursion (λ (m : ℕ). m ≡ n) ns
-
 pub record MayRide (k : KernelState) (cpu : ℕ) (chosen : Chosen) (most : ℕ) : Type 0 where
   pub candidate : Candidate
   pub budget : Budget
@@ -69,12 +64,20 @@ pub record MayRide (k : KernelState) (cpu : ℕ) (chosen : Chosen) (most : ℕ) 
   pub left : most ≤ budget.left
   pub early : IsEarly k.times cpu most
 
--- it is about to take an instruction, and there is no other virtual CPU that could see what it stores
-pub record RidesAlone (k : KernelState) (ec : ℕ) : Type 0 where
+-- it is about to take an instruction
+pub record IsStepping (k : KernelState) (ec : ℕ) : Type 0 where
   pub there : IsSome (context_at k ec)
   pub ready : (context k ec).state ≡ Ready
   pub recall : (context k ec).recall ≡ false
-  pub alone : AreOnly ec (numbers_from 0 k.stirs.guests)
+
+-- one input more can be counted for each virtual CPU
+pub record MayCount (k : KernelState) : Type 0 where
+  pub counted : HasCounts k
+  pub few : (g : ℕ) → IfSome (entry (slice_get k.stirs.guests g)) (λ n. n < 2 ^ 64 - 1)
+
+-- the counts of virtual CPUs left out
+abbrev pub without_counts : KernelState → KernelState
+without_counts k = record k { stirs = record k.stirs { guests = [] } }
 
 -- the processor's next turn is of this scheduling context, which pays, and of this one, who acts, unless something is due
 pub record IsNext (p : Parts) (cpu : ℕ) (chosen : Chosen) : Type 0 where
@@ -87,7 +90,7 @@ beside p chosen regs = with_regs (state_of p) chosen.actor regs
 
 -- so the one who acts may go on, whose address space was entered; what is said of registers holds of those beside the table
 pub record IsBeside (p : Parts) (chosen : Chosen) (regs : Registers) : Type 0 where
-  pub alone : RidesAlone (state_of p) chosen.actor
+  pub acts : IsStepping (state_of p) chosen.actor
   pub entered : IsEntered p chosen.actor
   pub queued : AreQueued (state_of p) p.queues.all
   pub counted : IsCounted (beside p chosen regs)

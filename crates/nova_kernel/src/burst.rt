@@ -10,6 +10,7 @@ ghost use Rattle.nova_turn.specs.Revoking.{AreRunning};
 ghost use Rattle.nova_turn.specs.Counted.{IsCounted, IsToBeCharged};
 ghost use Rattle.nova_choice.specs.Schedules.{AreQueued};
 ghost use Rattle.nova_kernel.specs.Begun.{IsBegun};
+ghost use Rattle.nova_kernel.specs.Rides.{without_counts};
 
 use law_leases::{Page, Steps};
 use nova_turn::{Parts, Reach};
@@ -60,7 +61,7 @@ fn count_stores(parts: &mut Parts, ec: u32, pages: &[Page])
 
 /// So many turns of the processor, at most what is left of the quantum, are charged to the scheduling context.
 pub(crate) fn charge_times(parts: &mut Parts, cpu: u32, sc: u32, count: u64)
-    requires charged { IsToBeCharged (state_of parts.old) }
+    requires charged { IsToBeCharged (without_counts (state_of parts.old)) }
     requires queued { AreQueued (state_of parts.old) parts.old.queues.all }
     requires turns { parts.old.turns + count ≤ 2 ^ 31 }
     requires cpu { cpu < parts.old.cpus }

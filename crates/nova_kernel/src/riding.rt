@@ -1,6 +1,5 @@
-ghost use Rattle.std.specs.Prelude.{◌≡◌, ◌+◌, ◌^◌, ◌<◌, ◌≤◌, None, List, Option, replicate, [], false, Some, IsSome, IfSome};
+ghost use Rattle.std.specs.Prelude.{◌≡◌, ◌+◌, ◌^◌, ◌<◌, ◌≤◌, ℕ, None, List, Option, replicate, false, Some, IsSome, IfSome};
 ghost use Rattle.std.specs.Bool.{OnTrue};
-ghost use Rattle.nova_turn.specs.StirCounts.{numbers_from};
 ghost use Rattle.nova_model.specs.Choice.{Candidate, choice};
 ghost use Rattle.nova_model.specs.Runs.{run, trace};
 ghost use Rattle.nova_choice.specs.declared.choice.Chosen.{Chosen};
@@ -11,8 +10,8 @@ ghost use Rattle.nova_choice.specs.Choices.{chosen_of};
 ghost use Rattle.nova_choice.specs.Schedules.{AreQueued};
 ghost use Rattle.nova_turn.specs.Counted.{IsCounted};
 ghost use Rattle.law_turns.specs.Moments.{IsEarly};
-ghost use Rattle.nova_kernel.specs.Rides.{AreOnly, IsBeside, IsHalted, IsLater, IsNext, Raises, RidesAlone, after_turns, beside, step_by};
-ghost use Rattle.nova_model.specs.State.{context, context_at};
+ghost use Rattle.nova_kernel.specs.Rides.{IsBeside, IsHalted, IsLater, IsNext, IsStepping, MayCount, Raises, after_turns, beside, step_by};
+ghost use Rattle.nova_model.specs.State.{KernelState, context, context_at};
 ghost use Rattle.law_leases.specs.Rides.{rides};
 ghost use Rattle.nova_turn.specs.Beside.{IsEntered, with_regs};
 ghost use Rattle.nova_turn.specs.Parts.{state_of};
@@ -66,16 +65,19 @@ pub(crate) fn plain_step(cpu: u32, chosen: Chosen) -> Event
 }
 
 /// Instructions of an execution context whose address space was entered, on registers that lie beside the table: at most so many, one
-/// after another while they go on. No turn is charged.
+/// after another while they go on, with the store of each counted for the other virtual CPUs that could see it. No turn is charged.
 #[inline(never)]
 fn ride_beside(parts: &mut Parts, ec: u32, regs: &mut Regs, most: u64) -> Ridden
     requires there { IsSome (context_at (state_of parts.old) ec) }
     requires entered { IsEntered parts.old ec }
     requires log { most ≤ parts.old.reach.room }
+    requires fresh { parts.old.reach.written ≡ None }
+    requires counts { (n : ℕ) (m : KernelState) → n < most → rides n (with_regs (state_of parts.old) ec regs.old) ec ≡ Some m → MayCount m }
     ensures most { result.count ≤ most }
     ensures raised { IfSome result.raised (λ r. (result.count < most) × Raises (with_regs (state_of parts.new) ec regs.new) ec r) }
     ensures all { result.raised ≡ None → result.count ≡ most }
     ensures rides { rides result.count (with_regs (state_of parts.old) ec regs.old) ec ≡ Some (with_regs (state_of parts.new) ec regs.new) }
+    ensures fresh { result.raised ≡ None → parts.new.reach.written ≡ None }
     ensures entered { IsEntered parts.new ec }
     ensures contexts { parts.new.contexts ≡ parts.old.contexts }
     ensures queues { parts.new.queues ≡ parts.old.queues }
@@ -84,7 +86,7 @@ fn ride_beside(parts: &mut Parts, ec: u32, regs: &mut Regs, most: u64) -> Ridden
 {
     let mut left = most;
     while left > 0 {
-        match parts.execute_beside(ec, regs) {
+        match parts.step_beside(ec, regs) {
             Outcome::Next => left -= 1,
             Outcome::Raise { reason, q0, q1 } => {
                 return Ridden {
@@ -100,26 +102,14 @@ fn ride_beside(parts: &mut Parts, ec: u32, regs: &mut Regs, most: u64) -> Ridden
     }
 }
 
-/// Whether there is no virtual CPU but, where it is one, this execution context, so that nobody else could see what it stores.
-fn is_only_guest(parts: &Parts, ec: u32) -> bool
-    ensures { OnTrue result (AreOnly ec (numbers_from 0 parts.now.guests.counts)) }
-{
-    match parts.guests.numbers() {
-        [] => true,
-        [only] => *only == ec,
-        _ => false,
-    }
-}
-
-/// Whether an execution context is about to take an instruction, and there is no other virtual CPU that could see what it stores.
-pub(crate) fn rides_alone(parts: &Parts, ec: u32) -> bool
+/// Whether an execution context is about to take an instruction.
+pub(crate) fn is_stepping(parts: &Parts, ec: u32) -> bool
     requires { IsSome (context_at (state_of parts.now) ec) }
     ensures ready { OnTrue result ((context (state_of parts.now) ec).state ≡ State.Ready) }
     ensures recall { OnTrue result ((context (state_of parts.now) ec).recall ≡ false) }
-    ensures alone { OnTrue result (AreOnly ec (numbers_from 0 parts.now.guests.counts)) }
 {
     let context = parts.contexts.context(ec);
-    matches!(context.state, State::Ready) && !context.recall && is_only_guest(parts, ec)
+    matches!(context.state, State::Ready) && !context.recall
 }
 
 /// The least of three: how many there may be, what is left of a quantum, and how many turns are left until something is due.
@@ -161,6 +151,7 @@ fn is_still_chosen(parts: &Parts, known: &[Option<Chosen>], cpu: u32, chosen: Ch
 /// and before anything is due. They are charged.
 fn ride_quantum(parts: &mut Parts, cpu: u32, chosen: Chosen, regs: &mut Regs, most: u64) -> Ridden
     requires beside { IsBeside parts.old chosen regs.old }
+    requires fresh { parts.old.reach.written ≡ None }
     requires next { IsNext parts.old cpu chosen }
     requires left { IfSome (queued_at parts.old.queues.all chosen.sc) (λ e. most ≤ e.budget.left) }
     requires early { IsEarly (state_of parts.old).times cpu most }
@@ -170,6 +161,7 @@ fn ride_quantum(parts: &mut Parts, cpu: u32, chosen: Chosen, regs: &mut Regs, mo
     ensures most { result.count ≤ most }
     ensures halted { IfSome result.raised (λ r. (result.count < most) × IsHalted (beside parts.new chosen regs.new) cpu chosen r) }
     ensures all { result.raised ≡ None → result.count ≡ most }
+    ensures fresh { result.raised ≡ None → parts.new.reach.written ≡ None }
     ensures beside { IsBeside parts.new chosen regs.new }
     ensures later { IsLater parts.old regs.old parts.new regs.new cpu chosen result.count }
 {
@@ -190,6 +182,7 @@ fn ride_quanta(
     most: u64,
 ) -> Ridden
     requires beside { IsBeside parts.old chosen regs.old }
+    requires fresh { parts.old.reach.written ≡ None }
     requires next { IsNext parts.old cpu chosen }
     requires known { AreKnown (state_of parts.old) known.now }
     requires cpu { cpu < parts.old.cpus }
@@ -235,7 +228,7 @@ pub(crate) fn quanta(
     requires queued { AreQueued (state_of parts.old) parts.old.queues.all }
     requires running { AreRunning (state_of parts.old) parts.old.revokes }
     requires next { IsNext parts.old cpu chosen }
-    requires alone { RidesAlone (state_of parts.old) chosen.actor }
+    requires acts { IsStepping (state_of parts.old) chosen.actor }
     requires known { AreKnown (state_of parts.old) known.now }
     requires cpu { cpu < parts.old.cpus }
     requires turns { parts.old.turns + most ≤ 2 ^ 31 }

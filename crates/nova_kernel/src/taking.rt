@@ -10,7 +10,7 @@ ghost use Rattle.nova_kernel.specs.Views.{IsMaking, turns_taken};
 
 use crate::choices::keep;
 use crate::kernel::Kernel;
-use crate::riding::{Ridden, StepsTaken, none_tried, plain_step, quanta, rides_alone};
+use crate::riding::{Ridden, StepsTaken, none_tried, plain_step, quanta, is_stepping};
 use nova_choice::Chosen;
 use nova_model::Turn;
 use nova_turn::Raised;
@@ -26,7 +26,7 @@ pub struct TurnsTaken {
 
 impl Kernel {
     /// Instructions of the one who is chosen on a processor, each a turn of it, at most so many: quantum by quantum, as long as it is this one
-    /// who is chosen, and nothing is due. None is tried where there is another virtual CPU.
+    /// who is chosen, and nothing is due.
     fn ride_on(&mut self, cpu: u32, chosen: Chosen, most: u64) -> Ridden
         requires cpu { cpu < self.old.state.cpus }
         requires room { most ≤ self.old.room }
@@ -40,7 +40,7 @@ impl Kernel {
         ensures counted { self.new.state.turns ≡ self.old.state.turns + result.count }
         ensures cpus { self.new.state.cpus ≡ self.old.state.cpus }
     {
-        if !rides_alone(&self.parts, chosen.actor) {
+        if !is_stepping(&self.parts, chosen.actor) {
             return none_tried();
         }
         quanta(&mut self.parts, &self.known, cpu, chosen, most)
@@ -68,8 +68,7 @@ impl Kernel {
     }
 
     /// As many turns of a processor as instructions of the execution context that acts there go on one after another, at once: at most
-    /// so many, and what is left until something is due there, through several quanta as long as the same one is chosen. None is taken
-    /// so where there is another virtual CPU. Needs spare log for them all; with the turns taken before they are at most 2^31.
+    /// so many, and what is left until something is due there, through several quanta as long as the same one is chosen. Needs spare log for them all; with the turns taken before they are at most 2^31.
     pub fn steps(&mut self, cpu: u32, most: u64) -> StepsTaken
         requires cpu { cpu < self.old.state.cpus }
         requires room { most ≤ self.old.room }

@@ -261,5 +261,9 @@ module _ {T O : Type 0} (opening : T → O) (history : T → List ℕ) (uses : T
         gives,
         tt,
         passed k s r id me.0 x at g',
-        λ y e. ap (λ (l : List (ℕ × T)). (record me.0 { phase = Idle; front = history ((get_or l 0 (0, x)).1) }, [])) e,
+        (
+          ap (λ (ws : List ℕ). get_or ws 1 0) r.words
+              ∙ ap (λ (n : ℕ). n % 2 ^ 64) (sym (subst (λ (p : Phase). Lines r.ticket r.serving r.now s.homes me.0 p) g.phase (r.in_place id me.0 at).line).0),
+          λ y e. ap (λ (l : List (ℕ × T)). (record me.0 { phase = Idle; front = history ((get_or l 0 (0, x)).1) }, [])) e,
+        ),
       )) g

@@ -97,8 +97,12 @@ module _ {T : Type 0} where
     Looks st me found next = MatchBool (found == me.0.ticket % 2 ^ 64) (Took me next) (next ≡ me)
 
     -- the value came home, and its history is the new front
+    abbrev pub GaveBack : Me T (View T) → Me T (View T) → Type 0
+    GaveBack me next = (x : T) → me.1 ≡ (0, x) ∷ [] → next ≡ (record me.0 { phase = Idle; front = history x }, [])
+
+    -- so it did, where the seat's ticket was served
     abbrev pub Passes : Step T → Me T (View T) → ℕ → Me T (View T) → Type 0
-    Passes st me found next = (x : T) → me.1 ≡ (0, x) ∷ [] → next ≡ (record me.0 { phase = Idle; front = history x }, [])
+    Passes st me found next = (found ≡ me.0.ticket % 2 ^ 64) × GaveBack me next
 
     -- the seat has the value in hand, after its use
     pub record Gives (me : Me T (View T)) (x : T) : Type 0 where

@@ -2,6 +2,7 @@
 //! seats saw.
 #![tactic(auto)]
 
+mod bell;
 mod called;
 mod lock;
 mod plays;

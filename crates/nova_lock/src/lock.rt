@@ -4,9 +4,10 @@ ghost use mathlib.Core.Option.{none};
 ghost use Rattle.atomic_table.specs.Table.{step};
 ghost use Rattle.nova_lock.specs.Seats.{AreSeats, Ends, IsSeat, IsSeatOf, SeatView, note};
 ghost use Rattle.nova_lock.specs.History.{Adds, entries, IsFrontOf};
-ghost use Rattle.nova_lock.specs.Ticketed.{Gives, Took, Draws, Passes, Acted};
+ghost use Rattle.nova_lock.specs.Ticketed.{Gives, GaveBack, Took, Draws, Acted};
 ghost use Rattle.nova_lock.specs.declared.view.Phase.TheVariants.{Idle, Waiting};
 
+use crate::bell::{Bell, Waker};
 use crate::called::{Historied, LockCall};
 use crate::plays::{Draw, Leave, Look, Pass, Sit, Ticketed};
 use crate::view::View;
@@ -20,7 +21,7 @@ use std::sync::Wait;
 /// How often a seat looks whether it is served before it sleeps: a use is mostly over sooner than a sleeper wakes.
 const LOOKS: u32 = 4096;
 
-type Place<T> = atomic_table::Seat<T, View<T>>;
+pub(crate) type Place<T> = atomic_table::Seat<T, View<T>>;
 
 /// A value behind a ticket lock, which its seats use one at a time. Each use adds to the value's history, and adds entries of its seat alone.
 ///
@@ -199,19 +200,26 @@ impl<T: Historied> HistoryLock<T> {
         call.act(value)
     }
 
-    /// Gives the value back, has the next ticket served, and wakes who may wait for it.
-    fn pass(&self, seat: &mut Place<T>)
+    /// How many tickets were drawn, modulo 2^64. It tells nothing to proofs.
+    pub(crate) fn drawn(&self) -> u64 {
+        self.table.shared.peek(0)
+    }
+
+    /// Wakes all that sleep.
+    pub(crate) fn wake(&self) {
+        self.table.shared.wake_all(1);
+    }
+
+    /// Gives the value back, has the next ticket served, and rings for whoever sleeps until it is.
+    fn pass<B: Bell>(&self, bell: &B, seat: &mut Place<T>)
         requires own { seat.old.table_id ≡ self.now.id }
         requires gives { (x : T) × Gives T.opening T.history T.uses seat.old.me x }
         ensures same { seat.new.table_id ≡ seat.old.table_id }
-        ensures passed { Passes T.opening T.history T.uses (step 1 1 1 0 none) seat.old.me 0 seat.new.me }
+        ensures passed { GaveBack T.opening T.history T.uses seat.old.me seat.new.me }
+        ensures woken { B.rung bell.now ((seat.old.me.0.ticket + 1) % 2 ^ 64) }
     {
         let passed = self.table.shared.fetch_add::<Pass>(seat, 1, 1);
-        // `serving` is stored before `ticket` is loaded, and all these steps have one order (SeqCst): who drew a ticket after the load reads the
-        // new `serving` before it parks. Who drew one before it is seen here, since `ticket` then is not what is served now, and is woken.
-        if self.table.shared.peek(0) != passed.wrapping_add(1) {
-            self.table.shared.wake_all(1);
-        }
+        bell.ring(passed.wrapping_add(1));
     }
 
     /// Does a call on the value once all seats that asked before have had theirs. The history that it finds begins with the seat's front,
@@ -230,7 +238,7 @@ impl<T: Historied> HistoryLock<T> {
         let ticket = self.draw(&mut seat.seat);
         self.wait(rt, &mut seat.seat, ticket);
         let out = self.act(&mut seat.seat, call);
-        self.pass(&mut seat.seat);
+        self.pass(&Waker { lock: self }, &mut seat.seat);
         out
     }
 

@@ -1,19 +1,24 @@
 -- One instruction on registers that lie beside the table of execution contexts.
 use Rattle.std.proofs.Common.{◌≡◌, ℕ, refl, ap, ap₂, sym, ◌∙◌, subst}
-use Rattle.std.specs.Prelude.{Some, None, IsSome}
+use Rattle.std.specs.Prelude.{◌==◌, Bool, false, Option, Some, None, IsSome, is_some, option_and_then, if◌then◌else◌}
+use mathlib.Core.Path.{fun_ext}
 use Rattle.std.proofs.lemmas.List.{set-set}
 use Rattle.rv_model.specs.Registers.{Registers}
 use Rattle.rv_model.specs.Step.{Once, Raised, Went, one}
 use Rattle.rv_core.specs.Steps.{Follows, space_of}
 use Rattle.rv_core.specs.declared.outcome.Outcome.{Outcome}
 use Rattle.rv_core.specs.declared.outcome.Outcome.TheVariants.{Raise}
-use Rattle.nova_model.specs.AddressSpaces.{AddressSpace, space}
+use Rattle.nova_model.specs.AddressSpaces.{AddressSpace, frame_for, space}
+use Rattle.nova_range.specs.Rights.{write_right}
 use Rattle.nova_model.specs.Deeds.{address_space, done, instruction, stepped}
-use Rattle.nova_model.specs.State.{Contexts, KernelState, context, context_at, context_in, with_ec}
+use Rattle.nova_model.specs.Inputs.{store_of, stirred}
+use Rattle.nova_model.specs.State.{Contexts, KernelState, context, context_at, context_in, pd_of, with_ec}
 use Rattle.nova_model.specs.declared.context.EcState.{EcState}
 use Rattle.nova_model.specs.declared.deed.Deed.TheVariants.{Steps}
 use Rattle.law_turns.proofs.Setting.{entry_itself}
 use Rattle.nova_deeds.specs.Acts.{outcome_of}
+use Rattle.nova_deeds.specs.Stirs.{frame_at, is_seen, is_stirring, risen_in, written_frame}
+use Rattle.nova_deeds.proofs.Stirred.{risen_stirred}
 use Rattle.nova_memory.specs.Reach.{ReachState, fetched, loaded, stored, takes}
 use Rattle.nova_turn.specs.Beside.{with_regs}
 use Rattle.nova_turn.proofs.Reached.{IsReached, reaching, reaching-contexts, reaching-stored, space-reached}
@@ -65,3 +70,36 @@ pub raised-room : (reach reach' : ReachState) (r r' : Registers) (outcome : Outc
 raised-room reach reach' r r' outcome (Raised why a b) h reason q0 q1 is = ap (λ (s : ReachState). s.room) h.2
 raised-room reach reach' r r' outcome (Went regs None) h reason q0 q1 is = ap (λ (s : ReachState). s.room) h.2
 raised-room reach reach' r r' outcome (Went regs (Some store)) h reason q0 q1 is = let next = h.0 in absurd (cc)
+
+-- the frame that was stored to, where none was before
+beside-wrote : (k : KernelState) (ec : ℕ) (reach reach' : ReachState) (r r' : Registers) (outcome : Outcome) (o : Once) → IsReached k ec reach → reach.written ≡ None →
+    Follows stored o r reach outcome r' reach' → reach'.written ≡ option_and_then (frame_at k ec) (store_of o)
+beside-wrote k ec reach reach' r r' outcome (Raised reason q0 q1) is none h = ap (λ (s : ReachState). s.written) h.2 ∙ none
+beside-wrote k ec reach reach' r r' outcome (Went regs None) is none h = ap (λ (s : ReachState). s.written) h.2 ∙ none
+beside-wrote k ec reach reach' r r' outcome (Went regs (Some store)) is none h =
+    ap (λ (s : ReachState). s.written) h.2 ∙ ap (λ (a : AddressSpace). frame_for a write_right store.address) (space-reached k ec reach is)
+
+pub beside-written : (k : KernelState) (ec : ℕ) (reach reach' : ReachState) (r r' : Registers) (outcome : Outcome) → IsSome (context_at k ec) → IsReached k ec reach → reach.written ≡ None →
+    Follows stored (one r (space_of fetched loaded takes reach)) r reach outcome r' reach' → reach'.written ≡ written_frame (with_regs k ec r) ec
+beside-written k ec reach reach' r r' outcome there is none h =
+    beside-wrote k ec reach reach' r r' outcome (instruction (with_regs k ec r) ec) is none (subst (λ (o : Once). Follows stored o r reach outcome r' reach') same h)
+  where
+    same : one r (space_of fetched loaded takes reach) ≡ instruction (with_regs k ec r) ec
+    same = ap (λ (a : AddressSpace). one r (space a)) (space-reached k ec reach is) ∙ ap (λ (x : EcState). one x.regs (space (address_space k ec))) (sym (beside_context k ec r there))
+
+-- A STORE, AS OTHERS SEE IT
+
+-- who sees it doesn't depend on registers
+seen_beside : (k : KernelState) (ec : ℕ) (r : Registers) (pd : ℕ) (w : Option ℕ) → is_seen k pd w ≡ is_seen (with_regs k ec r) pd w
+seen_beside k ec r pd None = refl
+seen_beside k ec r pd (Some frame) = refl
+
+stirring_beside : (k : KernelState) (ec : ℕ) (r : Registers) (w : Option ℕ) (g : ℕ) → is_stirring k w ec Steps g ≡ is_stirring (with_regs k ec r) w ec Steps g
+stirring_beside k ec r w g = ap (λ (b : Bool). if ec == g then false else b) (seen_beside k ec r (pd_of k g) w)
+
+pub beside-stirred : (k mid after new : KernelState) (ec : ℕ) (r : Registers) (w : Option ℕ) → with_regs mid ec r ≡ done k ec Steps → w ≡ written_frame k ec →
+    after ≡ risen_in mid (is_stirring mid w ec Steps) → new ≡ after → with_regs new ec r ≡ stirred k ec Steps (done k ec Steps)
+beside-stirred k mid after new ec r w does wrote shown same =
+    ap (λ (s : KernelState). with_regs s ec r) (same ∙ shown)
+    ∙ (ap (λ (f : ℕ → Bool). risen_in (with_regs mid ec r) f) (fun_ext (stirring_beside mid ec r w))
+    ∙ (ap (λ (s : KernelState). risen_in s (is_stirring s w ec Steps)) does ∙ risen_stirred k ec Steps w (λ _. wrote)))

@@ -1,8 +1,8 @@
-ghost use Rattle.std.specs.Prelude.{◌≡◌, ◌+◌, ◌^◌, ◌<◌, ◌≤◌, true, false, Option, None, Some, IsSome, IfOk, OnOk, OnErr, option_map};
+ghost use Rattle.std.specs.Prelude.{◌≡◌, ◌+◌, ◌-◌, ◌^◌, ◌<◌, ◌≤◌, ℕ, true, false, slice_get, Option, None, Some, IsSome, IfSome, IfOk, OnOk, OnErr, option_map};
 ghost use Rattle.nova_model.specs.Deeds.{deed, done, is_making};
 ghost use Rattle.nova_model.specs.Choice.{choice};
 ghost use Rattle.nova_model.specs.Edges.{acts};
-ghost use Rattle.nova_model.specs.State.{context_at};
+ghost use Rattle.nova_model.specs.State.{context_at, entry};
 ghost use Rattle.nova_model.specs.Times.{due_on};
 ghost use Rattle.nova_model.specs.Turn.{state_after, answer_of, turn};
 ghost use Rattle.nova_turn.specs.Views.{IsMaking, turns_taken};
@@ -12,7 +12,7 @@ ghost use Rattle.nova_turn.specs.Homes.{HasCounts};
 ghost use Rattle.nova_turn.specs.Known.{AreKnown};
 ghost use Rattle.nova_turn.specs.Going.{HasRaised, KeepsRest, MayTurn, Stays, WentOn};
 ghost use Rattle.nova_turn.specs.Parts.{state_of};
-ghost use Rattle.nova_deeds.specs.Counted.{IsCounted, IsToBeStirred, KeepsCounts};
+ghost use Rattle.nova_deeds.specs.Counted.{IsCounted, KeepsCounts};
 ghost use Rattle.nova_deeds.specs.Acts.{DeedFits, is_step};
 ghost use Rattle.nova_turn.specs.Revoking.{AreRunning};
 ghost use Rattle.nova_choice.specs.Schedules.{AreQueued, schedule_after};
@@ -88,12 +88,14 @@ impl Parts {
 
     /// Counts what an instruction that went on is for virtual CPUs: it may be an input for one only where it stored to a frame.
     #[inline(always)]
-    fn note_step(&mut self, ec: u32)
+    pub(crate) fn note_step(&mut self, ec: u32)
         requires counted { HasCounts (state_of self.old) }
-        requires charged { IsToBeStirred (state_of self.old) }
-        requires turns { self.old.turns < 2 ^ 31 }
+        requires few { (g : ℕ) → IfSome (entry (slice_get (state_of self.old).stirs.guests g)) (λ n. n < 2 ^ 64 - 1) }
         ensures shown { state_of self.new ≡ risen_in (state_of self.old) (is_stirring (state_of self.old) self.old.reach.written ec Deed.Steps) }
         ensures rest { KeepsRest self.old self.new }
+        ensures reach { self.new.reach ≡ self.old.reach }
+        ensures contexts { self.new.contexts ≡ self.old.contexts }
+        ensures objects { self.new.objects ≡ self.old.objects }
     {
         if self.reach.has_stored() && !self.guests.numbers().is_empty() {
             self.stir_guests(ec, Deed::Steps);

@@ -11,6 +11,7 @@ use Rattle.nova_model.specs.State.{KernelState, entry}
 use Rattle.nova_turn.specs.Parts.{state_of}
 use Rattle.nova_turn.specs.declared.parts.Parts.{Parts}
 use Rattle.nova_kernel.proofs.Advancing.{IsLaid, counted_after, counts_fit, few_stores, is_chosen, lays, paid_times, queued_after, running_after, still_acts, still_frames, to_be_charged}
+use Rattle.nova_kernel.proofs.Rides.{bounds_without}
 use Rattle.nova_kernel.proofs.Spending.{left_queued}
 use Rattle.nova_choice.specs.declared.choice.Chosen.{Chosen}
 use Rattle.nova_sched.specs.Queues.{queued_at}
@@ -23,7 +24,7 @@ pub unreachable-requires : goal.unreachable-requires
 unreachable-requires c = c.in_default.not-Some _ (c.choice.ensures.choice ∙ ap (option_map chosen_of) c.requires.may.may.chosen)
 
 pub charge_times-requires-clause-charged : goal.charge_times-requires-clause-charged
-charge_times-requires-clause-charged c = to_be_charged (state_of c.args.parts.now) c.requires.counted.charged
+charge_times-requires-clause-charged c = bounds_without (state_of c.args.parts.now) (to_be_charged (state_of c.args.parts.now) c.requires.counted.charged)
 
 pub charge_times-requires-clause-cpu : goal.charge_times-requires-clause-cpu
 charge_times-requires-clause-cpu c = subst (λ (n : ℕ). c.args.cpu < n) c.requires.counted.charged.processors c.requires.may.may.processor

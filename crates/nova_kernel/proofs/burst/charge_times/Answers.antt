@@ -9,7 +9,8 @@ use Rattle.nova_sched.specs.Queues.{Schedule, charged_schedule, charged_schedule
 use Rattle.nova_sched.specs.declared.queued.Queued.{Queued}
 use Rattle.nova_times.specs.Kept.{TimesState}
 use Rattle.nova_kernel.proofs.Charging.{few_stamps, few_ticks}
-use Rattle.nova_kernel.proofs.Spending.{IsSpent, spent, to_be_charged_still}
+use Rattle.nova_kernel.proofs.Spending.{IsSpent, spent, times_without, to_be_charged_still}
+use Rattle.nova_kernel.specs.Rides.{without_counts}
 use Rattle.nova_kernel.proofs.burst.charge_times.Goals as goal
 
 pub charge-requires-clause-there : goal.charge-requires-clause-there
@@ -28,8 +29,8 @@ charge-requires-clause-ticks c =
     let before : IsSpent k c.args.parts.now.queues.all c.args.cpu c.args.sc (c.args.count - 1) =
     spent k c.args.parts.now.queues.all c.args.cpu c.args.sc c.requires.queued refl refl c.requires.there within within (c.args.count - 1) in
     subst (λ (t : Schedule). IfSome (queued_at t c.args.sc) (λ (e : Queued). e.budget.ticks < 2 ^ 64 - 1)) (sym c.spend.ensures.charged)
-    (few_ticks (charged_times (c.args.count - 1) k c.args.cpu c.args.sc) (charged_schedules (c.args.count - 1) c.args.parts.now.queues.all c.args.sc) c.args.sc (length k.objects) (ap (λ (x : KernelState). x.budgets) before.shown)
-    (to_be_charged_still (c.args.count - 1) k c.args.cpu c.args.sc (omega (arith, most)) c.requires.charged))
+    (few_ticks (charged_times (c.args.count - 1) (without_counts k) c.args.cpu c.args.sc) (charged_schedules (c.args.count - 1) c.args.parts.now.queues.all c.args.sc) c.args.sc (length k.objects) (ap (λ (x : KernelState). x.budgets) (times_without (c.args.count - 1) k c.args.cpu c.args.sc ∙ ap without_counts before.shown))
+    (to_be_charged_still (c.args.count - 1) (without_counts k) c.args.cpu c.args.sc (omega (arith, most)) c.requires.charged))
 
 pub charge-requires-clause-stamp : goal.charge-requires-clause-stamp
 charge-requires-clause-stamp c =
@@ -39,8 +40,8 @@ charge-requires-clause-stamp c =
     let before : IsSpent k c.args.parts.now.queues.all c.args.cpu c.args.sc (c.args.count - 1) =
     spent k c.args.parts.now.queues.all c.args.cpu c.args.sc c.requires.queued refl refl c.requires.there within within (c.args.count - 1) in
     subst (λ (t : Schedule). t.next_stamp < 2 ^ 64 - 1) (sym c.spend.ensures.charged)
-    (few_stamps (charged_times (c.args.count - 1) k c.args.cpu c.args.sc) (charged_schedules (c.args.count - 1) c.args.parts.now.queues.all c.args.sc) (ap (λ (x : KernelState). x.next_stamp) before.shown)
-    (to_be_charged_still (c.args.count - 1) k c.args.cpu c.args.sc (omega (arith, most)) c.requires.charged))
+    (few_stamps (charged_times (c.args.count - 1) (without_counts k) c.args.cpu c.args.sc) (charged_schedules (c.args.count - 1) c.args.parts.now.queues.all c.args.sc) (ap (λ (x : KernelState). x.next_stamp) (times_without (c.args.count - 1) k c.args.cpu c.args.sc ∙ ap without_counts before.shown))
+    (to_be_charged_still (c.args.count - 1) (without_counts k) c.args.cpu c.args.sc (omega (arith, most)) c.requires.charged))
 
 pub pass-requires-clause-there : goal.pass-requires-clause-there
 pass-requires-clause-there c = subst (λ (n : ℕ). c.args.cpu < n) (sym c.requires.charged.processors) c.requires.cpu

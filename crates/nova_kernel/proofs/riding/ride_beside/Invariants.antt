@@ -1,4 +1,4 @@
-use Rattle.std.proofs.Common.{◌≡◌, ◌+◌, ◌-◌, ◌≤◌, Some}
+use Rattle.std.proofs.Common.{◌≡◌, ◌+◌, ◌-◌, ◌≤◌, None, Some}
 use Rattle.law_leases.specs.Rides.{rides}
 use Rattle.nova_turn.specs.Beside.{IsEntered, with_regs}
 use Rattle.nova_turn.specs.Parts.{state_of}
@@ -14,6 +14,7 @@ invariant-loop-left l =
     × (l.parts.revokes ≡ l.fn.parts.revokes)
     × (l.fn.parts.reach.room ≤ l.parts.reach.room + (l.most - l.left))
     × (l.left ≤ l.most)
+    × (l.parts.reach.written ≡ None)
 
 -- the instructions that are left
 abbrev pub decreases-loop-left : goal.decreases-loop-left

@@ -1,4 +1,4 @@
-use Rattle.std.proofs.Common.{rules, ◌+◌, ◌≤◌}
+use Rattle.std.proofs.Common.{rules, ◌≡◌, ◌+◌, ◌≤◌, None}
 use Rattle.nova_kernel.specs.Rides.{IsNext}
 use Rattle.nova_kernel.proofs.Quanta.{later_on}
 use Rattle.nova_kernel.proofs.riding.ride_quanta.Goals as goal
@@ -14,9 +14,11 @@ returns-then-is_some-clause-later c =
 pub loop-count-preserved : goal.loop-count-preserved
 loop-count-preserved c =
     let few : c.loop-count.count + c.ride_quantum-ridden.result.count ≤ c.args.most = search rules in
-    let next : IsNext c.ride_quantum-ridden.new.parts c.args.cpu c.args.chosen = search rules in record {
+    let next : IsNext c.ride_quantum-ridden.new.parts c.args.cpu c.args.chosen = search rules in
+    let fresh : c.ride_quantum-ridden.new.parts.reach.written ≡ None = search rules in record {
       few = few;
       beside = c.ride_quantum-ridden.ensures.beside;
+      fresh = fresh;
       next = next;
       later = later_on c.args.parts.now c.loop-count.parts c.ride_quantum-ridden.new.parts c.args.regs.now c.loop-count.regs c.ride_quantum-ridden.new.regs c.args.cpu c.args.chosen c.loop-count.count c.ride_quantum-ridden.result.count
           c.loop-count.invariant.later c.ride_quantum-ridden.ensures.later;

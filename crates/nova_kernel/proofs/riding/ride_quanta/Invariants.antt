@@ -1,4 +1,4 @@
-use Rattle.std.proofs.Common.{◌-◌, ◌≤◌}
+use Rattle.std.proofs.Common.{◌≡◌, ◌-◌, ◌≤◌, None}
 use Rattle.nova_kernel.specs.Rides.{IsBeside, IsLater, IsNext}
 use Rattle.nova_kernel.proofs.riding.ride_quanta.Given as goal
 
@@ -7,6 +7,7 @@ abbrev pub invariant-loop-count : goal.invariant-loop-count
 invariant-loop-count l = record {
   few : l.count ≤ l.most;
   beside : IsBeside l.parts l.chosen l.regs;
+  fresh : l.parts.reach.written ≡ None;
   next : IsNext l.parts l.cpu l.chosen;
   later : IsLater l.fn.parts l.fn.regs l.parts l.regs l.cpu l.chosen l.count;
 }

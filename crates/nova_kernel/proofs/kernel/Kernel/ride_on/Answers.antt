@@ -6,9 +6,7 @@ use Rattle.nova_model.specs.declared.context.State.TheVariants.{Ready}
 use Rattle.nova_choice.specs.Choices.{chosen_of}
 use Rattle.law_leases.specs.Commits.{IsReached}
 use Rattle.law_leases.proofs.Committed.{run_reached}
-use Rattle.nova_turn.specs.StirCounts.{numbers_from}
 use Rattle.nova_turn.specs.Parts.{state_of}
-use Rattle.nova_kernel.specs.Rides.{AreOnly}
 use Rattle.nova_kernel.specs.Views.{KernelView}
 use Rattle.nova_kernel.specs.Begun.{IsBegun}
 use Rattle.nova_kernel.proofs.Begun.{run_begun}
@@ -16,8 +14,8 @@ use Rattle.nova_kernel.proofs.Known.{chosen_budget, chosen_there}
 use Rattle.nova_kernel.proofs.Rides.{queued_there}
 use Rattle.nova_kernel.proofs.kernel.Kernel.ride_on.Goals as goal
 
-pub rides_alone-requires : goal.rides_alone-requires
-rides_alone-requires c =
+pub is_stepping-requires : goal.is_stepping-requires
+is_stepping-requires c =
     let k : KernelState = state_of c.self.inside.parts in
     chosen_there k c.args.cpu c.args.chosen (subst (λ (v : KernelView). Some c.args.chosen ≡ option_map chosen_of (choice v.state c.args.cpu)) (sym c.self.view_is) c.requires.told)
 
@@ -30,18 +28,16 @@ quanta-requires-clause-next c =
       pays = queued_there c.self.inside.parts.queues.all (length k.objects) c.args.chosen.sc (chosen_budget k c.args.cpu c.args.chosen told);
     }
 
-pub quanta-requires-clause-alone : goal.quanta-requires-clause-alone
-quanta-requires-clause-alone c =
+pub quanta-requires-clause-acts : goal.quanta-requires-clause-acts
+quanta-requires-clause-acts c =
     let k : KernelState = state_of c.self.inside.parts in
     let told : Some c.args.chosen ≡ option_map chosen_of (choice k c.args.cpu) =
     subst (λ (v : KernelView). Some c.args.chosen ≡ option_map chosen_of (choice v.state c.args.cpu)) (sym c.self.view_is) c.requires.told in
     let is_ready : (context k c.args.chosen.actor).state ≡ Ready = search rules in
-    let free : (context k c.args.chosen.actor).recall ≡ false = search rules in
-    let alone : AreOnly c.args.chosen.actor (numbers_from 0 k.stirs.guests) = search rules in record {
+    let free : (context k c.args.chosen.actor).recall ≡ false = search rules in record {
       there = chosen_there k c.args.cpu c.args.chosen told;
       ready = is_ready;
       recall = free;
-      alone = alone;
     }
 
 pub invariant_of-self : goal.invariant_of-self

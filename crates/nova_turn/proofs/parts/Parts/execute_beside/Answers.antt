@@ -5,7 +5,7 @@ use Rattle.nova_ec.specs.Tables.{EcTable}
 use Rattle.nova_memory.specs.Reach.{fetched, loaded, takes}
 use Rattle.nova_turn.specs.Beside.{with_regs}
 use Rattle.nova_turn.specs.Parts.{state_of}
-use Rattle.nova_turn.proofs.Beside.{beside-there, raised-room, still-entered}
+use Rattle.nova_turn.proofs.Beside.{beside-there, beside-written, raised-room, still-entered}
 use Rattle.nova_turn.proofs.Reached.{reaching}
 use Rattle.nova_turn.proofs.parts.Parts.execute_beside.Goals as goal
 
@@ -33,3 +33,9 @@ returns-clause-entered c =
 pub returns-clause-raised : goal.returns-clause-raised
 returns-clause-raised c =
     raised-room c.args.self.now.reach c.step_beside.new.bus c.args.regs.now c.step_beside.new.regs c.step_beside.result (one c.args.regs.now (space_of fetched loaded takes c.args.self.now.reach)) c.step_beside.ensures.follows
+
+pub returns-clause-written : goal.returns-clause-written
+returns-clause-written c = λ none.
+    beside-written (state_of c.args.self.now) c.args.ec c.args.self.now.reach c.step_beside.new.bus c.args.regs.now c.step_beside.new.regs c.step_beside.result c.requires.there
+    (record { delegations = refl; memory = refl; messages = refl; consoles = refl; number = c.requires.entered.number; pd = c.requires.entered.pd; is_thread = c.requires.entered.is_thread })
+    none c.step_beside.ensures.follows

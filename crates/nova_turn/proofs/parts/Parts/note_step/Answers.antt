@@ -4,13 +4,9 @@ use Rattle.nova_model.specs.State.{KernelState}
 use Rattle.nova_model.specs.declared.deed.Deed.TheVariants.{Steps}
 use Rattle.nova_turn.specs.Parts.{state_of}
 use Rattle.nova_deeds.specs.StirCounts.{numbers_from}
-use Rattle.nova_deeds.proofs.Counts.{stirs-fit}
 use Rattle.nova_deeds.proofs.Taken.{GoesUnseen, goes_unseen}
 use Rattle.nova_turn.proofs.parts.Parts.note_step.Goals.{else-has_stored-via-then-has_stored+else-not-is_empty, else-has_stored-via-else-has_stored}
 use Rattle.nova_turn.proofs.parts.Parts.note_step.Goals as goal
-
-pub stir_guests-requires-clause-few : goal.stir_guests-requires-clause-few
-stir_guests-requires-clause-few c = stirs-fit (state_of c.args.self.now) c.requires.charged c.requires.turns
 
 pub returns-else-has_stored-clause-shown : goal.returns-else-has_stored-clause-shown
 returns-else-has_stored-clause-shown c =

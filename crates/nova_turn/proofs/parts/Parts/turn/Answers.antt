@@ -13,7 +13,7 @@ use Rattle.nova_deeds.specs.Stirs.{is_stirring, risen_in}
 use Rattle.nova_sched.specs.Queues.{QueuesState, queued_at}
 use Rattle.nova_choice.proofs.Budgets.{still_queued}
 use Rattle.nova_deeds.proofs.Charges.{queued_risen}
-use Rattle.nova_deeds.proofs.Counts.{IsCharged-kept, IsCharged-risen}
+use Rattle.nova_deeds.proofs.Counts.{IsCharged-kept, IsCharged-risen, stirs-fit}
 use Rattle.nova_turn.specs.Going.{HasRaised, Stays, WentOn}
 use Rattle.nova_model.specs.declared.deed.Deed.TheVariants.{Steps}
 use Rattle.nova_model.specs.declared.event.Turn.TheVariants.{Idle}
@@ -27,10 +27,11 @@ use Rattle.nova_turn.proofs.parts.Parts.turn.Goals as goal
 pub go_on-requires-clause-acts : goal.go_on-requires-clause-acts
 go_on-requires-clause-acts c = told_acts (state_of c.args.self.now) c.args.cpu c.in-Some.chosen (sym c.in-Some.is ∙ c.choice.ensures.choice)
 
-pub note_step-requires-clause-charged : goal.note_step-requires-clause-charged
-note_step-requires-clause-charged c =
+pub note_step-requires-clause-few : goal.note_step-requires-clause-few
+note_step-requires-clause-few c =
     let went : WentOn c.args.self.now c.go_on.new.self c.in-Some.chosen.actor = c.go_on.ensures.went c.in-WentOn.is in
-    IsCharged-kept (state_of c.args.self.now) (state_of c.go_on.new.self) went.kept c.requires.counted.charged
+    stirs-fit (state_of c.go_on.new.self) (IsCharged-kept (state_of c.args.self.now) (state_of c.go_on.new.self) went.kept c.requires.counted.charged)
+    (subst (λ (n : ℕ). n < 2 ^ 31) (sym went.kept.turns) c.requires.turns)
 
 pub note_step-requires-clause-counted : goal.note_step-requires-clause-counted
 note_step-requires-clause-counted c =
