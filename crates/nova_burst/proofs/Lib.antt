@@ -1,5 +1,6 @@
 pub mod Beginning
 pub mod Finding
+pub mod Grounded
 pub mod Grown
 pub mod Kept
 pub mod Lists

@@ -6,7 +6,7 @@ ghost use Rattle.byteorder.specs.Endian.{little_bytes};
 ghost use Rattle.law_leases.specs.Leases.{copy_at, read_copy, stored_in_page, stored_in_pages};
 ghost use Rattle.law_leases.specs.Paging.{AreOnce};
 ghost use Rattle.nova_range.specs.Rights.{execute_right, read_right, write_right};
-ghost use Rattle.nova_burst.specs.Copies.{HasRoom, IsCopyFor, IsCopyOf, known_in};
+ghost use Rattle.nova_burst.specs.Copies.{HasRoom, IsCopyFor, IsCopyOf, fetched, known_in, put, takes};
 
 use bitflags::Flags;
 use law_leases::Page;
@@ -253,6 +253,47 @@ impl Copies {
         ensures { (f : ℕ) → IsCopyOf self.old.pages f copy → self.new ≡ record self.old { pages = stored_in_pages self.old.pages f offset width value } }
     {
         store_in(&mut self.pages[copy], offset, width, value);
+    }
+
+    /// The word at an address that is a multiple of 4, where it may be executed and its frame is copied, and the frame.
+    pub(crate) fn word_at(&mut self, address: u32) -> Option<(u32, u32)>
+        requires { address % 4 ≡ 0 }
+        ensures same { self.new ≡ self.old }
+        ensures some { IfSome result (λ r. (frame_from (known_in self.old.known) execute_right address ≡ Some r.0) × (fetched self.old address ≡ Some r.1)) }
+        ensures none { result ≡ None → fetched self.old address ≡ None }
+    {
+        let frame = self.frame_for(Rights::EXECUTE, address)?;
+        let word = self.fetch(address)?;
+        Some((frame, word))
+    }
+
+    /// The frame of the copy at a place.
+    #[inline(always)]
+    fn frame_of(&self, copy: usize) -> u32
+        ensures { IfSome (slice_get self.now.pages copy) (λ p. result ≡ p.frame) }
+    {
+        match self.pages.get(copy) {
+            Some(page) => page.frame,
+            None => 0,
+        }
+    }
+
+    /// A store, where it is taken: the frame to whose copy it goes.
+    #[inline(always)]
+    pub(crate) fn store_at(&mut self, addr: u32, width: u32, value: u32) -> Option<u32>
+        requires width { IsWidth width }
+        requires aligned { addr % width ≡ 0 }
+        requires fits { value < 2 ^ (8 * width) }
+        requires room { HasRoom self.old }
+        ensures gives { is_some result ≡ takes self.old addr width }
+        ensures frame { IfSome result (λ f. frame_from (known_in self.old.known) write_right addr ≡ Some f) }
+        ensures taken { IfSome result (λ f. self.new ≡ put (record { address = addr; width = width; value = value }) self.old) }
+        ensures refused { result ≡ None → self.new ≡ self.old }
+    {
+        let copy = self.copy_to_store(addr)?;
+        let frame = self.frame_of(copy);
+        self.store_to(copy, addr % 4096, width, value);
+        Some(frame)
     }
 }
 

@@ -6,9 +6,10 @@ ghost use Rattle.nova_burst.specs.Copies.{known_in};
 ghost use Rattle.nova_burst.specs.Lending.{AreCounted, IsSameLease, MustStop, StemsFrom, left_in, lease_state_of};
 
 use crate::copies::{Copies, Known};
+use crate::ground::Ground;
 use crate::run::Burst;
 use law_leases::{Page, Steps};
-use rv_core::{Readings, Regs};
+use rv_core::Regs;
 use std::marker::Model;
 use std::mem;
 
@@ -55,10 +56,9 @@ fn run_on(steps: &mut Steps, known: &mut Vec<Known>, most: u64) -> u64
     let copies = Copies::new(mem::replace(known, Vec::new(alloc)), pages);
     let mut burst = Burst {
         regs: steps.regs,
-        copies,
+        copies: Ground::new(copies),
     };
-    let mut readings = Readings::new();
-    let ran = burst.run(&mut readings, most);
+    let ran = burst.run(most);
     steps.count += ran;
     steps.regs = burst.regs;
     (*known, steps.pages) = burst.copies.into_parts();

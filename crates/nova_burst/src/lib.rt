@@ -4,6 +4,7 @@
 mod committing;
 pub mod copies;
 mod gathering;
+pub mod ground;
 pub mod laws;
 mod leasing;
 mod lent;

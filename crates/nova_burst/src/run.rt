@@ -3,37 +3,40 @@ ghost use Rattle.std.specs.Bool.{OnFalse, OnTrue};
 ghost use Rattle.law_leases.specs.Leases.{lease_step, lease_steps};
 ghost use Rattle.nova_burst.specs.Copies.{HasFewStores, HasRoom, known_in, lease_of};
 
-use crate::copies::Copies;
-use rv_core::{Outcome, Readings, Regs, step_read};
+use crate::ground::Ground;
+use rv_core::{Outcome, Regs, step_known};
 
 /// A virtual CPU that steps on copies.
 #[derive(Drop)]
 pub struct Burst {
     pub regs: Regs,
-    pub copies: Copies,
+    pub copies: Ground,
+}
+
+/// One instruction on copies; or nothing, where it would raise or touches what isn't copied.
+#[inline(always)]
+fn step(regs: &mut Regs, copies: &mut Ground) -> bool
+    requires room { HasRoom copies.old }
+    ensures goes { OnTrue result (lease_step (known_in copies.old.known) (lease_of regs.old copies.old) ≡ Some (lease_of regs.new copies.new)) }
+    ensures stops { OnFalse result (lease_step (known_in copies.old.known) (lease_of regs.old copies.old) ≡ None) }
+    ensures stays { OnFalse result ((regs.new ≡ regs.old) × (copies.new ≡ copies.old)) }
+    ensures known { copies.new.known ≡ copies.old.known }
+    ensures few { (n : ℕ) → HasFewStores n copies.old → HasFewStores (n + 1) copies.new }
+{
+    let Some(reading) = copies.read(regs.pc()) else {
+        return false;
+    };
+    match step_known(regs, copies, reading) {
+        Outcome::Next => true,
+        Outcome::Raise { .. } => false,
+    }
 }
 
 impl Burst {
-    /// One instruction on the copies; or nothing, where it would raise or touches what isn't copied.
-    #[inline(always)]
-    fn step(&mut self, readings: &mut Readings) -> bool
-        requires room { HasRoom self.old.copies }
-        ensures goes { OnTrue result (lease_step (known_in self.old.copies.known) (lease_of self.old.regs self.old.copies) ≡ Some (lease_of self.new.regs self.new.copies)) }
-        ensures stops { OnFalse result (lease_step (known_in self.old.copies.known) (lease_of self.old.regs self.old.copies) ≡ None) }
-        ensures stays { OnFalse result (self.new ≡ self.old) }
-        ensures known { self.new.copies.known ≡ self.old.copies.known }
-        ensures few { (n : ℕ) → HasFewStores n self.old.copies → HasFewStores (n + 1) self.new.copies }
-    {
-        match step_read(&mut self.regs, &mut self.copies, readings) {
-            Outcome::Next => true,
-            Outcome::Raise { .. } => false,
-        }
-    }
-
     /// Executes instructions on the copies, at most so many, and answers their number. It executes fewer
     /// only where the next one would raise or touches what isn't copied. So few stores were counted that
     /// there is room for all to come.
-    pub fn run(&mut self, readings: &mut Readings, most: u64) -> u64
+    pub fn run(&mut self, most: u64) -> u64
         requires few { HasFewStores (2 ^ 32) self.old.copies }
         requires most { most < 2 ^ 32 }
         ensures ran { lease_steps (known_in self.old.copies.known) result (lease_of self.old.regs self.old.copies) ≡ Some (lease_of self.new.regs self.new.copies) }
@@ -42,11 +45,14 @@ impl Burst {
         ensures known { self.new.copies.known ≡ self.old.copies.known }
         ensures stores { (n : ℕ) → HasFewStores n self.old.copies → HasFewStores (n + result) self.new.copies }
     {
+        let mut regs = self.regs;
         for i in 0..most {
-            if !self.step(readings) {
+            if !step(&mut regs, &mut self.copies) {
+                self.regs = regs;
                 return i;
             }
         }
+        self.regs = regs;
         most
     }
 }

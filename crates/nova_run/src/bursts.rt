@@ -3,6 +3,7 @@ ghost use Rattle.nova_burst.specs.Lending.{StemsFrom, turns_of};
 ghost use Rattle.nova_shared.specs.Ran.{IsCpuSeat};
 ghost use Rattle.nova_shared.specs.Seen.{mine};
 
+use crate::crew::Crew;
 use crate::gate::Gate;
 use law_leases::CommitDone;
 use nova_burst::{Lease, commit, lease};
@@ -18,9 +19,6 @@ const PAGES: usize = 16;
 const LEAST: u32 = 256;
 
 const LEAST_ALONE: u32 = 4096;
-
-/// How many instructions the share of a worker is at least: the last bursts of all would get ever shorter.
-const LEAST_SHARE: u64 = 16_384;
 
 /// For how many instructions a lease is worth its cost, among so many workers.
 fn least_among(workers: u64) -> u32 {
@@ -108,13 +106,6 @@ impl Block for Committing {
     }
 }
 
-/// How many instructions a burst has at most, where there may be so many turns more: its worker's share of them, or few, so that the last bursts of
-/// all workers can be committed. More than there was room for would be run in vain.
-fn share_of(left: u64, workers: u64) -> u64 {
-    let share = left / workers.max(1);
-    share.max(LEAST_SHARE).min(left)
-}
-
 /// A burst of the processor of a seat, of at most so many instructions, beside other workers; and how many turns it was. It is leased in one use of the
 /// kernel, runs on its copies while others use the kernel, and is committed in another use. It was none where nothing could be leased, and where nothing
 /// was committed.
@@ -124,8 +115,8 @@ pub(crate) fn burst<R: Wait, G: Gate>(
     shared: &Shared,
     gate: &G,
     seat: &mut CpuSeat,
+    crew: &Crew,
     most: u64,
-    workers: u64,
 ) -> u64
     requires own { IsCpuSeat shared.now seat.old }
     requires gate { G.called gate.now seat.old.number (mine seat.old) }
@@ -134,16 +125,19 @@ pub(crate) fn burst<R: Wait, G: Gate>(
 {
     let mut leasing = Leasing {
         alloc,
-        least: least_among(workers),
+        least: least_among(crew.workers()),
         lease: None,
         left: 0,
     };
     shared.block(rt, seat, &mut leasing);
-    let most = most.min(share_of(leasing.left, workers));
+    let left = leasing.left;
     let Some(mut lease) = leasing.lease else {
         return 0;
     };
-    lease.run(most);
+    let promised = crew.promise(left, most);
+    lease.run(promised);
     let mut committing = Committing { lease: Some(lease) };
-    shared.block(rt, seat, &mut committing)
+    let taken = shared.block(rt, seat, &mut committing);
+    crew.release(promised);
+    taken
 }

@@ -15,12 +15,17 @@ const STIRS: u64 = 262_144;
 /// How long pauses are at most, in looks at nothing.
 static PACES: [u64; 6] = [16, 64, 256, 1024, 4096, 8192];
 
-/// The workers of one round: how many there are, how many have begun, and how many have nothing to do, or no more.
+/// How many instructions the share of a worker is at least: the last bursts of all would get ever shorter.
+const LEAST_SHARE: u64 = 16_384;
+
+/// The workers of one round: how many there are, how many have begun, how many have nothing to do, or no more, and how many turns the bursts that run
+/// may come to.
 #[derive(Drop)]
 pub(crate) struct Crew {
     workers: u64,
     begun: AtomicU64,
     resting: AtomicU64,
+    promised: AtomicU64,
 
     // What they draw pauses from. Of two who stir it at once one is lost, so that it differs from run to run.
     noise: AtomicU64,
@@ -39,6 +44,7 @@ impl Crew {
             workers,
             begun: AtomicU64::new(0),
             resting: AtomicU64::new(0),
+            promised: AtomicU64::new(0),
             noise: AtomicU64::new(0),
         }
     }
@@ -51,6 +57,22 @@ impl Crew {
     /// Whether there is one worker.
     pub(crate) fn is_lone(&self) -> bool {
         self.workers < 2
+    }
+
+    /// How many instructions a burst has, at most so many, where there may be so many turns more: its worker's share of those that aren't promised to
+    /// bursts that run, or few, so that the last bursts of all workers can be committed. They are promised to it. More than there was room for would be
+    /// run in vain.
+    pub(crate) fn promise(&self, left: u64, most: u64) -> u64 {
+        let free = left.saturating_sub(self.promised.load(Ordering::SeqCst));
+        let share = free / self.workers.max(1);
+        let promised = share.max(LEAST_SHARE).min(left).min(most);
+        self.promised.fetch_add(promised, Ordering::SeqCst);
+        promised
+    }
+
+    /// A burst to which so many turns were promised is over.
+    pub(crate) fn release(&self, promised: u64) {
+        self.promised.fetch_sub(promised, Ordering::SeqCst);
     }
 
     /// A worker begins, with all others: it looks for them for a while, and goes on without those who don't come.

@@ -45,12 +45,11 @@ const SHORTEST: u64 = 64;
 /// How much longer a pause between looks is at most with each of them.
 const LONGER: u64 = 8;
 
-/// How much a worker takes in a step: instructions of a burst, and else turns in one use of the kernel; and how many workers there are.
+/// How much a worker takes in a step: instructions of a burst, and else turns in one use of the kernel.
 #[derive(Clone, Copy)]
 struct Most {
     burst: u64,
     turns: u64,
-    workers: u64,
 }
 
 /// How many turns a step was, and whether it was a burst.
@@ -67,6 +66,7 @@ fn step<R: Wait, G: Gate>(
     alloc: Global,
     shared: &Shared,
     gate: &G,
+    crew: &Crew,
     seat: &mut CpuSeat,
     most: Most,
 ) -> Option<Taken>
@@ -75,7 +75,7 @@ fn step<R: Wait, G: Gate>(
     ensures some { IfSome result (λ t. 0 < t.turns) }
 {
     call(gate, seat);
-    let turns = burst(rt, alloc, shared, gate, seat, most.burst, most.workers);
+    let turns = burst(rt, alloc, shared, gate, seat, crew, most.burst);
     if turns > 0 {
         return Some(Taken {
             turns,
@@ -146,7 +146,7 @@ fn go<R: Wait, G: Gate>(
     ensures seat { seat.new ≡ record seat.old { front = seat.new.front } }
     ensures some { IfSome result (λ t. 0 < t.turns) }
 {
-    let taken = step(rt, alloc, shared, gate, seat, most);
+    let taken = step(rt, alloc, shared, gate, crew, seat, most);
     if taken.is_some() {
         return taken;
     }
@@ -207,7 +207,6 @@ fn work<R: Wait, G: Gate>(
         let most = Most {
             burst,
             turns: at_once,
-            workers: crew.workers(),
         };
         let Some(taken) = go(rt, alloc, shared, gate, crew, pace, seat, most) else {
             return;
@@ -331,15 +330,15 @@ fn share<R: Threads + Wait + Sync, G: Gate + Sync>(
     Ok(shared.finish(seats))
 }
 
-/// Runs a kernel with a thread for each of its processors, of which there is one or more, for at most `limit` turns; the kernel has room in its
-/// log for as many. In turn come sweeps, in which each processor has a turn that is not idle, and rounds, until a sweep takes no turn or there are
-/// `limit` turns. The workers of a round begin together. Each takes steps until it took 4,096 turns, in later rounds 4,194,304; while its
-/// processor is idle it looks again and again, some thousand times at most, until no other worker has anything to do. A step is a burst where a
-/// virtual CPU acts, can be leased, and has 256 turns of its quantum left, or 4,096 where there is one worker: instructions up to the end of its
-/// quantum, and no more than its worker's share of the turns that may follow. They run on copies of up to 16 frames beside the other processors, and
-/// then count as so many turns. Else, and where a burst comes to nothing, it is one turn, and after a plain step up to 4,095 plain steps that come
-/// next, but of these none in the first round where there are several workers. Before each step and each look the worker calls the gate, with the
-/// processor and how many turns of it there were.
+/// Runs a kernel with a thread for each of its processors, of which there is one or more, for at most `limit` turns; the kernel has room in its log
+/// for as many. In turn come sweeps, in which each processor has a turn that is not idle, and rounds, until a sweep takes no turn or there are
+/// `limit` turns. The workers of a round begin together. Each takes steps until it took 4,096 turns, in later rounds 4,194,304; while its processor
+/// is idle it looks again and again, some thousand times at most, until no other worker has anything to do. A step is a burst where a virtual CPU
+/// acts, can be leased, and has 256 turns of its quantum left, or 4,096 where there is one worker: instructions up to the end of its quantum, and no
+/// more than its worker's share of the turns that may follow and are promised to no other burst. They run on copies of up to 16 frames beside the
+/// other processors, and then count as so many turns. Else, and where a burst comes to nothing, it is one turn, and after a plain step up to 4,095
+/// plain steps that come next, but of these none in the first round where there are several workers. Before each step and each look the worker calls
+/// the gate, with the processor and how many turns of it there were.
 ///
 /// Whatever the workers did, there is one order of turns, and what comes is the run over it. It ends quiet or has `limit` turns. The only error is
 /// `Memory`, where memory is refused. It may wait; what it promises holds if it returns.

@@ -1,4 +1,4 @@
-ghost use Rattle.std.specs.Prelude.{◌≡◌, ◌<◌, ◌*◌, ◌%◌, ◌^◌, ◌⊎◌};
+ghost use Rattle.std.specs.Prelude.{◌≡◌, ◌<◌, ◌*◌, ◌%◌, ◌^◌, ◌⊎◌, Some};
 ghost use Rattle.rv_model.specs.Table.{instr_from};
 ghost use Rattle.rv_model.specs.Step.{next, sets, goes, jumps, branches, loads, stores};
 ghost use Rattle.rv_model.specs.Codes.{instr_of};
@@ -12,7 +12,7 @@ use crate::outcome::{
     BREAKPOINT, ENVIRONMENT_CALL, FETCH_FAULT, ILLEGAL, LOAD_FAULT, MISALIGNED, Outcome,
     STORE_FAULT,
 };
-use crate::readings::Readings;
+use crate::readings::{Reading, Readings};
 use rv_model::{Mnemonic, Operands, Regs};
 
 /// On to the next instruction.
@@ -162,50 +162,175 @@ fn execute<B: Bus>(regs: &mut Regs, bus: &mut B, mnemonic: Mnemonic, operands: O
         Follows B.stored once regs.old (B.state bus.old) result regs.new (B.state bus.new) }
 {
     let Operands { rd, rs1, rs2, imm } = operands;
-    let (pc, left, right) = (regs.pc(), regs.get(rs1), regs.get(rs2));
-    let addr = left.wrapping_add(imm);
     match mnemonic {
         Mnemonic::Lui => set(regs, rd, imm),
-        Mnemonic::Auipc => set(regs, rd, pc.wrapping_add(imm)),
-        Mnemonic::Jal => jump(regs, rd, pc.wrapping_add(imm)),
-        Mnemonic::Jalr => jump(regs, rd, addr & !1),
-        Mnemonic::Beq => branch(regs, left == right, imm),
-        Mnemonic::Bne => branch(regs, left != right, imm),
-        Mnemonic::Blt => branch(regs, left.cast_signed() < right.cast_signed(), imm),
-        Mnemonic::Bge => branch(regs, left.cast_signed() >= right.cast_signed(), imm),
-        Mnemonic::Bltu => branch(regs, left < right, imm),
-        Mnemonic::Bgeu => branch(regs, left >= right, imm),
-        Mnemonic::Lb => load(regs, bus, rd, Extension::Sign, 1, addr),
-        Mnemonic::Lh => load(regs, bus, rd, Extension::Sign, 2, addr),
-        Mnemonic::Lw => load(regs, bus, rd, Extension::Zero, 4, addr),
-        Mnemonic::Lbu => load(regs, bus, rd, Extension::Zero, 1, addr),
-        Mnemonic::Lhu => load(regs, bus, rd, Extension::Zero, 2, addr),
-        Mnemonic::Sb => store(regs, bus, 1, addr, right),
-        Mnemonic::Sh => store(regs, bus, 2, addr, right),
-        Mnemonic::Sw => store(regs, bus, 4, addr, right),
-        Mnemonic::Addi => set(regs, rd, left.wrapping_add(imm)),
-        Mnemonic::Slti => set(regs, rd, u32::from(left.cast_signed() < imm.cast_signed())),
-        Mnemonic::Sltiu => set(regs, rd, u32::from(left < imm)),
-        Mnemonic::Xori => set(regs, rd, left ^ imm),
-        Mnemonic::Ori => set(regs, rd, left | imm),
-        Mnemonic::Andi => set(regs, rd, left & imm),
-        Mnemonic::Slli => set(regs, rd, left << (imm % 32)),
-        Mnemonic::Srli => set(regs, rd, left >> (imm % 32)),
-        Mnemonic::Srai => set(regs, rd, shift_right_signed(left, imm)),
-        Mnemonic::Add => set(regs, rd, left.wrapping_add(right)),
-        Mnemonic::Sub => set(regs, rd, left.wrapping_sub(right)),
-        Mnemonic::Sll => set(regs, rd, left << (right % 32)),
-        Mnemonic::Slt => set(
-            regs,
-            rd,
-            u32::from(left.cast_signed() < right.cast_signed()),
-        ),
-        Mnemonic::Sltu => set(regs, rd, u32::from(left < right)),
-        Mnemonic::Xor => set(regs, rd, left ^ right),
-        Mnemonic::Srl => set(regs, rd, left >> (right % 32)),
-        Mnemonic::Sra => set(regs, rd, shift_right_signed(left, right)),
-        Mnemonic::Or => set(regs, rd, left | right),
-        Mnemonic::And => set(regs, rd, left & right),
+        Mnemonic::Auipc => {
+            let pc = regs.pc();
+            set(regs, rd, pc.wrapping_add(imm))
+        }
+        Mnemonic::Jal => {
+            let pc = regs.pc();
+            jump(regs, rd, pc.wrapping_add(imm))
+        }
+        Mnemonic::Jalr => {
+            let addr = regs.get(rs1).wrapping_add(imm);
+            jump(regs, rd, addr & !1)
+        }
+        Mnemonic::Beq => {
+            let left = regs.get(rs1);
+            let right = regs.get(rs2);
+            branch(regs, left == right, imm)
+        }
+        Mnemonic::Bne => {
+            let left = regs.get(rs1);
+            let right = regs.get(rs2);
+            branch(regs, left != right, imm)
+        }
+        Mnemonic::Blt => {
+            let left = regs.get(rs1);
+            let right = regs.get(rs2);
+            branch(regs, left.cast_signed() < right.cast_signed(), imm)
+        }
+        Mnemonic::Bge => {
+            let left = regs.get(rs1);
+            let right = regs.get(rs2);
+            branch(regs, left.cast_signed() >= right.cast_signed(), imm)
+        }
+        Mnemonic::Bltu => {
+            let left = regs.get(rs1);
+            let right = regs.get(rs2);
+            branch(regs, left < right, imm)
+        }
+        Mnemonic::Bgeu => {
+            let left = regs.get(rs1);
+            let right = regs.get(rs2);
+            branch(regs, left >= right, imm)
+        }
+        Mnemonic::Lb => {
+            let addr = regs.get(rs1).wrapping_add(imm);
+            load(regs, bus, rd, Extension::Sign, 1, addr)
+        }
+        Mnemonic::Lh => {
+            let addr = regs.get(rs1).wrapping_add(imm);
+            load(regs, bus, rd, Extension::Sign, 2, addr)
+        }
+        Mnemonic::Lw => {
+            let addr = regs.get(rs1).wrapping_add(imm);
+            load(regs, bus, rd, Extension::Zero, 4, addr)
+        }
+        Mnemonic::Lbu => {
+            let addr = regs.get(rs1).wrapping_add(imm);
+            load(regs, bus, rd, Extension::Zero, 1, addr)
+        }
+        Mnemonic::Lhu => {
+            let addr = regs.get(rs1).wrapping_add(imm);
+            load(regs, bus, rd, Extension::Zero, 2, addr)
+        }
+        Mnemonic::Sb => {
+            let addr = regs.get(rs1).wrapping_add(imm);
+            let right = regs.get(rs2);
+            store(regs, bus, 1, addr, right)
+        }
+        Mnemonic::Sh => {
+            let addr = regs.get(rs1).wrapping_add(imm);
+            let right = regs.get(rs2);
+            store(regs, bus, 2, addr, right)
+        }
+        Mnemonic::Sw => {
+            let addr = regs.get(rs1).wrapping_add(imm);
+            let right = regs.get(rs2);
+            store(regs, bus, 4, addr, right)
+        }
+        Mnemonic::Addi => {
+            let left = regs.get(rs1);
+            set(regs, rd, left.wrapping_add(imm))
+        }
+        Mnemonic::Slti => {
+            let left = regs.get(rs1);
+            set(regs, rd, u32::from(left.cast_signed() < imm.cast_signed()))
+        }
+        Mnemonic::Sltiu => {
+            let left = regs.get(rs1);
+            set(regs, rd, u32::from(left < imm))
+        }
+        Mnemonic::Xori => {
+            let left = regs.get(rs1);
+            set(regs, rd, left ^ imm)
+        }
+        Mnemonic::Ori => {
+            let left = regs.get(rs1);
+            set(regs, rd, left | imm)
+        }
+        Mnemonic::Andi => {
+            let left = regs.get(rs1);
+            set(regs, rd, left & imm)
+        }
+        Mnemonic::Slli => {
+            let left = regs.get(rs1);
+            set(regs, rd, left << (imm % 32))
+        }
+        Mnemonic::Srli => {
+            let left = regs.get(rs1);
+            set(regs, rd, left >> (imm % 32))
+        }
+        Mnemonic::Srai => {
+            let left = regs.get(rs1);
+            set(regs, rd, shift_right_signed(left, imm))
+        }
+        Mnemonic::Add => {
+            let left = regs.get(rs1);
+            let right = regs.get(rs2);
+            set(regs, rd, left.wrapping_add(right))
+        }
+        Mnemonic::Sub => {
+            let left = regs.get(rs1);
+            let right = regs.get(rs2);
+            set(regs, rd, left.wrapping_sub(right))
+        }
+        Mnemonic::Sll => {
+            let left = regs.get(rs1);
+            let right = regs.get(rs2);
+            set(regs, rd, left << (right % 32))
+        }
+        Mnemonic::Slt => {
+            let left = regs.get(rs1);
+            let right = regs.get(rs2);
+            set(
+                regs,
+                rd,
+                u32::from(left.cast_signed() < right.cast_signed()),
+            )
+        }
+        Mnemonic::Sltu => {
+            let left = regs.get(rs1);
+            let right = regs.get(rs2);
+            set(regs, rd, u32::from(left < right))
+        }
+        Mnemonic::Xor => {
+            let left = regs.get(rs1);
+            let right = regs.get(rs2);
+            set(regs, rd, left ^ right)
+        }
+        Mnemonic::Srl => {
+            let left = regs.get(rs1);
+            let right = regs.get(rs2);
+            set(regs, rd, left >> (right % 32))
+        }
+        Mnemonic::Sra => {
+            let left = regs.get(rs1);
+            let right = regs.get(rs2);
+            set(regs, rd, shift_right_signed(left, right))
+        }
+        Mnemonic::Or => {
+            let left = regs.get(rs1);
+            let right = regs.get(rs2);
+            set(regs, rd, left | right)
+        }
+        Mnemonic::And => {
+            let left = regs.get(rs1);
+            let right = regs.get(rs2);
+            set(regs, rd, left & right)
+        }
         Mnemonic::Fence => go_on(regs),
         Mnemonic::Ecall => raise(ENVIRONMENT_CALL, 0, 0),
         Mnemonic::Ebreak => raise(BREAKPOINT, 0, 0),
@@ -261,5 +386,19 @@ pub fn step_read<B: Bus>(regs: &mut Regs, bus: &mut B, readings: &mut Readings) 
     let Some(reading) = readings.read(word) else {
         return raise(ILLEGAL, word, 0);
     };
+    execute(regs, bus, reading.mnemonic, reading.operands)
+}
+
+/// One instruction, as `step` does it, of which the word at pc was read before.
+#[inline(always)]
+#[tactic(auto, unfolding(rv_model::specs::Step::one))]
+pub fn step_known<B: Bus>(regs: &mut Regs, bus: &mut B, reading: Reading) -> Outcome
+    requires room { B.room (B.state bus.old) }
+    requires aligned { regs.old.pc % 4 ≡ 0 }
+    requires there { B.fetched (B.state bus.old) regs.old.pc ≡ Some reading.word }
+    ensures { let space = space_of B.fetched B.loaded B.takes (B.state bus.old) in
+        let once = one regs.old space in
+        Follows B.stored once regs.old (B.state bus.old) result regs.new (B.state bus.new) }
+{
     execute(regs, bus, reading.mnemonic, reading.operands)
 }

@@ -11,7 +11,7 @@ const PLACES: usize = 256;
 
 /// A word with the name and the operands of the instruction that it is.
 #[derive(Clone, Copy)]
-pub(crate) struct Reading {
+pub struct Reading {
     pub word: u32,
     pub mnemonic: Mnemonic,
     pub operands: Operands,
@@ -20,6 +20,24 @@ pub(crate) struct Reading {
 }
 
 impl Reading {
+    /// What a word reads as; nothing where it is no instruction.
+    pub fn of(word: u32) -> Option<Reading>
+        ensures word { IfSome result (λ r. r.word ≡ word) }
+        ensures none { result ≡ None → instr_of word ≡ None }
+    {
+        let (mnemonic, operands) = decoder::parts(word)?;
+        Some(Reading {
+            word,
+            mnemonic,
+            operands,
+        })
+    }
+
+    /// The reading of `addi x0, x0, 0`.
+    pub fn nothing() -> Reading {
+        nothing()
+    }
+
     /// Becomes the reading of a word, or answers false where that is no instruction. Few words are decoded, so that
     /// this stays out of the code of each.
     #[inline(never)]

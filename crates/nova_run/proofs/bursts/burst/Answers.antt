@@ -4,8 +4,8 @@ use Rattle.nova_model.specs.Runs.{run}
 use Rattle.nova_run.proofs.Lent.{comes_after, number_kept}
 use Rattle.nova_run.proofs.bursts.burst.Goals as goal
 
-pub block-requires-2-clause-fits : goal.block-requires-2-clause-fits
-block-requires-2-clause-fits g c = λ h prefix.
+pub block-taken-requires-clause-fits : goal.block-taken-requires-clause-fits
+block-taken-requires-clause-fits g c = λ h prefix.
     let d = c.block.ensures.told in
     let k = c.args.shared.now.opened.opening.kernel.state in
     let n = c.args.seat.now.number in
