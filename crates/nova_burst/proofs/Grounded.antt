@@ -19,7 +19,7 @@ use Rattle.law_leases.proofs.Leased.{copy_stored}
 use Rattle.law_leases.specs.Leases.{copied_space, copy_at, lease_by, lease_step, read_copy, stored_in_pages}
 use Rattle.law_leases.specs.declared.steps.Page.{Page}
 use Rattle.nova_burst.specs.Copies.{CopiesState, fetched, known_in, lease_of}
-use Rattle.nova_burst.specs.Grounds.{AreLeft, AreRead, IsRead, IsReadAt, IsUnread}
+use Rattle.nova_burst.specs.Grounds.{AreLeft, AreRead, IsRead, IsUnread}
 use Rattle.nova_burst.specs.declared.ground.Slot.{Slot}
 use Rattle.nova_burst.proofs.Places.{whole_kept}
 

@@ -1,5 +1,5 @@
 -- Instructions that go on one after another, from what each of them came to.
-use Rattle.std.proofs.Common.{◌≡◌, ◌+◌, ◌-◌, ◌^◌, ◌<◌, ◌≤◌, ℕ, zero, suc, ap, ap₂, sym, subst, ◌∙◌, refl, length, arith, List, [], ◌∷◌, false}
+use Rattle.std.proofs.Common.{◌≡◌, ◌+◌, ◌-◌, ◌^◌, ◌<◌, ◌≤◌, ℕ, zero, suc, ap, ap₂, sym, subst, ◌∙◌, refl, length, arith, List, false}
 use Rattle.std.specs.Prelude.{map, Option, Some, None, IsSome, IfSome, is_some, option_and_then, option_map, replicate, slice_get}
 use Rattle.rv_core.specs.declared.outcome.Outcome.TheVariants.{Next, Raise}
 use Rattle.rv_model.specs.Registers.{Registers}

@@ -10,7 +10,7 @@ ghost use Rattle.nova_kernel.specs.Views.{IsMaking, turns_taken};
 
 use crate::choices::keep;
 use crate::kernel::Kernel;
-use crate::riding::{Ridden, StepsTaken, none_tried, plain_step, quanta, is_stepping};
+use crate::riding::{Ridden, StepsTaken, is_stepping, none_tried, plain_step, quanta};
 use nova_choice::Chosen;
 use nova_model::Turn;
 use nova_turn::Raised;

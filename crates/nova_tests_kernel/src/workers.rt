@@ -123,3 +123,47 @@ fn one_thread_takes_the_same_turns_again(rt: HostRuntime) {
     let is_so = is_same(&run, &again);
     assert!(rt; is_so);
 }
+
+/// How often the worker of an idle processor has to have looked while another one has something to do.
+const AGAIN: u64 = 16;
+
+/// A gate that holds the third call for processor 0 until `AGAIN` calls for processor 1 came, or for 2^28 looks.
+#[derive(Drop)]
+struct Awaiting {
+    steps: AtomicU64,
+    looks: AtomicU64,
+    missed: AtomicU64,
+}
+
+/// Waits for `AGAIN` looks, or notes that they didn't come.
+fn await_looks(looks: &AtomicU64, missed: &AtomicU64) {
+    for _ in 0..1u64 << 28 {
+        if looks.load(Ordering::SeqCst) >= AGAIN {
+            return;
+        }
+    }
+    missed.store(1, Ordering::SeqCst);
+}
+
+impl Gate for Awaiting {
+    fn at(&self, cpu: u32, _turn: u64) {
+        if cpu == 1 {
+            self.looks.fetch_add(1, Ordering::SeqCst);
+        } else if self.steps.fetch_add(1, Ordering::SeqCst) == 2 {
+            await_looks(&self.looks, &self.missed);
+        }
+    }
+}
+
+#[test]
+fn an_idle_worker_looks_again_while_another_has_something_to_do(rt: HostRuntime) {
+    let gate = Awaiting {
+        steps: AtomicU64::new(0),
+        looks: AtomicU64::new(0),
+        missed: AtomicU64::new(0),
+    };
+    let run = work(&rt, rt.alloc(), 5_000, &gate);
+    let missed = gate.missed.load(Ordering::SeqCst);
+    let told = (missed, run.turns, run.is_quiet);
+    assert!(rt; told == (0, 5_000, false));
+}

@@ -3,7 +3,6 @@ use Rattle.nova_model.specs.State.{ec_in}
 use Rattle.nova_ec.specs.Tables.{EcTable}
 use Rattle.nova_turn.specs.Beside.{with_regs}
 use Rattle.nova_turn.specs.Parts.{state_of}
-use Rattle.nova_kernel.specs.Rides.{MayCount}
 use Rattle.nova_kernel.proofs.Rides.{raise_stays}
 use Rattle.nova_kernel.proofs.riding.ride_beside.Goals as goal
 
