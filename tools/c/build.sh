@@ -12,7 +12,10 @@ usage: build.sh [OPTION..] SOURCE.. [SCENARIO.nova] [RAM_ORDER]
   RAM_ORDER          2^RAM_ORDER pages of memory are the program's; 2, or 6 with --libc, where it isn't given
   --libc             with picolibc
   --guest            as a guest, under the monitor of tools/c/monitor.c
-  --monitor FILE.c   as a guest, under this monitor
+  --monitor FILE.c   as a guest, under this monitor; given several times, the files are one monitor
+  --image FILE@PAGE  the guest, or more of it: what is linked already, from this page of its memory on; SOURCE is left out
+  --monitors N       a monitor, a guest and a console on each of N processors
+  --monitor-order N  a monitor has 2^N pages, and the guest 2^RAM_ORDER
   --elf              as an executable, not as words with their meaning
   --debug            compiled for a debugger; the executable with its symbols is kept beside the scenario
   --cpus N           with N processors
@@ -31,7 +34,8 @@ refuse() { # what, and what to do
 here=$(cd "$(dirname "$0")" && pwd)
 tool=riscv64-unknown-elf
 compiler=${COMPILER:-gcc}
-libc=no guest=no elf=no debug=no cpus=1 consoles=1 sources='' scenario='' order='' interrupts='' monitor=$here/monitor.c flags='-O2'
+libc=no guest=no elf=no debug=no cpus=1 consoles=1 sources='' scenario='' order='' interrupts='' monitor='' flags='-O2'
+images='' monitors=1 monitor_order=''
 
 # A name of a file as the shell has it, with an apostrophe round it.
 quoted() {
@@ -50,11 +54,14 @@ option() { # sets what an option says, and answers how many words it has
     --guest) guest=yes ;;
     --elf) elf=yes ;;
     --debug) debug=yes flags='-Og -g' ;;
-    --monitor | --cpus | --consoles | --source)
+    --monitor | --cpus | --consoles | --source | --image | --monitors | --monitor-order)
         [ $# -ge 2 ] || usage
         words=2
         case $1 in
-        --monitor) guest=yes monitor=$2 ;;
+        --monitor) guest=yes monitor="$monitor$(quoted "$2")" ;;
+        --image) guest=yes images="$images$(quoted "$2")" ;;
+        --monitors) monitors=$(number "$2") ;;
+        --monitor-order) monitor_order=$(number "$2") ;;
         --cpus) cpus=$(number "$2") ;;
         --consoles) consoles=$(number "$2") ;;
         --source) interrupts="${interrupts}source $2
@@ -95,8 +102,11 @@ while [ $# -gt 0 ]; do
         ;;
     esac
 done
-[ -n "$sources" ] || usage
+[ -n "$sources$images" ] || usage
+[ -n "$sources" ] || { eval "set -- $images" && first=${1%@*}; }
+[ -z "$images" ] || [ -n "$monitor" ] || refuse "$first: a guest that is linked already has a monitor of its own; name that by --monitor"
 scenario=${scenario:-${first%.*}.nova}
+monitor=${monitor:-$(quoted "$here/monitor.c")}
 
 # Everything that can be refused is refused before anything is compiled or written.
 check_source() {
@@ -115,7 +125,11 @@ check() {
     for source; do
         check_source "$source"
     done
-    [ $guest = no ] || check_source "$monitor"
+    eval "set -- $monitor"
+    for source; do
+        [ $guest = no ] || check_source "$source"
+    done
+    check_images
     [ -d "$(dirname "$scenario")" ] || refuse "$scenario: there is no such folder; make it, or name another scenario"
     [ -d "$scenario" ] && refuse "$scenario: is a directory; name a file for the scenario"
     [ "${order:-2}" -le $((14 - $(yes_is_one $guest))) ] ||
@@ -123,6 +137,25 @@ check() {
     command -v $tool-gcc >/dev/null || [ "$compiler" = clang ] ||
         refuse "$tool-gcc isn't installed; apt-get install gcc-riscv64-unknown-elf binutils-riscv64-unknown-elf"
     [ $libc = no ] || [ -d $picolibc/include ] || refuse "picolibc isn't installed; apt-get install picolibc-riscv64-unknown-elf"
+}
+
+check_images() { # and what is for monitors alone
+    [ -z "$images" ] || [ -z "$sources" ] || refuse "$first: the guest is linked already, by --image; leave out the one or the other"
+    eval "set -- $images"
+    for image; do
+        case @${image##*@} in @ | *[!@0-9]* | "@$image")
+            refuse "$image: is no FILE@PAGE; say from which page of the guest's memory on it lies" ;;
+        esac
+        [ -f "${image%@*}" ] || refuse "${image%@*}: there is no such file; name what the linker wrote"
+        ! is_elf "${image%@*}" || "$here/elf" --lowest 0 "${image%@*}" >/dev/null
+    done
+    [ $guest = yes ] || [ "$monitors$monitor_order" = 1 ] || refuse "$first: only monitors are several, or smaller; give --monitor or --guest"
+    [ "$monitors" = 1 ] || [ "$cpus$consoles$interrupts" = 11 ] ||
+        refuse "$monitors: each monitor has a processor and a console, and no source; leave out --cpus, --consoles and --source"
+}
+
+is_elf() {
+    [ "$(head -c 4 "$1" | od -A n -t x1)" = " 7f 45 4c 46" ]
 }
 
 yes_is_one() {
@@ -140,6 +173,17 @@ ram_order=$((order + $(yes_is_one $guest)))
 program_bytes=$((4096 << order))
 ram_bytes=$((4096 << ram_order))
 
+# Monitors lie one after another, in the first 2^RAM_ORDER pages, and then the guests.
+monitor_order=${monitor_order:-$order}
+monitor_bytes=$((4096 << monitor_order))
+[ "$monitors" -ge 1 ] && [ "$monitors" -le 8 ] || refuse "$monitors: there are at most 8 processors; give as many monitors"
+[ $((monitors * monitor_bytes)) -le $program_bytes ] ||
+    refuse "$monitors: the monitors have more pages than one guest; give a lesser --monitor-order or a greater RAM_ORDER"
+while [ $((4096 << ram_order)) -lt $(((monitors + 1) * program_bytes)) ] && [ $guest = yes ]; do
+    ram_order=$((ram_order + 1))
+done
+[ $ram_order -le 14 ] || refuse "$monitors: all memory has at most 2^14 pages; give fewer monitors or a lesser order"
+
 # The compiler with its words, and the libraries. Debian has none of gcc's for clang, so that of gcc is taken, if it is there.
 library=-lgcc
 if [ "$compiler" = clang ]; then
@@ -154,11 +198,12 @@ if [ $libc = yes ]; then
     compile="$compile -Wl,--defsym=stack_bytes=$((program_bytes / 8 > 16384 ? 16384 : program_bytes / 8))"
     library="$(quoted "$here/libc.c")-Wl,--start-group -lm -lc $library -Wl,--end-group"
 else
-    compile="$compile -ffreestanding -isystem /usr/include/stb"
+    compile="$compile -ffreestanding"
 fi
 
 # What stands in the words of a command that is read again.
 boot=$(quoted "$here/boot.s")
+[ "$monitors" = 1 ] || boot=$(quoted "$here/boot_each.s")
 start=$(quoted "$here/start.s")
 includes="-I$(quoted "$here")-I$(quoted "$here/include")"
 
@@ -177,9 +222,15 @@ symbol() { # the value of a symbol in an executable
 # An assembler program that has its own _start is the root or the guest as it stands. Any other begins by start.s, and what is no guest by
 # boot.s.
 starts_itself() {
+    [ -n "$sources" ] || return 1
     case $first in *.s | *.S) ;; *) return 1 ;; esac
     eval "$compile $flags $includes -c -o \"\$scratch/first.o\" \"\$first\""
     [ -n "$(symbol "$scratch/first.o" _start)" ]
+}
+
+monitor_name() { # that of its first file
+    eval "set -- $monitor"
+    echo "$1"
 }
 
 build() {
@@ -187,12 +238,18 @@ build() {
     starts_itself && own_start=''
     what=$first
     if [ $guest = yes ]; then
-        link "$scratch/guest" "$own_start" $program_bytes "$sources" -DGUEST -Wl,-e,_start -Wl,--defsym=guest_program=1
-        what=$monitor
-        link "$program" "$boot$start" $program_bytes "$(quoted "$monitor")" -Wl,-e,nova_boot \
+        if [ -n "$sources" ]; then
+            link "$scratch/guest" "$own_start" $program_bytes "$sources" -DGUEST -Wl,-e,_start -Wl,--defsym=guest_program=1
+            set -- -Wl,--defsym=guest_entry="$(symbol "$scratch/guest" _start)" \
+                -Wl,--defsym=guest_code_end="$(symbol "$scratch/guest" __tls_begin)"
+        else
+            set --
+        fi
+        what=$(monitor_name)
+        link "$program" "$boot$start" $monitor_bytes "$monitor" -Wl,-e,nova_boot \
             -Wl,--defsym=console=$ram_bytes -Wl,--defsym=guest_memory=$program_bytes -Wl,--defsym=guest_bytes=$program_bytes \
-            -Wl,--defsym=guest_entry="$(symbol "$scratch/guest" _start)" \
-            -Wl,--defsym=guest_code_end="$(symbol "$scratch/guest" __tls_begin)"
+            -Wl,--defsym=consoles=$((4096 << ram_order)) -Wl,--defsym=monitors="$monitors" \
+            -Wl,--defsym=monitor_order="$monitor_order" -Wl,--defsym=guest_order="$order" "$@"
     elif [ -z "$own_start" ]; then
         link "$program" '' "$program_bytes" "$sources" -Wl,-e,_start
     else
@@ -230,20 +287,53 @@ executable() { # executable, where its address 0 lies
     "$here/elf" "$scratch/stripped" "$2"
 }
 
+# A file as the memory of a guest: an executable, whose lowest segment goes there, or bytes.
+image() { # the file, and where it lies
+    if is_elf "$1"; then
+        echo
+        $tool-objcopy --strip-all "$1" "$scratch/image"
+        "$here/elf" --lowest "$2" "$scratch/image"
+        return
+    fi
+    printf '\nimage 0x%08x hex\n' "$2"
+    od -A n -v -t x4 -w32 --endian=little "$1" | cut -c 2-
+    echo end
+}
+
+guest_at() { # where its memory begins
+    [ -z "$sources" ] || $form "$scratch/guest" "$1"
+    eval "set -- $1 $images"
+    memory=$1
+    shift
+    for image; do
+        image "${image%@*}" $((memory + 4096 * ${image##*@}))
+    done
+}
+
 write() {
     written="as words" form=words option=
     [ $elf = no ] || written="as an executable" form=executable option=" --elf"
     if [ $guest = yes ]; then
-        echo "# ${first##*/} as a guest under ${monitor##*/}, compiled and written $written by tools/c/build.sh$option."
+        monitor_file=$(monitor_name)
+        echo "# ${first##*/} as a guest under ${monitor_file##*/}, compiled and written $written by tools/c/build.sh$option."
     else
         echo "# ${first##*/}, compiled and written $written by tools/c/build.sh$option."
     fi
+    [ "$monitors" = 1 ] || cpus=$monitors consoles=$monitors
     printf 'cpus %s\nram %s\nconsoles %s\n' "$cpus" $ram_order "$consoles"
     begin=entry
     [ $elf = yes ] || begin=$($tool-readelf -h "$program" | awk '/Entry point/ { print $4 }')
-    printf 'root %s 0x%x 2 10\n%s' "$begin" $program_bytes "$interrupts"
-    $form "$program" 0
-    [ $guest = no ] || $form "$scratch/guest" $program_bytes
+    printf 'root %s 0x%x 2 10\n%s' "$begin" $monitor_bytes "$interrupts"
+    if [ $guest = no ]; then
+        $form "$program" 0
+        return
+    fi
+    k=0
+    while [ $k -lt "$monitors" ]; do
+        $form "$program" $((k * monitor_bytes))
+        guest_at $(((1 + k) * program_bytes))
+        k=$((k + 1))
+    done
 }
 
 build
@@ -251,5 +341,5 @@ write >"$scratch/scenario"
 cp "$scratch/scenario" "$scenario"
 if [ $debug = yes ]; then
     cp "$program" "${scenario%.nova}.elf"
-    [ $guest = no ] || cp "$scratch/guest" "${scenario%.nova}.guest.elf"
+    [ $guest = no ] || [ -z "$sources" ] || cp "$scratch/guest" "${scenario%.nova}.guest.elf"
 fi

@@ -46,6 +46,7 @@ SECTIONS
     . = ALIGN(4);
   }
 
+  .pages (NOLOAD) : { *(.bss.nova_pages) }
   .bss : { *(.sbss .sbss.* .bss .bss.* COMMON) . = ALIGN(16); }
 
   __heap_start = .;

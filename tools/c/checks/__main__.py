@@ -4,8 +4,9 @@ python3 tools/c/checks [--program FILE] [--only WORD] [--others]
 
 The numbers of include/nova.h are compared with those of the code, which crates/nova_constants prints, and those that runs show. Where the
 compiler is installed, each program of tests/ is built as the root and as a guest and compared with the host's, each scenario of the lists
-is built anew and compared with what is kept, what can't be built is refused, and docs/TUTORIAL-C.md is followed. With --others what others
-wrote is fetched by the network and built, too. The last line has the counts; the status is 1 where something failed.
+is built anew and compared with what is kept, what can't be built is refused, and docs/TUTORIAL-C.md is followed; hart and random programs
+are guests of the monitor of vmm, and so is Linux, where NOVA_LINUX_CACHE names the folder that tools/c/linux.sh built it in. With --others
+what others wrote is fetched by the network and built, too. The last line has the counts; the status is 1 where something failed.
 """
 
 from __future__ import annotations
@@ -16,11 +17,13 @@ import tempfile
 from pathlib import Path
 
 import constants
+import linux
 import others
 import programs
 import refusals
 import scenarios
 import tutorial
+import vmm
 from outcome import Outcome
 
 TOP = Path(__file__).resolve().parents[3]
@@ -45,6 +48,8 @@ def main(words: argparse.Namespace) -> int:
             refusals.look(outcome, tools)
             programs.look(outcome, tools)
             tutorial.look(outcome, tools)
+            vmm.look(outcome, tools)
+            linux.look(outcome, tools)
         else:
             outcome.skip("what is to be built: gcc-riscv64-unknown-elf or picolibc-riscv64-unknown-elf isn't installed")
         scenarios.look(outcome, tools)

@@ -4,10 +4,11 @@ from __future__ import annotations
 
 import shlex
 import subprocess
-from pathlib import Path
 from typing import TYPE_CHECKING
 
 if TYPE_CHECKING:
+    from pathlib import Path
+
     from outcome import Outcome
     from programs import Tools
 
@@ -16,9 +17,6 @@ LISTS = ["tools/c/scenarios", "tools/c/examples/scenarios"]
 
 # What they were made with. Another compiler may write other bytes.
 VERSION = "12.2.0"
-
-# A library that one of them is built with.
-STB = Path("/usr/include/stb")
 
 
 def lines(top: Path) -> list[list[str]]:
@@ -57,9 +55,7 @@ def look_at(outcome: Outcome, tools: Tools, words: list[str], *, building: bool)
     kept = tools.top / next(word for word in words if word.endswith(".nova"))
     if not outcome.wants(kept.name):
         return
-    if building and "tools/c/format.c" in words and not STB.is_dir():
-        outcome.skip(f"{kept.name}, built anew: libstb-dev isn't installed")
-    elif building:
+    if building:
         outcome.count(f"{kept.name}, built anew", wrong_bytes(tools, words, kept))
     if kept.exists():
         outcome.count(f"{kept.name}, run", wrong_report(tools, kept))

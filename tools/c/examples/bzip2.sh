@@ -1,5 +1,5 @@
 #!/bin/sh
-# bzip2.sh [--keep] [FOLDER]: the library of bzip2 as Debian has it compresses the first lines of bzip2's licence. Its console is compared with
+# bzip2.sh [FOLDER]: the library of bzip2 as Debian has it compresses the first lines of bzip2's licence. Its console is compared with
 # what the host's bzip2 writes.
 . "$(dirname "$0")/others.sh"
 

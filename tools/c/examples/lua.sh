@@ -1,5 +1,5 @@
 #!/bin/sh
-# lua.sh [--keep] [FOLDER]: Lua 5.4 as Debian has it, with the script lua.lua. Its console is compared with that of the host's Lua.
+# lua.sh [FOLDER]: Lua 5.4 as Debian has it, with the script lua.lua. Its console is compared with that of the host's Lua.
 . "$(dirname "$0")/others.sh"
 
 fetch lua5.4

@@ -9,9 +9,9 @@ work=$(mktemp -d)
 trap 'rm -rf "$work"' EXIT
 
 usage() {
-    echo "usage: $name.sh [--keep] [FOLDER]
-  --keep   writes examples/$name.nova and examples/${name}_guest.nova, and their reports, instead of comparing with them
-  FOLDER   where the sources are put, or are already; a temporary one where it isn't given" >&2
+    echo "usage: $name.sh [FOLDER]
+  FOLDER   where the sources are put, or are already, and then $name.nova, ${name}_guest.nova and their reports; a temporary one where it
+           isn't given" >&2
     exit 2
 }
 
@@ -25,8 +25,6 @@ fail() {
     exit 1
 }
 
-keep=no
-[ "${1-}" != --keep ] || { keep=yes && shift; }
 case "$#${1-}" in 0 | 1[!-]*) ;; *) usage ;; esac
 folder=${1:-$work/sources}
 
@@ -56,32 +54,14 @@ fetch() { # the package
     echo "$name: ${source##*/}, $(sed -n "s/.*(\(.*\)).*/version \1/;1p" "$source/debian/changelog")"
 }
 
-# Builds a scenario, runs it, and compares its console with what is wanted and the scenario with the one that is kept, or keeps it.
+# Builds a scenario, runs it, and compares its console with what is wanted.
 try() { # the scenario's name, the file of what is wanted, and words for build.sh: options, sources and the memory's order
     scenario=$1 wanted=$2
     shift 2
-    (cd "$source" && "$here/../build.sh" --libc "$@" "$work/$scenario.nova") 2>"$work/said" || { cat "$work/said" >&2 && fail "isn't built"; }
-    "${NOVA:-$top/nova}" solo --limit 10000000 "$work/$scenario.nova" >"$work/$scenario.report" || fail "$scenario.nova doesn't come to its end"
-    sed -n 's/^console 0 //p' "$work/$scenario.report" | xxd -r -p >"$work/console"
+    (cd "$source" && "$here/../build.sh" --libc "$@" "$folder/$scenario.nova") 2>"$work/said" || { cat "$work/said" >&2 && fail "isn't built"; }
+    "${NOVA:-$top/nova}" solo --limit 10000000 "$folder/$scenario.nova" >"$folder/$scenario.report" || fail "$scenario.nova doesn't come to its end"
+    sed -n 's/^console 0 //p' "$folder/$scenario.report" | xxd -r -p >"$work/console"
     cmp "$wanted" "$work/console" || fail "the console of $scenario.nova isn't that of the host"
-    echo "$name: $scenario.nova, $(wc -c <"$work/$scenario.nova") bytes: the host's console, $(wc -c <"$wanted") bytes, in" \
-        "$(sed -n '1s/.* //p' "$work/$scenario.report") turns"
-    if [ $keep = yes ]; then
-        keep
-    else
-        compare
-    fi
-}
-
-# A scenario is kept where it is short enough for the repository.
-keep() {
-    [ "$(wc -c <"$work/$scenario.nova")" -lt 600000 ] || return 0
-    cp "$work/$scenario.nova" "$work/$scenario.report" "$top/examples/"
-}
-
-compare() {
-    [ -e "$top/examples/$scenario.nova" ] || return 0
-    cmp "$work/$scenario.nova" "$top/examples/$scenario.nova" ||
-        fail "examples/$scenario.nova is another one; was it made with another compiler, or of another version of $name?"
-    cmp "$work/$scenario.report" "$top/examples/$scenario.report" || fail "examples/$scenario.report is another one"
+    echo "$name: $scenario.nova, $(wc -c <"$folder/$scenario.nova") bytes: the host's console, $(wc -c <"$wanted") bytes, in" \
+        "$(sed -n '1s/.* //p' "$folder/$scenario.report") turns"
 }

@@ -1,5 +1,6 @@
 /* The guest that `build.sh --monitor` builds beside a monitor. Its memory is the upper half of RAM: the monitor reads and writes it there,
-   and gives of it what it will. The guest's own address 0 is guest_memory[0], but its program has nothing below GUEST_BEGIN. */
+   and gives of it what it will. The guest's own address 0 is guest_memory[0], but its program has nothing below GUEST_BEGIN. What of a guest
+   of `build.sh --image` begins where, its monitor says. */
 #ifndef GUEST_H
 #define GUEST_H
 
@@ -22,5 +23,14 @@ extern char guest_code_end_symbol[] __asm__("guest_code_end");
 
 /* Its program's first address. A fault below it is one of a null pointer. */
 #define GUEST_BEGIN 0x1000u
+
+/* The processor that this monitor is on, and its guest: with `build.sh --monitors N` each of them has one, from 0 to N - 1. boot_each.s
+   stores it; a monitor that boot.s begins is on processor 0. */
+extern const volatile uint32_t guest_processor_word __attribute__((weak));
+
+static inline uint32_t guest_processor(void)
+{
+    return &guest_processor_word ? guest_processor_word : 0;
+}
 
 #endif

@@ -291,6 +291,15 @@ static inline enum nova_status nova_sc_ctrl(nova_selector sc, uint32_t *turns)
     return nova_hypercall(NOVA_SC_CTRL, sc, 0, 0, 0, 0, turns);
 }
 
+/* The turns that main's own scheduling context was charged for, 0 where it doesn't hold that. */
+static inline uint32_t nova_own_turns(void)
+{
+    uint32_t turns = 0;
+
+    (void)nova_sc_ctrl(NOVA_OWN_SC, &turns);
+    return turns;
+}
+
 /* Gives a portal its identifier, which its handler is told. */
 static inline enum nova_status nova_pt_ctrl(nova_selector portal, uint32_t identifier)
 {
@@ -320,5 +329,6 @@ static inline enum nova_status nova_down_with_deadline(nova_selector sm, uint32_
 }
 
 #include "nova_entries.h"
+#include "nova_pages.h"
 
 #endif

@@ -6,13 +6,13 @@
 /* Defines `entry`, for create_pt: a portal's handler. It calls `void function(uint32_t identifier)` and replies. */
 #define NOVA_PORTAL(entry, function) \
     void entry(void); \
-    void function(uint32_t identifier); \
+    void function(uint32_t identifier) __attribute__((used)); \
     NOVA_ENTRY(entry, function, "li a7, 1\n\tecall\n\tebreak")
 
 /* Defines `entry`, where a thread begins. It calls `void function(void)`, and ends by ebreak. */
 #define NOVA_THREAD(entry, function) \
     void entry(void); \
-    void function(void); \
+    void function(void) __attribute__((used)); \
     NOVA_ENTRY(entry, function, "ebreak")
 
 #define NOVA_ENTRY(entry, function, end) \
