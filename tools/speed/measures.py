@@ -23,8 +23,8 @@ class Spent:
 class Program:
     """The program that is measured, with a folder of its own for scenarios and orders."""
 
-    def __init__(self, file: Path, folder: Path) -> None:
-        self.file, self.folder = file.resolve(), folder
+    def __init__(self, file: Path, folder: Path, valgrind: str = "valgrind") -> None:
+        self.file, self.folder, self.valgrind = file.resolve(), folder, valgrind
 
     def scenario(self, text: str) -> Path:
         """A scenario of that text."""
@@ -54,16 +54,24 @@ class Program:
         runs = [self.spent(command, scenario, limit) for _ in range(times)]
         return Spent(min(run.user for run in runs), min(run.clock for run in runs), min(run.memory for run in runs))
 
-    def instructions(self, scenario: Path, limit: int) -> int:
-        """The machine instructions of a run by one thread, as callgrind counts them."""
-        words = ["valgrind", "--tool=callgrind", "--callgrind-out-file=/dev/null", *self.words("solo", scenario, limit)]
-        said = subprocess.run(words, capture_output=True, text=True).stderr
-        return int(re.search(r"Collected : (\d+)", said).group(1))
+    def clock(self, command: str, scenario: Path, first: int, last: int) -> float:
+        """Seconds of the clock that the turns between two limits take: the difference of the best runs."""
+        short, long = (self.best(command, scenario, limit).clock for limit in (first, last))
+        return long - short
 
-    def instructions_a_turn(self, text: str, turns: int = 300_000) -> float:
-        """The machine instructions of a turn, from two runs of which one is longer by so many turns."""
-        scenario = self.scenario(text)
-        return (self.instructions(scenario, turns + 10_000) - self.instructions(scenario, 10_000)) / turns
+    def instructions(self, command: str, scenario: Path, limit: int) -> int:
+        """The machine instructions of a run, as callgrind counts them."""
+        words = [self.valgrind, "--tool=callgrind", "--callgrind-out-file=/dev/null", *self.words(command, scenario, limit)]
+        said = subprocess.run(words, capture_output=True, text=True).stderr
+        collected = re.search(r"Collected : (\d+)", said)
+        if collected is None:
+            raise RuntimeError(f"callgrind counts nothing: {said}")
+        return int(collected.group(1))
+
+    def instructions_a_turn(self, command: str, scenario: Path, first: int, last: int) -> float:
+        """The machine instructions of a turn, from two runs with these limits."""
+        short, long = (self.instructions(command, scenario, limit) for limit in (first, last))
+        return (long - short) / (last - first)
 
     def orders(self, scenario: Path, runs: int) -> int:
         """How many different orders came of so many runs."""

@@ -39,6 +39,13 @@ def memory(quantum: int) -> str:
     return settings(1, 0, quantum) + block(0, "addi x5, x0, 0x400", "loop: lw x6, 0(x5)", "addi x6, x6, 1", "sw x6, 0(x5)", "bne x6, x0, loop")
 
 
+def beside(quantum: int) -> str:
+    """The same in a domain that had a virtual CPU, which is dead: it has no portal to begin by."""
+    vcpu = [call(3, x10=48, x11=0, x12=512, x13=0, x14=64), call(4, x10=49, x12=48, x13=(10 << 8) + 2)]
+    loop = ["addi x5, x0, 0x400", "loop: lw x6, 0(x5)", "addi x6, x6, 1", "sw x6, 0(x5)", "bne x6, x0, loop"]
+    return settings(1, 0, quantum) + block(0, *vcpu, *loop)
+
+
 def calls(words: int) -> str:
     """A thread that calls a portal, whose handler replies with as many words; six turns a call."""
     root = [
