@@ -1,0 +1,241 @@
+//! Laws of response: how many turns of its processor a scheduling context waits. The functions do nothing: their contracts are the laws.
+//! Each holds in every state that turns reach from a boot state, and over every list of further turns, of any processors.
+#![tactic(auto)]
+
+ghost use Rattle.std.specs.Prelude.{◌≡◌, ◌≢◌, ◌<◌, ◌≤◌, ◌+◌, ◌-◌, ◌*◌, ◌∷◌, ℕ, List, Contains, None, Some, false, length, replicate, slice_get, true};
+ghost use Rattle.nova_model.specs.Boot.{Scenario, boot};
+ghost use Rattle.nova_model.specs.Choice.{Candidate, actor, candidates};
+ghost use Rattle.nova_model.specs.Edges.{acts, after_edges, edge, state_in};
+ghost use Rattle.nova_model.specs.Revokes.{Revocation};
+ghost use Rattle.nova_model.specs.Runs.{after, run};
+ghost use Rattle.nova_model.specs.Semaphores.{semaphore};
+ghost use Rattle.nova_model.specs.State.{KernelState, deadline_of};
+ghost use Rattle.nova_model.specs.Times.{clock, due_on, goes_on};
+ghost use Rattle.nova_model.specs.declared.budget.Budget.{Budget};
+ghost use Rattle.nova_model.specs.declared.context.State.{State};
+ghost use Rattle.nova_model.specs.declared.context.State.TheVariants.{Blocked};
+ghost use Rattle.nova_model.specs.declared.times.AlarmState.{AlarmState};
+ghost use Rattle.nova_model.specs.declared.times.Deadline.{Deadline};
+ghost use Rattle.std.specs.List.{concat};
+ghost use Rattle.law_turns.specs.Rounds.{AreRounds};
+ghost use Rattle.law_revocation.specs.Along.{Runs};
+ghost use Rattle.law_revocation.specs.Whole.{left};
+ghost use Rattle.law_response.specs.Creating.{NobodyCreates, NobodyElseCreates, OutranksOthers};
+ghost use Rattle.nova_gsi.specs.Deadlines.{rings_left};
+ghost use Rattle.nova_gsi.specs.Firings.{moment};
+ghost use Rattle.law_response.specs.Dues.{AreDueBounded, IsPrompt};
+ghost use Rattle.law_response.specs.Helping.{callers, goes_on_helping};
+ghost use Rattle.law_response.specs.Jobs.{MeetsDemand};
+ghost use Rattle.law_response.specs.Waits.{ActsItself, Awaits, GoesFirst, HasAwaited, HasShared, HasWaited, IsInTime, IsSchedule, MayRun, NeverActs, StaysRunnable, acts_itself, ahead, due_in, full_quantum, others, paid_in, turns_at, turns_left};
+
+/// While scheduling context `sc` stays runnable and pays for fewer turns than are left of its quantum, each turn of its processor is due,
+/// of a greater priority, its own, or lowers by 1 what is ahead of it in its ring. Its stamp stays, and its quantum falls by 1 with each
+/// turn that it pays for. It need not be runnable in states in which something is due.
+pub fn a_runnable_context_waits_for_its_ring()
+    ensures { (scenario : Scenario) (before turns : List ℕ) (sc ec cpu priority quantum : ℕ) (b : Budget) →
+        IsSchedule (run (boot scenario) before) sc ec cpu priority quantum b →
+        StaysRunnable (run (boot scenario) before) cpu ec turns →
+        paid_in (run (boot scenario) before) sc turns < turns_left b →
+        HasWaited (run (boot scenario) before) turns sc ec cpu priority quantum b }
+{}
+
+/// Where the turns of `ec`, along donation, lead to an execution context that acts, they do so until that one acts. Until then its
+/// scheduling context pays for no turn, and each turn of its processor is due, of a greater priority, or lowers by 1 what is ahead of it.
+/// So that one acts after at most `ahead` turns of the processor beside those due and those of a greater priority.
+pub fn the_end_of_a_chain_acts_in_time()
+    ensures { (scenario : Scenario) (before turns : List ℕ) (sc ec cpu priority quantum : ℕ) (b : Budget) →
+        IsSchedule (run (boot scenario) before) sc ec cpu priority quantum b →
+        MayRun (run (boot scenario) before) ec →
+        Awaits (run (boot scenario) before) ec turns →
+        HasAwaited (run (boot scenario) before) turns sc ec cpu priority b }
+{}
+
+/// An execution context that is fresh, ready, exiting, granting, replying or revoking, and has a scheduling context, stays in that state
+/// until it acts, whatever others do, and acts after at most `ahead` turns of its processor beside those due and those of a greater
+/// priority. An execution context that was blocked at a semaphore, and after a turn isn't, is in one of these states then.
+pub fn a_context_that_waits_for_nobody_acts_in_time()
+    ensures acts { (scenario : Scenario) (before turns : List ℕ) (sc ec cpu priority quantum : ℕ) (b : Budget) (s : State) →
+        IsSchedule (run (boot scenario) before) sc ec cpu priority quantum b →
+        state_in (run (boot scenario) before).contexts ec ≡ Some s →
+        acts_itself s ≡ true →
+        NeverActs (run (boot scenario) before) ec turns →
+        HasAwaited (run (boot scenario) before) turns sc ec cpu priority b × (state_in (run (run (boot scenario) before) turns).contexts ec ≡ Some s) }
+    ensures woken { (scenario : Scenario) (before : List ℕ) (by ec sm : ℕ) →
+        state_in (run (boot scenario) before).contexts ec ≡ Some (Blocked sm) →
+        state_in (after (run (boot scenario) before) by).contexts ec ≢ Some (Blocked sm) →
+        ActsItself (after (run (boot scenario) before) by) ec }
+{}
+
+/// From the moment of a deadline on, woken or late, until its execution context acts, each turn of the processor is due, of a greater
+/// priority, or lowers by 1 what is ahead of its scheduling context. The same holds from the moment of an alarm on, before it rings, until
+/// the first execution context that waits at its semaphore acts.
+pub fn a_context_acts_in_time_after_its_moment()
+    ensures deadline { (scenario : Scenario) (before turns : List ℕ) (sc ec priority quantum : ℕ) (b : Budget) (d : Deadline) →
+        IsSchedule (run (boot scenario) before) sc ec d.cpu priority quantum b →
+        deadline_of (run (boot scenario) before).times ec ≡ Some d →
+        d.at ≤ clock (run (boot scenario) before).times d.cpu →
+        NeverActs (run (boot scenario) before) ec turns →
+        IsInTime (run (boot scenario) before) turns d.cpu priority b }
+    ensures alarm { (scenario : Scenario) (before turns : List ℕ) (sc ec priority quantum n : ℕ) (b : Budget) (a : AlarmState) (rest : List ℕ) →
+        IsSchedule (run (boot scenario) before) sc ec a.alarm.cpu priority quantum b →
+        slice_get (run (boot scenario) before).times.alarms n ≡ Some a →
+        goes_on a ≡ true →
+        a.next ≤ clock (run (boot scenario) before).times a.alarm.cpu →
+        (semaphore (run (boot scenario) before).semaphores a.alarm.sm).waiting ≡ ec ∷ rest →
+        NeverActs (run (boot scenario) before) ec turns →
+        IsInTime (run (boot scenario) before) turns a.alarm.cpu priority b }
+{}
+
+/// Over any turns, those of a processor that are due are at most the rings that its alarms have by its clock at the end, the deadlines that
+/// stood at the start, and those with which waits began meanwhile.
+pub fn turns_that_are_due_are_bounded()
+    ensures { (scenario : Scenario) (before turns : List ℕ) (cpu : ℕ) → AreDueBounded (run (boot scenario) before) turns cpu }
+{}
+
+/// An alarm rings by a clock only at its moments: the last of the rings that it has left by then has its moment at the clock or before, and
+/// before its next moment it has none. So it has at most (clock - next moment) / period + 1 left.
+pub fn an_alarm_rings_once_a_period()
+    ensures last { (a : AlarmState) (at : ℕ) → 1 ≤ rings_left at a → moment a.alarm (a.rings + (rings_left at a - 1)) ≤ at }
+    ensures none { (a : AlarmState) (at : ℕ) → at < moment a.alarm a.rings → rings_left at a ≡ 0 }
+{}
+
+/// Where each execution context is dead, or its protection domain holds no right to create, no turn makes an object, and that stays so.
+pub fn nothing_is_made_without_the_right_to_create()
+    ensures objects { (scenario : Scenario) (before turns : List ℕ) →
+        NobodyCreates (run (boot scenario) before) →
+        (run (run (boot scenario) before) turns).objects ≡ (run (boot scenario) before).objects }
+    ensures stays { (scenario : Scenario) (before turns : List ℕ) →
+        NobodyCreates (run (boot scenario) before) →
+        NobodyCreates (run (run (boot scenario) before) turns) }
+{}
+
+/// An execution context whose scheduling context outranks all others of its processor, and beside which nobody may create, acts within as
+/// many turns of the processor from the moment of its deadline on as rings come there by then and deadlines stood; and so does the first
+/// that waits at the semaphore of an alarm, from the alarm's moment on. All premises but the last are on the state at that moment.
+pub fn a_driver_acts_in_time()
+    ensures deadline { (scenario : Scenario) (before turns : List ℕ) (sc ec priority quantum : ℕ) (b : Budget) (d : Deadline) →
+        IsSchedule (run (boot scenario) before) sc ec d.cpu priority quantum b →
+        deadline_of (run (boot scenario) before).times ec ≡ Some d →
+        d.at ≤ clock (run (boot scenario) before).times d.cpu →
+        NobodyElseCreates (run (boot scenario) before) ec →
+        OutranksOthers (run (boot scenario) before) d.cpu sc priority →
+        NeverActs (run (boot scenario) before) ec turns →
+        IsPrompt (run (boot scenario) before) turns d.cpu }
+    ensures alarm { (scenario : Scenario) (before turns : List ℕ) (sc ec priority quantum n : ℕ) (b : Budget) (a : AlarmState) (rest : List ℕ) →
+        IsSchedule (run (boot scenario) before) sc ec a.alarm.cpu priority quantum b →
+        slice_get (run (boot scenario) before).times.alarms n ≡ Some a →
+        goes_on a ≡ true →
+        a.next ≤ clock (run (boot scenario) before).times a.alarm.cpu →
+        (semaphore (run (boot scenario) before).semaphores a.alarm.sm).waiting ≡ ec ∷ rest →
+        NobodyElseCreates (run (boot scenario) before) ec →
+        OutranksOthers (run (boot scenario) before) a.alarm.cpu sc priority →
+        NeverActs (run (boot scenario) before) ec turns →
+        IsPrompt (run (boot scenario) before) turns a.alarm.cpu }
+{}
+
+/// Where scheduling context `sc` may run, each other candidate of its processor has a lesser priority, and nothing is due, `sc` pays for the
+/// processor's next turn, and the execution context to which the turns of `ec` lead acts in it. An execution context that waits along an
+/// edge and doesn't act gives its turns to where those of the handler lead.
+pub fn the_highest_priority_goes_first()
+    ensures first { (scenario : Scenario) (before : List ℕ) (sc ec cpu priority quantum : ℕ) (b : Budget) →
+        IsSchedule (run (boot scenario) before) sc ec cpu priority quantum b →
+        MayRun (run (boot scenario) before) ec →
+        due_on (run (boot scenario) before).times cpu ≡ None →
+        ((d : Candidate) → Contains (candidates (run (boot scenario) before) cpu) d → d.sc ≢ sc → d.priority < priority) →
+        GoesFirst (run (boot scenario) before) cpu sc ec }
+    ensures edges { (scenario : Scenario) (before : List ℕ) (ec h : ℕ) →
+        edge (run (boot scenario) before).contexts ec ≡ Some h →
+        acts (run (boot scenario) before).contexts ec ≡ false →
+        actor (run (boot scenario) before) ec ≡ actor (run (boot scenario) before) h }
+{}
+
+/// Where nobody may create, and scheduling context `sc` outranks all others of its processor, each turn of the processor is due or paid for
+/// by `sc`, as long as it may run. So while its execution context calls, from the call's first turn to its last, all turns but those due
+/// go to its chain, unless that blocks at a semaphore.
+pub fn the_highest_priority_has_every_turn()
+    ensures { (scenario : Scenario) (before turns : List ℕ) (sc ec cpu priority quantum : ℕ) (b : Budget) →
+        NobodyCreates (run (boot scenario) before) →
+        IsSchedule (run (boot scenario) before) sc ec cpu priority quantum b →
+        OutranksOthers (run (boot scenario) before) cpu sc priority →
+        StaysRunnable (run (boot scenario) before) cpu ec turns →
+        turns_at cpu turns ≡ due_in (run (boot scenario) before) cpu turns + paid_in (run (boot scenario) before) sc turns }
+{}
+
+/// No chain of calls, helps and exits closes to a circle: no number of edges leads from an execution context back to itself.
+pub fn a_chain_of_calls_never_closes_to_a_circle()
+    ensures { (scenario : Scenario) (turns : List ℕ) (ec n : ℕ) → after_edges (n + 1) (edge (run (boot scenario) turns).contexts) ec ≢ Some ec }
+{}
+
+/// Response-time analysis. If at most `demand n` of the first n turns of a processor are due or of a greater priority, a job of `own` turns
+/// of `sc`, which stays runnable, is done after `response` turns of the processor, where these are enough for the demand of that many, what
+/// is ahead of `sc` in its ring, and the job (`once`: one that is within what is left of the quantum); or for these and the full quanta of
+/// its peers once for each of `rounds` renewals, where nobody may create and `own` is at most `rounds` full quanta and 1 (`rounds`).
+pub fn a_job_ends_within_its_response_time()
+    ensures once { (scenario : Scenario) (before turns : List ℕ) (sc ec cpu priority quantum own response : ℕ) (b : Budget) (demand : ℕ → ℕ) →
+        IsSchedule (run (boot scenario) before) sc ec cpu priority quantum b →
+        StaysRunnable (run (boot scenario) before) cpu ec turns →
+        MeetsDemand (run (boot scenario) before) turns cpu priority demand →
+        own ≤ turns_left b →
+        demand response + (ahead (run (boot scenario) before) cpu priority b.stamp + own) ≤ response →
+        paid_in (run (boot scenario) before) sc turns < own →
+        turns_at cpu turns < response }
+    ensures rounds { (scenario : Scenario) (before turns : List ℕ) (sc ec cpu priority quantum own rounds response : ℕ) (b : Budget) (demand : ℕ → ℕ) →
+        1 ≤ scenario.root.quantum →
+        NobodyCreates (run (boot scenario) before) →
+        IsSchedule (run (boot scenario) before) sc ec cpu priority quantum b →
+        StaysRunnable (run (boot scenario) before) cpu ec turns →
+        MeetsDemand (run (boot scenario) before) turns cpu priority demand →
+        own ≤ rounds * full_quantum quantum + 1 →
+        demand response + (ahead (run (boot scenario) before) cpu priority b.stamp + (own + rounds * others (run (boot scenario) before) cpu priority sc)) ≤ response →
+        paid_in (run (boot scenario) before) sc turns < own →
+        turns_at cpu turns < response }
+{}
+
+/// A call may never be taken between equals, by an example: a handler has no queue, and in each of the caller's turns it is at work for
+/// another thread of the same priority. The caller helps after each of 200 turns.
+pub fn a_call_of_an_equal_may_not_be_taken()
+    ensures { goes_on_helping 1 200 (run (boot callers) (replicate 62 0)) ≡ true }
+{}
+
+/// If the root's quantum is at least 1, what is ahead of a scheduling context is at most the full quanta of the others of its processor and
+/// priority. Over any turns in which it stays runnable, the turns of its processor are at most those due, those of a greater priority, its
+/// own, those ahead of it at the start, and the others' full quanta for each renewal of its stamp. The others stay as they are where nobody
+/// may create.
+pub fn a_ring_goes_round()
+    ensures most { (scenario : Scenario) (before : List ℕ) (sc ec cpu priority quantum : ℕ) (b : Budget) →
+        1 ≤ scenario.root.quantum →
+        IsSchedule (run (boot scenario) before) sc ec cpu priority quantum b →
+        ahead (run (boot scenario) before) cpu priority b.stamp ≤ others (run (boot scenario) before) cpu priority sc }
+    ensures round { (scenario : Scenario) (before turns : List ℕ) (sc ec cpu priority quantum : ℕ) (b : Budget) →
+        1 ≤ scenario.root.quantum →
+        IsSchedule (run (boot scenario) before) sc ec cpu priority quantum b →
+        StaysRunnable (run (boot scenario) before) cpu ec turns →
+        HasShared (run (boot scenario) before) turns sc ec cpu priority quantum b }
+    ensures others { (scenario : Scenario) (before turns : List ℕ) (sc cpu priority : ℕ) →
+        NobodyCreates (run (boot scenario) before) →
+        others (run (run (boot scenario) before) turns) cpu priority sc ≡ others (run (boot scenario) before) cpu priority sc }
+{}
+
+/// Under round robin, each round before the last turn that may be taken has one turn of a processor on which an execution context with a
+/// scheduling context waits for nobody and doesn't act. So the laws above bound in rounds what they bound in turns of a processor.
+pub fn round_robin_serves_each_processor()
+    ensures { (scenario : Scenario) (before : List ℕ) (rounds : List (List ℕ)) (most sc ec cpu priority quantum : ℕ) (b : Budget) (s : State) →
+        cpu < (run (boot scenario) before).cpus →
+        IsSchedule (run (boot scenario) before) sc ec cpu priority quantum b →
+        state_in (run (boot scenario) before).contexts ec ≡ Some s →
+        acts_itself s ≡ true →
+        AreRounds (run (boot scenario) before) most rounds →
+        length (concat rounds) < most →
+        NeverActs (run (boot scenario) before) ec (concat rounds) →
+        turns_at cpu (concat rounds) ≡ length rounds }
+{}
+
+/// While an execution context with a scheduling context runs a revoke, it stays runnable, and pays for at most as many turns as the scope
+/// had members. So the law above bounds the turns of its processor in which the revoke may run.
+pub fn a_revoke_ends_in_time()
+    ensures { (scenario : Scenario) (before turns : List ℕ) (sc ec cpu priority quantum : ℕ) (b : Budget) (r : Revocation) →
+        1 ≤ scenario.root.quantum →
+        IsSchedule (run (boot scenario) before) sc ec cpu priority quantum b →
+        Runs (run (boot scenario) before) ec r turns →
+        HasShared (run (boot scenario) before) turns sc ec cpu priority quantum b × (paid_in (run (boot scenario) before) sc turns ≤ length (left r (run (boot scenario) before))) }
+{}
