@@ -1,10 +1,10 @@
--- Two sets that share no object come to share none, and nobody of one comes to wait where the other may wake it.
+-- Two sets that share no object come to share none, and nobody of one comes to wait where the other holds a right.
 use Rattle.std.proofs.Common.{◌≡◌, ℕ, ◌<◌, ◌≤◌, ◌⊎◌, List, [], ◌∷◌, ◌++◌, length, sym, ap, ◌∙◌, subst, inl, inr, arith}
 use Rattle.std.specs.Prelude.{Option, Some, option_map}
 use Rattle.std.proofs.lemmas.Option.{slice_get_within}
 use Rattle.nova_calls.specs.declared.numbers.TheConstants.{SM_CTRL}
 use Rattle.nova_model.specs.Boot.{Scenario, boot}
-use Rattle.nova_model.specs.Capabilities.{down_right, up_right}
+use Rattle.nova_model.specs.Capabilities.{down_right}
 use Rattle.nova_model.specs.Runs.{after, run}
 use Rattle.nova_model.specs.State.{KernelState, context_at, context_in}
 use Rattle.nova_model.specs.declared.context.EcState.{EcState}
@@ -12,12 +12,12 @@ use Rattle.nova_model.specs.declared.context.State.{State}
 use Rattle.law_turns.proofs.TablesFit.{TablesFit, boot_run_fits}
 use Rattle.law_origins.specs.Giving.{Acts}
 use Rattle.law_origins.proofs.Lists.{run_append}
-use Rattle.law_integrity.specs.Confined.{AreApart, Holds, IsLeft, IsMember, IsUnwoken, Stays, Wakes, grown, more}
+use Rattle.law_integrity.specs.Confined.{AreApart, Holds, HoldsAny, IsLeft, IsMember, Stays, Wakes, WaitsApart, grown, more}
 use Rattle.law_integrity.proofs.Blocked.{Before, BlockedBy, Now, blocked_below, blocked_came, context_below}
 use Rattle.law_integrity.proofs.Confined.{separate_after}
 use Rattle.law_integrity.proofs.Leaving.{flipped, leaves_along}
 use Rattle.law_integrity.proofs.Resting.{IsMadeNow, holds_made, first_after, holds_before, holds_of, second_after}
-use Rattle.law_integrity.proofs.Confining.{both_member, IsAfter, acts_one, member_was}
+use Rattle.law_integrity.proofs.Confining.{both_member, IsAfter, acts_one, any_held, held_none, member_was}
 use Rattle.law_integrity.proofs.Homes.{AreHomed, reached_homed}
 
 -- OBJECTS
@@ -28,22 +28,22 @@ target_there k S right object homed h =
     let below = slice_get_within k.objects h.capability.target o.0 o.1 in
     let leads = h.leads in omega (arith, below, leads)
 
-objects_after : (k : KernelState) (S T : ℕ → Type 0) (cpu right other object : ℕ) → IsAfter k S cpu → IsAfter k T cpu → AreHomed k → AreApart k S T →
-    Holds (after k cpu) (more k S cpu) right object → Holds (after k cpu) (more k T cpu) other object → ⊥
-objects_after k S T cpu right other object a b homed apart mine theirs = by_both (holds_made k S cpu right object a homed mine) (holds_made k T cpu other object b homed theirs)
+objects_after : (k : KernelState) (S T : ℕ → Type 0) (cpu object : ℕ) → IsAfter k S cpu → IsAfter k T cpu → AreHomed k → AreApart k S T →
+    HoldsAny (after k cpu) (more k S cpu) object → HoldsAny (after k cpu) (more k T cpu) object → ⊥
+objects_after k S T cpu object a b homed apart mine theirs = by_both (holds_made k S cpu 0 object a homed (held_none mine)) (holds_made k T cpu 0 object b homed (held_none theirs))
   where
-    by_both : Holds k S right object ⊎ IsMadeNow k S cpu object → Holds k T other object ⊎ IsMadeNow k T cpu object → ⊥
-    by_both (inl m) (inl t) = apart.objects right other object m t
-    by_both (inl m) (inr made) = absurd (let below = target_there k S right object homed m in let number = made.number in omega (arith, below, number))
-    by_both (inr made) (inl t) = absurd (let below = target_there k T other object homed t in let number = made.number in omega (arith, below, number))
+    by_both : Holds k S 0 object ⊎ IsMadeNow k S cpu object → Holds k T 0 object ⊎ IsMadeNow k T cpu object → ⊥
+    by_both (inl m) (inl t) = apart.objects object (any_held m) (any_held t)
+    by_both (inl m) (inr made) = absurd (let below = target_there k S 0 object homed m in let number = made.number in omega (arith, below, number))
+    by_both (inr made) (inl t) = absurd (let below = target_there k T 0 object homed t in let number = made.number in omega (arith, below, number))
     by_both (inr made) (inr also) = both_member k S T also.maker apart.separate.disjoint (subst (IsMember k S) (acts_one k cpu made.maker also.maker made.acts also.acts) made.of) also.of
 
 -- WAITS
 
-unwoken_after : (s : Scenario) (before : List ℕ) (S T : ℕ → Type 0) (cpu : ℕ) → IsAfter (run (boot s) before) S cpu → IsAfter (run (boot s) before) T cpu →
-    ((right other object : ℕ) → Holds (run (boot s) before) S right object → Holds (run (boot s) before) T other object → ⊥) → IsUnwoken (run (boot s) before) S T →
-    IsUnwoken (after (run (boot s) before) cpu) (more (run (boot s) before) S cpu) (more (run (boot s) before) T cpu)
-unwoken_after s before S T cpu a b objects unwoken n sm blocked mine theirs = by_came (blocked_came s before cpu n sm blocked)
+waits_after : (s : Scenario) (before : List ℕ) (S T : ℕ → Type 0) (cpu : ℕ) → IsAfter (run (boot s) before) S cpu → IsAfter (run (boot s) before) T cpu →
+    ((object : ℕ) → HoldsAny (run (boot s) before) S object → HoldsAny (run (boot s) before) T object → ⊥) → WaitsApart (run (boot s) before) S T →
+    WaitsApart (after (run (boot s) before) cpu) (more (run (boot s) before) S cpu) (more (run (boot s) before) T cpu)
+waits_after s before S T cpu a b objects waits n sm blocked mine theirs = by_came (blocked_came s before cpu n sm blocked)
   where
     k : KernelState
     k = run (boot s) before
@@ -55,18 +55,18 @@ unwoken_after s before S T cpu a b objects unwoken n sm blocked mine theirs = by
     was y at = member_was k cpu S n fits.tables (context_below k n y fits.tables at) mine
 
     by_came : BlockedBy k cpu n sm → ⊥
-    by_came (Before y at is) = by_holds (holds_before k T cpu up_right sm b (reached_homed s before) theirs)
+    by_came (Before y at is) = by_holds (holds_before k T cpu 0 sm b (reached_homed s before) (held_none theirs))
       where
-        by_holds : Holds k T up_right sm ⊎ (length k.objects ≤ sm) → ⊥
-        by_holds (inl h) = unwoken n sm (ap (λ (o : Option EcState). (context_in o).state) at ∙ is) (was y at) h
+        by_holds : Holds k T 0 sm ⊎ (length k.objects ≤ sm) → ⊥
+        by_holds (inl h) = waits n sm (ap (λ (o : Option EcState). (context_in o).state) at ∙ is) (was y at) (any_held h)
         by_holds (inr later) = absurd (let below = blocked_below k n sm fits (ap (option_map (λ x. x.state)) at ∙ ap (λ (t : State). Some t) is) in omega (arith, below, later))
-    by_came (Now acts_ y at asks) = by_holds (holds_before k T cpu up_right sm b (reached_homed s before) theirs)
+    by_came (Now acts_ y at asks) = by_holds (holds_before k T cpu 0 sm b (reached_homed s before) (held_none theirs))
       where
         held : Holds k S down_right sm
         held = holds_of k S n SM_CTRL sm down_right (was y at) asks.names
 
-        by_holds : Holds k T up_right sm ⊎ (length k.objects ≤ sm) → ⊥
-        by_holds (inl h) = objects down_right up_right sm held h
+        by_holds : Holds k T 0 sm ⊎ (length k.objects ≤ sm) → ⊥
+        by_holds (inl h) = objects sm (any_held held) (any_held h)
         by_holds (inr later) = absurd (let below = target_there k S down_right sm (reached_homed s before) held in omega (arith, below, later))
 
 -- ALONG TURNS
@@ -74,7 +74,7 @@ unwoken_after s before S T cpu a b objects unwoken n sm blocked mine theirs = by
 pub apart_flipped : (k : KernelState) (S T : ℕ → Type 0) → AreApart k S T → AreApart k T S
 apart_flipped k S T apart = record {
   separate = flipped k S T apart.separate;
-  objects = λ right other object theirs mine. apart.objects other right object mine theirs;
+  objects = λ object theirs mine. apart.objects object mine theirs;
   first = apart.second;
   second = apart.first;
 }
@@ -86,9 +86,9 @@ apart_after s before S T cpu apart =
     let b = second_after s before S T cpu apart.separate in
     record {
       separate = separate_after s before S T cpu apart.separate;
-      objects = λ right other object. objects_after (run (boot s) before) S T cpu right other object a b (reached_homed s before) apart;
-      first = unwoken_after s before S T cpu a b apart.objects apart.first;
-      second = unwoken_after s before T S cpu b a (λ right other object theirs mine. apart.objects other right object mine theirs) apart.second;
+      objects = λ object. objects_after (run (boot s) before) S T cpu object a b (reached_homed s before) apart;
+      first = waits_after s before S T cpu a b apart.objects apart.first;
+      second = waits_after s before T S cpu b a (λ object theirs mine. apart.objects object mine theirs) apart.second;
     }
 
 pub apart_along : (s : Scenario) (before turns : List ℕ) (S T : ℕ → Type 0) → AreApart (run (boot s) before) S T →
@@ -112,4 +112,4 @@ contexts_stay s before turns S T cpu ec n apart acts_ mine theirs = by_left ((le
 
     by_left : IsLeft l (grown (run (boot s) before) T turns) n (context_at l n) (context_at (after l cpu) n) → context_at (after l cpu) n ≡ context_at l n
     by_left (Stays same) = same
-    by_left (Wakes woken x old new) = absurd ((apart_along s before turns S T apart).first n woken.sm woken.blocked theirs woken.may)
+    by_left (Wakes woken x old new) = absurd ((apart_along s before turns S T apart).first n woken.sm woken.blocked theirs (any_held woken.may))

@@ -10,6 +10,7 @@ use Rattle.nova_model.specs.Edges.{AreEdges, acts, chase}
 use Rattle.nova_ec.specs.Ways.{EndsAt}
 use Rattle.nova_ec.proofs.Ends.{chases_end}
 use Rattle.nova_model.specs.Forest.{IsForest}
+use Rattle.nova_model.specs.Inputs.{is_stirred}
 use Rattle.nova_model.specs.Runs.{after, run}
 use Rattle.nova_model.specs.State.{KernelState, budget_at, is_local_thread, pd_of}
 use Rattle.nova_model.specs.declared.deed.Deed.TheVariants.{Gives}
@@ -19,7 +20,7 @@ use Rattle.nova_model.specs.declared.budget.Budget.{Budget}
 use Rattle.law_forest.specs.Made.{Grows}
 use Rattle.law_forest.specs.Turns.{Acts as Chosen, Idles as Stays, Passes as Comes, Takes, acting, turned}
 use Rattle.law_forest.proofs.Actors.{chosen_answers, who_acts}
-use Rattle.law_forest.proofs.Turning.{acting_kind, acts_chosen, chosen_turn, comes}
+use Rattle.law_forest.proofs.Turning.{acting_is, acting_kind, acts_chosen, chosen_turn, comes}
 use Rattle.law_isolation.proofs.Runs.{reached_sound}
 use Rattle.law_turns.specs.Scheduling.{IsPaidBy}
 use Rattle.law_turns.proofs.Candidates.{IsCandidate, schedule_of, the_chosen}
@@ -27,15 +28,16 @@ use Rattle.law_turns.proofs.Paid.{turn_paid}
 use Rattle.law_turns.specs.Giving.{IsShared}
 use Rattle.law_turns.proofs.Serving.{IsActor, actor_of, awaited}
 use Rattle.law_turns.proofs.Sharing.{children_shared}
-use Rattle.law_turns.proofs.Setting.{index_other}
 use Rattle.law_turns.proofs.TablesFit.{TablesFit, boot_run_fits, chosen_acts}
 use Rattle.law_origins.specs.Events.{AreSelectors}
 use Rattle.law_origins.proofs.Bases.{are_selectors, reached_events}
 use Rattle.law_origins.specs.Giving.{Acts as Acting}
 use Rattle.nova_range.specs.Rights.{write_right}
-use Rattle.law_integrity.specs.Rights.{HasTurn, LeadsTo}
+use Rattle.law_integrity.specs.Rights.{HasTurn, PageLeadsTo}
 use Rattle.law_integrity.specs.Integrity.{Acts, FrameBy, Idles, IsAuthorised, IsByRight, IsByTime, Passes}
-use Rattle.law_integrity.proofs.Branches.{chosen_grows, delegations_by, objects_by}
+use Rattle.law_integrity.proofs.Branches.{chosen_grows, grows_by}
+use Rattle.law_integrity.proofs.Requests.{deed_asks_for}
+use Rattle.law_integrity.proofs.Waking.{budgets_by, deed_raises, payer}
 use Rattle.law_integrity.proofs.Rightful.{deed_rightful}
 use Rattle.law_integrity.proofs.Passing.{coming, due_in, turned_by_time}
 use Rattle.law_integrity.proofs.Stores.{deed_stores}
@@ -90,24 +92,27 @@ turned_right k cpu c forest shares selectors fits chosen state =
     let actor : IsActor k.contexts c.actor = actor_of k.contexts c.actor (chosen_acts k cpu c chosen) in
     let stores = deed_stores k c.actor (deed k c.actor) refl in
     let grows = subst (Grows k c.actor) state (chosen_grows k cpu c chosen) in
+    let paid = subst (λ (s : KernelState). IsPaidBy k s cpu c.sc) state (turn_paid k cpu (event_of cpu c (deed k c.actor)) (acting_kind (deed k c.actor)) (chosen_answers k cpu c chosen)) in
     record {
+      does = record { after = sym (acting_is k cpu c); rightful = r; asks = deed_asks_for k c.actor };
       serves = λ caller mark serves. (awaited (is_local_thread k) k.contexts c.actor caller mark actor serves fits.served).waits;
       frames = stores.0;
       log = stores.1;
-      messages = λ n. messages_by k c.actor n r fits.tables;
+      messages = λ n. messages_by k c.actor n r actor fits;
       contexts = λ n. contexts_by k c.actor n r actor fits;
       transfers = λ n. transfers_by k c.actor n fits.tables;
-      objects = objects_by k (turned k cpu (acting k c)) c.actor grows;
-      delegations = delegations_by k (turned k cpu (acting k c)) c.actor forest (shares c.actor) refl grows;
+      grows = grows_by k (turned k cpu (acting k c)) c.actor forest (shares c.actor) refl grows;
       identifiers = λ n. identifiers_by k c.actor n r fits.tables;
       semaphores = λ n. semaphores_by k c.actor n r fits.tables;
+      raises = λ sm whom is. deed_raises k cpu c.actor sm whom (is_stirred k c.actor (deed k c.actor)) (Some c.sc) is actor fits;
       deadlines = λ n. deadlines_by k c.actor n r;
       alarms = refl;
       clocks = refl;
-      budgets = subst (λ (s : KernelState). IsPaidBy k s cpu c.sc) state (turn_paid k cpu (event_of cpu c (deed k c.actor)) (acting_kind (deed k c.actor)) (chosen_answers k cpu c chosen));
+      budgets = paid;
+      new_budgets = λ n none. budgets_by k cpu c.actor c.sc n (is_stirred k c.actor (deed k c.actor)) fits.tables (payer k cpu c.sc (turned k cpu (acting k c)) paid) none;
       counts = λ n. counts_right k (turned k cpu (acting k c)) cpu c.actor n state (counts_by k c.actor n fits.tables);
       turns = refl;
-      processors = λ n other. index_other k.stirs.processors cpu n _ other;
+      processors = refl;
       cpus = refl;
       consoles = refl;
     }
@@ -143,7 +148,7 @@ authorised_by s turns cpu ec is =
 
 -- a frame that who acts may not write stays
 pub frames_of : (s : Scenario) (turns : List ℕ) (cpu frame : ℕ) →
-    ((ec page : ℕ) → Acting (run (boot s) turns) cpu ec → LeadsTo (run (boot s) turns) (pd_of (run (boot s) turns) ec) page write_right frame → ⊥) →
+    ((ec page : ℕ) → Acting (run (boot s) turns) cpu ec → PageLeadsTo (run (boot s) turns) (pd_of (run (boot s) turns) ec) page write_right frame → ⊥) →
     slice_get (after (run (boot s) turns) cpu).memory.ram frame ≡ slice_get (run (boot s) turns).memory.ram frame
 frames_of s turns cpu frame none = elim (comes now cpu) [
   | Stays none_ quiet same answer ↦ ap (λ (k : KernelState). slice_get k.memory.ram frame) same

@@ -57,7 +57,7 @@ roots s d i = in_appended (IsRoot s) (ram_derivation s.ram ∷ map (console_deri
     objects : IsIn (object_derivation s.consoles 0 1 ∷ object_derivation s.consoles 1 7 ∷ object_derivation s.consoles 2 1 ∷ []) d → IsRoot s d
     objects (inl same) = subst (IsRoot s) same (λ kind. refl)
     objects (inr (inl same)) = subst (IsRoot s) same (λ kind. refl)
-    objects (inr (inr (inl same))) = subst (IsRoot s) same (λ kind. tt)
+    objects (inr (inr (inl same))) = subst (IsRoot s) same (λ kind. record { domain = 0; cpu = 0; kind = Global; event = 16; object = refl; of = refl })
     objects (inr (inr (inr none))) = absurd none
 
 bare_contexts : (s : Scenario) (ec : ℕ) (x : EcState) → context_at (Bare s) ec ≡ Some x → IsMember (Bare s) Root ec × (x.state ≡ Ready)
@@ -82,7 +82,7 @@ kept_owned : (k new : KernelState) (S : ℕ → Type 0) (n : ℕ) (o : Object) �
     IsOwned k S n (Some o) → IsOwned new S n (Some o)
 kept_owned k new S n Pd kept h = h
 kept_owned k new S n (Ec pd cpu kind event) kept h = h
-kept_owned k new S n (Sc ec cpu priority quantum) kept h = tt
+kept_owned k new S n (Sc donor cpu priority quantum) kept h = kept_member k new S donor kept h
 kept_owned k new S n (Pt handler mtd ip) kept h = kept_member k new S handler kept h
 kept_owned k new S n Sm kept h = tt
 

@@ -28,7 +28,7 @@ use Rattle.law_forest.proofs.Pairs.{same_id}
 use Rattle.law_turns.specs.Giving.{IsShared}
 use Rattle.law_turns.proofs.Setting.{joined_length}
 use Rattle.law_integrity.specs.Rights.{MayTake}
-use Rattle.law_integrity.specs.Integrity.{Creates, DelegationsBy, Gives, ObjectsBy, Takes}
+use Rattle.law_integrity.specs.Integrity.{Creates, Gives, GrowsByRight, Keeps, Takes}
 use Rattle.law_integrity.proofs.Deciding.{given_rightful, may_take}
 
 -- whose domain may have an object made, where one is made
@@ -58,12 +58,6 @@ leaf_taken k ec leaf forest next = by_entry (context_at k ec) refl next.runs
     by_entry : (o : Option EcState) → context_at k ec ≡ o → option_and_then (λ x. revoke_by (pd_of k ec) x.state) o ≡ Some next.revoke → MayTake k ec leaf
     by_entry None at h = absurd (cc)
     by_entry (Some x) at h = by_state x.state (ap (λ (o : Option EcState). (context_in o).state) at) h
-
-pub objects_by : (k new : KernelState) (ec : ℕ) → Grows k ec new → (new.objects ≡ k.objects) ⊎ ObjectsBy k ec k.objects new.objects
-objects_by k new ec (Leaves h) = inl h.objects
-objects_by k new ec (MakesObject h) = inr (record { object = h.object; capability = h.capability; may = h.first; joins = h.objects })
-objects_by k new ec (GivesChild h) = inl h.objects
-objects_by k new ec (TakesLeaf h) = inl h.objects
 
 -- WHAT IS GIVEN IS SHARED
 
@@ -98,14 +92,14 @@ shared_by k ec child other is shares given same =
     let longer = joined_length k.delegations.list child in
     let both = ap (λ (f : Delegations). length f.list) same in absurd (omega (arith, longer, both))
 
-pub delegations_by : (k new : KernelState) (ec : ℕ) → IsForest k.delegations → ((child : Derivation) (cursor : ℕ) → deed k ec ≡ deeds.Gives child cursor → IsShared k ec child) →
-    new.delegations ≡ branched k.delegations (branch_by k ec (deed k ec)) → Grows k ec new → (new.delegations ≡ k.delegations) ⊎ DelegationsBy k ec k.delegations new.delegations
-delegations_by k new ec forest shares is (Leaves h) = inl h.delegations
-delegations_by k new ec forest shares is (MakesObject h) = inr (Creates h.object h.capability h.first h.delegations)
-delegations_by k new ec forest shares is (GivesChild h) =
-    inr (Gives h.child h.given.source h.given.there h.given.parent (child_within k ec h.child forest h.given) (shared_by k ec h.child (deed k ec) refl shares h.given (sym h.delegations ∙ is))
-    (given_rightful k ec h.child h.given) h.delegations)
-delegations_by k new ec forest shares is (TakesLeaf h) = inr (Takes h.leaf (leaf_taken k ec h.leaf forest h.is) h.delegations)
+pub grows_by : (k new : KernelState) (ec : ℕ) → IsForest k.delegations → ((child : Derivation) (cursor : ℕ) → deed k ec ≡ deeds.Gives child cursor → IsShared k ec child) →
+    new.delegations ≡ branched k.delegations (branch_by k ec (deed k ec)) → Grows k ec new → GrowsByRight k new ec
+grows_by k new ec forest shares is (Leaves h) = Keeps h.objects h.delegations
+grows_by k new ec forest shares is (MakesObject h) = Creates h.object h.capability h.first h.objects h.delegations
+grows_by k new ec forest shares is (GivesChild h) =
+    Gives h.child h.given.source h.given.there h.given.parent (child_within k ec h.child forest h.given) (shared_by k ec h.child (deed k ec) refl shares h.given (sym h.delegations ∙ is))
+    (given_rightful k ec h.child h.given) h.objects h.delegations
+grows_by k new ec forest shares is (TakesLeaf h) = Takes h.leaf (leaf_taken k ec h.leaf forest h.is) h.objects h.delegations
 
 pub chosen_grows : (k : KernelState) (cpu : ℕ) (c : Candidate) → next_to_act k cpu ≡ Some c → Grows k c.actor (after k cpu)
 chosen_grows k cpu c chosen = subst (λ (o : Option Candidate). GrowsBy k o (after k cpu)) chosen (turn_grows k cpu)

@@ -15,7 +15,7 @@ use Rattle.nova_model.specs.declared.delegation.Derivation.{Derivation}
 use Rattle.law_origins.specs.Giving.{Acts}
 use Rattle.law_origins.proofs.Lists.{run_append}
 use Rattle.law_integrity.specs.Confined.{IsMadeAlong, AreSeparate, Holds, IsClosed, IsMember, OnlyOf, Reach, IsOwned, Of, grown, more}
-use Rattle.law_integrity.specs.Rights.{LeadsTo as LeadsBy}
+use Rattle.law_integrity.specs.Rights.{PageLeadsTo}
 use Rattle.law_integrity.specs.Secrecy.{IsHidden, IsHiddenAlong, with_bytes}
 use Rattle.law_integrity.proofs.Authorised.{frames_of}
 use Rattle.law_integrity.proofs.Confining.{Child, IsAfter, IsAway, Newest, Old, Whence, acting_one, acts_one, both_member, closed_after, gives_in, member_pd, not_next, was_in, whence}
@@ -125,7 +125,7 @@ holds_along s before (cpu ∷ turns) S T right object apart r =
 
 -- THE TURNS OF A SET
 
-pub reach_of : (k : KernelState) (S : ℕ → Type 0) (ec page right frame : ℕ) → IsMember k S ec → LeadsBy k (pd_of k ec) page right frame → Reach k S right frame
+pub reach_of : (k : KernelState) (S : ℕ → Type 0) (ec page right frame : ℕ) → IsMember k S ec → PageLeadsTo k (pd_of k ec) page right frame → Reach k S right frame
 reach_of k S ec page right frame m l =
     let from = l.place.from_base in
     let before_end = l.place.before_end in
@@ -147,7 +147,7 @@ set_stores s before turns S T cpu ec frame apart acts_ m none =
     let k = run (boot s) before in
     let l : KernelState = run k turns in
     subst (λ (l : KernelState). slice_get (after l cpu).memory.ram frame ≡ slice_get l.memory.ram frame) (run_append (boot s) before turns)
-    (frames_of s (before ++ turns) cpu frame (subst (λ (l : KernelState). (e page : ℕ) → Acts l cpu e → LeadsBy l (pd_of l e) page write_right frame → ⊥) (sym (run_append (boot s) before turns))
+    (frames_of s (before ++ turns) cpu frame (subst (λ (l : KernelState). (e page : ℕ) → Acts l cpu e → PageLeadsTo l (pd_of l e) page write_right frame → ⊥) (sym (run_append (boot s) before turns))
     (λ e page its leads. none (reach_along s before turns S T write_right frame apart
     (reach_of l (grown k S turns) e page write_right frame (subst (IsMember l (grown k S turns)) (acts_one l cpu ec e acts_ its) m) leads)))))
 
@@ -157,7 +157,7 @@ pub set_hidden : (s : Scenario) (before turns : List ℕ) (S T : ℕ → Type 0)
     IsHidden (run (run (boot s) before) turns) (pd_of (run (run (boot s) before) turns) e) frame
 set_hidden s before turns S T cpu ec frame apart acts_ m none e its = record { unread = λ page l. by_right read_right page l; unwritten = λ page l. by_right write_right page l; unexecuted = λ page l. by_right execute_right page l }
   where
-    by_right : (right page : ℕ) → LeadsBy (run (run (boot s) before) turns) (pd_of (run (run (boot s) before) turns) e) page right frame → ⊥
+    by_right : (right page : ℕ) → PageLeadsTo (run (run (boot s) before) turns) (pd_of (run (run (boot s) before) turns) e) page right frame → ⊥
     by_right right page l = none right (reach_along s before turns S T right frame apart
         (reach_of (run (run (boot s) before) turns) (grown (run (boot s) before) S turns) e page right frame
         (subst (IsMember (run (run (boot s) before) turns) (grown (run (boot s) before) S turns)) (acts_one (run (run (boot s) before) turns) cpu ec e acts_ its) m) l))
@@ -218,7 +218,7 @@ closed_together k S T U left right split a b = record {
     owned R n None more_ h = tt
     owned R n (Some Pd) more_ h = more_ n h
     owned R n (Some (Ec pd cpu kind event)) more_ h = more_ pd h
-    owned R n (Some (Sc ec cpu priority quantum)) more_ h = tt
+    owned R n (Some (Sc donor cpu priority quantum)) more_ h = member R donor more_ h
     owned R n (Some (Pt handler mtd ip)) more_ h = member R handler more_ h
     owned R n (Some Sm) more_ h = tt
 

@@ -1,13 +1,15 @@
 -- Closed sets of domains stay closed, and come to hold no more than they held and made.
 use Rattle.std.proofs.Common.{◌≡◌, ℕ, ◌+◌, ◌^◌, ◌<◌, ◌≤◌, ◌⊎◌, List, [], ◌∷◌, ◌++◌, length, refl, sym, ap, ◌∙◌, subst, inl, inr, arith}
-use Rattle.std.specs.Prelude.{true, not, ◌==◌, Contains, slice_get, Option, Some, None, option_and_then, option_map}
-use Rattle.std.proofs.lemmas.Nat.{pow_pos}
+use Rattle.std.specs.Prelude.{true, not, ◌==◌, bit_and, Contains, slice_get, Option, Some, None, option_and_then, option_map}
+use Rattle.std.proofs.lemmas.Nat.{and_mask, pow_pos}
 use Rattle.std.proofs.lemmas.Option.{same_Some, slice_get_within}
 use Rattle.nova_objects.specs.declared.object.Object.{Object}
 use Rattle.nova_objects.specs.declared.object.Object.TheVariants.{Pd, Ec, Sc, Pt, Sm}
+use Rattle.nova_range.specs.Rights.{allows}
+use Rattle.nova_range.specs.declared.rights.Rights.{Rights}
 use Rattle.nova_range.specs.declared.range.Kind.{Kind}
 use Rattle.nova_range.specs.declared.range.Kind.TheVariants.{Obj}
-use Rattle.nova_model.specs.Capabilities.{is_local}
+use Rattle.nova_model.specs.Capabilities.{is_local, is_schedulable}
 use Rattle.nova_model.specs.Choice.{Candidate}
 use Rattle.nova_model.specs.Deeds.{deed}
 use Rattle.nova_model.specs.Delegations.{Delegations}
@@ -31,11 +33,29 @@ use Rattle.law_origins.proofs.Coming.{came}
 use Rattle.law_origins.proofs.Origins.{opened_now}
 use Rattle.law_integrity.specs.Rights.{CallsAt, ExitsAt, GivesFirst, GivesTo, RepliesWith, TakesOfCaller}
 use Rattle.law_integrity.specs.Rightful.{IsRightful}
-use Rattle.law_integrity.specs.Confined.{IsClosed, IsMade, IsMember, IsOwned, more}
+use Rattle.law_integrity.specs.Confined.{Holds, HoldsAny, IsClosed, IsMade, IsMember, IsOwned, Reach, ReachAny, more}
 use Rattle.law_integrity.proofs.Branches.{chosen_grows, child_within}
 use Rattle.law_integrity.proofs.Deciding.{given_rightful}
 use Rattle.law_integrity.specs.Waits.{HasLocalEdges}
 use Rattle.law_integrity.proofs.Edges.{at_index, edge_came}
+
+-- WHATEVER RIGHTS
+
+pub any_held : {k : KernelState} {S : ℕ → Type 0} {right object : ℕ} → Holds k S right object → HoldsAny k S object
+any_held h = record { capability = h.capability; there = h.there; of = h.of; kind = h.kind; leads = h.leads }
+
+-- no right at all is a part of each
+allows_none : (rights : Rights) → allows rights 0 ≡ true
+allows_none rights = let none : bit_and rights.0 0 ≡ 0 = and_mask rights.0 0 ∙ omega arith in ap (λ (n : ℕ). n == 0) none
+
+pub held_none : {k : KernelState} {S : ℕ → Type 0} {object : ℕ} → HoldsAny k S object → Holds k S 0 object
+held_none h = record { capability = h.capability; there = h.there; of = h.of; kind = h.kind; leads = h.leads; allowed = allows_none h.capability.rights }
+
+pub any_reached : {k : KernelState} {S : ℕ → Type 0} {right frame : ℕ} → Reach k S right frame → ReachAny k S frame
+any_reached r = record { derivation = r.derivation; there = r.there; of = r.of; kind = r.kind; leads = r.leads }
+
+pub reached_none : {k : KernelState} {S : ℕ → Type 0} {frame : ℕ} → ReachAny k S frame → Reach k S 0 frame
+reached_none r = record { derivation = r.derivation; there = r.there; of = r.of; kind = r.kind; leads = r.leads; allowed = allows_none r.derivation.rights }
 
 -- OBJECTS
 
@@ -181,7 +201,7 @@ child_target d source kind order w =
 owned_later : (k : KernelState) (cpu : ℕ) (S : ℕ → Type 0) (n : ℕ) (o : Object) → IsOwned k S n (Some o) → IsOwned (after k cpu) (more k S cpu) n (Some o)
 owned_later k cpu S n Pd s = inl s
 owned_later k cpu S n (Ec pd its kind event) s = inl s
-owned_later k cpu S n (Sc ec its priority quantum) s = tt
+owned_later k cpu S n (Sc donor its priority quantum) s = member_later k cpu S donor s
 owned_later k cpu S n (Pt handler mtd ip) s = member_later k cpu S handler s
 owned_later k cpu S n Sm s = tt
 
@@ -192,6 +212,14 @@ local_member k S handler (Some (Ec pd its kind event)) is local s = record { dom
 local_member k S handler (Some (Sc ec its priority quantum)) is local s = absurd (cc)
 local_member k S handler (Some (Pt h mtd ip)) is local s = absurd (cc)
 local_member k S handler (Some Sm) is local s = absurd (cc)
+
+pub schedulable_member : (k : KernelState) (S : ℕ → Type 0) (donor : ℕ) (o : Option Object) → slice_get k.objects donor ≡ o → option_map is_schedulable o ≡ Some true → IsOwned k S donor o → IsMember k S donor
+schedulable_member k S donor None is may s = absurd (cc)
+schedulable_member k S donor (Some Pd) is may s = absurd (cc)
+schedulable_member k S donor (Some (Ec pd its kind event)) is may s = record { domain = pd; cpu = its; kind = kind; event = event; object = is; of = s }
+schedulable_member k S donor (Some (Sc ec its priority quantum)) is may s = absurd (cc)
+schedulable_member k S donor (Some (Pt h mtd ip)) is may s = absurd (cc)
+schedulable_member k S donor (Some Sm) is may s = absurd (cc)
 
 pub record IsAfter (k : KernelState) (S : ℕ → Type 0) (cpu : ℕ) : Type 0 where
   pub sound : IsSound k
@@ -226,7 +254,11 @@ newest_owned k S cpu ec d (Ec pd its kind event) closed acts_ m first is =
     let creator = first.creator in
     let s : S creator.capability.pd = subst S (sym (creator.held ∙ first.pd)) (member_pd k S ec m) in
     inl (subst S (sym first.place) (owned_at k S creator.capability creator.capability.target Pd closed creator.there s creator.kind refl creator.leads))
-newest_owned k S cpu ec d (Sc e its priority quantum) closed acts_ m first is = tt
+newest_owned k S cpu ec d (Sc donor its priority quantum) closed acts_ m first is =
+    let binder = first.bound.bound in
+    let s : S binder.capability.pd = subst S (sym (binder.held ∙ first.pd)) (member_pd k S ec m) in
+    member_later k cpu S donor (schedulable_member k S donor (slice_get k.objects donor) refl binder.leads
+    (subst (λ (t : ℕ). IsOwned k S t (slice_get k.objects t)) binder.target (closed.capabilities binder.capability binder.there s binder.kind)))
 newest_owned k S cpu ec d (Pt handler mtd ip) closed acts_ m first is =
     let binder = first.bound in
     let s : S binder.capability.pd = subst S (sym (binder.held ∙ first.pd)) (member_pd k S ec m) in

@@ -28,8 +28,7 @@ use Rattle.law_integrity.specs.Integrity.{Called, ContextBy, ExitSent, Itself, R
 use Rattle.nova_calls.specs.declared.numbers.TheConstants.{EC_CTRL}
 use Rattle.nova_model.specs.Capabilities.{control_right}
 use Rattle.law_integrity.specs.Rights.{Names}
-use Rattle.law_integrity.proofs.Messages.{exits_at}
-use Rattle.law_integrity.proofs.Own.{IsOwn, own_by, reached_parked}
+use Rattle.law_integrity.proofs.Own.{IsOwn, exits_at, own_by, reached_parked}
 
 -- the entry of this number stays, or is so by right
 abbrev pub IsRight : KernelState → ℕ → ℕ → List ℕ → Option EcState → Type 0

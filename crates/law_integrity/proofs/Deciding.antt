@@ -60,7 +60,7 @@ use Rattle.law_turns.proofs.Holding.{named_is}
 use Rattle.law_turns.proofs.Rows.{call_holds, create_pd_holds, makes_hold, reply_holds}
 use Rattle.law_origins.specs.Events.{AreSelectors}
 use Rattle.law_origins.proofs.Rights.{IsUnder, under}
-use Rattle.law_integrity.specs.Rights.{CallsAt, GivesFirst, GivesTo, MayTake, Names, RepliesWith, TakesOfCaller}
+use Rattle.law_integrity.specs.Rights.{Again, AtCall, CallsAt, GivesFirst, GivesTo, IsAsking, MayTake, Names, RepliesWith, TakesOfCaller}
 use Rattle.law_integrity.specs.Rightful.{IsExitAt, IsRightful, IsTold, OfNothing, OfRange, OfTicks, AtStartup, OfInstruction, OfRecall, IsOfExit}
 use Rattle.law_integrity.proofs.Refusals.{IsUndone, asked_holds, asked_undone}
 use Rattle.law_integrity.proofs.Selected.{ReadsAction, Selects, call_selected, named_by, names, portal_at}
@@ -79,43 +79,43 @@ Found k ec d = IsRightful k ec d
 
 -- ROWS
 
-abbrev calls_at : (k : KernelState) (ec selector pt : ℕ) → CALL ≡ reg (context k ec).regs 17 → (selector ≡ reg (context k ec).regs 10) × (selector < 2 ^ 20) → named k (pd_of k ec) is_pt call_right selector ≡ Ok pt →
+abbrev calls_at : (k : KernelState) (ec selector pt : ℕ) → IsAsking k ec → CALL ≡ reg (context k ec).regs 17 → (selector ≡ reg (context k ec).regs 10) × (selector < 2 ^ 20) → named k (pd_of k ec) is_pt call_right selector ≡ Ok pt →
     CallsAt k ec (handler_of k pt)
-calls_at k ec selector pt numbered at is =
+calls_at k ec selector pt asking numbered at is =
     let its = named_by k (pd_of k ec) is_pt call_right selector pt is in record {
       portal = pt;
       mtd = mtd_in (slice_get k.objects pt);
       ip = ip_of k pt;
-      held = names k ec CALL selector call_right pt is_pt numbered at its;
+      held = names k ec CALL selector call_right pt is_pt asking numbered at its;
       object = portal_at (slice_get k.objects pt) its.object;
     }
 
-named_found : (k : KernelState) (ec call selector right : ℕ) (is : Object → Bool) (d : ℕ → Deed) → call ≡ reg (context k ec).regs 17 → (selector ≡ reg (context k ec).regs 10) × (selector < 2 ^ 20) →
+named_found : (k : KernelState) (ec call selector right : ℕ) (is : Object → Bool) (d : ℕ → Deed) → IsAsking k ec → call ≡ reg (context k ec).regs 17 → (selector ≡ reg (context k ec).regs 10) × (selector < 2 ^ 20) →
     ((n : ℕ) → Names k ec call right n → IsOf k.objects is n → Found k ec (d n)) → IfDone (Found k ec) (and_then (named k (pd_of k ec) is right selector) (λ n. Ok (d n)))
-named_found k ec call selector right is d numbered at h = by_name (named k (pd_of k ec) is right selector) refl
+named_found k ec call selector right is d asking numbered at h = by_name (named k (pd_of k ec) is right selector) refl
   where
     by_name : (o : Result ℕ Status) → named k (pd_of k ec) is right selector ≡ o → IfDone (Found k ec) (and_then o (λ n. Ok (d n)))
     by_name (Err status) e = tt
-    by_name (Ok n) e = let its = named_by k (pd_of k ec) is right selector n e in h n (names k ec call selector right n is numbered at its) its.object
+    by_name (Ok n) e = let its = named_by k (pd_of k ec) is right selector n e in h n (names k ec call selector right n is asking numbered at its) its.object
 
 new_pd_found : (k : KernelState) (ec target : ℕ) (first : Option (Range × Rights)) → Found k ec (new_domain k target first)
 new_pd_found k ec target None = tt
 new_pd_found k ec target (Some range) = tt
 
-of_sm : (k : KernelState) (ec sm right n : ℕ) → SM_CTRL ≡ reg (context k ec).regs 17 → (sm ≡ reg (context k ec).regs 10) × (sm < 2 ^ 20) → named k (pd_of k ec) is_sm right sm ≡ Ok n →
+of_sm : (k : KernelState) (ec sm right n : ℕ) → IsAsking k ec → SM_CTRL ≡ reg (context k ec).regs 17 → (sm ≡ reg (context k ec).regs 10) × (sm < 2 ^ 20) → named k (pd_of k ec) is_sm right sm ≡ Ok n →
     Names k ec SM_CTRL right n × IsOf k.objects is_sm n
-of_sm k ec sm right n numbered at is = let its = named_by k (pd_of k ec) is_sm right sm n is in (names k ec SM_CTRL sm right n is_sm numbered at its, its.object)
+of_sm k ec sm right n asking numbered at is = let its = named_by k (pd_of k ec) is_sm right sm n is in (names k ec SM_CTRL sm right n is_sm asking numbered at its, its.object)
 
 -- a down that waits to a deadline
-within_found : (k : KernelState) (ec sm ticks : ℕ) → SM_CTRL ≡ reg (context k ec).regs 17 → (sm ≡ reg (context k ec).regs 10) × (sm < 2 ^ 20) → reg (context k ec).regs 11 ≡ 2 → ticks ≡ reg (context k ec).regs 12 →
+within_found : (k : KernelState) (ec sm ticks : ℕ) → IsAsking k ec → SM_CTRL ≡ reg (context k ec).regs 17 → (sm ≡ reg (context k ec).regs 10) × (sm < 2 ^ 20) → reg (context k ec).regs 11 ≡ 2 → ticks ≡ reg (context k ec).regs 12 →
     IfDone (Found k ec) (sm_ctrl k ec (pd_of k ec) sm (act.DownWithin ticks))
-within_found k ec sm ticks numbered at within ticks_is = by_name (named k (pd_of k ec) is_sm down_right sm) refl
+within_found k ec sm ticks asking numbered at within ticks_is = by_name (named k (pd_of k ec) is_sm down_right sm) refl
   where
     by_ticks : (n : ℕ) → named k (pd_of k ec) is_sm down_right sm ≡ Ok n → (none : Bool) → ticks == 0 ≡ none →
         IfDone (Found k ec) (unless none Timeout (Ok (deeds.Blocks n (Some (deadline_after k ec n ticks)))))
     by_ticks n is true none = tt
     by_ticks n is false none =
-        let its = of_sm k ec sm down_right n numbered at is in
+        let its = of_sm k ec sm down_right n asking numbered at is in
         let left : ticks ≡ 0 → ⊥ = eqb-false ticks 0 none in (
           record { names = its.0; down = inr within },
           its.1,
@@ -129,7 +129,7 @@ within_found k ec sm ticks numbered at within ticks_is = by_name (named k (pd_of
         )
 
     by_answer : (n : ℕ) → named k (pd_of k ec) is_sm down_right sm ≡ Ok n → (d : Down) → IfDone (Found k ec) (downed_within n ticks (deadline_after k ec n ticks) d)
-    by_answer n is lowering.Done = let its = of_sm k ec sm down_right n numbered at is in (record { names = its.0; down = inr within }, its.1)
+    by_answer n is lowering.Done = let its = of_sm k ec sm down_right n asking numbered at is in (record { names = its.0; down = inr within }, its.1)
     by_answer n is lowering.Blocked = by_ticks n is (ticks == 0) refl
 
     by_name : (o : Result ℕ Status) → named k (pd_of k ec) is_sm down_right sm ≡ o →
@@ -137,27 +137,27 @@ within_found k ec sm ticks numbered at within ticks_is = by_name (named k (pd_of
     by_name (Ok n) is = by_answer n is (answer_of (semaphore k.semaphores n))
     by_name (Err status) is = tt
 
-sm_found : (k : KernelState) (ec sm : ℕ) (action : SmAction) → SM_CTRL ≡ reg (context k ec).regs 17 → (sm ≡ reg (context k ec).regs 10) × (sm < 2 ^ 20) → ReadsAction (context k ec).regs action →
+sm_found : (k : KernelState) (ec sm : ℕ) (action : SmAction) → IsAsking k ec → SM_CTRL ≡ reg (context k ec).regs 17 → (sm ≡ reg (context k ec).regs 10) × (sm < 2 ^ 20) → ReadsAction (context k ec).regs action →
     IfDone (Found k ec) (sm_ctrl k ec (pd_of k ec) sm action)
-sm_found k ec sm act.Up numbered at reads = by_name (named k (pd_of k ec) is_sm up_right sm) refl
+sm_found k ec sm act.Up asking numbered at reads = by_name (named k (pd_of k ec) is_sm up_right sm) refl
   where
     by_woken : (n : ℕ) → named k (pd_of k ec) is_sm up_right sm ≡ Ok n → (o : Result (Option ℕ) Overflow) → IfDone (Found k ec) (upped_by n o)
-    by_woken n is (Ok whom) = let its = of_sm k ec sm up_right n numbered at is in (record { names = its.0; up = reads }, its.1)
+    by_woken n is (Ok whom) = let its = of_sm k ec sm up_right n asking numbered at is in (record { names = its.0; up = reads }, its.1)
     by_woken n is (Err full) = tt
 
     by_name : (o : Result ℕ Status) → named k (pd_of k ec) is_sm up_right sm ≡ o → IfDone (Found k ec) (and_then o (λ n. upped_by n (woken (semaphore k.semaphores n))))
     by_name (Ok n) is = by_woken n is (woken (semaphore k.semaphores n))
     by_name (Err status) is = tt
-sm_found k ec sm act.Down numbered at reads = by_name (named k (pd_of k ec) is_sm down_right sm) refl
+sm_found k ec sm act.Down asking numbered at reads = by_name (named k (pd_of k ec) is_sm down_right sm) refl
   where
     by_answer : (n : ℕ) → named k (pd_of k ec) is_sm down_right sm ≡ Ok n → (d : Down) → Found k ec (downed_by n d)
-    by_answer n is lowering.Done = let its = of_sm k ec sm down_right n numbered at is in (record { names = its.0; down = inl reads }, its.1)
-    by_answer n is lowering.Blocked = let its = of_sm k ec sm down_right n numbered at is in (record { names = its.0; down = inl reads }, its.1, reads)
+    by_answer n is lowering.Done = let its = of_sm k ec sm down_right n asking numbered at is in (record { names = its.0; down = inl reads }, its.1)
+    by_answer n is lowering.Blocked = let its = of_sm k ec sm down_right n asking numbered at is in (record { names = its.0; down = inl reads }, its.1, reads)
 
     by_name : (o : Result ℕ Status) → named k (pd_of k ec) is_sm down_right sm ≡ o → IfDone (Found k ec) (and_then o (λ n. Ok (downed_by n (answer_of (semaphore k.semaphores n)))))
     by_name (Ok n) is = by_answer n is (answer_of (semaphore k.semaphores n))
     by_name (Err status) is = tt
-sm_found k ec sm (act.DownWithin ticks) numbered at reads = within_found k ec sm ticks numbered at reads.0 reads.1
+sm_found k ec sm (act.DownWithin ticks) asking numbered at reads = within_found k ec sm ticks asking numbered at reads.0 reads.1
 
 -- what a lookup tells
 looked : (k : KernelState) (ec : ℕ) (range : Range) → IsTold k ec LOOKUP (looked_up k (pd_of k ec) range)
@@ -171,31 +171,31 @@ looked k ec range = by_found (find (covers range.kind (pd_of k ec) range.base) k
         let rest = and_parts (d.pd == pd_of k ec) (has_place (range_of d) range.base) parts.1 in
         OfRange refl d (contains_from_in k.delegations.list d its.0) (eqb-true d.pd (pd_of k ec) rest.0) refl
 
-row_found : (k : KernelState) (ec : ℕ) (c : Call) → number_of c ≡ reg (context k ec).regs 17 → Selects (context k ec).regs c → IfDone (Found k ec) (row k ec (pd_of k ec) c)
-row_found k ec (asks.Call portal flag) numbered at =
+row_found : (k : KernelState) (ec : ℕ) (c : Call) → IsAsking k ec → number_of c ≡ reg (context k ec).regs 17 → Selects (context k ec).regs c → IfDone (Found k ec) (row k ec (pd_of k ec) c)
+row_found k ec (asks.Call portal flag) asking numbered at =
     call_holds (Found k ec) k ec (pd_of k ec) portal flag
-    (λ pt is. record { at = calls_at k ec portal pt numbered at is.portal; begins = refl; number_is = refl; items_are = refl; flag = flag; admits = is.admits })
-    (λ pt is. record { at = calls_at k ec portal pt numbered at is.portal; flag = flag; admits = is.admits })
-row_found k ec asks.Reply numbered at = reply_holds (Found k ec) k ec (λ caller mark is. (is.serves, is.local, sym numbered))
-row_found k ec (asks.CreatePd target pd first) numbered at = create_pd_holds (Found k ec) k (pd_of k ec) target pd first (new_pd_found k ec target first)
-row_found k ec (asks.CreateEc target pd cpu kind sp event) numbered at = makes_hold (Found k ec) CREATE_EC target (λ made. tt) k (pd_of k ec) pd _
-row_found k ec (asks.CreateSc target pd its quantum priority) numbered at = makes_hold (Found k ec) CREATE_SC target (λ made. tt) k (pd_of k ec) pd _
-row_found k ec (asks.CreatePt target pd handler mtd ip) numbered at = makes_hold (Found k ec) CREATE_PT target (λ made. tt) k (pd_of k ec) pd _
-row_found k ec (asks.CreateSm target pd count) numbered at = makes_hold (Found k ec) CREATE_SM target (λ made. tt) k (pd_of k ec) pd (λ o. Ok (Sm count))
-row_found k ec (asks.Lookup range) numbered at = (numbered, looked k ec range)
-row_found k ec (asks.Revoke range own) numbered at = sym numbered
-row_found k ec (asks.EcCtrl whose) numbered at = named_found k ec EC_CTRL whose control_right is_ec (λ n. deeds.Recalls n) numbered at (λ n may is. (may, is))
-row_found k ec (asks.ScCtrl sc) numbered at =
-    named_found k ec SC_CTRL sc control_right is_sc (λ n. deeds.Tells SC_CTRL (ticks_in (budget_at k n))) numbered at (λ n may is. (numbered, OfTicks refl n may is refl))
-row_found k ec (asks.PtCtrl pt number) numbered at = named_found k ec PT_CTRL pt control_right is_pt (λ n. deeds.Names n number) numbered at.0 (λ n may is. (may, is, at.1))
-row_found k ec (asks.SmCtrl sm action) numbered at = sm_found k ec sm action numbered at.0 at.1
+    (λ pt is. record { at = calls_at k ec portal pt asking numbered at is.portal; begins = refl; number_is = refl; items_are = refl; flag = flag; admits = is.admits })
+    (λ pt is. record { at = calls_at k ec portal pt asking numbered at is.portal; flag = flag; admits = is.admits })
+row_found k ec asks.Reply asking numbered at = reply_holds (Found k ec) k ec (λ caller mark is. (is.serves, is.local, sym numbered))
+row_found k ec (asks.CreatePd target pd first) asking numbered at = create_pd_holds (Found k ec) k (pd_of k ec) target pd first (new_pd_found k ec target first)
+row_found k ec (asks.CreateEc target pd cpu kind sp event) asking numbered at = makes_hold (Found k ec) CREATE_EC target (λ made. tt) k (pd_of k ec) pd _
+row_found k ec (asks.CreateSc target pd its quantum priority) asking numbered at = makes_hold (Found k ec) CREATE_SC target (λ made. tt) k (pd_of k ec) pd _
+row_found k ec (asks.CreatePt target pd handler mtd ip) asking numbered at = makes_hold (Found k ec) CREATE_PT target (λ made. tt) k (pd_of k ec) pd _
+row_found k ec (asks.CreateSm target pd count) asking numbered at = makes_hold (Found k ec) CREATE_SM target (λ made. tt) k (pd_of k ec) pd (λ o. Ok (Sm count))
+row_found k ec (asks.Lookup range) asking numbered at = (numbered, looked k ec range)
+row_found k ec (asks.Revoke range own) asking numbered at = sym numbered
+row_found k ec (asks.EcCtrl whose) asking numbered at = named_found k ec EC_CTRL whose control_right is_ec (λ n. deeds.Recalls n) asking numbered at (λ n may is. (may, is))
+row_found k ec (asks.ScCtrl sc) asking numbered at =
+    named_found k ec SC_CTRL sc control_right is_sc (λ n. deeds.Tells SC_CTRL (ticks_in (budget_at k n))) asking numbered at (λ n may is. (numbered, OfTicks refl n may is refl))
+row_found k ec (asks.PtCtrl pt number) asking numbered at = named_found k ec PT_CTRL pt control_right is_pt (λ n. deeds.Names n number) asking numbered at.0 (λ n may is. (may, is, at.1))
+row_found k ec (asks.SmCtrl sm action) asking numbered at = sm_found k ec sm action asking numbered at.0 at.1
 
-pub call_found : (k : KernelState) (ec : ℕ) → Found k ec (hypercall k ec (pd_of k ec) (context k ec).regs)
-call_found k ec = by_answer (asked k ec (pd_of k ec) (context k ec).regs) (asked_undone k ec (pd_of k ec) (context k ec).regs) done
+pub call_found : (k : KernelState) (ec : ℕ) → IsAsking k ec → Found k ec (hypercall k ec (pd_of k ec) (context k ec).regs)
+call_found k ec asking = by_answer (asked k ec (pd_of k ec) (context k ec).regs) (asked_undone k ec (pd_of k ec) (context k ec).regs) done
   where
     done : IfDone (Found k ec) (asked k ec (pd_of k ec) (context k ec).regs)
     done = asked_holds (Found k ec) k ec (pd_of k ec) (context k ec).regs
-        (λ c reads. row_found k ec c (read_numbered (context k ec).regs c reads) (call_selected (context k ec).regs c reads))
+        (λ c reads. row_found k ec c asking (read_numbered (context k ec).regs c reads) (call_selected (context k ec).regs c reads))
 
     by_answer : (r : Result Deed Status) → IsUndone r → IfDone (Found k ec) r → Found k ec (or_refuses (reg (context k ec).regs 17) r)
     by_answer (Ok d) undone holds = holds
@@ -313,7 +313,10 @@ ready_found k ec state false recall = by_once (instruction k ec) refl
     no_call reason none call thread = let own : (reason == environment_call) ≡ true = eq-eqb reason environment_call call in absurd (let both : (true && true) ≡ false = ap₂ (λ (a b : Bool). a && b) (sym own) (sym thread) ∙ none in cc)
 
     by_signal : (reason q0 q1 : ℕ) → instruction k ec ≡ Raised reason q0 q1 → (t : Bool) → ((reason == environment_call) && is_thread k ec) ≡ t → Found k ec (signalled k ec reason q0 q1 t)
-    by_signal reason q0 q1 came true is = call_found k ec
+    by_signal reason q0 q1 came true is =
+        let parts = and_parts (reason == environment_call) (is_thread k ec) is in
+        call_found k ec
+        (AtCall (record { state = state; recall = recall; thread = parts.1; q0 = q0; q1 = q1; raises = came ∙ ap (λ (r : ℕ). Raised r q0 q1) (eqb-true reason environment_call parts.0) }))
     by_signal reason q0 q1 came false is = OfInstruction state recall came (no_call reason is)
 
     by_once : (o : Once) → instruction k ec ≡ o → Found k ec (stepping k ec o)
@@ -343,7 +346,7 @@ deed_found k ec forest selectors = by_state (context k ec).state refl
     by_state (Granting new) is = subst (λ (s : State). Found k ec (deed_in k ec s)) is (giving_found k ec (ap is_giving is))
     by_state Replying is = subst (λ (s : State). Found k ec (deed_in k ec s)) is (giving_found k ec (ap is_giving is))
     by_state (Calling handler) is = is
-    by_state (Helping handler) is = call_found k ec
+    by_state (Helping handler) is = call_found k ec (Again handler is)
     by_state (Revoking range own) is = removes_found k ec range own forest is _ refl
     by_state (Sending reason q0 q1 handler) is = exits_found k ec reason q0 q1 forest selectors (ap raised_exit is)
 

@@ -42,7 +42,7 @@ use Rattle.law_integrity.specs.Rights.{CallsAt, ExitsAt}
 use Rattle.law_integrity.specs.Waits.{HasLocalEdges}
 use Rattle.law_integrity.proofs.Rightful.{deed_rightful}
 use Rattle.law_integrity.proofs.Entries.{join_each}
-use Rattle.law_integrity.proofs.Messages.{exits_at}
+use Rattle.law_integrity.proofs.Own.{exits_at}
 
 -- the edge of an entry
 abbrev edge_in : Option EcState → Option ℕ

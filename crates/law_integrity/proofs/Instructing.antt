@@ -27,7 +27,7 @@ use Rattle.law_turns.proofs.Setting.{get_other}
 use Rattle.law_origins.specs.Giving.{Acts}
 use Rattle.nova_range.specs.Rights.{write_right}
 use Rattle.nova_utcb.specs.Messages.{stored}
-use Rattle.law_integrity.specs.Rights.{LeadsTo}
+use Rattle.law_integrity.specs.Rights.{PageLeadsTo}
 use Rattle.law_integrity.proofs.Stores.{leads_to}
 use Rattle.law_integrity.specs.Disclosure.{DifferByInstruction, DifferInRegisters, IsAtInstruction, registers_set, with_registers}
 use Rattle.law_integrity.proofs.Masking.{Words, choice_same, masked}
@@ -168,10 +168,10 @@ abbrev pub AreBoth : KernelState → KernelState → ℕ → ℕ → Type 0
 AreBoth k l cpu g = DifferByInstruction (after k cpu) (after l cpu) g
     × (is_thread k g ≡ false → (after l cpu).messages ≡ (after k cpu).messages)
     × (store_of (instruction l g) ≡ store_of (instruction k g) → ((after l cpu).memory ≡ (after k cpu).memory) × ((after l cpu).stirs ≡ (after k cpu).stirs))
-    × ((frame : ℕ) → ((page : ℕ) → LeadsTo k (pd_of k g) page write_right frame → ⊥) → slice_get (after l cpu).memory.ram frame ≡ slice_get (after k cpu).memory.ram frame)
+    × ((frame : ℕ) → ((page : ℕ) → PageLeadsTo k (pd_of k g) page write_right frame → ⊥) → slice_get (after l cpu).memory.ram frame ≡ slice_get (after k cpu).memory.ram frame)
 
 -- a frame that its domain can't write stays
-unwritten : (k : KernelState) (g frame : ℕ) → ((page : ℕ) → LeadsTo k (pd_of k g) page write_right frame → ⊥) → (o : Option Store) →
+unwritten : (k : KernelState) (g frame : ℕ) → ((page : ℕ) → PageLeadsTo k (pd_of k g) page write_right frame → ⊥) → (o : Option Store) →
     slice_get (memory_with k.memory (option_map (λ s. (address_space k g, s)) o)).ram frame ≡ slice_get k.memory.ram frame
 unwritten k g frame none None = refl
 unwritten k g frame none (Some s) = by_frame (frame_for (address_space k g) write_right s.address) refl

@@ -124,7 +124,7 @@ pub owned_kept : (k : KernelState) (label : ℕ → ℕ) (cpu side n : ℕ) (o :
 owned_kept k label cpu side n Pd tables at own = or_kept k label cpu side n (slice_get_within k.objects n Pd at) own
 owned_kept k label cpu side n (Ec pd its kind event) tables at own =
     or_kept k label cpu side pd (domain_below k n tables (record { domain = pd; cpu = its; kind = kind; event = event; object = at; of = tt })) own
-owned_kept k label cpu side n (Sc e its priority quantum) tables at own = tt
+owned_kept k label cpu side n (Sc donor its priority quantum) tables at own = or_member k label cpu side donor tables own
 owned_kept k label cpu side n (Pt handler mtd ip) tables at own = or_member k label cpu side handler tables own
 owned_kept k label cpu side n Sm tables at own = tt
 

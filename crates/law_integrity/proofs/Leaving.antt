@@ -38,7 +38,7 @@ use Rattle.law_turns.proofs.TablesFit.{boot_run_fits}
 use Rattle.law_origins.specs.Giving.{Acts}
 use Rattle.law_origins.proofs.Lists.{run_append}
 use Rattle.law_integrity.specs.Confined.{IsLogged, AreSeparate, Holds, IsClosed, IsIdle, IsOwned, IsWoken, IsLeft, IsMember, LeavesTo, Stays as Unchanged, Wakes, grown}
-use Rattle.law_integrity.specs.Integrity.{LogBy, Clears, DeadlineBy, Downs, NewSemaphore, SemaphoreBy, Sets, Ups, Called, ContextBy, Controls, CopiesCall, CopiesExit, CopiesReply, Creates, DelegationsBy, ExitSent, Gives, IdentifierBy, IsByRight, Itself, MessageBy, NewContext, NewItems, NewPortal, NewWords, OwnItems, Recalled, Resumed, StoresOwn, Takes, TellsItem, TransferBy, Woken}
+use Rattle.law_integrity.specs.Integrity.{LogBy, Clears, DeadlineBy, Downs, NewSemaphore, SemaphoreBy, Sets, Ups, Called, ContextBy, Controls, CopiesCall, CopiesExit, CopiesReply, Creates, GrowsByRight, Keeps, ExitSent, Gives, IdentifierBy, IsByRight, Itself, MessageBy, NewContext, NewItems, NewPortal, NewWords, GivesPart, SkipsPart, FinishesItem, Recalled, Resumed, StoresOwn, Takes, TellsItem, TransferBy, Woken}
 use Rattle.law_integrity.specs.Rights.{CallsAt, ExitsAt, GivesTo, HasTurn, IsServing, Names}
 use Rattle.law_integrity.proofs.Authorised.{authorised_by, frames_of}
 use Rattle.law_integrity.proofs.Confining.{Child, IsAway, Newest, Old, Whence, acting_one, acts_one, both_member, calls_in, exits_in, gives_in, member_pd, owned_at, waits_edge, whence}
@@ -79,9 +79,9 @@ other_words : (k new : KernelState) (S : ℕ → Type 0) (ec n : ℕ) → IsClea
     words_at new n ≡ words_at k n
 other_words k new S ec n clear theirs (inl same) = same
 other_words k new S ec n clear theirs (inr (StoresOwn same s stores among to)) = absurd (itself_clear k S ec n clear theirs same)
-other_words k new S ec n clear theirs (inr (CopiesCall c to)) = absurd (clear.away.calls n (inl c) theirs)
-other_words k new S ec n clear theirs (inr (CopiesExit e to)) = absurd (clear.away.calls n (inr e) theirs)
-other_words k new S ec n clear theirs (inr (CopiesReply serves to)) = absurd (clear.serves n Call serves theirs)
+other_words k new S ec n clear theirs (inr (CopiesCall c parked to)) = absurd (clear.away.calls n (inl c) theirs)
+other_words k new S ec n clear theirs (inr (CopiesExit e parked to)) = absurd (clear.away.calls n (inr e) theirs)
+other_words k new S ec n clear theirs (inr (CopiesReply serves waits to)) = absurd (clear.serves n Call serves theirs)
 other_words k new S ec n clear theirs (inr (TellsItem (inl same) item end words tells whom to)) = absurd (itself_clear k S ec n clear theirs same)
 other_words k new S ec n clear theirs (inr (TellsItem (inr serves) item end words tells whom to)) = absurd (clear.serves n Call serves theirs)
 other_words k new S ec n clear theirs (inr (NewWords next to)) = absurd (member_below k S n theirs next.next)
@@ -96,7 +96,9 @@ other_gains k S cpu ec d clear acts_ s (Child e its source there within gives) =
 other_transfer : (k new : KernelState) (S : ℕ → Type 0) (ec n : ℕ) → IsClear k S ec → IsMember k S n → (transfer_at new n ≡ transfer_at k n) ⊎ TransferBy k ec n (transfer_at new n) →
     transfer_at new n ≡ transfer_at k n
 other_transfer k new S ec n clear theirs (inl same) = same
-other_transfer k new S ec n clear theirs (inr (OwnItems same)) = absurd (itself_clear k S ec n clear theirs same)
+other_transfer k new S ec n clear theirs (inr (GivesPart same child cursor does to)) = absurd (itself_clear k S ec n clear theirs same)
+other_transfer k new S ec n clear theirs (inr (SkipsPart same reason place cursor does to)) = absurd (itself_clear k S ec n clear theirs same)
+other_transfer k new S ec n clear theirs (inr (FinishesItem same item end words follows does to)) = absurd (itself_clear k S ec n clear theirs same)
 other_transfer k new S ec n clear theirs (inr (NewItems next to)) = absurd (member_below k S n theirs next.next)
 
 other_identifier : (k new : KernelState) (S : ℕ → Type 0) (ec n handler mtd ip : ℕ) → IsClear k S ec → slice_get k.objects n ≡ Some (Pt handler mtd ip) → IsMember k S handler →
@@ -143,13 +145,13 @@ kept_in xs x y there = Contains-append_left xs (x ∷ []) y there
 
 other_keeps : (k new : KernelState) (T : ℕ → Type 0) (ec : ℕ) (d : Derivation) → IsForest k.delegations → IsMember k T ec → Contains k.delegations.list d →
     ((ancestor : Derivation) → Contains (line k.delegations.list d) ancestor → T ancestor.pd → ⊥) →
-    (new.delegations ≡ k.delegations) ⊎ DelegationsBy k ec k.delegations new.delegations → Contains new.delegations.list d
-other_keeps k new T ec d forest mine there none (inl same) = subst (λ (f : Delegations). Contains f.list d) (sym same) there
-other_keeps k new T ec d forest mine there none (inr (Creates object capability first is)) =
+    GrowsByRight k new ec → Contains new.delegations.list d
+other_keeps k new T ec d forest mine there none (Keeps objects same) = subst (λ (f : Delegations). Contains f.list d) (sym same) there
+other_keeps k new T ec d forest mine there none (Creates object capability first objects is) =
     subst (λ (f : Delegations). Contains f.list d) (sym is) (kept_in k.delegations.list capability d there)
-other_keeps k new T ec d forest mine there none (inr (Gives child source has edge_ within shared gives is)) =
+other_keeps k new T ec d forest mine there none (Gives child source has edge_ within shared gives objects is) =
     subst (λ (f : Delegations). Contains f.list d) (sym is) (kept_in k.delegations.list child d there)
-other_keeps k new T ec d forest mine there none (inr (Takes leaf may is)) =
+other_keeps k new T ec d forest mine there none (Takes leaf may objects is) =
     subst (λ (f : Delegations). Contains f.list d) (sym is) (contains_from_in (filter (λ (x : Derivation). not (x.id == leaf.id)) k.delegations.list) d (by_id (d.id == leaf.id) refl))
   where
     in_list : IsIn k.delegations.list d
@@ -192,7 +194,7 @@ leaves_clear s before S T cpu ec clear acts_ mine =
       messages = λ n theirs. other_words k (after k cpu) S ec n clear theirs (right.messages n);
       transfers = λ n theirs. other_transfer k (after k cpu) S ec n clear theirs (right.transfers n);
       identifiers = λ n handler mtd ip is theirs. other_identifier k (after k cpu) S ec n handler mtd ip clear is theirs (right.identifiers n);
-      keeps = λ d there none. other_keeps k (after k cpu) T ec d sound.forest mine there none right.delegations;
+      keeps = λ d there none. other_keeps k (after k cpu) T ec d sound.forest mine there none right.grows;
       frames = λ frame none. frames_of s before cpu frame (λ e page its leads. none (reach_of k T e page write_right frame (subst (IsMember k T) (acts_one k cpu ec e acts_ its) mine) leads));
       gains = λ d there theirs. other_gains k S cpu ec d clear acts_ theirs (whence k cpu d sound.forest there);
     }

@@ -5,11 +5,12 @@ pub mod Deciding
 pub mod Rightful
 pub mod Entries
 pub mod Stores
-pub mod Messages
 pub mod Own
+pub mod Messages
 pub mod Contexts
 pub mod Branches
 pub mod Tables
+pub mod Waking
 pub mod Passing
 pub mod Authorised
 pub mod Runnable
@@ -41,4 +42,6 @@ pub mod Unseen
 pub mod Apart
 pub mod Labels
 pub mod Policy
+pub mod Decided
 pub mod Sides
+pub mod Meeting

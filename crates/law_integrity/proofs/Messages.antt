@@ -6,21 +6,18 @@ use Rattle.rv_model.specs.Step.{Store}
 use Rattle.nova_utcb.specs.Messages.{stored}
 use Rattle.nova_model.specs.Deeds.{address_space, deed, instruction}
 use Rattle.nova_model.specs.Inputs.{store_of}
-use Rattle.nova_model.specs.State.{KernelState, message}
-use Rattle.nova_model.specs.declared.admit.ExitAdmit.{ExitAdmit}
+use Rattle.nova_model.specs.State.{KernelState, is_local_thread, message}
 use Rattle.nova_model.specs.declared.context.Mark.TheVariants as mark
 use Rattle.nova_model.specs.declared.deed.Deed.{Deed}
 use Rattle.nova_model.specs.declared.deed.Deed.TheVariants as deeds
 use Rattle.law_forest.specs.Effects.{store_words, words_by}
+use Rattle.law_turns.specs.Links.{AreServed}
 use Rattle.law_turns.proofs.Referring.{Asks}
-use Rattle.law_integrity.specs.Rights.{ExitsAt}
-use Rattle.law_integrity.specs.Rightful.{IsExitAt, IsRightful}
+use Rattle.law_turns.proofs.Serving.{IsActor, awaited, exit_reaches, send_reaches}
+use Rattle.law_integrity.specs.Rightful.{IsRightful}
 use Rattle.law_integrity.specs.Integrity.{CopiesCall, CopiesExit, CopiesReply, MessageBy, StoresOwn, TellsItem}
+use Rattle.law_integrity.proofs.Own.{exits_at, reached_parked}
 use Rattle.law_integrity.proofs.Stores.{among_words, stores_of}
-
-abbrev pub exits_at : (k : KernelState) (ec handler ip number mtd reason q0 q1 : ℕ) (comes : ExitAdmit) → IsExitAt k ec handler ip number mtd reason q0 q1 comes → ExitsAt k ec handler
-exits_at k ec handler ip number mtd reason q0 q1 comes e =
-    record { reason = reason; q0 = q0; q1 = q1; raised = e.raised; portal = e.portal; mtd = mtd; ip = ip; held = e.held; object = e.object }
 
 -- of the one who is written
 abbrev Written : KernelState → ℕ → ℕ → List ℕ → Type 0
@@ -40,13 +37,14 @@ own_words k ec n m steps (Some s) is e =
     let own = among_words k ec n s m e in
     at_number k ec ec n (stored (message k ec) (s.address % 4096) s.width s.value) m (StoresOwn refl s (stores_of k ec s steps is) own.1 refl) (sym own.2 ∙ e)
 
-pub message_by : (k : KernelState) (ec n : ℕ) (d : Deed) (m : List ℕ) → deed k ec ≡ d → IsRightful k ec d → Asks k ec d → words_by k ec d ≡ Some (n, m) → Written k ec n m
-message_by k ec n deeds.Steps m is r asks e = own_words k ec n m is (store_of (instruction k ec)) refl e
-message_by k ec n (deeds.Calls handler ip number items) m is r asks e = at_number k ec handler n _ m (CopiesCall r.at refl) e
-message_by k ec n (deeds.Sends handler ip number mtd reason q0 q1) m is r asks e =
-    at_number k ec handler n _ m (CopiesExit (exits_at k ec handler ip number mtd.0 reason q0 q1 _ r) refl) e
-message_by k ec n (deeds.Replies caller mark.Call items) m is r asks e = at_number k ec caller n _ m (CopiesReply r.0 refl) e
-message_by k ec n (deeds.Replies caller mark.Exit items) m is r asks e = absurd (cc)
-message_by k ec n (deeds.Finishes item end None after) m is r asks e = absurd (cc)
-message_by k ec n (deeds.Finishes item end (Some w) after) m is r asks e = at_number k ec w.ec n _ m (TellsItem asks.0 item end w r.1 refl refl) e
-message_by k ec n other m is r asks e = absurd (cc)
+pub message_by : (k : KernelState) (ec n : ℕ) (d : Deed) (m : List ℕ) → deed k ec ≡ d → IsRightful k ec d → Asks k ec d → IsActor k.contexts ec → AreServed (is_local_thread k) k.contexts →
+    words_by k ec d ≡ Some (n, m) → Written k ec n m
+message_by k ec n deeds.Steps m is r asks actor served e = own_words k ec n m is (store_of (instruction k ec)) refl e
+message_by k ec n (deeds.Calls handler ip number items) m is r asks actor served e = at_number k ec handler n _ m (CopiesCall r.at (reached_parked k ec handler (send_reaches k.contexts ec handler r.flag r.admits)) refl) e
+message_by k ec n (deeds.Sends handler ip number mtd reason q0 q1) m is r asks actor served e =
+    at_number k ec handler n _ m (CopiesExit (exits_at k ec handler ip number mtd.0 reason q0 q1 _ r) (reached_parked k ec handler (exit_reaches k.contexts ec handler r.admits)) refl) e
+message_by k ec n (deeds.Replies caller mark.Call items) m is r asks actor served e = at_number k ec caller n _ m (CopiesReply r.0 (awaited (is_local_thread k) k.contexts ec caller mark.Call actor r.0 served).waits refl) e
+message_by k ec n (deeds.Replies caller mark.Exit items) m is r asks actor served e = absurd (cc)
+message_by k ec n (deeds.Finishes item end None after) m is r asks actor served e = absurd (cc)
+message_by k ec n (deeds.Finishes item end (Some w) after) m is r asks actor served e = at_number k ec w.ec n _ m (TellsItem asks.0 item end w r.1 refl refl) e
+message_by k ec n other m is r asks actor served e = absurd (cc)

@@ -16,6 +16,7 @@ use Rattle.nova_model.specs.Runs.{run}
 use Rattle.law_origins.proofs.Actors.{is_able}
 use Rattle.law_origins.specs.Giving.{Acts}
 use Rattle.nova_model.specs.State.{Contexts, KernelState, context, context_in, ec_in, ec_of, is_local_thread, message}
+use Rattle.nova_model.specs.declared.admit.ExitAdmit.{ExitAdmit}
 use Rattle.nova_model.specs.declared.admit.ExitAdmit.TheVariants as exit
 use Rattle.nova_model.specs.declared.context.EcState.{EcState}
 use Rattle.nova_model.specs.declared.context.Mark.{Mark}
@@ -35,10 +36,14 @@ use Rattle.law_turns.proofs.Serving.{IsActor, IsReached, actor_of, awaited, exit
 use Rattle.law_turns.specs.Links.{state_at}
 use Rattle.law_turns.proofs.Setting.{entry_itself, entry_other}
 use Rattle.law_turns.proofs.TablesFit.{TablesFit}
-use Rattle.law_integrity.specs.Rightful.{IsRaise, IsRightful, IsTold}
-use Rattle.law_integrity.specs.Rights.{IsServing, Names}
+use Rattle.law_integrity.specs.Rightful.{IsExitAt, IsRaise, IsRightful, IsTold}
+use Rattle.law_integrity.specs.Rights.{ExitsAt, IsServing, Names}
 use Rattle.law_integrity.specs.Integrity.{Answered, AsksItself, ByExit, IsItself, Kept, Left, Lost, MayComeTo, RecallBy, Stepped, Unasked}
-use Rattle.law_integrity.proofs.Messages.{exits_at}
+
+-- the right by which an exit goes
+abbrev pub exits_at : (k : KernelState) (ec handler ip number mtd reason q0 q1 : ℕ) (comes : ExitAdmit) → IsExitAt k ec handler ip number mtd reason q0 q1 comes → ExitsAt k ec handler
+exits_at k ec handler ip number mtd reason q0 q1 comes e =
+    record { reason = reason; q0 = q0; q1 = q1; raised = e.raised; portal = e.portal; mtd = mtd; ip = ip; held = e.held; object = e.object }
 
 -- ONE EDIT
 

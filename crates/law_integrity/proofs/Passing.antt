@@ -1,14 +1,14 @@
 -- A turn in which nobody acts, part by part: what is due answers one that is blocked, and all else stays.
 use Rattle.std.proofs.Common.{◌≡◌, ℕ, zero, suc, ◌+◌, List, [], ◌∷◌, ◌⊎◌, refl, sym, ap, ◌∙◌, subst, inl, inr}
-use Rattle.std.specs.Prelude.{◌==◌, Bool, true, false, if◌then◌else◌, is_some, slice_get, slice_set, Option, Some, None, Ok, Err, Result, option_map}
+use Rattle.std.specs.Prelude.{◌==◌, Bool, true, false, if◌then◌else◌, IfSome, IsSome, is_some, slice_get, slice_set, Option, Some, None, Ok, Err, Result, option_map}
 use Rattle.std.proofs.lemmas.Option.{same_Some}
 use Rattle.nova_range.specs.declared.status.Status.TheVariants.{Success, Timeout}
 use Rattle.nova_model.specs.Choice.{Candidate}
 use Rattle.nova_model.specs.Deeds.{answered}
-use Rattle.nova_model.specs.Semaphores.{greatest, raised, semaphore, semaphore_at, without_one, woken_of}
+use Rattle.nova_model.specs.Semaphores.{changed, greatest, raised, semaphore, semaphore_at, without_one, woken_of}
 use Rattle.nova_model.specs.State.{KernelState, Semaphore, context_at, deadline_of, ec_in, ec_of, entry}
-use Rattle.nova_model.specs.Times.{alarm_sm, deadline_sm, rung_in, rung_once}
-use Rattle.nova_model.specs.Turn.{whom_of}
+use Rattle.nova_model.specs.Times.{alarm_sm, deadline_sm, next_moment, rung_in, rung_once}
+use Rattle.nova_model.specs.Turn.{chosen_by, counted, state_after, status_of, tick_by, turn, turn_by, whom_of}
 use Rattle.nova_model.specs.declared.context.EcState.{EcState}
 use Rattle.nova_model.specs.declared.context.State.TheVariants.{Blocked}
 use Rattle.nova_model.specs.declared.semaphore.Overflow.{Overflow}
@@ -18,16 +18,17 @@ use Rattle.nova_model.specs.declared.times.Due.{Due}
 use Rattle.nova_model.specs.declared.times.Due.TheVariants as due
 use Rattle.law_forest.specs.Effects.{Falls, Passing, Ticks, alarm_up, alarms_with, all_edited, clears_by, deadlines_with, ends_by, passing_ends, passing_rings, passing_semaphore, semaphores_with, with_status}
 use Rattle.law_forest.specs.Turns.{IsPassing, passing, stirred_counts, turned}
+use Rattle.law_forest.proofs.Turning.{due_answers, due_turn, event_answered, event_in, tick_turn}
 use Rattle.law_turns.proofs.Blocking.{woken_blocked}
 use Rattle.law_turns.proofs.Dues.{due_is}
 use Rattle.law_turns.proofs.Links.{place}
 use Rattle.law_turns.proofs.Passing.{late_waits}
 use Rattle.law_turns.proofs.Serving.{blocked_there}
-use Rattle.law_turns.proofs.Setting.{entry_itself, entry_other, index_other}
+use Rattle.law_turns.proofs.Setting.{entry_itself, entry_other}
 use Rattle.law_turns.proofs.TablesFit.{TablesFit}
-use Rattle.law_turns.specs.Links.{state_at}
-use Rattle.law_integrity.specs.Integrity.{AlarmByTime, ClearedAwake, ClearedLate, ContextByTime, DeadlineByTime, IsByTime, IsComing, IsDone, LeftByLate, Rings, Rung, RungAwake, SemaphoreByTime, TimedOut}
+use Rattle.law_integrity.specs.Integrity.{AlarmByTime, ClearedAwake, ClearedLate, ContextByTime, DeadlineByTime, IsByTime, IsComing, IsDone, IsRaised, LeftByLate, Rings, Rung, RungAwake, SemaphoreByTime, TimedOut, passed_by}
 use Rattle.law_integrity.proofs.Entries.{change_each, get_set}
+use Rattle.law_integrity.proofs.Waking.{alarm_raises, changed_at, cleared_itself, waits_there}
 
 -- what is due, if anything
 abbrev pub due_in : Passing → Option Due
@@ -64,9 +65,6 @@ first_rung k alarm w a there up =
 
 -- EXECUTION CONTEXTS
 
-blocked_state : (o : Option EcState) (x : EcState) (sm : ℕ) → o ≡ Some x → state_at o ≡ Some (Blocked sm) → x.state ≡ Blocked sm
-blocked_state o x sm is waits = let both : Some x.state ≡ Some (Blocked sm) = sym (ap state_at is) ∙ waits in cc
-
 abbrev IsContext : KernelState → Passing → ℕ → Option EcState → Type 0
 IsContext k p n o = (o ≡ context_at k n) ⊎ ContextByTime k (due_in p) n (context_at k n) o
 
@@ -91,7 +89,7 @@ contexts_in_time k cpu n (Falls (due.Alarm alarm)) is fits = by_up (alarm_up k a
         let sm = alarm_sm (slice_get k.times.alarms alarm) in
         let blocked = woken_blocked k sm w up fits.blocked in
         let there : ec_in k.contexts w ≡ Some (ec_of k.contexts w) = blocked_there k.contexts w sm blocked in
-        let waits = blocked_state (ec_in k.contexts w) (ec_of k.contexts w) sm there blocked in
+        let waits = waits_there (ec_in k.contexts w) (ec_of k.contexts w) sm there blocked in
         let first = first_rung k alarm w its.0 its.1 up in
         one_ends k (Falls (due.Alarm alarm)) w n (answered (ec_of k.contexts w) Success None)
         (λ same. subst (λ (m : ℕ). ContextByTime k (Some (due.Alarm alarm)) m (context_at k m) (Some (answered (ec_of k.contexts w) Success None))) (sym same)
@@ -102,7 +100,7 @@ contexts_in_time k cpu n (Falls (due.Deadline ec)) is fits =
     let sm = deadline_sm (deadline_of k.times ec) in
     let blocked = late_waits k cpu ec is fits.late in
     let there : ec_in k.contexts ec ≡ Some (ec_of k.contexts ec) = blocked_there k.contexts ec sm blocked in
-    let waits = blocked_state (ec_in k.contexts ec) (ec_of k.contexts ec) sm there blocked in
+    let waits = waits_there (ec_in k.contexts ec) (ec_of k.contexts ec) sm there blocked in
     one_ends k (Falls (due.Deadline ec)) ec n (answered (ec_of k.contexts ec) Timeout None)
     (λ same. subst (λ (m : ℕ). ContextByTime k (Some (due.Deadline ec)) m (context_at k m) (Some (answered (ec_of k.contexts ec) Timeout None))) (sym same)
     (TimedOut its.0 refl its.1 (ec_of k.contexts ec) there (waits ∙ ap (λ (o : Option Deadline). Blocked (deadline_sm o)) its.1) refl))
@@ -198,27 +196,51 @@ get_itself (y ∷ xs) (suc n) x v at = get_itself xs n x v at
 rung_itself : (alarms : List AlarmState) (n : ℕ) (a : AlarmState) → slice_get alarms n ≡ Some a → slice_get (rung_in alarms n (slice_get alarms n)) n ≡ Some (rung_once a)
 rung_itself alarms n a at = ap (λ (o : Option AlarmState). slice_get (rung_in alarms n o) n) at ∙ get_itself alarms n a (rung_once a) at
 
-cleared_itself : (ds : List (Option Deadline)) (n : ℕ) → entry (slice_get (slice_set ds n None) n) ≡ None
-cleared_itself [] n = refl
-cleared_itself (d ∷ ds) zero = refl
-cleared_itself (d ∷ ds) (suc n) = cleared_itself ds n
-
-done_in_time : (k : KernelState) (cpu : ℕ) (p : Passing) → IsPassing k cpu p → TablesFit k → IsDone k (turned k cpu (passing k p)) (due_in p)
+done_in_time : (k : KernelState) (cpu : ℕ) (p : Passing) → IsPassing k cpu p → TablesFit k → IsDone k (turned k cpu (passing k p)) cpu (due_in p)
 done_in_time k cpu (Falls (due.Alarm alarm)) is fits =
-    let its = alarm_due k cpu alarm is in record { alarm = its.0; there = its.1; rises = rung_itself k.times.alarms alarm its.0 its.1 }
-done_in_time k cpu (Falls (due.Deadline ec)) is fits =
-    let blocked = late_waits k cpu ec is fits.late in
-    let there : ec_in k.contexts ec ≡ Some (ec_of k.contexts ec) = blocked_there k.contexts ec (deadline_sm (deadline_of k.times ec)) blocked in
+    let its = alarm_due k cpu alarm is in
     record {
+      alarm = its.0;
+      there = its.1;
+      rises = rung_itself k.times.alarms alarm its.0 its.1;
+      whom = whom_of (alarm_up k alarm);
+      raises = subst (λ (sm : ℕ). IsRaised k (turned k cpu (passing k (Falls (due.Alarm alarm)))) sm (whom_of (alarm_up k alarm))) (ap alarm_sm its.1) (alarm_raises k cpu alarm fits);
+      status = status_of (alarm_up k alarm);
+      named = event_answered (turn k cpu) ∙ ap event_in (due_answers k cpu (due.Alarm alarm) is);
+    }
+done_in_time k cpu (Falls (due.Deadline ec)) is fits =
+    let its = deadline_due k cpu ec is in
+    let sm = deadline_sm (deadline_of k.times ec) in
+    let blocked = late_waits k cpu ec is fits.late in
+    let there : ec_in k.contexts ec ≡ Some (ec_of k.contexts ec) = blocked_there k.contexts ec sm blocked in
+    record {
+      deadline = its.0;
+      set = its.1;
       context = ec_of k.contexts ec;
       there = there;
+      blocked = waits_there (ec_in k.contexts ec) (ec_of k.contexts ec) sm there blocked ∙ ap (λ (o : Option Deadline). Blocked (deadline_sm o)) its.1;
       goes_on = entry_itself k.contexts ec (answered (ec_of k.contexts ec) Timeout None) (ap is_some there);
+      leaves = subst (λ (n : ℕ). IfSome (semaphore_at k.semaphores n) (λ s. semaphore_at (changed (without_one ec) k.semaphores sm) n ≡ Some (without_one ec s))) (ap deadline_sm its.1)
+          (changed_at (without_one ec) k.semaphores sm);
       cleared = cleared_itself k.times.deadlines ec;
     }
 done_in_time k cpu Ticks is fits = tt
 
+-- the state after is that of what comes
+passed_is : (k : KernelState) (cpu : ℕ) (p : Passing) → IsPassing k cpu p → turned k cpu (passing k p) ≡ passed_by k cpu (due_in p)
+unfolding turn
+passed_is k cpu (Falls what) is = sym (due_turn k cpu what is) ∙ ap (λ (o : Option Due). state_after k (turn_by k cpu o)) is
+passed_is k cpu Ticks is =
+    sym (tick_turn k cpu is.0 is.1 is.2) ∙ ap (λ (o : Option Due). state_after k (turn_by k cpu o)) is.0 ∙ ap (λ (o : Option Candidate). state_after k (chosen_by k cpu o)) is.1
+    ∙ by_moment (next_moment k.times cpu) is.2
+  where
+    by_moment : (o : Option ℕ) → IsSome o → state_after k (tick_by k cpu o) ≡ counted k cpu
+    by_moment None some = absurd (cc)
+    by_moment (Some moment) some = refl
+
 pub turned_by_time : (k : KernelState) (cpu : ℕ) (p : Passing) → IsPassing k cpu p → TablesFit k → IsByTime k (turned k cpu (passing k p)) cpu (due_in p)
 turned_by_time k cpu p is fits = record {
+  after = passed_is k cpu p is;
   done = done_in_time k cpu p is fits;
   memory = refl;
   messages = refl;
@@ -234,7 +256,7 @@ turned_by_time k cpu p is fits = record {
   budgets = record { budgets = refl; next = refl };
   counts = calm_counts 0 k.stirs.guests;
   turns = refl;
-  processors = λ n other. index_other k.stirs.processors cpu n _ other;
+  processors = refl;
   cpus = refl;
   consoles = refl;
 }

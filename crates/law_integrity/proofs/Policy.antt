@@ -23,7 +23,7 @@ use Rattle.law_integrity.specs.Confined.{IsMember, IsOwned}
 use Rattle.law_integrity.specs.Rights.{CallsAt, ExitsAt, GivesFirst, GivesTo, Names, RepliesWith, TakesOfCaller}
 use Rattle.law_integrity.specs.Trusted.{IsWithinPolicy, Labelled, MayHold, MayTakeTurn, OrTrusted, labels_after}
 use Rattle.law_integrity.proofs.Blocked.{Before, BlockedBy, Now}
-use Rattle.law_integrity.proofs.Confining.{Child, Newest, Old, Whence, acting_one, acts_one, child_target, local_member, member_pd, newest_object, object_kept, order_none, waits_edge, whence}
+use Rattle.law_integrity.proofs.Confining.{Child, Newest, Old, Whence, acting_one, acts_one, child_target, local_member, member_pd, newest_object, object_kept, order_none, schedulable_member, waits_edge, whence}
 use Rattle.law_integrity.proofs.Edges.{edge_came, handler_local}
 use Rattle.law_integrity.proofs.Homes.{receiver_there}
 use Rattle.law_integrity.proofs.Labels.{IsEc, IsTaken, blocked_object, context_ec, edge_ec, label_kept, labels_made, labels_old, local_ec, or_kept, or_member, owned_kept}
@@ -178,7 +178,11 @@ newest_may k label cpu ec d o t policy side acts_ first is = record {
         held_owned k label ec c.capability c.capability.target Pd policy side c.there c.kind (c.held ∙ f.pd) refl c.leads in
         subst (OrTrusted (labels_after k label cpu) (label (pd_of k ec))) (sym f.place)
         (or_kept k label cpu (label (pd_of k ec)) c.capability.target (slice_get_within k.objects c.capability.target Pd c.leads) own)
-    leads (Sc e its priority quantum) f = tt
+    leads (Sc donor its priority quantum) f =
+        let b = f.bound.bound in
+        or_member k label cpu (label (pd_of k ec)) donor t.fits.tables
+        (schedulable_member k (OrTrusted label (label (pd_of k ec))) donor (slice_get k.objects donor) refl b.leads
+        (subst (λ (n : ℕ). IsOwned k (OrTrusted label (label (pd_of k ec))) n (slice_get k.objects n)) b.target (held_may k label ec b.capability policy side b.there b.kind (b.held ∙ f.pd)).leads))
     leads (Pt handler mtd ip) f =
         let b = f.bound in
         or_member k label cpu (label (pd_of k ec)) handler t.fits.tables

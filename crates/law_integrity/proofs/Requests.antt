@@ -18,7 +18,8 @@ use Rattle.nova_model.specs.declared.context.State.TheVariants.{Fresh, Ready, Pa
 use Rattle.nova_model.specs.declared.delegation.Derivation.{Derivation}
 use Rattle.nova_model.specs.declared.transfer.Delivery.{Delivery}
 use Rattle.law_forest.proofs.Walk.{delivers_holds}
-use Rattle.law_integrity.specs.Rightful.{Again, AtCall, IsAsking, IsOfCall}
+use Rattle.law_integrity.specs.Rights.{Again, AtCall, IsAsking}
+use Rattle.law_integrity.specs.Rightful.{IsOfCall}
 
 ready_asks : (k : KernelState) (ec : ℕ) → (context k ec).state ≡ Ready → (t : Bool) → (context k ec).recall ≡ t → IsOfCall (ready k ec t) → IsAsking k ec
 ready_asks k ec state true recall of = absurd of

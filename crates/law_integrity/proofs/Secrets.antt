@@ -26,19 +26,19 @@ use Rattle.law_forest.specs.Turns.{Turning, acting, passing, turned}
 use Rattle.law_forest.proofs.Turning.{acts_next, chosen_turn, due_turn, tick_turn}
 use Rattle.law_turns.proofs.Setting.{get_other, set_length}
 use Rattle.law_origins.specs.Giving.{Acts}
-use Rattle.law_integrity.specs.Rights.{LeadsTo}
+use Rattle.law_integrity.specs.Rights.{PageLeadsTo}
 use Rattle.law_integrity.specs.Secrecy.{IsHidden, IsHiddenAlong, with_bytes}
 use Rattle.law_integrity.proofs.Beside.{idle_stays}
 use Rattle.law_integrity.proofs.Deeds.{choice_same, deed_same}
 use Rattle.law_integrity.proofs.Stores.{leads_to}
 
 -- no address leads there
-far : (k : KernelState) (ec right frame address g : ℕ) → ((page : ℕ) → LeadsTo k (pd_of k ec) page right frame → ⊥) → frame_for (address_space k ec) right address ≡ Some g → g ≢ frame
+far : (k : KernelState) (ec right frame address g : ℕ) → ((page : ℕ) → PageLeadsTo k (pd_of k ec) page right frame → ⊥) → frame_for (address_space k ec) right address ≡ Some g → g ≢ frame
 far k ec right frame address g none is = λ same. none (address / 4096) (leads_to k ec right address frame (is ∙ ap (λ (n : ℕ). Some n) same))
 
 -- WHAT AN INSTRUCTION SEES
 
-found_same : (k : KernelState) (ec frame : ℕ) (bytes : List ℕ) (right address width : ℕ) → ((page : ℕ) → LeadsTo k (pd_of k ec) page right frame → ⊥) →
+found_same : (k : KernelState) (ec frame : ℕ) (bytes : List ℕ) (right address width : ℕ) → ((page : ℕ) → PageLeadsTo k (pd_of k ec) page right frame → ⊥) →
     found (address_space (with_bytes k frame bytes) ec) right address width ≡ found (address_space k ec) right address width
 found_same k ec frame bytes right address width none = by_frame (frame_for (address_space k ec) right address) refl
   where

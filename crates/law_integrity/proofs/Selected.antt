@@ -18,7 +18,7 @@ use Rattle.nova_model.specs.State.{KernelState, context, pd_of}
 use Rattle.law_turns.specs.Asked.{HoldsAt}
 use Rattle.law_turns.proofs.Holding.{IsNamedAt, named_at}
 use Rattle.law_forest.proofs.Walk.{IfDone}
-use Rattle.law_integrity.specs.Rights.{Names}
+use Rattle.law_integrity.specs.Rights.{IsAsking, Names}
 
 -- the selector is one, and stands in x10; an identifier stands in x11
 abbrev IsAt : Registers → ℕ → Type 0
@@ -68,9 +68,9 @@ call_selected r c is = by_call c (read_in_row r c is)
     by_call other at = tt
 
 -- what it names
-pub names : (k : KernelState) (ec call selector right n : ℕ) (is : Object → Bool) → call ≡ reg (context k ec).regs 17 → (selector ≡ reg (context k ec).regs 10) × (selector < 2 ^ 20) →
+pub names : (k : KernelState) (ec call selector right n : ℕ) (is : Object → Bool) → IsAsking k ec → call ≡ reg (context k ec).regs 17 → (selector ≡ reg (context k ec).regs 10) × (selector < 2 ^ 20) →
     IsNamedAt k (pd_of k ec) selector right is n → Names k ec call right n
-names k ec call selector right n is numbered at named_ = record { number = sym numbered; at = subst (λ (s : ℕ). HoldsAt k (pd_of k ec) s right n) at.0 (named_.holds at.1) }
+names k ec call selector right n is asks numbered at named_ = record { asks = asks; number = sym numbered; at = subst (λ (s : ℕ). HoldsAt k (pd_of k ec) s right n) at.0 (named_.holds at.1) }
 
 pub named_by : (k : KernelState) (domain : ℕ) (is : Object → Bool) (right selector n : ℕ) → named k domain is right selector ≡ Ok n → IsNamedAt k domain selector right is n
 named_by k domain is right selector n names = subst (IfDone (IsNamedAt k domain selector right is)) names (named_at k domain is right selector)

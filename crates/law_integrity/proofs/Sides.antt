@@ -18,11 +18,12 @@ use Rattle.law_turns.proofs.Links.{place}
 use Rattle.law_origins.specs.Giving.{Acts}
 use Rattle.law_origins.proofs.Lists.{run_append}
 use Rattle.law_integrity.specs.Confined.{Holds, IsLeft, IsMember, IsWoken, LeavesTo, Reach, Stays, Wakes}
-use Rattle.law_integrity.specs.Rights.{GivesFirst, GivesTo, LeadsTo as LeadsBy, RepliesWith, TakesOfCaller}
+use Rattle.law_integrity.specs.Rights.{GivesFirst, GivesTo, PageLeadsTo, RepliesWith, TakesOfCaller}
 use Rattle.law_integrity.specs.Secrecy.{with_bytes}
-use Rattle.law_integrity.specs.Trusted.{IsGivenFrame, IsGivenObject, IsMadeBySide, IsTurnOf, IsWithinPolicy, Labelled, MayTakeTurns, OrTrusted, labels, labels_after}
+use Rattle.law_integrity.specs.Trusted.{HoldsSince, IsGivenFrame, IsGivenObject, IsMadeBySide, IsTurnOf, IsWithinPolicy, Labelled, MayTakeTurns, OrTrusted, ReachesSince, labels, labels_after}
 use Rattle.law_integrity.proofs.Confining.{Child, Newest, Old, Whence, acting_one, acts_one, child_target, member_pd, order_none, whence}
 use Rattle.law_integrity.proofs.Confined.{reach_of}
+use Rattle.law_integrity.proofs.Decided.{IsDecided, holds_decided, reach_decided}
 use Rattle.law_integrity.proofs.Homes.{receiver_there}
 use Rattle.law_integrity.proofs.Labels.{IsTaken, context_ec, labels_old, turn_taken}
 use Rattle.law_integrity.proofs.Leaving.{leaves_clear}
@@ -98,10 +99,10 @@ side_blind s turns label cpu ec frame bytes acts_ none =
     k : KernelState
     k = run (boot s) turns
 
-    by_right : (e : ℕ) → Acts k cpu e → (right page : ℕ) → LeadsBy k (pd_of k e) page right frame → ⊥
+    by_right : (e : ℕ) → Acts k cpu e → (right page : ℕ) → PageLeadsTo k (pd_of k e) page right frame → ⊥
     by_right e its right page l =
         none right (reach_of k (Labelled label (label (pd_of k ec))) ec page right frame (acts_for k label cpu ec (turn_taken s turns cpu) acts_)
-        (subst (λ (n : ℕ). LeadsBy k (pd_of k n) page right frame) (acts_one k cpu e ec its acts_) l))
+        (subst (λ (n : ℕ). PageLeadsTo k (pd_of k n) page right frame) (acts_one k cpu e ec its acts_) l))
 
 -- WHAT A SIDE COMES TO REACH AND TO HOLD
 
@@ -212,31 +213,39 @@ first_turn k label cpu side ec turns acts_ of = record { before = []; cpu = cpu;
 
 pub side_reaches : (s : Scenario) (before turns : List ℕ) (label : ℕ → ℕ) (side right frame : ℕ) → IsWithinPolicy (run (boot s) before) label → MayTakeTurns (run (boot s) before) label turns → side ≢ 0 →
     Reach (run (run (boot s) before) turns) (Labelled (labels (run (boot s) before) label turns) side) right frame →
-    Reach (run (boot s) before) (Labelled label side) right frame ⊎ IsGivenFrame (run (boot s) before) label turns right frame
+    ReachesSince (run (boot s) before) label turns side right frame ⊎ IsGivenFrame (run (boot s) before) label turns side right frame
 side_reaches s before [] label side right frame policy take some r = inl r
 side_reaches s before (cpu ∷ turns) label side right frame policy take some r =
     let k = run (boot s) before in
     let next : run (boot s) (before ++ cpu ∷ []) ≡ after k cpu = run_append (boot s) before (cpu ∷ []) in
-    by_later k (subst (λ (l : KernelState). Reach l (Labelled (labels_after k label cpu) side) right frame ⊎ IsGivenFrame l (labels_after k label cpu) turns right frame) next
+    by_later k (subst (λ (l : KernelState). ReachesSince l (labels_after k label cpu) turns side right frame ⊎ IsGivenFrame l (labels_after k label cpu) turns side right frame) next
     (side_reaches s (before ++ cpu ∷ []) turns (labels_after k label cpu) side right frame
     (subst (λ (l : KernelState). IsWithinPolicy l (labels_after k label cpu)) (sym next) (policy_after k label cpu (turn_taken s before cpu) policy take.0))
     (subst (λ (l : KernelState). MayTakeTurns l (labels_after k label cpu) turns) (sym next) take.1) some
     (subst (λ (l : KernelState). Reach (run l turns) (Labelled (labels l (labels_after k label cpu) turns) side) right frame) (sym next) r)))
     (λ now. reach_before k label cpu side right frame (turn_taken s before cpu) policy some now)
   where
-    by_turn : (k : KernelState) → Reached k label cpu side right frame → Reach k (Labelled label side) right frame ⊎ IsGivenFrame k label (cpu ∷ turns) right frame
-    by_turn k (inl was) = inl was
-    by_turn k (inr by) = inr (first_turn k label cpu 0 by.0 turns by.1 by.2, by.3)
+    first : (l : KernelState) (names : ℕ → ℕ) (ts : List ℕ) → ReachesSince l names ts side right frame → Reach l (Labelled names side) right frame
+    first l names [] since = since
+    first l names (c ∷ ts) since = since.0
 
-    by_later : (k : KernelState) → Reach (after k cpu) (Labelled (labels_after k label cpu) side) right frame ⊎ IsGivenFrame (after k cpu) (labels_after k label cpu) turns right frame →
+    by_turn : (k : KernelState) → ReachesSince (after k cpu) (labels_after k label cpu) turns side right frame → IsDecided (Reach k (Labelled label side) right frame) → Reached k label cpu side right frame →
+        ReachesSince k label (cpu ∷ turns) side right frame ⊎ IsGivenFrame k label (cpu ∷ turns) side right frame
+    by_turn k since (inl was) by = inl (was, since)
+    by_turn k since (inr not) (inl was) = absurd (not was)
+    by_turn k since (inr not) (inr by) = inr (record { turn = first_turn k label cpu 0 by.0 turns by.1 by.2; unreached = not; since = since; own = by.3 })
+
+    by_later : (k : KernelState) → ReachesSince (after k cpu) (labels_after k label cpu) turns side right frame ⊎ IsGivenFrame (after k cpu) (labels_after k label cpu) turns side right frame →
         (Reach (after k cpu) (Labelled (labels_after k label cpu) side) right frame → Reached k label cpu side right frame) →
-        Reach k (Labelled label side) right frame ⊎ IsGivenFrame k label (cpu ∷ turns) right frame
-    by_later k (inl now) step = by_turn k (step now)
-    by_later k (inr later) step = inr (earlier k label cpu 0 turns later.0, later.1)
+        ReachesSince k label (cpu ∷ turns) side right frame ⊎ IsGivenFrame k label (cpu ∷ turns) side right frame
+    by_later k (inl since) step =
+        by_turn k since (reach_decided k label side right frame) (step (first (after k cpu) (labels_after k label cpu) turns since))
+    by_later k (inr given) step = inr (record { turn = earlier k label cpu 0 turns given.turn; unreached = given.unreached; since = given.since; own = given.own })
 
 pub side_holds : (s : Scenario) (before turns : List ℕ) (label : ℕ → ℕ) (side right object : ℕ) → IsWithinPolicy (run (boot s) before) label → MayTakeTurns (run (boot s) before) label turns → side ≢ 0 →
     Holds (run (run (boot s) before) turns) (Labelled (labels (run (boot s) before) label turns) side) right object →
-    Holds (run (boot s) before) (Labelled label side) right object ⊎ (IsGivenObject (run (boot s) before) label turns right object ⊎ IsMadeBySide (run (boot s) before) label turns side object)
+    HoldsSince (run (boot s) before) label turns side right object
+    ⊎ (IsGivenObject (run (boot s) before) label turns side right object ⊎ IsMadeBySide (run (boot s) before) label turns side right object)
 side_holds s before [] label side right object policy take some h = inl h
 side_holds s before (cpu ∷ turns) label side right object policy take some h =
     let k = run (boot s) before in
@@ -249,15 +258,21 @@ side_holds s before (cpu ∷ turns) label side right object policy take some h =
     (λ now. hold_before k label cpu side right object (turn_taken s before cpu) policy some now)
   where
     Later : KernelState → (ℕ → ℕ) → List ℕ → Type 0
-    Later l names ts = Holds l (Labelled names side) right object ⊎ (IsGivenObject l names ts right object ⊎ IsMadeBySide l names ts side object)
+    Later l names ts = HoldsSince l names ts side right object ⊎ (IsGivenObject l names ts side right object ⊎ IsMadeBySide l names ts side right object)
 
-    by_turn : (k : KernelState) → Held k label cpu side right object → Later k label (cpu ∷ turns)
-    by_turn k (inl was) = inl was
-    by_turn k (inr (inl by)) = inr (inl (first_turn k label cpu 0 by.0 turns by.1 by.2, by.3))
-    by_turn k (inr (inr by)) = inr (inr (first_turn k label cpu side by.0 turns by.1 by.2, by.3))
+    first : (l : KernelState) (names : ℕ → ℕ) (ts : List ℕ) → HoldsSince l names ts side right object → Holds l (Labelled names side) right object
+    first l names [] since = since
+    first l names (c ∷ ts) since = since.0
+
+    by_turn : (k : KernelState) → HoldsSince (after k cpu) (labels_after k label cpu) turns side right object → IsDecided (Holds k (Labelled label side) right object) → Held k label cpu side right object →
+        Later k label (cpu ∷ turns)
+    by_turn k since (inl was) by = inl (was, since)
+    by_turn k since (inr not) (inl was) = absurd (not was)
+    by_turn k since (inr not) (inr (inl by)) = inr (inl (record { turn = first_turn k label cpu 0 by.0 turns by.1 by.2; unheld = not; since = since; own = by.3 }))
+    by_turn k since (inr not) (inr (inr by)) = inr (inr (record { turn = first_turn k label cpu side by.0 turns by.1 by.2; next = by.3; since = since }))
 
     by_later : (k : KernelState) → Later (after k cpu) (labels_after k label cpu) turns →
         (Holds (after k cpu) (Labelled (labels_after k label cpu) side) right object → Held k label cpu side right object) → Later k label (cpu ∷ turns)
-    by_later k (inl now) step = by_turn k (step now)
-    by_later k (inr (inl given)) step = inr (inl (earlier k label cpu 0 turns given.0, given.1))
-    by_later k (inr (inr made)) step = inr (inr (earlier k label cpu side turns made.0, made.1))
+    by_later k (inl since) step = by_turn k since (holds_decided k label side right object) (step (first (after k cpu) (labels_after k label cpu) turns since))
+    by_later k (inr (inl given)) step = inr (inl (record { turn = earlier k label cpu 0 turns given.turn; unheld = given.unheld; since = given.since; own = given.own }))
+    by_later k (inr (inr made)) step = inr (inr (record { turn = earlier k label cpu side turns made.turn; next = made.next; since = made.since }))

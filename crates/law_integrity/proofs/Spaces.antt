@@ -19,8 +19,8 @@ use Rattle.nova_model.specs.declared.delegation.Derivation.{Derivation}
 use Rattle.law_forest.proofs.Members.{IsIn, all_at, found_in, in_from_contains, none_found}
 use Rattle.law_forest.proofs.Pairs.{pairs_at}
 use Rattle.law_forest.proofs.Transfers.{kinds_equal}
-use Rattle.law_integrity.specs.Rights.{LeadsTo}
-use Rattle.law_integrity.specs.Spaces.{ByRead, Finds, InFrame, IsOwnPage, IsOwnWord, IsSpaceOf, Loads, Nowhere, OwnWords, Reaches, Refused, Taken, Takes}
+use Rattle.law_integrity.specs.Rights.{PageLeadsTo}
+use Rattle.law_integrity.specs.Spaces.{ByRead, Finds, InFrame, IsOwnPage, IsOwnWord, IsSpaceOf, Loads, Nowhere, OwnWords, FindsFrame, Refused, Taken, Takes}
 use Rattle.law_integrity.proofs.Stores.{has_from, leads_to}
 
 -- ONE DERIVATION COVERS A PAGE
@@ -36,7 +36,7 @@ meet a b place h i =
     let b_last = i.before_end in
     grind (arith, nat_tests)
 
-covers_it : (k : KernelState) (domain page right frame : ℕ) (l : LeadsTo k domain page right frame) → covers Mem domain page l.derivation ≡ true
+covers_it : (k : KernelState) (domain page right frame : ℕ) (l : PageLeadsTo k domain page right frame) → covers Mem domain page l.derivation ≡ true
 covers_it k domain page right frame l =
     let kind : is_same_kind Mem l.derivation.kind ≡ true = ap (is_same_kind Mem) l.kind in
     let its : (l.derivation.pd == domain) ≡ true = let same = l.holder in grind arith in
@@ -69,7 +69,7 @@ one_covers k domain page a b forest there here h i = by_pair (pairs_at Apart k.d
     by_pair (inr (inl apart)) = absurd (far a b h i apart)
     by_pair (inr (inr apart)) = absurd (far b a i h apart)
 
-found_led : (k : KernelState) (domain page right frame : ℕ) → IsForest k.delegations → (l : LeadsTo k domain page right frame) →
+found_led : (k : KernelState) (domain page right frame : ℕ) → IsForest k.delegations → (l : PageLeadsTo k domain page right frame) →
     find (covers Mem domain page) k.delegations.list ≡ Some l.derivation
 found_led k domain page right frame forest l = by_found (find (covers Mem domain page) k.delegations.list) refl
   where
@@ -87,7 +87,7 @@ found_led k domain page right frame forest l = by_found (find (covers Mem domain
 
 -- THE FRAME OF AN ADDRESS
 
-reached_frame : (k : KernelState) (domain page right frame : ℕ) → IsForest k.delegations → LeadsTo k domain page right frame →
+reached_frame : (k : KernelState) (domain page right frame : ℕ) → IsForest k.delegations → PageLeadsTo k domain page right frame →
     option_and_then (frame_with right) (reach k.delegations.list domain page) ≡ Some frame
 reached_frame k domain page right frame forest l =
     ap (λ (o : Option Derivation). option_and_then (frame_with right) (option_map (page_in page) o)) (found_led k domain page right frame forest l)
@@ -115,7 +115,7 @@ own_is k ec address t is = by_thread (is_thread k ec) refl is
         by_result thread false e = λ own. let is = own.thread in absurd (cc)
         by_result thread true e = absurd (cc)
 
-reaches_of : (k : KernelState) (ec address right frame : ℕ) → frame_for (address_space k ec) right address ≡ Some frame → Reaches k ec address right frame
+reaches_of : (k : KernelState) (ec address right frame : ℕ) → frame_for (address_space k ec) right address ≡ Some frame → FindsFrame k ec address right frame
 reaches_of k ec address right frame h = record { other = by_own (is_some (own_words k ec) && (address / 4096 == own_page)) refl h; leads = leads_to k ec right address frame h }
   where
     by_own : (t : Bool) → (is_some (own_words k ec) && (address / 4096 == own_page)) ≡ t →
@@ -123,7 +123,7 @@ reaches_of k ec address right frame h = record { other = by_own (is_some (own_wo
     by_own true is g = absurd (cc)
     by_own false is g = own_is k ec address false is
 
-frame_reached : (k : KernelState) (ec address right frame : ℕ) → IsForest k.delegations → Reaches k ec address right frame → frame_for (address_space k ec) right address ≡ Some frame
+frame_reached : (k : KernelState) (ec address right frame : ℕ) → IsForest k.delegations → FindsFrame k ec address right frame → frame_for (address_space k ec) right address ≡ Some frame
 frame_reached k ec address right frame forest r = by_own (is_some (own_words k ec) && (address / 4096 == own_page)) refl
   where
     by_own : (t : Bool) → (is_some (own_words k ec) && (address / 4096 == own_page)) ≡ t →
@@ -131,7 +131,7 @@ frame_reached k ec address right frame forest r = by_own (is_some (own_words k e
     by_own true is = absurd (r.other (own_is k ec address true is))
     by_own false is = reached_frame k (pd_of k ec) (address / 4096) right frame forest r.leads
 
-nowhere : (k : KernelState) (ec address right : ℕ) → IsForest k.delegations → frame_for (address_space k ec) right address ≡ None → (frame : ℕ) → Reaches k ec address right frame → ⊥
+nowhere : (k : KernelState) (ec address right : ℕ) → IsForest k.delegations → frame_for (address_space k ec) right address ≡ None → (frame : ℕ) → FindsFrame k ec address right frame → ⊥
 nowhere k ec address right forest none frame r = absurd (let both : None ≡ Some frame = sym none ∙ frame_reached k ec address right frame forest r in cc)
 
 -- WHAT IS FOUND

@@ -26,7 +26,7 @@ use Rattle.law_forest.specs.Effects.{memory_with, store_by, store_words, words_s
 use Rattle.law_forest.proofs.Members.{IsIn, contains_from_in, found_in}
 use Rattle.law_forest.proofs.Transfers.{kinds_equal}
 use Rattle.law_turns.specs.Words.{IsAmongWords}
-use Rattle.law_integrity.specs.Rights.{LeadsTo, Stores, StoresTo}
+use Rattle.law_integrity.specs.Rights.{PageLeadsTo, Stores, StoresTo}
 use Rattle.law_integrity.specs.Integrity.{FrameBy, LogBy}
 use Rattle.law_integrity.proofs.Entries.{get_set}
 
@@ -40,7 +40,7 @@ has_from r place h =
     record { from_base = grind (arith, nat_tests); before_end = grind (arith, nat_tests) }
 
 covering : (k : KernelState) (domain page right frame : ℕ) (d : Derivation) → IsIn k.delegations.list d → covers Mem domain page d ≡ true → allows d.rights right ≡ true →
-    frame ≡ d.target + (page - d.base) → LeadsTo k domain page right frame
+    frame ≡ d.target + (page - d.base) → PageLeadsTo k domain page right frame
 covering k domain page right frame d there h allowed leads =
     let parts = and_parts (is_same_kind Mem d.kind) (d.pd == domain && has_place (range_of d) page) h in
     let rest = and_parts (d.pd == domain) (has_place (range_of d) page) parts.1 in
@@ -54,26 +54,26 @@ covering k domain page right frame d there h allowed leads =
       allowed = allowed;
     }
 
-reached : (k : KernelState) (domain page right frame : ℕ) → option_and_then (frame_with right) (reach k.delegations.list domain page) ≡ Some frame → LeadsTo k domain page right frame
+reached : (k : KernelState) (domain page right frame : ℕ) → option_and_then (frame_with right) (reach k.delegations.list domain page) ≡ Some frame → PageLeadsTo k domain page right frame
 reached k domain page right frame h = by_found (find (covers Mem domain page) k.delegations.list) refl h
   where
     by_right : (d : Derivation) → find (covers Mem domain page) k.delegations.list ≡ Some d → (t : Bool) → allows d.rights right ≡ t →
-        (if t then Some (d.target + (page - d.base)) else None) ≡ Some frame → LeadsTo k domain page right frame
+        (if t then Some (d.target + (page - d.base)) else None) ≡ Some frame → PageLeadsTo k domain page right frame
     by_right d is true allowed g =
         let its = found_in (covers Mem domain page) k.delegations.list d is in
         covering k domain page right frame d its.0 its.1 allowed (sym (same_Some (d.target + (page - d.base)) frame g))
     by_right d is false allowed g = absurd (cc)
 
     by_found : (o : Option Derivation) → find (covers Mem domain page) k.delegations.list ≡ o →
-        option_and_then (frame_with right) (option_map (page_in page) o) ≡ Some frame → LeadsTo k domain page right frame
+        option_and_then (frame_with right) (option_map (page_in page) o) ≡ Some frame → PageLeadsTo k domain page right frame
     by_found None is g = absurd (cc)
     by_found (Some d) is g = by_right d is (allows d.rights right) refl g
 
-pub leads_to : (k : KernelState) (ec right address frame : ℕ) → frame_for (address_space k ec) right address ≡ Some frame → LeadsTo k (pd_of k ec) (address / 4096) right frame
+pub leads_to : (k : KernelState) (ec right address frame : ℕ) → frame_for (address_space k ec) right address ≡ Some frame → PageLeadsTo k (pd_of k ec) (address / 4096) right frame
 leads_to k ec right address frame h = by_own (is_some (own_words k ec) && (address / 4096 == own_page)) h
   where
     by_own : (t : Bool) → option_and_then (frame_with right) (if t then None else reach k.delegations.list (pd_of k ec) (address / 4096)) ≡ Some frame →
-        LeadsTo k (pd_of k ec) (address / 4096) right frame
+        PageLeadsTo k (pd_of k ec) (address / 4096) right frame
     by_own true g = absurd (cc)
     by_own false g = reached k (pd_of k ec) (address / 4096) right frame g
 

@@ -9,14 +9,14 @@ use Rattle.nova_objects.specs.declared.object.Object.{Object}
 use Rattle.nova_objects.specs.declared.object.Object.TheVariants.{Pd, Ec, Sc, Pt, Sm}
 use Rattle.nova_model.specs.Capabilities.{is_ec, is_pt, is_sm, is_vcpu}
 use Rattle.nova_model.specs.Creation.{context_of, count_of, first_registers, first_state, identifier_of, idle_semaphore, object_of, stir_count_of, transfer_of, words_of}
-use Rattle.nova_model.specs.Deeds.{deed}
+use Rattle.nova_model.specs.Deeds.{deed, gave, skipped, transfer_after}
 use Rattle.nova_guest.specs.declared.input.Input.{Input}
 use Rattle.nova_guest.specs.declared.input.Input.TheVariants as input
 use Rattle.nova_model.specs.Guests as turns
 use Rattle.nova_model.specs.Inputs.{input_of, is_outside, is_stirred, only_if}
 use Rattle.nova_model.specs.Runs.{after}
 use Rattle.nova_model.specs.Semaphores.{lowered, raised, semaphore_at}
-use Rattle.nova_model.specs.State.{KernelState, Semaphore, deadline_of, ec_in, entry, no_transfer, no_words, transfer_at}
+use Rattle.nova_model.specs.State.{KernelState, Semaphore, deadline_of, ec_in, entry, no_transfer, no_words, transfer, transfer_at}
 use Rattle.nova_model.specs.declared.context.State.TheVariants.{Fresh, Parked}
 use Rattle.nova_model.specs.declared.deed.Deed.{Deed}
 use Rattle.nova_model.specs.declared.deed.Deed.TheVariants as deeds
@@ -40,7 +40,7 @@ use Rattle.law_turns.proofs.TablesFit.{TablesFit}
 use Rattle.law_turns.proofs.TablesKept.{contexts_length}
 use Rattle.law_integrity.specs.Rights.{AsksDown, IsNew}
 use Rattle.law_integrity.specs.Rightful.{IsRightful}
-use Rattle.law_integrity.specs.Integrity.{Clears, Controls, DeadlineBy, Sets, CountBy, NewCount, NoCount, Stirs, Unstirred, Downs, IdentifierBy, IsBorn, MessageBy, NewContext, NewItems, NewPortal, NewSemaphore, NewWords, OwnItems, SemaphoreBy, TransferBy, Ups}
+use Rattle.law_integrity.specs.Integrity.{Clears, Controls, DeadlineBy, Sets, CountBy, NewCount, NoCount, Stirs, Unstirred, Downs, IdentifierBy, IsBorn, MessageBy, NewContext, NewItems, NewPortal, NewSemaphore, NewWords, GivesPart, SkipsPart, FinishesItem, SemaphoreBy, TransferBy, Ups}
 use Rattle.law_integrity.proofs.Branches.{creator_of}
 use Rattle.law_integrity.proofs.Contexts.{IsRight, context_by, words_after}
 use Rattle.law_integrity.proofs.Entries.{change_each, change_length, get_set, join_each, put_each, put_length, same_length}
@@ -61,12 +61,12 @@ born_words (Sc ec cpu priority quantum) = tt
 born_words (Pt ec mtd ip) = tt
 born_words Sm = tt
 
-pub messages_by : (k : KernelState) (ec n : ℕ) → IsRightful k ec (deed k ec) → HasTables k →
+pub messages_by : (k : KernelState) (ec n : ℕ) → IsRightful k ec (deed k ec) → IsActor k.contexts ec → TablesFit k →
     (entry (slice_get (applied k (effect k ec (deed k ec))).messages n) ≡ words_at k n) ⊎ MessageBy k ec n (entry (slice_get (applied k (effect k ec (deed k ec))).messages n))
-messages_by k ec n r tables =
+messages_by k ec n r actor fits =
     join_each Q (put k.messages (words_by k ec (deed k ec))) (λ (m : NewObject). words_of (object_of m)) (made_by (deed k ec)) n
-    (put_each Q k.messages (words_by k ec (deed k ec)) n (inl refl) (λ m is. inr (message_by k ec n (deed k ec) m refl r (deed_asks k ec) is)))
-    (λ m made last. inr (NewWords (is_new k ec n m made (last ∙ put_length k.messages (words_by k ec (deed k ec)) ∙ same_length is_some has_words k.messages k.objects tables.messages))
+    (put_each Q k.messages (words_by k ec (deed k ec)) n (inl refl) (λ m is. inr (message_by k ec n (deed k ec) m refl r (deed_asks k ec) actor fits.served is)))
+    (λ m made last. inr (NewWords (is_new k ec n m made (last ∙ put_length k.messages (words_by k ec (deed k ec)) ∙ same_length is_some has_words k.messages k.objects fits.tables.messages))
     (born_words (object_of m))))
   where
     Q : Option (List ℕ) → Type 0
@@ -206,11 +206,18 @@ counts_right k new cpu ec n state counted_ = by_old (stirs_of k n) refl counted_
 
 -- ITEMS
 
-own_items : (k : KernelState) (ec n : ℕ) (d : Deed) (t : Transfer) → transfer_by k ec d ≡ Some (n, t) → n ≡ ec
-own_items k ec n (deeds.Gives child cursor) t is = sym (ap (λ (q : ℕ × Transfer). q.0) (same_Some _ _ is))
-own_items k ec n (deeds.Skips reason place cursor) t is = sym (ap (λ (q : ℕ × Transfer). q.0) (same_Some _ _ is))
-own_items k ec n (deeds.Finishes item end words after) t is = sym (ap (λ (q : ℕ × Transfer). q.0) (same_Some _ _ is))
-own_items k ec n other t is = absurd (cc)
+abbrev of_transfer : ℕ → Transfer → Option (ℕ × Transfer)
+of_transfer n t = Some (n, t)
+
+-- what is right for the one who acts is right for the one of this number
+at_actor : (k : KernelState) (ec n : ℕ) (new t : Transfer) → TransferBy k ec ec (Some new) → of_transfer ec new ≡ of_transfer n t → TransferBy k ec n (Some t)
+at_actor k ec n new t right is = subst (λ (q : ℕ × Transfer). TransferBy k ec q.0 (Some q.1)) (same_Some (ec, new) (n, t) is) right
+
+own_items : (k : KernelState) (ec n : ℕ) (d : Deed) (t : Transfer) → deed k ec ≡ d → transfer_by k ec d ≡ Some (n, t) → TransferBy k ec n (Some t)
+own_items k ec n (deeds.Gives child cursor) t does is = at_actor k ec n (gave (transfer k ec) cursor) t (GivesPart refl child cursor does refl) is
+own_items k ec n (deeds.Skips reason place cursor) t does is = at_actor k ec n (skipped (transfer k ec) cursor) t (SkipsPart refl reason place cursor does refl) is
+own_items k ec n (deeds.Finishes item end words follows) t does is = at_actor k ec n (transfer_after item follows) t (FinishesItem refl item end words follows does refl) is
+own_items k ec n other t does is = absurd (cc)
 
 born_items : (o : Object) → IfSome (transfer_of o) (λ t. t ≡ no_transfer)
 born_items (Ec pd cpu kind event) = refl
@@ -223,7 +230,7 @@ pub transfers_by : (k : KernelState) (ec n : ℕ) → HasTables k →
     (entry (slice_get (applied k (effect k ec (deed k ec))).transfers n) ≡ transfer_at k n) ⊎ TransferBy k ec n (entry (slice_get (applied k (effect k ec (deed k ec))).transfers n))
 transfers_by k ec n tables =
     join_each Q (put k.transfers (transfer_by k ec (deed k ec))) (λ (m : NewObject). transfer_of (object_of m)) (made_by (deed k ec)) n
-    (put_each Q k.transfers (transfer_by k ec (deed k ec)) n (inl refl) (λ t is. inr (OwnItems (own_items k ec n (deed k ec) t is))))
+    (put_each Q k.transfers (transfer_by k ec (deed k ec)) n (inl refl) (λ t is. inr (own_items k ec n (deed k ec) t refl is)))
     (λ m made last. inr (NewItems (is_new k ec n m made (last ∙ put_length k.transfers (transfer_by k ec (deed k ec)) ∙ same_length is_some is_ec k.transfers k.objects tables.transfers))
     (born_items (object_of m))))
   where

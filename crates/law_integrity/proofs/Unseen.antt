@@ -16,11 +16,11 @@ use Rattle.law_origins.specs.Giving.{Acts}
 use Rattle.law_origins.proofs.Lists.{run_append}
 use Rattle.law_integrity.specs.Confined.{AreSeparate, IsMember, Pair, ShareNothing, Side, grown}
 use Rattle.law_integrity.specs.Disclosure.{AreSecretsOf, AreUnseen, Differ, DiffersIn, GivesItems, InFrame, InRegisters, InWords, IsSecretOf, IsUnread, IsUnseen, IsUntold, ItsOwn, ReadsWords, Secret, TakesItems, registers_set, words_set}
-use Rattle.law_integrity.specs.Rights.{LeadsTo}
+use Rattle.law_integrity.specs.Rights.{PageLeadsTo}
 use Rattle.law_integrity.specs.Secrecy.{IsHidden, with_bytes}
 use Rattle.law_integrity.proofs.Blind.{unread_in}
 use Rattle.law_integrity.proofs.Confined.{reach_along, separate_along, set_hidden}
-use Rattle.law_integrity.proofs.Confining.{acts_one, both_member}
+use Rattle.law_integrity.proofs.Confining.{acts_one, any_reached, both_member, reached_none}
 use Rattle.law_integrity.proofs.Deeds as memory
 use Rattle.law_integrity.proofs.Leaving.{flipped}
 use Rattle.law_integrity.proofs.Masking.{choice_same, masked, same_table}
@@ -63,7 +63,7 @@ reads_over k m ec n same (ItsOwn is) = ItsOwn is
 reads_over k m ec n same (TakesItems is came serves) = TakesItems (sym (same.states ec) ∙ is) came (sym (same.callers ec) ∙ serves)
 reads_over k m ec n same (GivesItems is came serves) = GivesItems (sym (same.states ec) ∙ is) came (sym (same.callers ec) ∙ serves)
 
-leads_over : (k m : KernelState) (ec page right frame : ℕ) → AreSeenSame k m → LeadsTo m (pd_of m ec) page right frame → LeadsTo k (pd_of k ec) page right frame
+leads_over : (k m : KernelState) (ec page right frame : ℕ) → AreSeenSame k m → PageLeadsTo m (pd_of m ec) page right frame → PageLeadsTo k (pd_of k ec) page right frame
 leads_over k m ec page right frame same h = record {
   derivation = h.derivation;
   there = subst (λ (d : Delegations). Contains d.list h.derivation) same.delegations h.there;
@@ -155,7 +155,7 @@ sides_unseen s before turns guest monitor other_guest other_monitor cpu ec secre
     one (InWords n) is = unread_in k (grown (run (boot s) before) S turns) cpu ec n sound (separate_along s before turns S T apart).first acts_ m (neither n is) ec acts_
     one (InFrame frame) is =
         set_hidden s before turns S T cpu ec frame apart acts_ m
-        (λ right mine. share.memory right is.0 frame mine (reach_along s before turns T S is.0 frame (flipped (run (boot s) before) S T apart) is.1)) ec acts_
+        (λ right mine. share.memory frame (any_reached mine) (any_reached (reach_along s before turns T S 0 frame (flipped (run (boot s) before) S T apart) (reached_none is)))) ec acts_
 
     all : (secrets : List Secret) → AreSecretsOf k (grown (run (boot s) before) T turns) secrets → AreUnseen k ec secrets
     all [] is = tt

@@ -52,6 +52,7 @@ use Rattle.nova_model.specs.declared.transfer.Sequel.TheVariants as sequel
 use Rattle.nova_model.specs.declared.transfer.Skip.{Skip}
 use Rattle.nova_model.specs.declared.transfer.Transfer.{Transfer}
 use Rattle.law_integrity.specs.Disclosure.{AreSameIn, AskSame, CallSame, ExitTellsSame, TellsSame}
+use Rattle.law_integrity.specs.Rights.{Again, AtCall, IsAsking}
 use Rattle.law_integrity.specs.Rightful.{IsStep}
 use Rattle.law_integrity.proofs.Deciding.{Found, call_found}
 use Rattle.law_integrity.proofs.Deeds.{next_same}
@@ -326,35 +327,35 @@ delivers_look k cs ms ec t (Some v) = by_flag (flag v == 1)
     by_flag false = tt
 
 -- a hypercall is no instruction that goes on, and sends no exit
-call_looks : (k : KernelState) (cs : Contexts) (ms : Words) (ec : ℕ) → (IsStep k ec → ⊥) → raised_exit (context k ec).state ≡ None → LooksSame k cs ms ec (hypercall k ec (pd_of k ec) (context k ec).regs)
-call_looks k cs ms ec no_step no_exit = by_deed _ (call_found k ec)
+call_looks : (k : KernelState) (cs : Contexts) (ms : Words) (ec : ℕ) → IsAsking k ec → (IsStep k ec → ⊥) → raised_exit (context k ec).state ≡ None → LooksSame k cs ms ec (hypercall k ec (pd_of k ec) (context k ec).regs)
+call_looks k cs ms ec asking no_step no_exit = by_deed _ (call_found k ec asking)
   where
     by_deed : (d : Deed) → Found k ec d → LooksSame k cs ms ec d
     by_deed deeds.Steps found = absurd (no_step found)
     by_deed (deeds.Sends handler ip number mtd reason q0 q1) found = absurd (let both : None ≡ Some (reason, q0, q1) = sym no_exit ∙ found.raised in cc)
     by_deed other found = tt
 
-ready_looks : (k : KernelState) (cs : Contexts) (ms : Words) (ec : ℕ) → (context k ec).state ≡ Ready → CallSame k ec (context k ec).regs (ec_of cs ec).regs → (t : Bool) → LooksSame k cs ms ec (ready k ec t)
-ready_looks k cs ms ec is call true = tt
-ready_looks k cs ms ec is call false = subst (λ (o : Once). LooksSame k cs ms ec (stepping k ec o)) (sym call.first) (by_signal (is_thread k ec))
+ready_looks : (k : KernelState) (cs : Contexts) (ms : Words) (ec : ℕ) → (context k ec).state ≡ Ready → CallSame k ec (context k ec).regs (ec_of cs ec).regs → (t : Bool) → (context k ec).recall ≡ t → LooksSame k cs ms ec (ready k ec t)
+ready_looks k cs ms ec is call true recall = tt
+ready_looks k cs ms ec is call false recall = subst (λ (o : Once). LooksSame k cs ms ec (stepping k ec o)) (sym call.first) (by_signal (is_thread k ec) refl)
   where
     no_step : IsStep k ec → ⊥
     no_step step = absurd (let both : Raised environment_call 0 0 ≡ Went step.regs step.store = sym call.first ∙ step.goes_on in cc)
 
-    by_signal : (t : Bool) → LooksSame k cs ms ec (signalled k ec environment_call 0 0 t)
-    by_signal true = call_looks k cs ms ec no_step (ap raised_exit is)
-    by_signal false = tt
+    by_signal : (t : Bool) → is_thread k ec ≡ t → LooksSame k cs ms ec (signalled k ec environment_call 0 0 t)
+    by_signal true thread = call_looks k cs ms ec (AtCall (record { state = is; recall = recall; thread = thread; q0 = 0; q1 = 0; raises = call.first })) no_step (ap raised_exit is)
+    by_signal false thread = tt
 
 in_looks : (k : KernelState) (cs : Contexts) (ms : Words) (ec : ℕ) → words_in ms ec ≡ message k ec → (s : State) → (context k ec).state ≡ s → TellsAlike k cs ec s → LooksSame k cs ms ec (deed_in k ec s)
 in_looks k cs ms ec own s is (inl same) = all_look k cs ms ec own same (deed_in k ec s)
 in_looks k cs ms ec own Ready is (inr (inl recall)) = subst (λ (t : Bool). LooksSame k cs ms ec (ready k ec t)) (sym recall) tt
-in_looks k cs ms ec own Ready is (inr (inr call)) = ready_looks k cs ms ec is call (context k ec).recall
+in_looks k cs ms ec own Ready is (inr (inr call)) = ready_looks k cs ms ec is call (context k ec).recall refl
 in_looks k cs ms ec own (Exiting reason q0 q1) is (inr tells) = exits_look k cs ms ec reason q0 q1 tells
 in_looks k cs ms ec own (Sending reason q0 q1 handler) is (inr tells) = exits_look k cs ms ec reason q0 q1 tells
 in_looks k cs ms ec own (Granting new) is (inr tells) = delivers_look k cs ms ec (transfer k ec) (delivery k ec (Granting new))
 in_looks k cs ms ec own Replying is (inr tells) = delivers_look k cs ms ec (transfer k ec) (delivery k ec Replying)
 in_looks k cs ms ec own (Helping handler) is (inr asks_) =
-    call_looks k cs ms ec (λ step. absurd (let both : Helping handler ≡ Ready = sym is ∙ step.state in cc)) (ap raised_exit is)
+    call_looks k cs ms ec (Again handler is) (λ step. absurd (let both : Helping handler ≡ Ready = sym is ∙ step.state in cc)) (ap raised_exit is)
 in_looks k cs ms ec own (Revoking range its) is (inr tells) = by_leaf (next_leaf (record { pd = pd_of k ec; range = range; own = its }) k.delegations)
   where
     by_leaf : (o : Option Derivation) → LooksSame k cs ms ec (removes o)

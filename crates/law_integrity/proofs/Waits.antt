@@ -33,10 +33,10 @@ use Rattle.law_origins.proofs.Origins.{boot_plain}
 use Rattle.law_origins.proofs.Rights.{input_right}
 use Rattle.law_integrity.specs.Rights.{CallsAt, ExitsAt}
 use Rattle.law_integrity.specs.Rightful.{IsRightful}
-use Rattle.law_integrity.specs.Waits.{ByHandler, ByLoss, Ends, HasCome, HasLocalEdges, IsSentOn, PaysItself, Waits}
+use Rattle.law_integrity.specs.Waits.{ByHandler, ByLoss, DiesOfExit, HasCome, HasLocalEdges, IsSentOn, PaysItself, Waits}
 use Rattle.law_integrity.proofs.Authorised.{has_turn}
 use Rattle.law_integrity.proofs.Edges.{local_edges, reached_rightful}
-use Rattle.law_integrity.proofs.Messages.{exits_at}
+use Rattle.law_integrity.proofs.Own.{exits_at}
 
 -- WHO PAYS
 
@@ -135,7 +135,7 @@ sent_on k g (deeds.Dies reason q0) r is = absurd (cc)
 sent_on k g (deeds.Aborts handler came) r is = absurd (cc)
 sent_on k g other r is = absurd (cc)
 
-ends_by : (k : KernelState) (g : ℕ) (d : Deed) → IsActor k.contexts g → IsRightful k g d → own_input d ≡ Some Died → Ends k g
+ends_by : (k : KernelState) (g : ℕ) (d : Deed) → IsActor k.contexts g → IsRightful k g d → own_input d ≡ Some Died → DiesOfExit k g
 ends_by k g (deeds.Dies reason q0) actor r is = ByLoss reason q0 r
 ends_by k g (deeds.Aborts handler came) actor r is = ByHandler handler r.0 (actor.waits handler r.0)
 ends_by k g (deeds.Sends handler ip number mtd reason q0 q1) actor r is = absurd (cc)
@@ -153,7 +153,7 @@ sends_on s turns cpu ec g by =
     sent_on (run (boot s) turns) g (deed (run (boot s) turns) g) (reached_rightful s turns g)
     (own_of (run (boot s) turns) cpu ec g Sent (input_right s turns cpu ec g Sent by) by.acts by.is)
 
-pub ends : (s : Scenario) (turns : List ℕ) (cpu ec g : ℕ) → IsInputBy s turns cpu ec g Died → Ends (run (boot s) turns) g
+pub ends : (s : Scenario) (turns : List ℕ) (cpu ec g : ℕ) → IsInputBy s turns cpu ec g Died → DiesOfExit (run (boot s) turns) g
 ends s turns cpu ec g by =
     let same : ec ≡ g = input_right s turns cpu ec g Died by in
     let acts_ : Acts (run (boot s) turns) cpu g = subst (Acts (run (boot s) turns) cpu) same by.acts in

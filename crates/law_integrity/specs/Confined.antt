@@ -38,10 +38,11 @@ pub record IsMember (k : KernelState) (S : ℕ → Type 0) (ec : ℕ) : Type 0 w
 
 -- A CLOSED SET: WHAT CAN BE CHECKED OF A STATE
 
--- an object, of this number, is the set's own: a domain, an execution context or a portal of it. A semaphore and a scheduling context may be shared.
+-- an object, of this number, is the set's own: a domain or an execution context of it, a portal to one of its handlers, or a scheduling context that is bound to one of its execution contexts. A semaphore may be shared.
 abbrev pub IsOwned : KernelState → (ℕ → Type 0) → ℕ → Option Object → Type 0
 IsOwned k S n (Some Pd) = S n
 IsOwned k S n (Some (Ec pd cpu kind event)) = S pd
+IsOwned k S n (Some (Sc donor cpu priority quantum)) = IsMember k S donor
 IsOwned k S n (Some (Pt handler mtd ip)) = IsMember k S handler
 IsOwned k S n other = Unit {0}
 
@@ -61,6 +62,14 @@ pub record Holds (k : KernelState) (S : ℕ → Type 0) (right object : ℕ) : T
   pub kind : capability.kind ≡ Obj
   pub leads : capability.target ≡ object
   pub allowed : allows capability.rights right ≡ true
+
+-- or a capability with any rights
+pub record HoldsAny (k : KernelState) (S : ℕ → Type 0) (object : ℕ) : Type 0 where
+  pub capability : Derivation
+  pub there : Contains k.delegations.list capability
+  pub of : S capability.pd
+  pub kind : capability.kind ≡ Obj
+  pub leads : capability.target ≡ object
 
 -- it waits at a semaphore that neither set may raise and no alarm rings, and no deadline ends the wait
 pub record IsStuck (k : KernelState) (S T : ℕ → Type 0) (n sm : ℕ) : Type 0 where
@@ -84,16 +93,16 @@ pub record AreSeparate (k : KernelState) (S T : ℕ → Type 0) : Type 0 where
   pub disjoint : (n : ℕ) → S n → T n → ⊥
   pub rest : (ec : ℕ) (x : EcState) → context_at k ec ≡ Some x → IsIdle k S T ec x.state ⊎ (IsMember k S ec ⊎ IsMember k T ec)
 
--- nobody of S waits at a semaphore that T may raise
-abbrev pub IsUnwoken : KernelState → (ℕ → Type 0) → (ℕ → Type 0) → Type 0
-IsUnwoken k S T = (n sm : ℕ) → (context k n).state ≡ Blocked sm → IsMember k S n → Holds k T up_right sm → ⊥
+-- nobody of S waits at a semaphore to which T holds a capability, with whatever right: with up T would wake it, and with down T would wait behind it, and it would take what comes to T
+abbrev pub WaitsApart : KernelState → (ℕ → Type 0) → (ℕ → Type 0) → Type 0
+WaitsApart k S T = (n sm : ℕ) → (context k n).state ≡ Blocked sm → IsMember k S n → HoldsAny k T sm → ⊥
 
--- and no object is shared: none to which one set holds a right is held by the other with any; and nobody of one waits at a semaphore that the other may raise
+-- and no object is held by both; and nobody of one waits at a semaphore that the other holds
 pub record AreApart (k : KernelState) (S T : ℕ → Type 0) : Type 0 where
   pub separate : AreSeparate k S T
-  pub objects : (right other object : ℕ) → Holds k S right object → Holds k T other object → ⊥
-  pub first : IsUnwoken k S T
-  pub second : IsUnwoken k T S
+  pub objects : (object : ℕ) → HoldsAny k S object → HoldsAny k T object → ⊥
+  pub first : WaitsApart k S T
+  pub second : WaitsApart k T S
 
 -- THE SET ALONG TURNS
 
@@ -133,6 +142,14 @@ pub record Reach (k : KernelState) (S : ℕ → Type 0) (right frame : ℕ) : Ty
   pub kind : derivation.kind ≡ Mem
   pub leads : LeadsTo derivation frame
   pub allowed : allows derivation.rights right ≡ true
+
+-- or with any rights
+pub record ReachAny (k : KernelState) (S : ℕ → Type 0) (frame : ℕ) : Type 0 where
+  pub derivation : Derivation
+  pub there : Contains k.delegations.list derivation
+  pub of : S derivation.pd
+  pub kind : derivation.kind ≡ Mem
+  pub leads : LeadsTo derivation frame
 
 -- WHAT A TURN OF ONE SET LEAVES OF THE OTHER
 
@@ -185,7 +202,7 @@ Pair guest monitor n = (n ≡ guest) ⊎ (n ≡ monitor)
 -- A guest and its monitor share no domain, no object and no frame with another guest and its monitor, neither side waits for the other, and all else is idle.
 pub record ShareNothing (k : KernelState) (guest monitor other_guest other_monitor : ℕ) : Type 0 where
   pub apart : AreApart k (Pair (pd_of k guest) (pd_of k monitor)) (Pair (pd_of k other_guest) (pd_of k other_monitor))
-  pub memory : (right other frame : ℕ) → Reach k (Pair (pd_of k guest) (pd_of k monitor)) right frame → Reach k (Pair (pd_of k other_guest) (pd_of k other_monitor)) other frame → ⊥
+  pub memory : (frame : ℕ) → ReachAny k (Pair (pd_of k guest) (pd_of k monitor)) frame → ReachAny k (Pair (pd_of k other_guest) (pd_of k other_monitor)) frame → ⊥
 
 -- those domains of a guest and its monitor, with all that are made of them in these turns
 abbrev pub Side : KernelState → ℕ → ℕ → List ℕ → ℕ → Type 0

@@ -16,7 +16,7 @@ use Rattle.nova_model.specs.declared.context.Mark.{Mark}
 use Rattle.nova_model.specs.declared.context.State.{State}
 use Rattle.nova_model.specs.declared.context.State.TheVariants.{Exiting, Granting, Helping, Ready, Replying, Sending}
 use Rattle.law_origins.specs.Giving.{Acts}
-use Rattle.law_integrity.specs.Confined.{IsMember, Reach}
+use Rattle.law_integrity.specs.Confined.{IsMember, ReachAny}
 use Rattle.law_integrity.specs.Secrecy.{IsHidden, with_bytes}
 
 -- REGISTERS
@@ -153,7 +153,7 @@ AreUnseen k ec (s ∷ secrets) = IsUnseen k ec s × AreUnseen k ec secrets
 abbrev pub IsSecretOf : KernelState → (ℕ → Type 0) → Secret → Type 0
 IsSecretOf k S (InRegisters n) = IsMember k S n
 IsSecretOf k S (InWords n) = IsMember k S n
-IsSecretOf k S (InFrame frame) = (right : ℕ) × Reach k S right frame
+IsSecretOf k S (InFrame frame) = ReachAny k S frame
 
 abbrev pub AreSecretsOf : KernelState → (ℕ → Type 0) → List Secret → Type 0
 AreSecretsOf k S [] = Unit {0}

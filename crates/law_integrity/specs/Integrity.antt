@@ -1,6 +1,7 @@
 -- Integrity: whatever a turn changes, the one whose turn it is had the authority for it, by what was held in the state before the turn.
--- Read `IsAuthorised`, `IsByRight` and `IsByTime` at the end first: of each part of the state it either stays, or changes in a way that names the right.
-use Rattle.std.specs.Prelude.{◌≡◌, ◌≢◌, ◌⊎◌, ℕ, ◌+◌, ◌-◌, ◌%◌, List, [], ◌∷◌, ◌++◌, Bool, Contains, IfSome, IsSome, true, false, Option, Some, None, length, slice_get, slice_index}
+-- Read `IsAuthorised`, `IsByRight` and `IsByTime` at the end first: the state after a turn is that of a deed, which is rightful, or of what comes by itself; and of each
+-- part of the state it either stays, or changes in a way that names the right.
+use Rattle.std.specs.Prelude.{◌≡◌, ◌≢◌, ◌⊎◌, ℕ, ◌+◌, ◌-◌, ◌%◌, List, [], ◌∷◌, ◌++◌, Bool, Contains, IfSome, IsSome, true, false, Option, Some, None, length, slice_get, slice_index, slice_set, option_map}
 use Rattle.byteorder.specs.Endian.{little_bytes}
 use Rattle.rv_model.specs.Registers.{Registers, reg}
 use Rattle.rv_model.specs.Step.{Store, Went}
@@ -8,27 +9,32 @@ use Rattle.nova_guest.specs.Frames.{replaced}
 use Rattle.nova_guest.specs.declared.input.Input.{Input}
 use Rattle.nova_guest.specs.declared.input.Input.TheVariants.{Own}
 use Rattle.nova_objects.specs.declared.object.Object.{Object}
+use Rattle.nova_objects.specs.declared.object.Object.TheVariants.{Sc}
 use Rattle.nova_range.specs.declared.status.Status.{Status}
 use Rattle.nova_range.specs.declared.status.Status.TheVariants.{Success, Timeout}
 use Rattle.nova_utcb.specs.Messages.{copied, exited, has_items, stored, with_item}
 use Rattle.nova_calls.specs.declared.numbers.TheConstants.{EC_CTRL, PT_CTRL}
 use Rattle.nova_model.specs.Capabilities.{control_right}
 use Rattle.nova_model.specs.Choice.{choose}
-use Rattle.nova_model.specs.Deeds.{answered, answered_registers, deed, instruction, recall, resumed, serving}
+use Rattle.nova_model.specs.Deeds.{answered, answered_registers, deed, done, gave, instruction, recall, resumed, serving, skipped, transfer_after}
 use Rattle.nova_model.specs.Delegations.{Delegations, added, without}
 use Rattle.nova_model.specs.Edges.{is_dead, state_in}
 use Rattle.nova_model.specs.Forest.{IsWithin}
 use Rattle.nova_model.specs.Guests.{input}
+use Rattle.nova_model.specs.Inputs.{stirred}
 use Rattle.nova_model.specs.Portals.{identifier}
 use Rattle.nova_model.specs.Semaphores.{lowered, raised, semaphore, semaphore_at, without_one}
-use Rattle.nova_model.specs.State.{KernelState, Semaphore, context, context_at, deadline_of, entry, message, no_transfer, no_words, pd_of, transfer_at}
+use Rattle.nova_model.specs.State.{KernelState, Semaphore, budget_at, context, context_at, deadline_of, entry, message, no_transfer, no_words, pd_of, transfer, transfer_at}
 use Rattle.nova_model.specs.Times.{due_on, next_moment, rung_once, ticked}
+use Rattle.nova_model.specs.Turn.{Step, charged, counted, event_without, number_in, turn, what_is_due}
 use Rattle.nova_model.specs.declared.context.EcState.{EcState}
 use Rattle.nova_model.specs.declared.context.Mark.{Mark}
 use Rattle.nova_model.specs.declared.context.Mark.TheVariants.{Call, Exit}
 use Rattle.nova_model.specs.declared.context.State.{State}
 use Rattle.nova_model.specs.declared.context.State.TheVariants.{Blocked, Calling, Dead, Exiting, Fresh, Granting, Helping, Parked, Replying, Revoking, Sending}
 use Rattle.nova_model.specs.declared.deed.Deed.TheVariants.{Steps}
+use Rattle.nova_model.specs.declared.deed.Deed.TheVariants as deeds
+use Rattle.nova_model.specs.declared.event.EventKind.TheVariants.{Irq}
 use Rattle.nova_model.specs.declared.delegation.Derivation.{Derivation}
 use Rattle.nova_model.specs.declared.log.LogByte.{LogByte}
 use Rattle.nova_model.specs.declared.times.AlarmState.{AlarmState}
@@ -37,6 +43,8 @@ use Rattle.nova_model.specs.declared.times.Due.{Due}
 use Rattle.nova_model.specs.declared.times.Due.TheVariants as due
 use Rattle.nova_model.specs.declared.transfer.ItemEnd.{ItemEnd}
 use Rattle.nova_model.specs.declared.transfer.ItemWords.{ItemWords}
+use Rattle.nova_model.specs.declared.transfer.Reason.{Reason}
+use Rattle.nova_model.specs.declared.transfer.Sequel.{Sequel}
 use Rattle.nova_model.specs.declared.transfer.Transfer.{Transfer}
 use Rattle.law_forest.specs.Made.{IsFirstCapability, MayCreate}
 use Rattle.law_turns.specs.Giving.{IsShared}
@@ -46,8 +54,8 @@ use Rattle.law_turns.specs.Scheduling.{IsPaidBy, IsUnpaid}
 use Rattle.law_turns.specs.Stirs.{stirs_of}
 use Rattle.law_turns.specs.Windows.{TellsOfItem}
 use Rattle.law_turns.specs.Words.{IsAmongWords, words_at}
-use Rattle.law_integrity.specs.Rightful.{IsLost, IsOwnDeadline, IsRaise, IsTold}
-use Rattle.law_integrity.specs.Rights.{AsksDown, AsksUp, CallsAt, ExitsAt, GivesTo, HasTurn, IsNew, IsServing, MayTake, Names, Stores, StoresTo}
+use Rattle.law_integrity.specs.Rightful.{IsLost, IsOfCall, IsOwnDeadline, IsRaise, IsRightful, IsTold}
+use Rattle.law_integrity.specs.Rights.{AsksDown, AsksUp, CallsAt, ExitsAt, GivesTo, HasTurn, IsAsking, IsNew, IsServing, MayTake, Names, Stores, StoresTo}
 
 -- MEMORY
 
@@ -70,13 +78,13 @@ pub record LogBy (k : KernelState) (ec : ℕ) (old new : List LogByte) : Type 0 
 
 -- MESSAGE WORDS
 
--- of the one who acts by its own store; of the handler that it calls, or to which its exit goes; of its caller, to whom it replies; of itself or its caller, who is
+-- of the one who acts by its own store; of the handler that it calls, or to which its exit goes, which is parked; of its caller, to whom it replies and which waits for that; of itself or its caller, who is
 -- told by two words what came of the present item; or of a new thread
 pub data MessageBy (k : KernelState) (ec n : ℕ) (new : Option (List ℕ)) : Type 0 where
   StoresOwn : n ≡ ec → (s : Store) → Stores k ec s → IsAmongWords k ec s → new ≡ Some (stored (message k n) (s.address % 4096) s.width s.value) → MessageBy k ec n new
-  CopiesCall : CallsAt k ec n → new ≡ Some (copied (message k ec) (message k n)) → MessageBy k ec n new
-  CopiesExit : (e : ExitsAt k ec n) → new ≡ Some (exited (record { 0 = e.mtd }) e.q0 e.q1 (context k ec).regs (message k n)) → MessageBy k ec n new
-  CopiesReply : IsServing k ec n Call → new ≡ Some (copied (message k ec) (message k n)) → MessageBy k ec n new
+  CopiesCall : CallsAt k ec n → (context k n).state ≡ Parked → new ≡ Some (copied (message k ec) (message k n)) → MessageBy k ec n new
+  CopiesExit : (e : ExitsAt k ec n) → (context k n).state ≡ Parked → new ≡ Some (exited (record { 0 = e.mtd }) e.q0 e.q1 (context k ec).regs (message k n)) → MessageBy k ec n new
+  CopiesReply : IsServing k ec n Call → (context k n).state ≡ Calling ec → new ≡ Some (copied (message k ec) (message k n)) → MessageBy k ec n new
   TellsItem : ((n ≡ ec) ⊎ IsServing k ec n Call) → (item : ℕ) (end : ItemEnd) (words : ItemWords) → TellsOfItem k ec item end words → words.ec ≡ n →
       new ≡ Some (with_item (message k n) item words.first words.second) → MessageBy k ec n new
   NewWords : IsNew k ec n → IfSome new (λ m. m ≡ no_words) → MessageBy k ec n new
@@ -149,28 +157,25 @@ pub data ContextBy (k : KernelState) (ec n : ℕ) (words : List ℕ) (old new : 
       new ≡ Some (answered x Success None) → ContextBy k ec n words old new
   NewContext : IsNew k ec n → IfSome new (IsBorn n) → ContextBy k ec n words old new
 
--- how far it is with its items: its own, or of a new one
+-- how far it is with its items: of the one who acts, which gives a part and counts it, skips one, or ends its item; or of a new one
 pub data TransferBy (k : KernelState) (ec n : ℕ) (new : Option Transfer) : Type 0 where
-  OwnItems : n ≡ ec → TransferBy k ec n new
+  GivesPart : n ≡ ec → (child : Derivation) (cursor : ℕ) → deed k ec ≡ deeds.Gives child cursor → new ≡ Some (gave (transfer k ec) cursor) → TransferBy k ec n new
+  SkipsPart : n ≡ ec → (reason : Reason) (place cursor : ℕ) → deed k ec ≡ deeds.Skips reason place cursor → new ≡ Some (skipped (transfer k ec) cursor) → TransferBy k ec n new
+  FinishesItem : n ≡ ec → (item : ℕ) (end : ItemEnd) (words : Option ItemWords) (follows : Sequel) → deed k ec ≡ deeds.Finishes item end words follows →
+      new ≡ Some (transfer_after item follows) → TransferBy k ec n new
   NewItems : IsNew k ec n → IfSome new (λ t. t ≡ no_transfer) → TransferBy k ec n new
 
 -- OBJECTS AND DELEGATIONS
 
--- a new object, which its maker's domain may have made, with the maker's first capability to it
-pub record ObjectsBy (k : KernelState) (ec : ℕ) (old new : List Object) : Type 0 where
-  pub object : Object
-  pub capability : Derivation
-  pub may : IsFirstCapability k ec object capability
-  pub joins : new ≡ old ++ object ∷ []
-
--- the first capability to a new object; a child of what the giver holds, with no target and no right more, by the present item and within its window, to one who takes it or waits for it; or a leaf
--- of a revoke's scope goes
-pub data DelegationsBy (k : KernelState) (ec : ℕ) (old new : Delegations) : Type 0 where
-  Creates : (object : Object) (capability : Derivation) → IsFirstCapability k ec object capability → new ≡ added old capability → DelegationsBy k ec old new
-  Gives : (child source : Derivation) → Contains old.list source → child.parent ≡ Some source.id → IsWithin child source → IsShared k ec child →
-      GivesTo k ec source.pd child.pd →
-      new ≡ added old child → DelegationsBy k ec old new
-  Takes : (leaf : Derivation) → MayTake k ec leaf → new ≡ without old leaf.id → DelegationsBy k ec old new
+-- they stay; a new object comes, with the first capability to it, which is its maker's; a child of what the giver holds, with no target and no right more, by the present item and within its window, to one
+-- who takes it or waits for it; or a leaf of a revoke's scope goes
+pub data GrowsByRight (k new : KernelState) (ec : ℕ) : Type 0 where
+  Keeps : new.objects ≡ k.objects → new.delegations ≡ k.delegations → GrowsByRight k new ec
+  Creates : (object : Object) (capability : Derivation) → IsFirstCapability k ec object capability → new.objects ≡ k.objects ++ object ∷ [] →
+      new.delegations ≡ added k.delegations capability → GrowsByRight k new ec
+  Gives : (child source : Derivation) → Contains k.delegations.list source → child.parent ≡ Some source.id → IsWithin child source → IsShared k ec child →
+      GivesTo k ec source.pd child.pd → new.objects ≡ k.objects → new.delegations ≡ added k.delegations child → GrowsByRight k new ec
+  Takes : (leaf : Derivation) → MayTake k ec leaf → new.objects ≡ k.objects → new.delegations ≡ without k.delegations leaf.id → GrowsByRight k new ec
 
 -- a portal's identifier: who controls the portal, with the number in x11; or of a new portal
 pub data IdentifierBy (k : KernelState) (ec n : ℕ) (new : Option ℕ) : Type 0 where
@@ -182,6 +187,23 @@ pub data SemaphoreBy (k : KernelState) (ec n : ℕ) (old new : Option Semaphore)
   Ups : AsksUp k ec n → (s : Semaphore) → old ≡ Some s → new ≡ Some (raised s) → SemaphoreBy k ec n old new
   Downs : AsksDown k ec n → (s : Semaphore) → old ≡ Some s → new ≡ Some (lowered ec s) → SemaphoreBy k ec n old new
   NewSemaphore : IsNew k ec n → IfSome new (λ s. s.waiting ≡ []) → SemaphoreBy k ec n old new
+
+-- Where a semaphore is raised: the first that waits there was blocked there, and goes on with success and without a deadline; or nobody waits.
+pub record IsAwake (k new : KernelState) (sm n : ℕ) : Type 0 where
+  pub context : EcState
+  pub there : context_at k n ≡ Some context
+  pub blocked : context.state ≡ Blocked sm
+  pub goes_on : context_at new n ≡ Some (answered context Success None)
+  pub cleared : deadline_of new.times n ≡ None
+
+abbrev pub IsFirstAwake : KernelState → KernelState → ℕ → List ℕ → Option ℕ → Type 0
+IsFirstAwake k new sm [] whom = whom ≡ None
+IsFirstAwake k new sm (first ∷ rest) whom = (whom ≡ Some first) × IsAwake k new sm first
+
+-- the semaphore is raised, and the first of its queue, if any, goes on
+pub record IsRaised (k new : KernelState) (sm : ℕ) (whom : Option ℕ) : Type 0 where
+  pub raises : IfSome (semaphore_at k.semaphores sm) (λ s. semaphore_at new.semaphores sm ≡ Some (raised s))
+  pub first : IsFirstAwake k new sm (semaphore k.semaphores sm).waiting whom
 
 -- a deadline: of one that blocks itself at a semaphore to which it has the right to a down, on its processor and at the moment that its registers ask for; or the first
 -- that waits at a semaphore that is raised has none any more
@@ -196,10 +218,28 @@ pub data CountBy (k : KernelState) (cpu ec n : ℕ) (old new : Option ℕ) : Typ
   NewCount : IsNew k ec n → old ≡ None → IfSome new (λ c. c ≡ 0) → CountBy k cpu ec n old new
   NoCount : old ≡ None → new ≡ None → CountBy k cpu ec n old new
 
+-- a budget that joins is that of a new scheduling context: its quantum is left, with the stamp that was next, and it has no ticks
+pub record IsNewBudget (k new : KernelState) (ec n : ℕ) : Type 0 where
+  pub next : IsNew k ec n
+  pub donor : ℕ
+  pub processor : ℕ
+  pub priority : ℕ
+  pub quantum : ℕ
+  pub object : slice_get new.objects n ≡ Some (Sc donor processor priority quantum)
+  pub budget : budget_at new n ≡ Some (record { left = quantum; stamp = k.next_stamp; ticks = 0 })
+
 -- A TURN
 
--- the turn of a processor in which `ec` acts and `sc` pays: each part of the state stays, or changes by right
+-- the state after is what comes of a deed of `ec`, of the stir counts that it raises, and of the charge of `sc` with a turn of the processor. The deed is the one that `ec` is about to do,
+-- which is rightful, and which it asks for where only a hypercall does it.
+pub record IsAfterDeed (k new : KernelState) (cpu ec sc : ℕ) : Type 0 where
+  pub after : new ≡ charged (stirred k ec (deed k ec) (done k ec (deed k ec))) cpu sc
+  pub rightful : IsRightful k ec (deed k ec)
+  pub asks : IsOfCall (deed k ec) → IsAsking k ec
+
+-- the turn of a processor in which `ec` acts and `sc` pays: it does the deed of `ec`; and so each part of the state stays, or changes by right
 pub record IsByRight (k new : KernelState) (cpu ec sc : ℕ) : Type 0 where
+  pub does : IsAfterDeed k new cpu ec sc
   -- whom it serves waits for its reply
   pub serves : (caller : ℕ) (mark : Mark) → IsServing k ec caller mark → (context k caller).state ≡ Calling ec
   pub frames : (frame : ℕ) → (slice_get new.memory.ram frame ≡ slice_get k.memory.ram frame) ⊎ FrameBy k ec frame (slice_get k.memory.ram frame) (slice_get new.memory.ram frame)
@@ -207,19 +247,20 @@ pub record IsByRight (k new : KernelState) (cpu ec sc : ℕ) : Type 0 where
   pub messages : (n : ℕ) → (words_at new n ≡ words_at k n) ⊎ MessageBy k ec n (words_at new n)
   pub contexts : (n : ℕ) → (context_at new n ≡ context_at k n) ⊎ ContextBy k ec n (message new ec) (context_at k n) (context_at new n)
   pub transfers : (n : ℕ) → (transfer_at new n ≡ transfer_at k n) ⊎ TransferBy k ec n (transfer_at new n)
-  pub objects : (new.objects ≡ k.objects) ⊎ ObjectsBy k ec k.objects new.objects
-  pub delegations : (new.delegations ≡ k.delegations) ⊎ DelegationsBy k ec k.delegations new.delegations
+  pub grows : GrowsByRight k new ec
   pub identifiers : (n : ℕ) → (entry (slice_get new.identifiers n) ≡ entry (slice_get k.identifiers n)) ⊎ IdentifierBy k ec n (entry (slice_get new.identifiers n))
   pub semaphores : (n : ℕ) → (semaphore_at new.semaphores n ≡ semaphore_at k.semaphores n)
       ⊎ SemaphoreBy k ec n (semaphore_at k.semaphores n) (semaphore_at new.semaphores n)
+  pub raises : (sm : ℕ) (whom : Option ℕ) → deed k ec ≡ deeds.Ups sm whom → IsRaised k new sm whom
   pub deadlines : (n : ℕ) → (deadline_of new.times n ≡ deadline_of k.times n) ⊎ DeadlineBy k ec n (deadline_of new.times n)
   pub alarms : new.times.alarms ≡ k.times.alarms
   pub clocks : new.times.clocks ≡ (ticked k.times cpu).clocks
   -- budgets, ticks and stamps
   pub budgets : IsPaidBy k new cpu sc
+  pub new_budgets : (n : ℕ) → budget_at k n ≡ None → (budget_at new n ≡ None) ⊎ IsNewBudget k new ec n
   pub counts : (n : ℕ) → CountBy k cpu ec n (stirs_of k n) (stirs_of new n)
   pub turns : new.turns ≡ k.turns + 1
-  pub processors : (n : ℕ) → n ≢ cpu → slice_index new.stirs.processors n ≡ slice_index k.stirs.processors n
+  pub processors : new.stirs.processors ≡ slice_set k.stirs.processors cpu (slice_index k.stirs.processors cpu + 1)
   pub cpus : new.cpus ≡ k.cpus
   pub consoles : new.consoles ≡ k.consoles
 
@@ -251,26 +292,41 @@ pub data DeadlineByTime (k : KernelState) (what : Option Due) (n : ℕ) (new : O
 pub data AlarmByTime (what : Option Due) (n : ℕ) (old new : Option AlarmState) : Type 0 where
   Rings : what ≡ Some (due.Alarm n) → (a : AlarmState) → old ≡ Some a → new ≡ Some (rung_once a) → AlarmByTime what n old new
 
--- what is due is done: the alarm rings, or who has the deadline goes on without it
-pub record IsRung (k new : KernelState) (n : ℕ) : Type 0 where
+-- what is due is done: the alarm comes to its next moment and its semaphore is raised, where the event `irq` of the turn names the execution context that goes on, or 0; or who has the deadline leaves the
+-- queue and goes on without it
+pub record IsRung (k new : KernelState) (cpu n : ℕ) : Type 0 where
   pub alarm : AlarmState
   pub there : slice_get k.times.alarms n ≡ Some alarm
   pub rises : slice_get new.times.alarms n ≡ Some (rung_once alarm)
+  pub whom : Option ℕ
+  pub raises : IsRaised k new alarm.alarm.sm whom
+  pub status : ℕ
+  pub named : option_map (λ (s : Step). s.event) (turn k cpu) ≡ Some (event_without cpu (number_in whom) Irq n status)
 
 pub record IsLate (k new : KernelState) (ec : ℕ) : Type 0 where
+  pub deadline : Deadline
+  pub set : deadline_of k.times ec ≡ Some deadline
   pub context : EcState
   pub there : context_at k ec ≡ Some context
+  pub blocked : context.state ≡ Blocked deadline.sm
   pub goes_on : context_at new ec ≡ Some (answered context Timeout None)
+  pub leaves : IfSome (semaphore_at k.semaphores deadline.sm) (λ s. semaphore_at new.semaphores deadline.sm ≡ Some (without_one ec s))
   pub cleared : deadline_of new.times ec ≡ None
 
-abbrev pub IsDone : KernelState → KernelState → Option Due → Type 0
-IsDone k new (Some (due.Alarm n)) = IsRung k new n
-IsDone k new (Some (due.Deadline ec)) = IsLate k new ec
-IsDone k new None = Unit {0}
+abbrev pub IsDone : KernelState → KernelState → ℕ → Option Due → Type 0
+IsDone k new cpu (Some (due.Alarm n)) = IsRung k new cpu n
+IsDone k new cpu (Some (due.Deadline ec)) = IsLate k new ec
+IsDone k new cpu None = Unit {0}
 
--- the turn of a processor in which nobody acts and nobody pays: what is due is done, and but for who waits, semaphores, times and the counts of turns all stays
+-- the state after what is due, or after a tick
+abbrev pub passed_by : KernelState → ℕ → Option Due → KernelState
+passed_by k cpu (Some what) = (what_is_due k cpu what).kernel
+passed_by k cpu None = counted k cpu
+
+-- the turn of a processor in which nobody acts and nobody pays: the state after is that of what is due; this is done, and but for who waits, semaphores, times and the counts of turns all stays
 pub record IsByTime (k new : KernelState) (cpu : ℕ) (what : Option Due) : Type 0 where
-  pub done : IsDone k new what
+  pub after : new ≡ passed_by k cpu what
+  pub done : IsDone k new cpu what
   pub memory : new.memory ≡ k.memory
   pub messages : new.messages ≡ k.messages
   pub contexts : (n : ℕ) → (context_at new n ≡ context_at k n) ⊎ ContextByTime k what n (context_at k n) (context_at new n)
@@ -286,7 +342,7 @@ pub record IsByTime (k new : KernelState) (cpu : ℕ) (what : Option Due) : Type
   pub budgets : IsUnpaid k new
   pub counts : new.stirs.guests ≡ k.stirs.guests
   pub turns : new.turns ≡ k.turns + 1
-  pub processors : (n : ℕ) → n ≢ cpu → slice_index new.stirs.processors n ≡ slice_index k.stirs.processors n
+  pub processors : new.stirs.processors ≡ slice_set k.stirs.processors cpu (slice_index k.stirs.processors cpu + 1)
   pub cpus : new.cpus ≡ k.cpus
   pub consoles : new.consoles ≡ k.consoles
 
@@ -296,7 +352,7 @@ abbrev pub IsComing : KernelState → ℕ → Option Due → Type 0
 IsComing k cpu (Some what) = IsDueOn k.times cpu what
 IsComing k cpu None = (due_on k.times cpu ≡ None) × (choose k cpu ≡ None) × IsSome (next_moment k.times cpu)
 
--- What a processor's turn comes to: nothing, where nothing is due, none is chosen and nothing is to come; a turn of one who acts in it; or one in which nobody acts: an alarm rings, a
+-- What a processor's turn comes to: nothing, where nothing is due, none is chosen and nothing is to come; the rightful deed of one who acts in it; or what comes by itself, where nobody acts: an alarm rings, a
 -- deadline ends a wait, or the clock alone goes on.
 pub data IsAuthorised (k new : KernelState) (cpu : ℕ) : Type 0 where
   Idles : choose k cpu ≡ None → next_moment k.times cpu ≡ None → new ≡ k → IsAuthorised k new cpu

@@ -10,3 +10,4 @@ pub mod Secrecy
 pub mod Confined
 pub mod Trusted
 pub mod Disclosure
+pub mod Examples

@@ -20,13 +20,13 @@ use Rattle.nova_model.specs.Times.{clock}
 use Rattle.nova_model.specs.declared.admit.Admit.TheVariants.{Help, Send}
 use Rattle.nova_model.specs.declared.admit.ExitAdmit.{ExitAdmit}
 use Rattle.nova_model.specs.declared.admit.ExitAdmit.TheVariants as exit
-use Rattle.nova_model.specs.declared.context.State.TheVariants.{Calling, Fresh, Helping, Ready}
+use Rattle.nova_model.specs.declared.context.State.TheVariants.{Calling, Fresh, Ready}
 use Rattle.nova_model.specs.declared.deed.Deed.{Deed}
 use Rattle.nova_model.specs.declared.deed.Deed.TheVariants as deed
 use Rattle.nova_model.specs.declared.delegation.Derivation.{Derivation}
 use Rattle.nova_model.specs.declared.times.Deadline.{Deadline}
 use Rattle.law_forest.specs.Made.{IsGivenChild, MayCreate}
-use Rattle.law_turns.specs.Asked.{HoldsAt, IsCalling}
+use Rattle.law_turns.specs.Asked.{HoldsAt}
 use Rattle.law_turns.specs.Left.{IsSkippedFor}
 use Rattle.law_turns.specs.Revoking.{AsksRevoke, HasRevoked}
 use Rattle.law_turns.specs.Tables.{IsOf}
@@ -158,8 +158,3 @@ IsOfCall (deed.Ups sm woken) = Unit {0}
 IsOfCall (deed.Downs sm) = Unit {0}
 IsOfCall (deed.Blocks sm until) = Unit {0}
 IsOfCall other = ⊥
-
--- a thread whose next instruction is a hypercall, with no recall before it; or one that makes its call again, since its handler was busy
-pub data IsAsking (k : KernelState) (ec : ℕ) : Type 0 where
-  AtCall : IsCalling k ec → IsAsking k ec
-  Again : (handler : ℕ) → (context k ec).state ≡ Helping handler → IsAsking k ec

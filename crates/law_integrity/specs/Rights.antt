@@ -20,12 +20,12 @@ use Rattle.nova_model.specs.Revokes.{scope}
 use Rattle.nova_model.specs.State.{KernelState, context, event_base, pd_of}
 use Rattle.nova_model.specs.Times.{due_on}
 use Rattle.nova_model.specs.declared.context.Mark.{Mark}
-use Rattle.nova_model.specs.declared.context.State.TheVariants.{Granting, Replying, Revoking}
+use Rattle.nova_model.specs.declared.context.State.TheVariants.{Granting, Helping, Replying, Revoking}
 use Rattle.nova_model.specs.declared.deed.Deed.TheVariants.{Steps}
 use Rattle.nova_model.specs.declared.delegation.Derivation.{Derivation}
 use Rattle.nova_ec.specs.Ways.{EndsAt}
 use Rattle.law_forest.specs.Made.{MayCreate}
-use Rattle.law_turns.specs.Asked.{HoldsAt}
+use Rattle.law_turns.specs.Asked.{HoldsAt, IsCalling}
 
 -- WHO ACTS, AND WHO PAYS
 
@@ -44,7 +44,7 @@ pub record HasTurn (k : KernelState) (cpu ec sc : ℕ) : Type 0 where
 -- MEMORY
 
 -- of the domain's own derivations of memory one covers the page, leads it to the frame, and has the right
-pub record LeadsTo (k : KernelState) (domain page right frame : ℕ) : Type 0 where
+pub record PageLeadsTo (k : KernelState) (domain page right frame : ℕ) : Type 0 where
   pub derivation : Derivation
   pub there : Contains k.delegations.list derivation
   pub holder : derivation.pd ≡ domain
@@ -62,12 +62,18 @@ pub record Stores (k : KernelState) (ec : ℕ) (s : Store) : Type 0 where
 -- and the page of the address leads to the frame, with the right to write
 pub record StoresTo (k : KernelState) (ec frame : ℕ) (s : Store) : Type 0 where
   pub stores : Stores k ec s
-  pub reaches : LeadsTo k (pd_of k ec) (s.address / 4096) write_right frame
+  pub reaches : PageLeadsTo k (pd_of k ec) (s.address / 4096) write_right frame
 
 -- OBJECTS
 
--- its call is the one of this number, in x17, and at the selector in its x10 its domain holds the object `n`, with this right
+-- a thread whose next instruction is a hypercall, with no recall before it; or one that makes its call again, since its handler was busy
+pub data IsAsking (k : KernelState) (ec : ℕ) : Type 0 where
+  AtCall : IsCalling k ec → IsAsking k ec
+  Again : (handler : ℕ) → (context k ec).state ≡ Helping handler → IsAsking k ec
+
+-- it makes a call, the one of this number, in x17, and at the selector in its x10 its domain holds the object `n`, with this right
 pub record Names (k : KernelState) (ec call right n : ℕ) : Type 0 where
+  pub asks : IsAsking k ec
   pub number : reg (context k ec).regs 17 ≡ call
   pub at : HoldsAt k (pd_of k ec) (reg (context k ec).regs 10) right n
 

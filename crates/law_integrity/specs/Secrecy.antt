@@ -4,13 +4,13 @@ use Rattle.nova_range.specs.Rights.{execute_right, read_right, write_right}
 use Rattle.nova_model.specs.Runs.{after}
 use Rattle.nova_model.specs.State.{KernelState, pd_of}
 use Rattle.law_origins.specs.Giving.{Acts}
-use Rattle.law_integrity.specs.Rights.{LeadsTo}
+use Rattle.law_integrity.specs.Rights.{PageLeadsTo}
 
 -- no page of the domain leads to the frame with a right: by no right can its bytes be read, executed or written there
 pub record IsHidden (k : KernelState) (domain frame : ℕ) : Type 0 where
-  pub unread : (page : ℕ) → LeadsTo k domain page read_right frame → ⊥
-  pub unwritten : (page : ℕ) → LeadsTo k domain page write_right frame → ⊥
-  pub unexecuted : (page : ℕ) → LeadsTo k domain page execute_right frame → ⊥
+  pub unread : (page : ℕ) → PageLeadsTo k domain page read_right frame → ⊥
+  pub unwritten : (page : ℕ) → PageLeadsTo k domain page write_right frame → ⊥
+  pub unexecuted : (page : ℕ) → PageLeadsTo k domain page execute_right frame → ⊥
 
 -- the same state but for the bytes of a frame, which are these
 abbrev pub with_bytes : KernelState → ℕ → List ℕ → KernelState

@@ -21,8 +21,8 @@ OrTrusted label side n = (label n ≡ side) ⊎ (label n ≡ 0)
 
 -- THE POLICY, OF ONE STATE
 
--- a side may hold capabilities to the object of this number: it is a domain, an execution context or a portal of the side's own or of what is trusted; or a scheduling context; or a semaphore that no
--- other side holds. And nobody of another side waits there.
+-- a side may hold capabilities to the object of this number: it is of the side's own or of what is trusted, a domain, an execution context, a portal to a handler or a scheduling context that is bound to an
+-- execution context; or a semaphore that no other side holds. And nobody of another side waits there.
 pub record MayHold (k : KernelState) (label : ℕ → ℕ) (side object : ℕ) : Type 0 where
   pub leads : IsOwned k (OrTrusted label side) object (slice_get k.objects object)
   pub alone : slice_get k.objects object ≡ Some Sm → (d : Derivation) → Contains k.delegations.list d → d.kind ≡ Obj → d.target ≡ object → OrTrusted label side d.pd
@@ -73,13 +73,30 @@ pub record IsTurnOf (k : KernelState) (label : ℕ → ℕ) (turns : List ℕ) (
   pub acts : Acts (run k before) cpu actor
   pub of : labels k label before (pd_of (run k before) actor) ≡ side
 
--- it is a turn of one that is trusted, whose own domain reaches the frame, or holds the object, with this right before it
-abbrev pub IsGivenFrame : KernelState → (ℕ → ℕ) → List ℕ → ℕ → ℕ → Type 0
-IsGivenFrame k label turns right frame = (t : IsTurnOf k label turns 0) × Reach (run k t.before) (λ n. n ≡ pd_of (run k t.before) t.actor) right frame
+-- a side reaches the frame with the right in this state, and after each of these turns; or holds that right to the object
+abbrev pub ReachesSince : KernelState → (ℕ → ℕ) → List ℕ → ℕ → ℕ → ℕ → Type 0
+ReachesSince k label [] side right frame = Reach k (Labelled label side) right frame
+ReachesSince k label (cpu ∷ turns) side right frame = Reach k (Labelled label side) right frame × ReachesSince (after k cpu) (labels_after k label cpu) turns side right frame
 
-abbrev pub IsGivenObject : KernelState → (ℕ → ℕ) → List ℕ → ℕ → ℕ → Type 0
-IsGivenObject k label turns right object = (t : IsTurnOf k label turns 0) × Holds (run k t.before) (λ n. n ≡ pd_of (run k t.before) t.actor) right object
+abbrev pub HoldsSince : KernelState → (ℕ → ℕ) → List ℕ → ℕ → ℕ → ℕ → Type 0
+HoldsSince k label [] side right object = Holds k (Labelled label side) right object
+HoldsSince k label (cpu ∷ turns) side right object = Holds k (Labelled label side) right object × HoldsSince (after k cpu) (labels_after k label cpu) turns side right object
 
--- it is a turn of one of the side, and the object is the next that is made
-abbrev pub IsMadeBySide : KernelState → (ℕ → ℕ) → List ℕ → ℕ → ℕ → Type 0
-IsMadeBySide k label turns side object = (t : IsTurnOf k label turns side) × (object ≡ length (run k t.before).objects)
+-- The turn of a list in which a side comes to reach the frame with the right: before it the side doesn't, and from then on it does. One that is trusted acts in it, whose own domain reaches the frame so.
+pub record IsGivenFrame (k : KernelState) (label : ℕ → ℕ) (turns : List ℕ) (side right frame : ℕ) : Type 0 where
+  pub turn : IsTurnOf k label turns 0
+  pub unreached : Reach (run k turn.before) (Labelled (labels k label turn.before) side) right frame → ⊥
+  pub since : ReachesSince (after (run k turn.before) turn.cpu) (labels_after (run k turn.before) (labels k label turn.before) turn.cpu) turn.later side right frame
+  pub own : Reach (run k turn.before) (λ n. n ≡ pd_of (run k turn.before) turn.actor) right frame
+
+-- the turn in which it comes to hold the right to the object: one that is trusted acts, whose own domain holds it; or one of the side, which makes the object
+pub record IsGivenObject (k : KernelState) (label : ℕ → ℕ) (turns : List ℕ) (side right object : ℕ) : Type 0 where
+  pub turn : IsTurnOf k label turns 0
+  pub unheld : Holds (run k turn.before) (Labelled (labels k label turn.before) side) right object → ⊥
+  pub since : HoldsSince (after (run k turn.before) turn.cpu) (labels_after (run k turn.before) (labels k label turn.before) turn.cpu) turn.later side right object
+  pub own : Holds (run k turn.before) (λ n. n ≡ pd_of (run k turn.before) turn.actor) right object
+
+pub record IsMadeBySide (k : KernelState) (label : ℕ → ℕ) (turns : List ℕ) (side right object : ℕ) : Type 0 where
+  pub turn : IsTurnOf k label turns side
+  pub next : object ≡ length (run k turn.before).objects
+  pub since : HoldsSince (after (run k turn.before) turn.cpu) (labels_after (run k turn.before) (labels k label turn.before) turn.cpu) turn.later side right object

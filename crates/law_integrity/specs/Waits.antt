@@ -69,6 +69,6 @@ pub record IsSentOn (k : KernelState) (g : ℕ) : Type 0 where
   pub sent : IsExitAt k g handler ip number mtd reason q0 q1 exit.Sends
 
 -- or it ends it: no handler takes it, or its handler ended
-pub data Ends (k : KernelState) (g : ℕ) : Type 0 where
-  ByLoss : (reason q0 : ℕ) → IsLost k g reason q0 → Ends k g
-  ByHandler : (handler : ℕ) → (context k g).state ≡ Calling handler → is_dead (state_in k.contexts handler) ≡ true → Ends k g
+pub data DiesOfExit (k : KernelState) (g : ℕ) : Type 0 where
+  ByLoss : (reason q0 : ℕ) → IsLost k g reason q0 → DiesOfExit k g
+  ByHandler : (handler : ℕ) → (context k g).state ≡ Calling handler → is_dead (state_in k.contexts handler) ≡ true → DiesOfExit k g

@@ -7,7 +7,7 @@ ghost use Rattle.nova_model.specs.State.{context, deadline_of};
 ghost use Rattle.nova_model.specs.declared.context.State.TheVariants.{Calling};
 ghost use Rattle.nova_model.specs.declared.times.Deadline.{Deadline};
 ghost use Rattle.law_origins.specs.Whose.{IsInputBy};
-ghost use Rattle.law_integrity.specs.Waits.{Ends, HasCome, HasSet, IsSentOn};
+ghost use Rattle.law_integrity.specs.Waits.{DiesOfExit, HasCome, HasSet, IsSentOn};
 
 /// Whatever list of turns is taken from whatever boot state, one that waits for a handler's reply called it, or
 /// had its exit sent to it, in a turn of its own, by a portal that its domain held then with the right to it;
@@ -35,5 +35,5 @@ pub fn exits_of_virtual_cpus_end_by_right()
     ensures sent { (scenario : Scenario) (turns : List ℕ) (cpu ec g : ℕ) → IsInputBy scenario turns cpu ec g Sent
         → IsSentOn (run (boot scenario) turns) g }
     ensures died { (scenario : Scenario) (turns : List ℕ) (cpu ec g : ℕ) → IsInputBy scenario turns cpu ec g Died
-        → Ends (run (boot scenario) turns) g }
+        → DiesOfExit (run (boot scenario) turns) g }
 {}

@@ -4,7 +4,7 @@ ghost use Rattle.nova_model.specs.Boot.{Scenario, boot};
 ghost use Rattle.nova_model.specs.Runs.{after, run};
 ghost use Rattle.nova_model.specs.State.{KernelState, context_at};
 ghost use Rattle.law_origins.specs.Giving.{Acts};
-ghost use Rattle.law_integrity.specs.Confined.{AreApart, AreSeparate, Holds, IsClosed, IsMadeAlong, IsMember, LeavesTo, Of, OnlyOf, Reach, ShareNothing, Side, grown};
+ghost use Rattle.law_integrity.specs.Confined.{AreApart, AreSeparate, Holds, IsClosed, IsMadeAlong, IsMember, LeavesTo, Of, OnlyOf, Reach, ReachAny, ShareNothing, Side, grown};
 ghost use Rattle.law_integrity.specs.Secrecy.{with_bytes};
 
 /// Take any state that turns reach from a boot state, and two sets of protection domains that are separate in it: what
@@ -54,18 +54,18 @@ pub fn closed_sets_are_blind_to_the_rest()
         → AreSeparate (run (boot scenario) before) (Of S) (Of T)
         → Acts (run (run (boot scenario) before) turns) cpu ec
         → IsMember (run (run (boot scenario) before) turns) (grown (run (boot scenario) before) (Of S) turns) ec
-        → ((right : ℕ) → Reach (run (boot scenario) before) (Of S) right frame → ⊥)
+        → (ReachAny (run (boot scenario) before) (Of S) frame → ⊥)
         → after (with_bytes (run (run (boot scenario) before) turns) frame bytes) cpu
         ≡ with_bytes (after (run (run (boot scenario) before) turns) cpu) frame bytes }
     ensures turns { (scenario : Scenario) (before turns : List ℕ) (S T : ℕ → Bool) (frame : ℕ) (bytes : List ℕ)
         → AreSeparate (run (boot scenario) before) (Of S) (Of T)
         → OnlyOf (run (boot scenario) before) (Of S) turns
-        → ((right : ℕ) → Reach (run (boot scenario) before) (Of S) right frame → ⊥)
+        → (ReachAny (run (boot scenario) before) (Of S) frame → ⊥)
         → run (with_bytes (run (boot scenario) before) frame bytes) turns ≡ with_bytes (run (run (boot scenario) before) turns) frame bytes }
 {}
 
-/// Two guests, each with its monitor, that share nothing after some turns: no domain, no object, no frame, and
-/// neither side waits for the other. Whatever turns follow, so it stays, and whoever acts is of one of the sides. A
+/// Two guests, each with its monitor, that share nothing after some turns: no domain, no object, no frame, neither
+/// side waits for the other or at what the other holds, and neither holds a scheduling context of the other. Whatever turns follow, so it stays, and whoever acts is of one of the sides. A
 /// guest and its monitor, with the domains that are made of theirs, reach no frame, by no right, that they didn't
 /// reach then. A turn of one side leaves each execution context of the other as it is, and what else the other has;
 /// it leaves each frame that the other side reached then; and it is the same whatever the bytes of that frame are.
@@ -95,17 +95,17 @@ pub fn guests_that_share_nothing_stay_apart()
         → IsMember (run (run (boot scenario) before) turns) (Side (run (boot scenario) before) guest monitor turns) ec
         → IsMember (run (run (boot scenario) before) turns) (Side (run (boot scenario) before) other_guest other_monitor turns) n
         → context_at (after (run (run (boot scenario) before) turns) cpu) n ≡ context_at (run (run (boot scenario) before) turns) n }
-    ensures frames { (scenario : Scenario) (before turns : List ℕ) (guest monitor other_guest other_monitor cpu ec right frame : ℕ)
+    ensures frames { (scenario : Scenario) (before turns : List ℕ) (guest monitor other_guest other_monitor cpu ec frame : ℕ)
         → ShareNothing (run (boot scenario) before) guest monitor other_guest other_monitor
         → Acts (run (run (boot scenario) before) turns) cpu ec
         → IsMember (run (run (boot scenario) before) turns) (Side (run (boot scenario) before) guest monitor turns) ec
-        → Reach (run (boot scenario) before) (Side (run (boot scenario) before) other_guest other_monitor []) right frame
+        → ReachAny (run (boot scenario) before) (Side (run (boot scenario) before) other_guest other_monitor []) frame
         → slice_get (after (run (run (boot scenario) before) turns) cpu).memory.ram frame ≡ slice_get (run (run (boot scenario) before) turns).memory.ram frame }
-    ensures blind { (scenario : Scenario) (before turns : List ℕ) (guest monitor other_guest other_monitor cpu ec right frame : ℕ) (bytes : List ℕ)
+    ensures blind { (scenario : Scenario) (before turns : List ℕ) (guest monitor other_guest other_monitor cpu ec frame : ℕ) (bytes : List ℕ)
         → ShareNothing (run (boot scenario) before) guest monitor other_guest other_monitor
         → Acts (run (run (boot scenario) before) turns) cpu ec
         → IsMember (run (run (boot scenario) before) turns) (Side (run (boot scenario) before) guest monitor turns) ec
-        → Reach (run (boot scenario) before) (Side (run (boot scenario) before) other_guest other_monitor []) right frame
+        → ReachAny (run (boot scenario) before) (Side (run (boot scenario) before) other_guest other_monitor []) frame
         → after (with_bytes (run (run (boot scenario) before) turns) frame bytes) cpu
         ≡ with_bytes (after (run (run (boot scenario) before) turns) cpu) frame bytes }
     ensures flipped { (k : KernelState) (guest monitor other_guest other_monitor : ℕ)

@@ -10,7 +10,7 @@ ghost use Rattle.nova_model.specs.Runs.{after, run, trace};
 ghost use Rattle.nova_model.specs.State.{KernelState, context, is_thread, pd_of};
 ghost use Rattle.nova_model.specs.Turn.{Step, turn};
 ghost use Rattle.law_origins.specs.Giving.{Acts};
-ghost use Rattle.law_integrity.specs.Rights.{LeadsTo};
+ghost use Rattle.law_integrity.specs.Rights.{PageLeadsTo};
 ghost use Rattle.law_integrity.specs.Confined.{AreSeparate, IsMember, Of, ShareNothing, Side, grown};
 ghost use Rattle.law_integrity.specs.Disclosure.{AreSecretsOf, AreUnseen, Differ, Secret, DifferByExit, DifferByInstruction, DifferInRegisters, DifferInWords, IsAtInstruction, IsUnread, IsUnreadAlong, IsUntold, IsUntoldAlong};
 
@@ -49,7 +49,7 @@ pub fn registers_are_told_by_exits_calls_and_stores()
         → ((after l cpu).memory ≡ (after k cpu).memory) × ((after l cpu).stirs ≡ (after k cpu).stirs) }
     ensures frames { (k l : KernelState) (cpu g : ℕ) → DifferInRegisters k l g → Acts k cpu g
         → IsAtInstruction k g → IsAtInstruction l g
-        → (frame : ℕ) → ((page : ℕ) → LeadsTo k (pd_of k g) page write_right frame → ⊥)
+        → (frame : ℕ) → ((page : ℕ) → PageLeadsTo k (pd_of k g) page write_right frame → ⊥)
         → slice_get (after l cpu).memory.ram frame ≡ slice_get (after k cpu).memory.ram frame }
 {}
 

@@ -7,6 +7,7 @@
 mod callers;
 mod confinement;
 mod disclosure;
+mod examples;
 mod making;
 mod rights;
 mod running;
@@ -26,6 +27,7 @@ pub use disclosure::{
     message_words_are_read_by_their_thread_and_its_handler,
     registers_are_told_by_exits_calls_and_stores,
 };
+pub use examples::runs_come_to_the_conditions;
 pub use making::objects_are_made_as_asked;
 pub use rights::{deeds_are_rightful, frames_that_nobody_may_write_stay, turns_change_by_right};
 pub use running::{only_handlers_are_paid_for, who_may_run_is_a_candidate};

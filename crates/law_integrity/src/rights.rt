@@ -9,17 +9,19 @@ ghost use Rattle.nova_model.specs.Edges.{is_dead, state_in};
 ghost use Rattle.nova_model.specs.declared.context.State.TheVariants.{Calling, Granting};
 ghost use Rattle.law_origins.specs.Giving.{Acts, HasMade};
 ghost use Rattle.law_integrity.specs.Integrity.{IsAuthorised, IsByRight};
-ghost use Rattle.law_integrity.specs.Rightful.{IsAsking, IsOfCall, IsOfExit, IsRightful};
-ghost use Rattle.law_integrity.specs.Rights.{HasTurn};
+ghost use Rattle.law_integrity.specs.Rightful.{IsOfCall, IsOfExit, IsRightful};
+ghost use Rattle.law_integrity.specs.Rights.{HasTurn, IsAsking};
 ghost use Rattle.law_integrity.specs.Unwritten.{IsUnwritten};
 
-/// Take any list of turns from any boot state, and any processor. Its next turn changes nothing, where nothing
-/// is due, none is chosen and nothing is to come. Or it is the turn of one who acts, paid by a scheduling
-/// context whose turns lead there along edges; and then each part of the state stays, or changes in a way that
-/// names the right to it: the capability or the derivation that the domain of the one who acts held, the caller
-/// that it served, or the revoke that it ran. Or nobody acts and nobody pays: an alarm that is due raises its
-/// own semaphore, which may wake the first that waits there, and comes to its next moment; or a deadline that is
-/// due ends the wait of the one whose it is, with TIMEOUT; or the clock goes on; and all else stays.
+/// Take any list of turns from any boot state, and any processor. Its next turn changes nothing, where nothing is
+/// due, none is chosen and nothing is to come. Or it is the turn of one who acts, paid by a scheduling context
+/// whose turns lead there along edges. Then it does one deed, which is rightful: the state after is what comes of
+/// that deed, of the stir counts that it raises and of the charge; and each part of the state stays, or changes
+/// in a way that names the right to it: the capability or the derivation that the domain of the one who acts
+/// held, the caller that it served, or the revoke that it ran. Or nobody acts and nobody pays: an alarm that is
+/// due raises its own semaphore, the first that waits there goes on, whom the event names, and the alarm comes to
+/// its next moment; or a deadline that is due ends the wait of the one whose it is, with TIMEOUT; or the clock
+/// goes on; and all else stays.
 pub fn turns_change_by_right()
     ensures turn { (scenario : Scenario) (turns : List ℕ) (cpu : ℕ)
         → IsAuthorised (run (boot scenario) turns) (after (run (boot scenario) turns) cpu) cpu }

@@ -4,23 +4,24 @@ ghost use Rattle.nova_model.specs.Boot.{Scenario, boot};
 ghost use Rattle.nova_model.specs.Runs.{after, run};
 ghost use Rattle.nova_model.specs.State.{context_at, deadline_of, pd_of};
 ghost use Rattle.law_origins.specs.Giving.{Acts};
-ghost use Rattle.law_integrity.specs.Confined.{Holds, IsMember, LeavesTo, Reach};
+ghost use Rattle.law_integrity.specs.Confined.{Holds, IsMember, LeavesTo, Reach, ReachAny};
 ghost use Rattle.law_integrity.specs.Secrecy.{with_bytes};
-ghost use Rattle.law_integrity.specs.Trusted.{IsGivenFrame, IsGivenObject, IsMadeBySide, IsWithinPolicy, Labelled, MayTakeTurns, labels};
+ghost use Rattle.law_integrity.specs.Trusted.{HoldsSince, IsGivenFrame, IsGivenObject, IsMadeBySide, IsWithinPolicy, Labelled, MayTakeTurns, ReachesSince, labels};
 
 /// Take any state that turns reach from a boot state, and a label for each protection domain: 0 is trusted, any other
-/// number is a side. Let the state be within the policy: a side's capabilities lead to domains, execution contexts and
-/// portals of its own or of what is trusted, and to no semaphore that another side holds; nobody of another side waits
-/// at what it holds; and nobody but its own waits for its handlers. Whatever turns follow, so it stays, if each one that
-/// is trusted sees to it in its own turns that it gives a side no other capability and doesn't come to wait for a
-/// side's handler. Of what sides do nothing is assumed. A domain that is made has the label of its maker's.
-/// A turn of one side leaves each execution context of another side as it is, with its deadline, message words and place
-/// in items, the identifiers of its portals, the budgets of the scheduling contexts that are bound to it, the semaphores
-/// to which the first holds neither up nor down, and the frames that the first doesn't reach with write. It gives the
-/// other no range, and takes only what comes from a range of the first. And it is the same whatever the bytes of a
-/// frame are that the first doesn't reach. A side comes to reach a frame, by a right, only in a turn of one that is
-/// trusted, whose domain reaches it by that right; and so it comes to hold a right to an object, or by making that
-/// object.
+/// number is a side. Let the state be within the policy: a side's capabilities lead to domains, execution contexts,
+/// portals and scheduling contexts of its own or of what is trusted, and to no semaphore that another side holds;
+/// nobody of another side waits at what it holds; and nobody but its own waits for its handlers. Whatever turns
+/// follow, so it stays, if each one that is trusted sees to it in its own turns that it gives a side no other
+/// capability and doesn't come to wait for a side's handler. Of what sides do nothing is assumed. A domain that is
+/// made has the label of its maker's. A turn of one side leaves each execution context of another side as it is, with
+/// its deadline, message words and place in items, the identifiers of its portals, the budgets of the scheduling
+/// contexts that are bound to it, the semaphores to which the first holds neither up nor down, and the frames that the
+/// first doesn't reach with write. It gives the other no range, and takes only what comes from a range of the first.
+/// And it is the same whatever the bytes of a frame are that the first doesn't reach. If a side reaches a frame, by a
+/// right, then it has done so all along, or it came to in one of the turns, not having reached it before, and has
+/// reached it since: one that is trusted acted in that turn, whose own domain reached it by that right. So it is of a
+/// right to an object that a side holds; or one of the side made that object.
 pub fn sides_are_apart_beside_trusted_domains()
     ensures within { (scenario : Scenario) (before turns : List ℕ) (label : ℕ → ℕ)
         → IsWithinPolicy (run (boot scenario) before) label
@@ -45,21 +46,21 @@ pub fn sides_are_apart_beside_trusted_domains()
         × (deadline_of (after (run (boot scenario) turns) cpu).times n ≡ deadline_of (run (boot scenario) turns).times n) }
     ensures blind { (scenario : Scenario) (turns : List ℕ) (label : ℕ → ℕ) (cpu ec frame : ℕ) (bytes : List ℕ)
         → Acts (run (boot scenario) turns) cpu ec
-        → ((right : ℕ) → Reach (run (boot scenario) turns) (Labelled label (label (pd_of (run (boot scenario) turns) ec))) right frame → ⊥)
+        → (ReachAny (run (boot scenario) turns) (Labelled label (label (pd_of (run (boot scenario) turns) ec))) frame → ⊥)
         → after (with_bytes (run (boot scenario) turns) frame bytes) cpu ≡ with_bytes (after (run (boot scenario) turns) cpu) frame bytes }
     ensures reach { (scenario : Scenario) (before turns : List ℕ) (label : ℕ → ℕ) (side right frame : ℕ)
         → IsWithinPolicy (run (boot scenario) before) label
         → MayTakeTurns (run (boot scenario) before) label turns
         → side ≢ 0
         → Reach (run (run (boot scenario) before) turns) (Labelled (labels (run (boot scenario) before) label turns) side) right frame
-        → Reach (run (boot scenario) before) (Labelled label side) right frame
-        ⊎ IsGivenFrame (run (boot scenario) before) label turns right frame }
+        → ReachesSince (run (boot scenario) before) label turns side right frame
+        ⊎ IsGivenFrame (run (boot scenario) before) label turns side right frame }
     ensures holds { (scenario : Scenario) (before turns : List ℕ) (label : ℕ → ℕ) (side right object : ℕ)
         → IsWithinPolicy (run (boot scenario) before) label
         → MayTakeTurns (run (boot scenario) before) label turns
         → side ≢ 0
         → Holds (run (run (boot scenario) before) turns) (Labelled (labels (run (boot scenario) before) label turns) side) right object
-        → Holds (run (boot scenario) before) (Labelled label side) right object
-        ⊎ (IsGivenObject (run (boot scenario) before) label turns right object
-        ⊎ IsMadeBySide (run (boot scenario) before) label turns side object) }
+        → HoldsSince (run (boot scenario) before) label turns side right object
+        ⊎ (IsGivenObject (run (boot scenario) before) label turns side right object
+        ⊎ IsMadeBySide (run (boot scenario) before) label turns side right object) }
 {}

@@ -49,7 +49,7 @@ use Rattle.nova_range.specs.Rights.{allows, write_right}
 use Rattle.nova_range.specs.declared.range.Kind.{Kind}
 use Rattle.nova_range.specs.declared.range.Kind.TheVariants.{Mem, Obj}
 use Rattle.nova_range.specs.declared.range.Range.{Range}
-use Rattle.law_origins.specs.Giving.{Acts, FirstRange, IsGiver, IsTaken, Reaches, Replies as RepliesWith, TakesItems}
+use Rattle.law_origins.specs.Giving.{Acts, FirstRange, IsGiver, IsTakenByRight, HasPageTo, Replies as RepliesWith, TakesItems}
 use Rattle.law_origins.specs.Sending.{HandlesLast}
 use Rattle.law_origins.specs.Whose.{HasRight, IsInputBy}
 use Rattle.law_origins.proofs.Actors.{actor_lives, input_is, is_done}
@@ -73,11 +73,11 @@ own_right k turns cpu ec g other same = tt
 
 -- A STORE
 
-reaches : (k : KernelState) (ec address frame : ℕ) → frame_for (address_space k ec) write_right address ≡ Some frame → Reaches k (pd_of k ec) write_right frame
+reaches : (k : KernelState) (ec address frame : ℕ) → frame_for (address_space k ec) write_right address ≡ Some frame → HasPageTo k (pd_of k ec) write_right frame
 reaches k ec address frame h = by_own (is_some (own_words k ec) && (address / 4096 == own_page)) h
   where
     by_test : (p : Page) → reach k.delegations.list (pd_of k ec) (address / 4096) ≡ Some p → (t : Bool) → allows p.rights write_right ≡ t → (if t then Some p.frame else None) ≡ Some frame →
-        Reaches k (pd_of k ec) write_right frame
+        HasPageTo k (pd_of k ec) write_right frame
     by_test p leads true allowed g = record {
       page = address / 4096;
       rights = p.rights;
@@ -86,11 +86,11 @@ reaches k ec address frame h = by_own (is_some (own_words k ec) && (address / 40
     }
     by_test p leads false allowed g = absurd (cc)
 
-    by_page : (o : Option Page) → reach k.delegations.list (pd_of k ec) (address / 4096) ≡ o → option_and_then (frame_with write_right) o ≡ Some frame → Reaches k (pd_of k ec) write_right frame
+    by_page : (o : Option Page) → reach k.delegations.list (pd_of k ec) (address / 4096) ≡ o → option_and_then (frame_with write_right) o ≡ Some frame → HasPageTo k (pd_of k ec) write_right frame
     by_page None leads g = absurd (cc)
     by_page (Some p) leads g = by_test p leads (allows p.rights write_right) refl g
 
-    by_own : (t : Bool) → option_and_then (frame_with write_right) (if t then None else reach k.delegations.list (pd_of k ec) (address / 4096)) ≡ Some frame → Reaches k (pd_of k ec) write_right frame
+    by_own : (t : Bool) → option_and_then (frame_with write_right) (if t then None else reach k.delegations.list (pd_of k ec) (address / 4096)) ≡ Some frame → HasPageTo k (pd_of k ec) write_right frame
     by_own true g = absurd (cc)
     by_own false g = by_page (reach k.delegations.list (pd_of k ec) (address / 4096)) refl g
 
@@ -297,7 +297,7 @@ taken_right k turns cpu ec g leaf forest goes next =
     now : KernelState
     now = run k turns
 
-    taken : is_memory_of (pd_of now g) leaf ≡ true → IsTaken now cpu ec g leaf.base leaf.order
+    taken : is_memory_of (pd_of now g) leaf ≡ true → IsTakenByRight now cpu ec g leaf.base leaf.order
     taken is =
         let parts = and_parts (is_memory leaf.kind) (leaf.pd == pd_of now g) is in
         let facts : IsLeaf next.revoke now.delegations leaf = next.goes forest in

@@ -22,7 +22,7 @@ abbrev pub Acts : KernelState → ℕ → ℕ → Type 0
 Acts k cpu ec = option_map (λ c. c.actor) (next_to_act k cpu) ≡ Some ec
 
 -- some page of the protection domain leads to the frame, with the right
-pub record Reaches (k : KernelState) (pd right frame : ℕ) : Type 0 where
+pub record HasPageTo (k : KernelState) (pd right frame : ℕ) : Type 0 where
   pub page : ℕ
   pub rights : Rights
   pub leads : reach k.delegations.list pd page ≡ Some (record { frame = frame; rights = rights })
@@ -67,7 +67,7 @@ pub record IsGiven (k : KernelState) (turns : List ℕ) (cpu ec g base order : �
 
 -- A memory derivation of the protection domain of the virtual CPU goes, with this range. Who acts revokes, the derivation is in the scope of that revoke, and its protection domain holds an ancestor
 -- of the derivation, or that itself.
-pub record IsTaken (k : KernelState) (cpu ec g base order : ℕ) : Type 0 where
+pub record IsTakenByRight (k : KernelState) (cpu ec g base order : ℕ) : Type 0 where
   pub leaf : Derivation
   pub goes : (after k cpu).delegations ≡ without k.delegations leaf.id
   pub there : Contains k.delegations.list leaf

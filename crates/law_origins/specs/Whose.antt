@@ -10,7 +10,7 @@ use Rattle.nova_model.specs.Guests.{input}
 use Rattle.nova_model.specs.Runs.{run}
 use Rattle.nova_model.specs.State.{KernelState, pd_of}
 use Rattle.nova_range.specs.Rights.{write_right}
-use Rattle.law_origins.specs.Giving.{Acts, IsGiven, IsTaken, Reaches}
+use Rattle.law_origins.specs.Giving.{Acts, IsGiven, IsTakenByRight, HasPageTo}
 use Rattle.law_origins.specs.Sending.{HandlesLast}
 
 -- after a list of turns from a boot state the next turn of the processor is this input of a virtual CPU, and this one acts in it
@@ -21,9 +21,9 @@ pub record IsInputBy (scenario : Scenario) (turns : List ℕ) (cpu ec g : ℕ) (
 
 -- what gives one the right to an input of a virtual CPU: its own steps and what comes of its exits are its own
 abbrev pub HasRight : KernelState → List ℕ → ℕ → ℕ → ℕ → Input → Type 0
-HasRight k turns cpu ec g (Foreign frame offset width value) = Reaches (run k turns) (pd_of (run k turns) ec) write_right frame
+HasRight k turns cpu ec g (Foreign frame offset width value) = HasPageTo (run k turns) (pd_of (run k turns) ec) write_right frame
 HasRight k turns cpu ec g Recall = MayUse (run k turns) (pd_of (run k turns) ec) is_ec control_right g
 HasRight k turns cpu ec g (Reply mtd words) = HandlesLast k turns g ec
 HasRight k turns cpu ec g (Given base order rights frame contents) = IsGiven k turns cpu ec g base order rights frame contents
-HasRight k turns cpu ec g (Taken base order) = IsTaken (run k turns) cpu ec g base order
+HasRight k turns cpu ec g (Taken base order) = IsTakenByRight (run k turns) cpu ec g base order
 HasRight k turns cpu ec g other = ec ≡ g

@@ -16,7 +16,7 @@ ghost use Rattle.nova_range.specs.Rights.{write_right};
 ghost use Rattle.nova_range.specs.declared.mtd.Mtd.{Mtd};
 ghost use Rattle.nova_range.specs.declared.rights.Rights.{Rights};
 ghost use Rattle.law_origins.specs.Events.{AreSelectors, HasEvents};
-ghost use Rattle.law_origins.specs.Giving.{Acts, HasMade, IsGiven, IsTaken, Reaches};
+ghost use Rattle.law_origins.specs.Giving.{Acts, HasMade, IsGiven, IsTakenByRight, HasPageTo};
 ghost use Rattle.law_origins.specs.Lives.{AreGuestsAlone};
 ghost use Rattle.law_origins.specs.Sending.{HandlesLast, LastSent};
 ghost use Rattle.law_origins.specs.Whose.{HasRight, IsInputBy};
@@ -59,7 +59,7 @@ pub fn inputs_are_by_right()
     ensures died { (scenario : Scenario) (turns : List ℕ) (cpu ec g : ℕ) → IsInputBy scenario turns cpu ec g Died → ec ≡ g }
     ensures foreign { (scenario : Scenario) (turns : List ℕ) (cpu ec g frame offset width value : ℕ)
         → IsInputBy scenario turns cpu ec g (Foreign frame offset width value)
-        → Reaches (run (boot scenario) turns) (pd_of (run (boot scenario) turns) ec) write_right frame }
+        → HasPageTo (run (boot scenario) turns) (pd_of (run (boot scenario) turns) ec) write_right frame }
     ensures recall { (scenario : Scenario) (turns : List ℕ) (cpu ec g : ℕ) → IsInputBy scenario turns cpu ec g Recall
         → MayUse (run (boot scenario) turns) (pd_of (run (boot scenario) turns) ec) is_ec control_right g }
     ensures reply { (scenario : Scenario) (turns : List ℕ) (cpu ec g : ℕ) (mtd : Mtd) (words : List ℕ)
@@ -68,7 +68,7 @@ pub fn inputs_are_by_right()
         → IsInputBy scenario turns cpu ec g (Given base order rights frame contents)
         → IsGiven (boot scenario) turns cpu ec g base order rights frame contents }
     ensures taken { (scenario : Scenario) (turns : List ℕ) (cpu ec g base order : ℕ) → IsInputBy scenario turns cpu ec g (Taken base order)
-        → IsTaken (run (boot scenario) turns) cpu ec g base order }
+        → IsTakenByRight (run (boot scenario) turns) cpu ec g base order }
 {}
 
 /// Take any list of turns from any boot state. Each virtual CPU that is there at the end was made at one of

@@ -22,7 +22,7 @@ use Rattle.law_turns.specs.Revoking.{revoke_after}
 use Rattle.law_turns.proofs.Revoking.{begins_asked}
 use Rattle.law_revocation.specs.Along.{HasEvent, Runs}
 use Rattle.law_revocation.specs.Called.{HasEndedAsCalled, WasCalled}
-use Rattle.law_revocation.specs.Sound.{IsSound}
+use Rattle.law_revocation.specs.Sound.{IsKeptForest}
 use Rattle.law_revocation.specs.Whole.{Begins, HasEnded}
 use Rattle.law_revocation.proofs.Ending.{begun, none_some, reached_told}
 use Rattle.law_revocation.proofs.Kept.{boot_sound, turn_sound}
@@ -30,7 +30,7 @@ use Rattle.law_revocation.proofs.Shrinking.{runs_now}
 use Rattle.law_revocation.proofs.Turns.{HasPart, Another, Itself, its_revoke, part_of, stays_apart}
 
 -- what runs after a turn ran before it, or the turn began it
-came : (k : KernelState) (cpu ec : ℕ) (r : Revocation) → IsSound k → revoke_of (after k cpu) ec ≡ Some r →
+came : (k : KernelState) (cpu ec : ℕ) (r : Revocation) → IsKeptForest k → revoke_of (after k cpu) ec ≡ Some r →
     (revoke_of k ec ≡ Some r) ⊎ (revoke_of k ec ≢ Some r)
 came k cpu ec r sound now = by_part (part_of k cpu ec)
   where
@@ -46,7 +46,7 @@ came k cpu ec r sound now = by_part (part_of k cpu ec)
     by_part (Another another none) = inl (sym (stays_apart k cpu ec sound.kept another) ∙ now)
 
 -- what runs after turns ran in all of them, or one of them began it
-since : (k : KernelState) (turns : List ℕ) (ec : ℕ) (r : Revocation) → IsSound k → revoke_of (run k turns) ec ≡ Some r → Runs k ec r turns ⊎ WasCalled k turns ec r
+since : (k : KernelState) (turns : List ℕ) (ec : ℕ) (r : Revocation) → IsKeptForest k → revoke_of (run k turns) ec ≡ Some r → Runs k ec r turns ⊎ WasCalled k turns ec r
 since k [] ec r sound now = inl now
 since k (cpu ∷ turns) ec r sound now = by_rest (since (after k cpu) turns ec r (turn_sound k cpu sound) now)
   where
@@ -68,7 +68,7 @@ since k (cpu ∷ turns) ec r sound now = by_rest (since (after k cpu) turns ec r
       runs = c.runs;
     })
 
-pub called : (k : KernelState) (turns : List ℕ) (ec : ℕ) (r : Revocation) → IsSound k → revoke_of k ec ≡ None → revoke_of (run k turns) ec ≡ Some r → WasCalled k turns ec r
+pub called : (k : KernelState) (turns : List ℕ) (ec : ℕ) (r : Revocation) → IsKeptForest k → revoke_of k ec ≡ None → revoke_of (run k turns) ec ≡ Some r → WasCalled k turns ec r
 called k turns ec r sound none now = by_since (since k turns ec r sound now)
   where
     by_since : Runs k ec r turns ⊎ WasCalled k turns ec r → WasCalled k turns ec r

@@ -25,8 +25,8 @@ use Rattle.nova_model.specs.declared.event.Turn.TheVariants.{Stepped}
 use Rattle.law_turns.specs.Revoking.{revoke_after}
 use Rattle.law_turns.proofs.Revoking.{begins_asked, returns_done}
 use Rattle.law_revocation.specs.Along.{Acts, HasEvent, Runs, acts_in, acts_once}
-use Rattle.law_revocation.specs.Sound.{IsSound}
-use Rattle.law_revocation.specs.Whole.{Begins, Ends, HasEnded, HasReturned, IsAnswered, IsBegun, left}
+use Rattle.law_revocation.specs.Sound.{IsKeptForest}
+use Rattle.law_revocation.specs.Whole.{Begins, RevokeEnds, HasEnded, HasReturned, IsAnswered, IsBegun, left}
 use Rattle.law_revocation.proofs.Answering.{answer_returns}
 use Rattle.law_revocation.proofs.Kept.{reached_sound, turn_sound}
 use Rattle.law_revocation.proofs.Shrinking.{shrunk}
@@ -34,7 +34,7 @@ use Rattle.law_revocation.proofs.Turns.{GoesOn, HasPart, Another, IsOver, Itself
 
 -- IT BEGINS
 
-pub begun : (k : KernelState) (cpu ec : ℕ) (r : Revocation) → IsSound k → Begins k cpu ec r → IsBegun k cpu ec r
+pub begun : (k : KernelState) (cpu ec : ℕ) (r : Revocation) → IsKeptForest k → Begins k cpu ec r → IsBegun k cpu ec r
 begun k cpu ec r sound (before, now) = by_part (part_of k cpu ec)
   where
     of_revoke : (range : Range) (own : Bool) → Acts k cpu ec → deed k ec ≡ Revokes range own →
@@ -63,7 +63,7 @@ begun k cpu ec r sound (before, now) = by_part (part_of k cpu ec)
 
 -- IT ENDS
 
-pub returned : (k : KernelState) (cpu ec : ℕ) (r : Revocation) → IsSound k → Ends k cpu ec r → HasReturned k cpu ec r
+pub returned : (k : KernelState) (cpu ec : ℕ) (r : Revocation) → IsKeptForest k → RevokeEnds k cpu ec r → HasReturned k cpu ec r
 returned k cpu ec r sound (now, over) = by_part (part_of k cpu ec)
   where
     by_own : GoesOn k cpu ec r → HasReturned k cpu ec r
@@ -81,7 +81,7 @@ one_event k cpu a b first second = cc
 pub none_some : (r : Revocation) → None ≡ Some r → ⊥
 none_some r h = absurd (cc)
 
-pub answered : (k : KernelState) (cpu ec : ℕ) (r : Revocation) → IsSound k → IsAnswered k cpu ec r → HasReturned k cpu ec r
+pub answered : (k : KernelState) (cpu ec : ℕ) (r : Revocation) → IsKeptForest k → IsAnswered k cpu ec r → HasReturned k cpu ec r
 answered k cpu ec r sound h = by_own acts (goes_on k cpu ec r sound h.runs acts)
   where
     acts : Acts k cpu ec
@@ -97,7 +97,7 @@ answered k cpu ec r sound h = by_own acts (goes_on k cpu ec r sound h.runs acts)
     by_own acts (IsOver is) = is
 
 -- and there is no other such event
-pub told : (k : KernelState) (cpu ec : ℕ) → IsSound k → HasEvent k cpu ec Answer REVOKE (status_code Success) → HasEnded k cpu ec
+pub told : (k : KernelState) (cpu ec : ℕ) → IsKeptForest k → HasEvent k cpu ec Answer REVOKE (status_code Success) → HasEnded k cpu ec
 told k cpu ec sound h =
     let acts = event_acts k cpu ec h.event (ap is_passing h.kind) h.answers h.ec in
     let its = turn_event k cpu ec (deed k ec) acts refl in
@@ -127,8 +127,8 @@ one_more : (k : KernelState) (ec : ℕ) (turns : List ℕ) (last : ℕ) → acts
 one_more k ec [] last = let once = at_most_once ec (next_to_act k last) in omega arith
 one_more k ec (cpu ∷ turns) last = let rest = one_more (after k cpu) ec turns last in omega (arith, rest)
 
-pub whole : (k : KernelState) (first : ℕ) (turns : List ℕ) (last ec : ℕ) (r : Revocation) → IsSound k → Begins k first ec r → Runs (after k first) ec r turns →
-    Ends (run (after k first) turns) last ec r → acts_in k ec (first ∷ turns ++ last ∷ []) ≤ length (left r k) + 2
+pub whole : (k : KernelState) (first : ℕ) (turns : List ℕ) (last ec : ℕ) (r : Revocation) → IsKeptForest k → Begins k first ec r → Runs (after k first) ec r turns →
+    RevokeEnds (run (after k first) turns) last ec r → acts_in k ec (first ∷ turns ++ last ∷ []) ≤ length (left r k) + 2
 whole k first turns last ec r sound begins runs ends =
     let same = (begun k first ec r sound begins).delegations in
     let size : length (left r (after k first)) ≡ length (left r k) = ap (λ (f : Delegations). length (scope r f.list)) same in
@@ -138,13 +138,13 @@ whole k first turns last ec r sound begins runs ends =
     omega (arith, size, fewer, once, more)
 
 -- what is left then was there at the call
-pub among_called : (k : KernelState) (first : ℕ) (turns : List ℕ) (ec : ℕ) (r : Revocation) → IsSound k → Begins k first ec r → Runs (after k first) ec r turns →
+pub among_called : (k : KernelState) (first : ℕ) (turns : List ℕ) (ec : ℕ) (r : Revocation) → IsKeptForest k → Begins k first ec r → Runs (after k first) ec r turns →
     (d : Derivation) → Contains (left r (run (after k first) turns)) d → Contains (left r k) d
 among_called k first turns ec r sound begins runs d there =
     let same = (begun k first ec r sound begins).delegations in
     subst (λ (f : Delegations). Contains (scope r f.list) d) same ((shrunk (after k first) turns ec r (turn_sound k first sound) runs).among d there)
 
 pub reached_whole : (s : Scenario) (before : List ℕ) (first : ℕ) (turns : List ℕ) (last ec : ℕ) (r : Revocation) → Begins (run (boot s) before) first ec r →
-    Runs (after (run (boot s) before) first) ec r turns → Ends (run (after (run (boot s) before) first) turns) last ec r →
+    Runs (after (run (boot s) before) first) ec r turns → RevokeEnds (run (after (run (boot s) before) first) turns) last ec r →
     acts_in (run (boot s) before) ec (first ∷ turns ++ last ∷ []) ≤ length (left r (run (boot s) before)) + 2
 reached_whole s before first turns last ec r begins runs ends = whole (run (boot s) before) first turns last ec r (reached_sound s before) begins runs ends

@@ -16,7 +16,7 @@ use Rattle.law_forest.specs.Courses.{IsCourse}
 use Rattle.law_forest.proofs.Courses.{course_kept}
 use Rattle.law_forest.proofs.Under.{turn_under, under_course}
 use Rattle.law_revocation.specs.Along.{Runs, acts_once}
-use Rattle.law_revocation.specs.Sound.{IsSound}
+use Rattle.law_revocation.specs.Sound.{IsKeptForest}
 use Rattle.law_revocation.specs.Whole.{HasShrunk, left}
 use Rattle.law_revocation.proofs.Kept.{reached_sound, turn_sound}
 use Rattle.law_revocation.proofs.Turns.{GoesOn, HasPart, HasTaken, Another, IsOver, Itself, Takes, goes_on, part_of}
@@ -32,7 +32,7 @@ record Shrinks (k : KernelState) (cpu ec : ℕ) (r : Revocation) : Type 0 where
   among : (d : Derivation) → Contains (left r (after k cpu)) d → Contains (left r k) d
   fewer : acts_once ec (next_to_act k cpu) + length (left r (after k cpu)) ≤ length (left r k)
 
-others_turn : (k : KernelState) (cpu ec : ℕ) (r : Revocation) → IsSound k → revoke_of k ec ≡ Some r → acts_once ec (next_to_act k cpu) ≡ 0 → Shrinks k cpu ec r
+others_turn : (k : KernelState) (cpu ec : ℕ) (r : Revocation) → IsKeptForest k → revoke_of k ec ≡ Some r → acts_once ec (next_to_act k cpu) ≡ 0 → Shrinks k cpu ec r
 others_turn k cpu ec r sound runs none = by_choice (next_to_act k cpu) (turn_under k cpu ec r sound.forest runs)
   where
     by_kept : (leaves : ℕ) → courses.IsKept r k.delegations (after k cpu).delegations leaves → Shrinks k cpu ec r
@@ -45,14 +45,14 @@ others_turn k cpu ec r sound runs none = by_choice (next_to_act k cpu) (turn_und
         by_kept (leaves_in change) (course_leads r k.delegations (after k cpu).delegations (leaves_in change) sound.forest
         (under_course r ec c.actor k.delegations (after k cpu).delegations change))
 
-own_turn : (k : KernelState) (cpu ec : ℕ) (r : Revocation) → IsSound k → acts_once ec (next_to_act k cpu) ≡ 1 → HasTaken k cpu ec r → Shrinks k cpu ec r
+own_turn : (k : KernelState) (cpu ec : ℕ) (r : Revocation) → IsKeptForest k → acts_once ec (next_to_act k cpu) ≡ 1 → HasTaken k cpu ec r → Shrinks k cpu ec r
 own_turn k cpu ec r sound one t =
     let kept = course_leads r k.delegations (after k cpu).delegations 1 sound.forest
     (under_course r ec ec k.delegations (after k cpu).delegations
     (TakesPart refl t.leaf t.next (t.delegations ∙ ap (taken_away k.delegations) (sym t.next)))) in
     record { among = kept.among; fewer = omega (arith, one, kept.fewer) }
 
-one_turn : (k : KernelState) (cpu ec : ℕ) (r : Revocation) → IsSound k → revoke_of k ec ≡ Some r → revoke_of (after k cpu) ec ≡ Some r → Shrinks k cpu ec r
+one_turn : (k : KernelState) (cpu ec : ℕ) (r : Revocation) → IsKeptForest k → revoke_of k ec ≡ Some r → revoke_of (after k cpu) ec ≡ Some r → Shrinks k cpu ec r
 one_turn k cpu ec r sound now then_too = by_part (part_of k cpu ec)
   where
     by_own : acts_once ec (next_to_act k cpu) ≡ 1 → GoesOn k cpu ec r → Shrinks k cpu ec r
@@ -68,7 +68,7 @@ pub runs_now : (k : KernelState) (ec : ℕ) (r : Revocation) (turns : List ℕ) 
 runs_now k ec r [] runs = runs
 runs_now k ec r (cpu ∷ turns) runs = runs.0
 
-pub shrunk : (k : KernelState) (turns : List ℕ) (ec : ℕ) (r : Revocation) → IsSound k → Runs k ec r turns → HasShrunk k turns ec r
+pub shrunk : (k : KernelState) (turns : List ℕ) (ec : ℕ) (r : Revocation) → IsKeptForest k → Runs k ec r turns → HasShrunk k turns ec r
 shrunk k [] ec r sound runs = record { among = λ d there. there; fewer = omega arith }
 shrunk k (cpu ∷ turns) ec r sound (now, runs) =
     let first = one_turn k cpu ec r sound now (runs_now (after k cpu) ec r turns runs) in

@@ -18,7 +18,7 @@ use Rattle.law_forest.proofs.Forests.{forest_add}
 use Rattle.law_forest.proofs.Lines.{member_found, parent_facts}
 use Rattle.law_forest.proofs.Members.{IsIn, contains_from_in, filtered_in, in_filtered, in_from_contains}
 use Rattle.law_forest.proofs.Scopes.{decided}
-use Rattle.law_revocation.specs.Taken.{IsClear, IsGiven, IsOnLine, IsOwn, IsParent, IsReached, IsRevokers, IsTaken, Above, Given, Itself, Own}
+use Rattle.law_revocation.specs.Taken.{IsClear, IsGiven, IsOnLine, IsOwn, IsParent, IsRevokersTarget, IsRevokers, IsRemoved, Above, Given, Itself, Own}
 
 -- THE REVOKER'S
 
@@ -49,7 +49,7 @@ met_from r a its shares =
 
 -- of the targets of shared places and those of a child one is the same exactly where the tests say so
 reached_from : (r : Revocation) (a c : Derivation) → IsRevokers r a → a.base < end_of r.range → r.range.base < end_of (range_of a) →
-    c.target < end_target r a → first_target r a < c.target + 2 ^ c.order → (target : ℕ) × IsReached r a target × LeadsTo c target
+    c.target < end_target r a → first_target r a < c.target + 2 ^ c.order → (target : ℕ) × IsRevokersTarget r a target × LeadsTo c target
 reached_from r a c its one other below above =
     let some = pow_pos c.order in
     let many = pow_pos a.order in
@@ -65,7 +65,7 @@ reached_from r a c its one other below above =
       record { first = omega arith; last = omega arith },
     )
 
-reached_tests : (r : Revocation) (a c : Derivation) (target : ℕ) → IsReached r a target → LeadsTo c target →
+reached_tests : (r : Revocation) (a c : Derivation) (target : ℕ) → IsRevokersTarget r a target → LeadsTo c target →
     (c.target < end_target r a) × (first_target r a < c.target + 2 ^ c.order)
 reached_tests r a c target h leads =
     let i = h.its.from_base in
@@ -77,7 +77,7 @@ reached_tests r a c target h leads =
     let o = leads.last in
     (omega arith, omega arith)
 
-made_given : (r : Revocation) (a c : Derivation) → leads_into r a c.target c.order ≡ true → (target : ℕ) × IsReached r a target × LeadsTo c target
+made_given : (r : Revocation) (a c : Derivation) → leads_into r a c.target c.order ≡ true → (target : ℕ) × IsRevokersTarget r a target × LeadsTo c target
 made_given r a c h =
     let met = and_parts (is_met r a) (nat_lt c.target (end_target r a) && nat_lt (first_target r a) (c.target + 2 ^ c.order)) h in
     let its = met_parts r a met.0 in
@@ -85,7 +85,7 @@ made_given r a c h =
     let meeting = and_parts (nat_lt a.base (end_of r.range)) (nat_lt r.range.base (end_of (range_of a))) its.1 in
     reached_from r a c its.0 (grind (arith, nat_tests)) (grind (arith, nat_tests)) (grind (arith, nat_tests)) (grind (arith, nat_tests))
 
-given_made : (r : Revocation) (a c : Derivation) (target : ℕ) → IsReached r a target → LeadsTo c target → leads_into r a c.target c.order ≡ true
+given_made : (r : Revocation) (a c : Derivation) (target : ℕ) → IsRevokersTarget r a target → LeadsTo c target → leads_into r a c.target c.order ≡ true
 given_made r a c target h leads =
     let tests = reached_tests r a c target h leads in
     let shares : overlaps (range_of a) r.range ≡ true = (meetings.shared (range_of a) r.range).1 (h.place, (h.its, h.revoked)) in
@@ -113,10 +113,10 @@ parent_is : (f : Delegations) → IsForest f → (a c : Derivation) → IsParent
 parent_is f forest a c h =
     ap (option_and_then (with_id f.list)) h.named ∙ member_found f.list a forest.rising (in_from_contains f.list a h.there)
 
-top_taken : (r : Revocation) (f : Delegations) → IsForest f → (d : Derivation) → IsIn f.list d → is_top r f.list d ≡ true → IsTaken r f.list d
+top_taken : (r : Revocation) (f : Delegations) → IsForest f → (d : Derivation) → IsIn f.list d → is_top r f.list d ≡ true → IsRemoved r f.list d
 top_taken r f forest d i h = by_case (or_cases (is_made_of r d (parent_of f.list d)) (is_own r d) h)
   where
-    by_parent : (o : Option Derivation) → parent_of f.list d ≡ o → is_made_of r d o ≡ true → IsTaken r f.list d
+    by_parent : (o : Option Derivation) → parent_of f.list d ≡ o → is_made_of r d o ≡ true → IsRemoved r f.list d
     by_parent None is made = absurd (cc)
     by_parent (Some p) is made =
         let facts = parent_facts f d p forest i is in
@@ -129,7 +129,7 @@ top_taken r f forest d i h = by_case (or_cases (is_made_of r d (parent_of f.list
           leads = found.2;
         })
 
-    by_case : (is_made_of r d (parent_of f.list d) ≡ true) ⊎ (is_own r d ≡ true) → IsTaken r f.list d
+    by_case : (is_made_of r d (parent_of f.list d) ≡ true) ⊎ (is_own r d ≡ true) → IsRemoved r f.list d
     by_case (inl made) = by_parent (parent_of f.list d) refl made
     by_case (inr own) = Own d (Itself d) (own_parts r d own)
 
@@ -143,11 +143,11 @@ own_top r list a h = or_right (is_made_of r a (parent_of list a)) (is_own r a) (
 
 -- ALONG LINES
 
-below_taken : (r : Revocation) (list : List Derivation) (d p : Derivation) → IsParent list p d → IsTaken r list p → IsTaken r list d
+below_taken : (r : Revocation) (list : List Derivation) (d p : Derivation) → IsParent list p d → IsRemoved r list p → IsRemoved r list d
 below_taken r list d p h (Given c on given) = Given c (Above c p d h on) given
 below_taken r list d p h (Own a on own) = Own a (Above a p d h on) own
 
-scope_taken : (r : Revocation) (f : Delegations) → IsForest f → (d : Derivation) → IsIn f.list d → IsInScope r f.list d → IsTaken r f.list d
+scope_taken : (r : Revocation) (f : Delegations) → IsForest f → (d : Derivation) → IsIn f.list d → IsInScope r f.list d → IsRemoved r f.list d
 scope_taken r f forest d i (Top _ h) = top_taken r f forest d i h
 scope_taken r f forest d i (Below _ p is h) =
     let facts = parent_facts f d p forest i is in
@@ -157,18 +157,18 @@ line_scope : (r : Revocation) (f : Delegations) → IsForest f → (a d : Deriva
 line_scope r f forest a d (Itself _) top = Top a top
 line_scope r f forest a d (Above _ p _ h on) top = Below d p (parent_is f forest p d h) (line_scope r f forest a p on top)
 
-taken_scope : (r : Revocation) (f : Delegations) → IsForest f → (d : Derivation) → IsTaken r f.list d → IsInScope r f.list d
+taken_scope : (r : Revocation) (f : Delegations) → IsForest f → (d : Derivation) → IsRemoved r f.list d → IsInScope r f.list d
 taken_scope r f forest d (Given c on given) = line_scope r f forest c d on (given_top r f forest c given)
 taken_scope r f forest d (Own a on own) = line_scope r f forest a d on (own_top r f.list a own)
 
 -- the test of the scope
-tested : (r : Revocation) (f : Delegations) → IsForest f → (d : Derivation) → IsIn f.list d → (in_scope r f.list d ≡ true) ↔ IsTaken r f.list d
+tested : (r : Revocation) (f : Delegations) → IsForest f → (d : Derivation) → IsIn f.list d → (in_scope r f.list d ≡ true) ↔ IsRemoved r f.list d
 tested r f forest d i = (
   λ h. scope_taken r f forest d i ((decided r f forest d i).0 h),
   λ h. (decided r f forest d i).1 (taken_scope r f forest d h),
 )
 
-pub taken : (r : Revocation) (f : Delegations) (d : Derivation) → IsForest f → Contains (scope r f.list) d ↔ (Contains f.list d × IsTaken r f.list d)
+pub taken : (r : Revocation) (f : Delegations) (d : Derivation) → IsForest f → Contains (scope r f.list) d ↔ (Contains f.list d × IsRemoved r f.list d)
 taken r f d forest = (
   λ there.
       let i = filtered_in (in_scope r f.list) f.list d (in_from_contains (scope r f.list) d there) in
@@ -207,7 +207,7 @@ child_between f forest a p d target (Above _ q _ up on) i h leads =
     let rest = child_between f forest a q p target on (in_from_contains f.list p h.there) up (leads_up f forest p d target i h leads) in
     record { child = rest.child; is_parent = rest.is_parent; on_line = Above rest.child p d h rest.on_line; leads = rest.leads }
 
-none_left : (r : Revocation) (f : Delegations) → IsForest f → scope r f.list ≡ [] → (d : Derivation) → IsIn f.list d → IsTaken r f.list d → ⊥
+none_left : (r : Revocation) (f : Delegations) → IsForest f → scope r f.list ≡ [] → (d : Derivation) → IsIn f.list d → IsRemoved r f.list d → ⊥
 none_left r f forest none d i h =
     let on = (tested r f forest d i).1 h in
     let off = none_passes (in_scope r f.list) f.list none d i in
@@ -226,7 +226,7 @@ clear_from r f forest none = record {
 clear_to : (r : Revocation) (f : Delegations) → IsForest f → IsClear r f.list → scope r f.list ≡ []
 clear_to r f forest clear = none_kept (in_scope r f.list) f.list (λ d i. false_from_ne_true (in_scope r f.list d) (λ h. left d i ((tested r f forest d i).0 h)))
   where
-    left : (d : Derivation) → IsIn f.list d → IsTaken r f.list d → ⊥
+    left : (d : Derivation) → IsIn f.list d → IsRemoved r f.list d → ⊥
     left d i (Given c on given) =
         clear.given c given.source given.target (contains_from_in f.list c (on_line_there f.list c d on i))
         (record { parent = given.source; is_parent = given.is_parent; on_line = Itself given.source }) given.reached given.leads
@@ -251,16 +251,16 @@ met_shared r x = (
 )
 
 pub barred : (r : Revocation) (f : Delegations) (x : Derivation) → IsForest f → IsFitting f x →
-    (busy r f.list x ≡ true) ↔ (IsTaken r (added f x).list x ⊎ IsShared r x)
+    (busy r f.list x ≡ true) ↔ (IsRemoved r (added f x).list x ⊎ IsShared r x)
 barred r f x forest fits = (λ h. by_case (or_cases (in_scope r (added f x).list x) (is_met r x) h), back)
   where
-    test : (in_scope r (added f x).list x ≡ true) ↔ IsTaken r (added f x).list x
+    test : (in_scope r (added f x).list x ≡ true) ↔ IsRemoved r (added f x).list x
     test = tested r (added f x) (forest_add f x forest fits) x (last_in f.list x)
 
-    by_case : (in_scope r (added f x).list x ≡ true) ⊎ (is_met r x ≡ true) → IsTaken r (added f x).list x ⊎ IsShared r x
+    by_case : (in_scope r (added f x).list x ≡ true) ⊎ (is_met r x ≡ true) → IsRemoved r (added f x).list x ⊎ IsShared r x
     by_case (inl h) = inl (test.0 h)
     by_case (inr h) = inr ((met_shared r x).0 h)
 
-    back : IsTaken r (added f x).list x ⊎ IsShared r x → busy r f.list x ≡ true
+    back : IsRemoved r (added f x).list x ⊎ IsShared r x → busy r f.list x ≡ true
     back (inl h) = or_left (in_scope r (added f x).list x) (is_met r x) (test.1 h)
     back (inr h) = or_right (in_scope r (added f x).list x) (is_met r x) ((met_shared r x).1 h)

@@ -27,7 +27,7 @@ use Rattle.law_turns.specs.Keeping.{IsKept}
 use Rattle.law_turns.specs.Revoking.{revoke_after, revoke_in_turn}
 use Rattle.law_turns.proofs.Revoking.{turns_leave}
 use Rattle.law_revocation.specs.Along.{Acts, HasEvent, acts_once}
-use Rattle.law_revocation.specs.Sound.{IsSound}
+use Rattle.law_revocation.specs.Sound.{IsKeptForest}
 use Rattle.law_revocation.specs.Taken.{IsClear}
 use Rattle.law_revocation.specs.Whole.{HasReturned}
 use Rattle.law_revocation.proofs.Taking.{cleared}
@@ -131,7 +131,7 @@ pub data GoesOn (k : KernelState) (cpu ec : ℕ) (r : Revocation) : Type 0 where
   Takes : HasTaken k cpu ec r → GoesOn k cpu ec r
   IsOver : HasReturned k cpu ec r → GoesOn k cpu ec r
 
-pub goes_on : (k : KernelState) (cpu ec : ℕ) (r : Revocation) → IsSound k → revoke_of k ec ≡ Some r → Acts k cpu ec → GoesOn k cpu ec r
+pub goes_on : (k : KernelState) (cpu ec : ℕ) (r : Revocation) → IsKeptForest k → revoke_of k ec ≡ Some r → Acts k cpu ec → GoesOn k cpu ec r
 goes_on k cpu ec r sound runs acts = by_leaf (next_leaf r k.delegations) refl
   where
     by_leaf : (o : Option Derivation) → next_leaf r k.delegations ≡ o → GoesOn k cpu ec r

@@ -4,7 +4,7 @@ use Rattle.nova_model.specs.Revokes.{Revocation}
 use Rattle.nova_model.specs.Runs.{after, run}
 use Rattle.nova_model.specs.State.{KernelState}
 use Rattle.law_revocation.specs.Along.{Runs}
-use Rattle.law_revocation.specs.Whole.{Begins, Ends, HasReturned, IsBegun}
+use Rattle.law_revocation.specs.Whole.{Begins, RevokeEnds, HasReturned, IsBegun}
 
 -- one of these turns began the revoke: the execution context acted in it, and its registers asked for just this revoke, which it did not run
 -- before; and it has run this one ever since, in each state from that turn to the last
@@ -21,5 +21,5 @@ pub record WasCalled (k : KernelState) (turns : List ℕ) (ec : ℕ) (r : Revoca
 pub record HasEndedAsCalled (k : KernelState) (turns : List ℕ) (cpu ec : ℕ) : Type 0 where
   pub revoke : Revocation
   pub called : WasCalled k turns ec revoke
-  pub ends : Ends (run k turns) cpu ec revoke
+  pub ends : RevokeEnds (run k turns) cpu ec revoke
   pub returned : HasReturned (run k turns) cpu ec revoke

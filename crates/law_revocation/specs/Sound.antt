@@ -3,6 +3,6 @@ use Rattle.nova_model.specs.Forest.{IsForest}
 use Rattle.nova_model.specs.State.{KernelState}
 use Rattle.law_turns.specs.Keeping.{IsKept}
 
-pub record IsSound (k : KernelState) : Type 0 where
+pub record IsKeptForest (k : KernelState) : Type 0 where
   pub forest : IsForest k.delegations
   pub kept : IsKept k

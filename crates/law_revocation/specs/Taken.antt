@@ -32,7 +32,7 @@ pub record IsRevokers (r : Revocation) (a : Derivation) : Type 0 where
   pub kind : a.kind ≡ r.range.kind
 
 -- the revoker reaches this target by a place of the range, through this derivation of its own
-pub record IsReached (r : Revocation) (a : Derivation) (target : ℕ) : Type 0 where
+pub record IsRevokersTarget (r : Revocation) (a : Derivation) (target : ℕ) : Type 0 where
   pub revokers : IsRevokers r a
   pub place : ℕ
   pub its : HasPlace (range_of a) place
@@ -44,7 +44,7 @@ pub record IsGiven (r : Revocation) (list : List Derivation) (c : Derivation) : 
   pub source : Derivation
   pub is_parent : IsParent list source c
   pub target : ℕ
-  pub reached : IsReached r source target
+  pub reached : IsRevokersTarget r source target
   pub leads : LeadsTo c target
 
 -- where the revoker's own go too: one of them, with all its places in the range
@@ -56,12 +56,12 @@ pub record IsOwn (r : Revocation) (a : Derivation) : Type 0 where
 -- WHAT IS TAKEN AWAY
 
 -- some derivation of its line is such a child, or such a one of the revoker's own
-pub data IsTaken (r : Revocation) (list : List Derivation) (d : Derivation) : Type 0 where
-  Given : (c : Derivation) → IsOnLine list c d → IsGiven r list c → IsTaken r list d
-  Own : (a : Derivation) → IsOnLine list a d → IsOwn r a → IsTaken r list d
+pub data IsRemoved (r : Revocation) (list : List Derivation) (d : Derivation) : Type 0 where
+  Given : (c : Derivation) → IsOnLine list c d → IsGiven r list c → IsRemoved r list d
+  Own : (a : Derivation) → IsOnLine list a d → IsOwn r a → IsRemoved r list d
 
 -- nothing of it is left: what the revoker reached by a place of the range, nobody reaches by anything that comes from there; and where the
 -- revoker's own go too, it holds nothing that lies in the range
 pub record IsClear (r : Revocation) (list : List Derivation) : Type 0 where
-  pub given : (d a : Derivation) (target : ℕ) → Contains list d → IsAncestor list a d → IsReached r a target → LeadsTo d target → ⊥
+  pub given : (d a : Derivation) (target : ℕ) → Contains list d → IsAncestor list a d → IsRevokersTarget r a target → LeadsTo d target → ⊥
   pub own : (a : Derivation) → Contains list a → IsOwn r a → ⊥

@@ -22,8 +22,8 @@ left r k = scope r k.delegations.list
 abbrev pub Begins : KernelState → ℕ → ℕ → Revocation → Type 0
 Begins k cpu ec r = (revoke_of k ec ≢ Some r) × (revoke_of (after k cpu) ec ≡ Some r)
 
-abbrev pub Ends : KernelState → ℕ → ℕ → Revocation → Type 0
-Ends k cpu ec r = (revoke_of k ec ≡ Some r) × (revoke_of (after k cpu) ec ≢ Some r)
+abbrev pub RevokeEnds : KernelState → ℕ → ℕ → Revocation → Type 0
+RevokeEnds k cpu ec r = (revoke_of k ec ≡ Some r) × (revoke_of (after k cpu) ec ≢ Some r)
 
 -- the one who runs it is answered in the turn: SUCCESS, to its call of revoke
 pub record IsAnswered (k : KernelState) (cpu ec : ℕ) (r : Revocation) : Type 0 where
@@ -56,5 +56,5 @@ pub record HasReturned (k : KernelState) (cpu ec : ℕ) (r : Revocation) : Type 
 -- it ran a revoke, and the turn ended that one, with nothing left
 pub record HasEnded (k : KernelState) (cpu ec : ℕ) : Type 0 where
   pub revoke : Revocation
-  pub ends : Ends k cpu ec revoke
+  pub ends : RevokeEnds k cpu ec revoke
   pub returned : HasReturned k cpu ec revoke

@@ -20,16 +20,16 @@ ghost use Rattle.nova_model.specs.declared.event.EventKind.TheVariants.{Answer};
 ghost use Rattle.law_revocation.specs.Along.{Acts, HasEvent, Runs, acts_in};
 ghost use Rattle.law_revocation.specs.Called.{HasEndedAsCalled, WasCalled};
 ghost use Rattle.law_revocation.specs.Refused.{IsBusy, IsInTheWay, IsSkipped, WouldGive, WouldMake};
-ghost use Rattle.law_revocation.specs.Sound.{IsSound};
-ghost use Rattle.law_revocation.specs.Taken.{IsClear, IsRevokers, IsTaken};
-ghost use Rattle.law_revocation.specs.Whole.{Begins, Ends, HasEnded, HasReturned, HasShrunk, IsAnswered, IsBegun, left};
+ghost use Rattle.law_revocation.specs.Sound.{IsKeptForest};
+ghost use Rattle.law_revocation.specs.Taken.{IsClear, IsRevokers, IsRemoved};
+ghost use Rattle.law_revocation.specs.Whole.{Begins, RevokeEnds, HasEnded, HasReturned, HasShrunk, IsAnswered, IsBegun, left};
 
 /// What these laws ask of a state always holds: a kernel begins so, and each turn keeps it, so that it
 /// holds of whatever a kernel comes to.
 pub fn what_revokes_stand_on_is_kept()
-    ensures begins { (scenario : Scenario) → IsSound (boot scenario) }
-    ensures turns { (k : KernelState) (cpu : ℕ) → IsSound k → IsSound (after k cpu) }
-    ensures reached { (scenario : Scenario) (turns : List ℕ) → IsSound (run (boot scenario) turns) }
+    ensures begins { (scenario : Scenario) → IsKeptForest (boot scenario) }
+    ensures turns { (k : KernelState) (cpu : ℕ) → IsKeptForest k → IsKeptForest (after k cpu) }
+    ensures reached { (scenario : Scenario) (turns : List ℕ) → IsKeptForest (run (boot scenario) turns) }
 {}
 
 /// A derivation is in the scope of a revoke exactly where it is there, and it or one that it comes from is
@@ -40,7 +40,7 @@ pub fn what_revokes_stand_on_is_kept()
 /// the revoker has none that lies in the range.
 pub fn a_scope_is_what_comes_from_the_range()
     ensures members { (r : Revocation) (f : Delegations) (d : Derivation) → IsForest f →
-        Contains (scope r f.list) d ↔ (Contains f.list d × IsTaken r f.list d) }
+        Contains (scope r f.list) d ↔ (Contains f.list d × IsRemoved r f.list d) }
     ensures none { (r : Revocation) (f : Delegations) → IsForest f → (scope r f.list ≡ []) ↔ IsClear r f.list }
 {}
 
@@ -48,21 +48,21 @@ pub fn a_scope_is_what_comes_from_the_range()
 /// it is of the revoker's, of the range's kind, and shares a place with the range.
 pub fn what_a_revoke_would_take_is_busy()
     ensures { (r : Revocation) (f : Delegations) (x : Derivation) → IsForest f → IsFitting f x →
-        (busy r f.list x ≡ true) ↔ (IsTaken r (added f x).list x ⊎ (IsRevokers r x × SharesPlace (range_of x) r.range)) }
+        (busy r f.list x ≡ true) ↔ (IsRemoved r (added f x).list x ⊎ (IsRevokers r x × SharesPlace (range_of x) r.range)) }
 {}
 
 /// A turn in which an execution context comes to run a revoke is its own. Its registers read as the
 /// hypercall that asks for that revoke, the revoke is of its protection domain, and the turn's event tells that it
 /// begins. Delegations stay: the scope with which the revoke begins is that of the state before the call.
 pub fn a_revoke_begins_with_its_scope()
-    ensures { (k : KernelState) (cpu ec : ℕ) (r : Revocation) → IsSound k → Begins k cpu ec r → IsBegun k cpu ec r }
+    ensures { (k : KernelState) (cpu ec : ℕ) (r : Revocation) → IsKeptForest k → Begins k cpu ec r → IsBegun k cpu ec r }
 {}
 
 /// What an execution context runs after turns, where it ran no revoke before them, it called in one of
 /// them: it acted in that turn, its registers asked for this range and this flag, and it has run just this
 /// revoke in each state from then on. At boot no revoke runs, so that it holds of all that a kernel comes to.
 pub fn a_running_revoke_was_called()
-    ensures turns { (k : KernelState) (turns : List ℕ) (ec : ℕ) (r : Revocation) → IsSound k → revoke_of k ec ≡ None →
+    ensures turns { (k : KernelState) (turns : List ℕ) (ec : ℕ) (r : Revocation) → IsKeptForest k → revoke_of k ec ≡ None →
         revoke_of (run k turns) ec ≡ Some r → WasCalled k turns ec r }
     ensures reached { (scenario : Scenario) (turns : List ℕ) (ec : ℕ) (r : Revocation) →
         revoke_of (run (boot scenario) turns) ec ≡ Some r → WasCalled (boot scenario) turns ec r }
@@ -73,7 +73,7 @@ pub fn a_running_revoke_was_called()
 /// takes one derivation of the scope away. So these turns and what is left are together at most as many
 /// as the scope had.
 pub fn a_running_revoke_only_shrinks()
-    ensures turns { (k : KernelState) (turns : List ℕ) (ec : ℕ) (r : Revocation) → IsSound k → Runs k ec r turns → HasShrunk k turns ec r }
+    ensures turns { (k : KernelState) (turns : List ℕ) (ec : ℕ) (r : Revocation) → IsKeptForest k → Runs k ec r turns → HasShrunk k turns ec r }
     ensures reached { (scenario : Scenario) (before turns : List ℕ) (ec : ℕ) (r : Revocation) →
         Runs (run (boot scenario) before) ec r turns → HasShrunk (run (boot scenario) before) turns ec r }
 {}
@@ -85,9 +85,9 @@ pub fn a_running_revoke_only_shrinks()
 /// turns from a boot state it is the one that it called: an earlier turn of its began just this one, as its
 /// registers asked then.
 pub fn a_returned_revoke_left_nothing()
-    ensures ends { (k : KernelState) (cpu ec : ℕ) (r : Revocation) → IsSound k → Ends k cpu ec r → HasReturned k cpu ec r }
-    ensures answers { (k : KernelState) (cpu ec : ℕ) (r : Revocation) → IsSound k → IsAnswered k cpu ec r → HasReturned k cpu ec r }
-    ensures events { (k : KernelState) (cpu ec : ℕ) → IsSound k → HasEvent k cpu ec Answer REVOKE (status_code Success) → HasEnded k cpu ec }
+    ensures ends { (k : KernelState) (cpu ec : ℕ) (r : Revocation) → IsKeptForest k → RevokeEnds k cpu ec r → HasReturned k cpu ec r }
+    ensures answers { (k : KernelState) (cpu ec : ℕ) (r : Revocation) → IsKeptForest k → IsAnswered k cpu ec r → HasReturned k cpu ec r }
+    ensures events { (k : KernelState) (cpu ec : ℕ) → IsKeptForest k → HasEvent k cpu ec Answer REVOKE (status_code Success) → HasEnded k cpu ec }
     ensures reached { (scenario : Scenario) (before : List ℕ) (cpu ec : ℕ) →
         HasEvent (run (boot scenario) before) cpu ec Answer REVOKE (status_code Success) → HasEnded (run (boot scenario) before) cpu ec }
     ensures called { (scenario : Scenario) (before : List ℕ) (cpu ec : ℕ) →
@@ -98,13 +98,13 @@ pub fn a_returned_revoke_left_nothing()
 /// turns others take between, what is in the revoke's scope was in it at its call, and it acts in at most
 /// as many turns as the scope had members at its call, and two.
 pub fn a_revoke_takes_at_most_its_scope_and_two()
-    ensures among { (k : KernelState) (first : ℕ) (turns : List ℕ) (ec : ℕ) (r : Revocation) → IsSound k → Begins k first ec r →
+    ensures among { (k : KernelState) (first : ℕ) (turns : List ℕ) (ec : ℕ) (r : Revocation) → IsKeptForest k → Begins k first ec r →
         Runs (after k first) ec r turns → (d : Derivation) → Contains (left r (run (after k first) turns)) d → Contains (left r k) d }
-    ensures turns { (k : KernelState) (first : ℕ) (turns : List ℕ) (last ec : ℕ) (r : Revocation) → IsSound k → Begins k first ec r →
-        Runs (after k first) ec r turns → Ends (run (after k first) turns) last ec r → acts_in k ec (first ∷ turns ++ last ∷ []) ≤ length (left r k) + 2 }
+    ensures turns { (k : KernelState) (first : ℕ) (turns : List ℕ) (last ec : ℕ) (r : Revocation) → IsKeptForest k → Begins k first ec r →
+        Runs (after k first) ec r turns → RevokeEnds (run (after k first) turns) last ec r → acts_in k ec (first ∷ turns ++ last ∷ []) ≤ length (left r k) + 2 }
     ensures reached { (scenario : Scenario) (before : List ℕ) (first : ℕ) (turns : List ℕ) (last ec : ℕ) (r : Revocation) →
         Begins (run (boot scenario) before) first ec r → Runs (after (run (boot scenario) before) first) ec r turns →
-        Ends (run (after (run (boot scenario) before) first) turns) last ec r →
+        RevokeEnds (run (after (run (boot scenario) before) first) turns) last ec r →
         acts_in (run (boot scenario) before) ec (first ∷ turns ++ last ∷ []) ≤ length (left r (run (boot scenario) before)) + 2 }
 {}
 

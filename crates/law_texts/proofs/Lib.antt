@@ -1,4 +1,5 @@
 pub mod Added
+pub mod Alarms
 pub mod Begun
 pub mod BenchStates
 pub mod BenchTurn
@@ -12,5 +13,6 @@ pub mod BenchWhole
 pub mod BenchLine
 pub mod Bytes
 pub mod Faults
+pub mod Laying
 pub mod OneOrder
 pub mod Told

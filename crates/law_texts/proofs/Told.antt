@@ -33,6 +33,7 @@ use Rattle.nova_scenario.proofs.LaidLemmas.{address-is}
 use Rattle.nova_scenario.proofs.SoundLemmas.{and_then-ok, on_line-ok, settings-ok, ended-ok, executable-ok, or_missing-ok}
 use Rattle.nova_scenario.proofs.SoundSettings.{once-new, put-new}
 use Rattle.law_texts.specs.Settings.{IsEntry, StartsAt, first_executable, or_later}
+use Rattle.law_texts.proofs.Laying.{image_leaves, segments_leave}
 
 -- what a line says of a scenario
 pub record IsRootSaid (s : Scenario) (later : List Item) (start : Start) (sp priority quantum : Option ℕ) : Type 0 where
@@ -110,7 +111,7 @@ end_comes (Some cpus) (Some ram) (Some consoles) None images sources s is = cc
 
 -- A LINE THAT SETS SOMETHING
 
-within-is : (low high : ℕ) (o : Option ℕ) (x : ℕ) → within low high o ≡ Some x → o ≡ Some x
+pub within-is : (low high : ℕ) (o : Option ℕ) (x : ℕ) → within low high o ≡ Some x → o ≡ Some x
 within-is low high None x is = cc
 within-is low high (Some n) x is = go (nat_le low n && nat_le n high) refl where
   go : (b : Bool) → (nat_le low n && nat_le n high) ≡ b → Some n ≡ Some x
@@ -196,30 +197,6 @@ setting_said d t later s (RootLine start sp priority quantum) is comes =
 
 -- AN IMAGE
 
-apart_settings : (d e : Draft) (image : Image) → with_apart d image ≡ Ok e → e.settings ≡ d.settings
-apart_settings d e image is = go (list_any (shares image) d.images) refl where
-  go : (meets : Bool) → list_any (shares image) d.images ≡ meets → e.settings ≡ d.settings
-  go true m = let same : Err Overlap ≡ Ok e = rw m at is in cc
-  go false m = let same : Ok (record d { images = d.images ++ image ∷ [] }) ≡ Ok e = rw m at is in let e_is : e ≡ record d { images = d.images ++ image ∷ [] } = cc in ap (λ (x : Draft). x.settings) e_is
-
-image_settings : (d e : Draft) (image : Image) → with_image d image ≡ Ok e → e.settings ≡ d.settings
-image_settings d e image is = go (nat_lt (ram_size d.settings) (end_of image)) refl where
-  go : (past : Bool) → nat_lt (ram_size d.settings) (end_of image) ≡ past → e.settings ≡ d.settings
-  go true p = let same : Err Range ≡ Ok e = rw p at is in cc
-  go false p = apart_settings d e image (rw p at is)
-
-images_settings : (d e : Draft) (images : List Image) → with_images d images ≡ Ok e → e.settings ≡ d.settings
-images_settings d e [] is = let e_is : e ≡ d = cc in ap (λ (x : Draft). x.settings) e_is
-images_settings d e (image ∷ images) is =
-    let a = and_then-ok (with_apart d image) (λ next. with_images next images) e is in
-    images_settings a.0 e images a.2 ∙ apart_settings d a.0 image a.1
-
-segments_settings : (d e : Draft) (address : ℕ) (file : List ℕ) (segments : List Segment) → with_segments address file segments d ≡ Ok e → e.settings ≡ d.settings
-segments_settings d e address file segments is = go (list_any (reaches_past (ram_size d.settings) address) segments) refl where
-  go : (past : Bool) → list_any (reaches_past (ram_size d.settings) address) segments ≡ past → e.settings ≡ d.settings
-  go true p = let same : Err Range ≡ Ok e = rw p at is in cc
-  go false p = images_settings d e (map (segment_image address file) segments) (rw p at is)
-
 -- the first executable gives the entry, where the root waits for one
 module _ (s : Scenario) (found : Found) (head : Head) (block : Block) (address : ℕ) (there : head.address ≡ Some address) (file : List ℕ)
     (bytes : elf_bytes block.lines ≡ Ok file) (of : Program) (is_program : program file ≡ Ok of) where
@@ -269,14 +246,14 @@ executable_comes s found head block address file d e there bytes is comes =
     let entry = entered d.settings d.settings.root (address + a.0.entry) in
     let b = and_then-ok (with_settings d entry) (with_segments address file a.0.segments) e a.2 in
     let t = settings-ok d b.0 entry b.1 in
-    let same : e.settings ≡ t.0 = segments_settings b.0 e address file a.0.segments b.2 ∙ ap (λ (x : Draft). x.settings) t.2 in
+    let same : e.settings ≡ t.0 = (segments_leave b.0 e address file a.0.segments b.2).settings ∙ ap (λ (x : Draft). x.settings) t.2 in
     settings_entered s found head block address there file bytes a.0 (executable-ok (program file) a.0 a.1) d.settings t.0 d.settings.root refl t.1
     (subst (λ (x : Settings). Comes x found s) same comes)
 
 bytes_come : (bytes : List ℕ) (d e : Draft) (f : Form) (head : Head) (block : Block) (address : ℕ) (laid : List ℕ) (found : Found) (s : Scenario) → head.address ≡ Some address →
     block_bytes bytes block f ≡ Ok laid → with_bytes f d address laid ≡ Ok e → Comes e.settings found s → Comes d.settings (or_later f head block found) s
-bytes_come bytes d e form.Hex head block address laid found s at are is comes = subst (λ (x : Settings). Comes x found s) (image_settings d e _ is) comes
-bytes_come bytes d e form.Asm head block address laid found s at are is comes = subst (λ (x : Settings). Comes x found s) (image_settings d e _ is) comes
+bytes_come bytes d e form.Hex head block address laid found s at are is comes = subst (λ (x : Settings). Comes x found s) (image_leaves d e _ is).settings comes
+bytes_come bytes d e form.Asm head block address laid found s at are is comes = subst (λ (x : Settings). Comes x found s) (image_leaves d e _ is).settings comes
 bytes_come bytes d e form.Elf head block address laid found s at are is comes = executable_comes s found head block address laid d e at are is comes
 
 block_comes : (bytes : List ℕ) (d e : Draft) (head : Head) (block : Block) (found : Found) (s : Scenario) → with_block bytes d head block ≡ Ok e → Comes e.settings found s →

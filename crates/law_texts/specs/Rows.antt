@@ -1,8 +1,13 @@
 -- Texts and bytes of which it is computed what they are read as.
-use Rattle.std.specs.Prelude.{ℕ, List, [], ◌∷◌, ◌++◌}
-use Rattle.nova_model.specs.Boot.{Scenario}
+use Rattle.std.specs.Prelude.{ℕ, List, [], ◌∷◌, ◌++◌, codes, Result, Ok, Err}
+use Rattle.nova_boot.specs.Boot.{scenario_of}
+use Rattle.nova_model.specs.Boot.{Scenario, boot}
 use Rattle.nova_model.specs.declared.event.Event.{Event}
 use Rattle.nova_model.specs.declared.event.EventKind.TheVariants.{Raise}
+use Rattle.nova_model.specs.declared.times.AlarmState.{AlarmState}
+use Rattle.nova_scenario.specs.Fault.{At}
+use Rattle.nova_scenario.specs.Scenario.{scenario}
+use Rattle.nova_scenario.specs.declared.scenario.Scenario.{Scenario as ScenarioText}
 use Rattle.nova_text.specs.Line.{Row}
 
 -- the header of an executable of entry 4,100, with so many program headers from byte 52 on
@@ -42,3 +47,11 @@ a_start = record {
 
 abbrev pub a_raise : Event
 a_raise = record { cpu = 0; sc = 2; ec = 1; kind = Raise; a = 7; b = 3 }
+
+-- the alarms that a text begins with, none where it is no scenario
+abbrev pub alarms_by : Result ScenarioText At → List AlarmState
+alarms_by (Ok s) = (boot (scenario_of s)).times.alarms
+alarms_by (Err fault) = []
+
+abbrev pub alarms_of_text : List ℕ → List AlarmState
+alarms_of_text bytes = alarms_by (scenario bytes)

@@ -9,9 +9,11 @@ ghost use Rattle.nova_scenario.specs.declared.scenario.Scenario.{Scenario};
 ghost use Rattle.nova_boot.specs.Boot.{scenario_of};
 ghost use Rattle.law_texts.specs.Faults.{AreClosed};
 ghost use Rattle.law_texts.specs.Settings.{AreTold};
+ghost use Rattle.law_texts.specs.Sources.{AreAlarms, source_lines};
 ghost use Rattle.law_texts.specs.Words.{HoldsItem};
 
 use nova_boot::images_lie_in_memory;
+use nova_gsi::{counters_tell_what_ended, sources_are_alarms};
 
 /// After boot the words of each hex block of a scenario's text, and those that each asm block assembles to, lie one after another from the
 /// block's address on, of each word the lowest byte first.
@@ -24,10 +26,15 @@ pub fn words_lie_at_their_address()
 
 /// Each line of a scenario's text that sets something says what the kernel begins with: its processors, its RAM, its consoles; of the root
 /// its stack pointer, with all other registers 0, its priority and quantum; and its pc, or that this is the entry of the first
-/// executable.
+/// executable. The lines of sources are its alarms, in order: of each its processor, first moment, period and count, the semaphore of its
+/// place, and that it hasn't rung.
 pub fn settings_are_what_boot_begins_with()
-    ensures { (bytes : List ℕ) (s : Scenario) → scenario bytes ≡ Ok s → AreTold (boot (scenario_of s)) (items false (lines bytes)) }
-{}
+    ensures settings { (bytes : List ℕ) (s : Scenario) → scenario bytes ≡ Ok s → AreTold (boot (scenario_of s)) (items false (lines bytes)) }
+    ensures sources { (bytes : List ℕ) (s : Scenario) → scenario bytes ≡ Ok s → AreAlarms (boot (scenario_of s)) (source_lines (items false (lines bytes))) }
+{
+    sources_are_alarms();
+    counters_tell_what_ended();
+}
 
 /// A fault at a line of a text in which each block is closed is the fault of each text that begins with this one's bytes and lines,
 /// whatever comes behind them.

@@ -9,7 +9,7 @@ ghost use Rattle.nova_scenario.specs.Statement.{said};
 ghost use Rattle.nova_scenario.specs.declared.statement.Setting.TheVariants.{Cpus, Ram, Consoles, Root};
 ghost use Rattle.nova_scenario.specs.declared.statement.Start.TheVariants.{Address};
 ghost use Rattle.nova_scenario.specs.declared.statement.Statement.TheVariants.{Adds, Sets};
-ghost use Rattle.law_texts.specs.Rows.{a_raise, a_start, line_of, one_segment, segment_and};
+ghost use Rattle.law_texts.specs.Rows.{a_raise, a_start, alarms_of_text, line_of, one_segment, segment_and};
 
 /// What some bytes are read as: a segment of 20 bytes of the file and 50 of memory, at its address and offset, with the entry of the file's
 /// header; one whose memory is less than its bytes is a fault of its header; headers of type 2 and of type 3, an interpreter's, are faults
@@ -29,12 +29,15 @@ pub fn orders_by_their_columns()
 {}
 
 /// What the columns of a scenario's lines are: of `root` its pc, stack pointer, priority and quantum; of `source` its processor, first moment,
-/// period and count.
+/// period and count. And the alarms that a kernel begins with by a text with two sources, the first on processor 1.
 pub fn settings_by_their_columns()
     ensures cpus { said (line_of (codes "cpus 3")) ≡ Ok (Some (Sets (Cpus (Some 3)))) }
     ensures ram { said (line_of (codes "ram 4")) ≡ Ok (Some (Sets (Ram (Some 4)))) }
     ensures consoles { said (line_of (codes "consoles 2")) ≡ Ok (Some (Sets (Consoles (Some 2)))) }
     ensures root { said (line_of (codes "root 8 12 5 6")) ≡ Ok (Some (Sets (Root (Address (Some 8)) (Some 12) (Some 5) (Some 6)))) }
+    ensures alarms { alarms_of_text (codes "cpus 2\nram 0\nconsoles 0\nroot 0 0 1 1\nsource 1 7 9 2\nsource 0 4 5 6\n")
+        ≡ record { alarm = record { cpu = 1; sm = 3; first = 7; period = 9; count = 2 }; next = 7; rings = 0 }
+        ∷ record { alarm = record { cpu = 0; sm = 4; first = 4; period = 5; count = 6 }; next = 4; rings = 0 } ∷ [] }
     ensures source { said (line_of (codes "source 1 7 9 2")) ≡ Ok (Some (Adds (record { cpu = Some 1; first = Some 7; period = Some 9; count = Some 2 }))) }
 {}
 

@@ -21,7 +21,7 @@ use Rattle.law_forest.specs.Turns.{Acts, Idles, IsPassing, IsTurning, Passes, Ta
 use Rattle.law_forest.proofs.Turning.{acts_chosen, comes, idle_none, nothing_due, passing_none}
 use Rattle.law_turns.proofs.Referring.{Asks, deed_asks}
 use Rattle.law_turns.proofs.Setting.{entry_itself, entry_kept, entry_other}
-use Rattle.nova_gsi.specs.Counters.{Ends, ends_at, ends_by, ends_by_deed, no_ends, total, woken_ends}
+use Rattle.nova_gsi.specs.Counters.{Ends, IsBalanced, ends_at, ends_by, ends_by_deed, no_ends, woken_ends}
 
 -- the semaphore is there after it, and its counter with the downs is what it was with the ups and the alarms
 pub record IsCounted (all : Semaphores) (sm count : ℕ) (e : Ends) : Type 0 where
@@ -168,7 +168,7 @@ turn_counts k cpu sm s there = elim (comes k cpu) [
 -- TURNS
 
 pub counts_on : (k : KernelState) (turns : List ℕ) (sm : ℕ) (s : Semaphore) → semaphore_at k.semaphores sm ≡ Some s →
-    (semaphore (run k turns).semaphores sm).count + total (λ e. e.downs) k sm turns ≡ s.count + total (λ e. e.ups) k sm turns + total (λ e. e.irqs) k sm turns
+    IsBalanced k turns (run k turns) sm s.count
 counts_on k [] sm s there = let same : (semaphore k.semaphores sm).count ≡ s.count = ap (λ (o : Option Semaphore). (semaphore_in o).count) there in omega (arith, same)
 counts_on k (cpu ∷ turns) sm s there =
     let first = turn_counts k cpu sm s there in

@@ -14,7 +14,7 @@ use Rattle.nova_model.specs.State.{KernelState, Semaphore, entry}
 use Rattle.nova_model.specs.Times.{Times, alarm_sm, due_on}
 use Rattle.nova_model.specs.Turn.{status_of}
 use Rattle.nova_model.specs.declared.deed.Deed.{Deed}
-use Rattle.nova_model.specs.declared.deed.Deed.TheVariants.{Downs, Makes, Ups}
+use Rattle.nova_model.specs.declared.deed.Deed.TheVariants.{Downs, Ups}
 use Rattle.nova_model.specs.declared.event.Event.{Event}
 use Rattle.nova_model.specs.declared.event.EventKind.{EventKind}
 use Rattle.nova_model.specs.declared.event.EventKind.TheVariants.{Irq}
@@ -29,12 +29,13 @@ use Rattle.law_forest.proofs.Boots.{sources_keep}
 use Rattle.law_forest.proofs.Turning.{acting_kind, after_keeps, chosen_turn, event_at}
 use Rattle.law_turns.proofs.Alarms.{turned_same}
 use Rattle.law_turns.proofs.Dues.{due_is}
+use Rattle.law_turns.proofs.Passes.{run_append}
 use Rattle.law_turns.proofs.Setting.{entry_kept, get_joined, get_last}
 use Rattle.law_turns.proofs.TablesFit.{TablesFit, boot_run_fits, image_fits, source_fits}
-use Rattle.nova_gsi.specs.Counters.{Ends, ends_by, ends_by_deed}
+use Rattle.nova_gsi.specs.Counters.{Ends, IsBalanced, MakesSemaphore, ends_by, ends_by_deed}
 use Rattle.nova_gsi.specs.Firings.{alarms_of, is_irq, unrung}
 use Rattle.nova_gsi.proofs.Boots.{boot_alarms, get_map, images_alarms}
-use Rattle.nova_gsi.proofs.Counters.{turn_counts}
+use Rattle.nova_gsi.proofs.Counters.{counts_on, turn_counts}
 use Rattle.nova_gsi.proofs.Places.{of_turn}
 
 -- a semaphore is there, with a counter of at most so many
@@ -195,12 +196,18 @@ status_0 s turns place e few there irq =
     taken_is (alarms_of s) e (0 + length turns) (taken (alarms_of s) 0 (boot s) turns (boot_within s) place e there) (omega (arith, few)) irq
 
 -- a semaphore that is made
-pub born : (s : Scenario) (turns : List ℕ) (cpu : ℕ) (c : Candidate) (call target count : ℕ) → next_to_act (run (boot s) turns) cpu ≡ Some c →
-    deed (run (boot s) turns) c.actor ≡ Makes call target (new.Sm count) →
-    semaphore_at (after (run (boot s) turns) cpu).semaphores (length (run (boot s) turns).objects) ≡ Some (idle_semaphore count)
-born s turns cpu c call target count acts is =
+pub born : (s : Scenario) (turns : List ℕ) (cpu sm count : ℕ) → MakesSemaphore (run (boot s) turns) cpu sm count →
+    semaphore_at (after (run (boot s) turns) cpu).semaphores sm ≡ Some (idle_semaphore count)
+born s turns cpu sm count made =
     let k = run (boot s) turns in
-    ap (λ (l : KernelState). semaphore_at l.semaphores (length k.objects)) (chosen_turn k cpu c acts)
-    ∙ ap (λ (d : Deed). semaphore_at (joined (semaphores_with k.semaphores (semaphore_by c.actor d)) (option_map (λ m. option_map idle_semaphore (count_of m)) (made_by d))) (length k.objects)) is
-    ∙ ap (λ (sm : ℕ). semaphore_at (k.semaphores ++ Some (idle_semaphore count) ∷ []) sm) (sym (semaphores_length k (boot_run_fits s turns)))
+    let c = made.maker in
+    ap (λ (l : KernelState). semaphore_at l.semaphores sm) (chosen_turn k cpu c made.acts)
+    ∙ ap (λ (d : Deed). semaphore_at (joined (semaphores_with k.semaphores (semaphore_by c.actor d)) (option_map (λ m. option_map idle_semaphore (count_of m)) (made_by d))) sm) made.makes
+    ∙ ap (λ (n : ℕ). semaphore_at (k.semaphores ++ Some (idle_semaphore count) ∷ []) n) (made.number ∙ sym (semaphores_length k (boot_run_fits s turns)))
     ∙ ap (λ (o : Option (Option Semaphore)). entry o) (get_last k.semaphores (Some (idle_semaphore count)))
+
+pub made_on : (s : Scenario) (before later : List ℕ) (cpu sm count : ℕ) → MakesSemaphore (run (boot s) before) cpu sm count →
+    IsBalanced (after (run (boot s) before) cpu) later (run (boot s) (before ++ cpu ∷ later)) sm count
+made_on s before later cpu sm count made =
+    let k = after (run (boot s) before) cpu in
+    subst (λ (l : KernelState). IsBalanced k later l sm count) (sym (run_append (boot s) before (cpu ∷ later))) (counts_on k later sm (idle_semaphore count) (born s before cpu sm count made))

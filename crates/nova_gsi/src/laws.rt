@@ -1,19 +1,16 @@
 // Laws of sources: their firings in the trace of any list of turns from any boot state.
-ghost use Rattle.std.specs.Prelude.{◌≡◌, ◌⊎◌, ◌<◌, ◌+◌, ◌^◌, ℕ, List, length, map, slice_get, None, Some, false, true};
+ghost use Rattle.std.specs.Prelude.{◌≡◌, ◌⊎◌, ◌<◌, ◌^◌, ◌∷◌, ◌++◌, ℕ, List, length, map, slice_get, None, Some, false, true};
 ghost use Rattle.nova_model.specs.Boot.{Scenario, boot};
-ghost use Rattle.nova_model.specs.Choice.{Candidate, is_quiet, next_to_act};
+ghost use Rattle.nova_model.specs.Choice.{is_quiet};
 ghost use Rattle.nova_model.specs.Creation.{idle_semaphore};
-ghost use Rattle.nova_model.specs.Deeds.{deed};
 ghost use Rattle.nova_model.specs.Runs.{after, run, trace};
-ghost use Rattle.nova_model.specs.Semaphores.{semaphore, semaphore_at, waits};
+ghost use Rattle.nova_model.specs.Semaphores.{semaphore_at, waits};
 ghost use Rattle.nova_model.specs.State.{KernelState, Semaphore};
 ghost use Rattle.nova_model.specs.Times.{clock, due_on};
-ghost use Rattle.nova_model.specs.declared.deed.Deed.TheVariants.{Makes};
 ghost use Rattle.nova_model.specs.declared.event.Event.{Event};
-ghost use Rattle.nova_model.specs.declared.new_object.NewObject.TheVariants.{Sm};
 ghost use Rattle.nova_model.specs.declared.times.Alarm.{Alarm};
 ghost use Rattle.nova_model.specs.declared.times.Due.TheVariants.{Deadline};
-ghost use Rattle.nova_gsi.specs.Counters.{ends_at, total};
+ghost use Rattle.nova_gsi.specs.Counters.{IsBalanced, MakesSemaphore, ends_at};
 ghost use Rattle.nova_gsi.specs.Firings.{alarms_of, fired, is_irq, moments_until, unrung};
 ghost use Rattle.nova_gsi.specs.Laws.{AreOfMoments};
 
@@ -43,14 +40,14 @@ pub fn firings_are_of_their_moments()
         → fired (trace (boot scenario) turns) n ≡ s.count }
 {}
 
-/// From the birth of a semaphore on its counter, with the downs that ended with SUCCESS, is what it was at
-/// birth, with the ups that did and the alarms with status 0. A down that waits ends in the turn in which it
-/// is woken; one whose deadline comes doesn't end with SUCCESS: who leaves a queue in a turn is counted in it,
+/// From any state on in which a semaphore is there, its counter, with the downs that ended with SUCCESS, is what it was, with the ups that
+/// did and the alarms with status 0: from boot on that of a source, which is 0 then, and from the turn on that made it that of any other,
+/// which then has the counter that was asked for. A down that waits ends in the turn in which it is woken; one whose deadline comes doesn't end with SUCCESS: who leaves a queue in a turn is counted in it,
 /// or its deadline was due.
 pub fn counters_tell_what_ended()
     ensures counts { (k : KernelState) (turns : List ℕ) (sm : ℕ) (s : Semaphore)
         → semaphore_at k.semaphores sm ≡ Some s
-        → (semaphore (run k turns).semaphores sm).count + total (λ e. e.downs) k sm turns ≡ s.count + total (λ e. e.ups) k sm turns + total (λ e. e.irqs) k sm turns }
+        → IsBalanced k turns (run k turns) sm s.count }
     ensures leaves { (k : KernelState) (cpu sm w : ℕ)
         → waits k.semaphores sm w ≡ true
         → waits (after k cpu).semaphores sm w ≡ false
@@ -58,10 +55,12 @@ pub fn counters_tell_what_ended()
     ensures sources { (scenario : Scenario) (n : ℕ) (s : Alarm)
         → slice_get (alarms_of scenario) n ≡ Some s
         → semaphore_at (boot scenario).semaphores s.sm ≡ Some (idle_semaphore 0) }
-    ensures born { (scenario : Scenario) (turns : List ℕ) (cpu : ℕ) (c : Candidate) (call target count : ℕ)
-        → next_to_act (run (boot scenario) turns) cpu ≡ Some c
-        → deed (run (boot scenario) turns) c.actor ≡ Makes call target (Sm count)
-        → semaphore_at (after (run (boot scenario) turns) cpu).semaphores (length (run (boot scenario) turns).objects) ≡ Some (idle_semaphore count) }
+    ensures born { (scenario : Scenario) (turns : List ℕ) (cpu sm count : ℕ)
+        → MakesSemaphore (run (boot scenario) turns) cpu sm count
+        → semaphore_at (after (run (boot scenario) turns) cpu).semaphores sm ≡ Some (idle_semaphore count) }
+    ensures made { (scenario : Scenario) (before later : List ℕ) (cpu sm count : ℕ)
+        → MakesSemaphore (run (boot scenario) before) cpu sm count
+        → IsBalanced (after (run (boot scenario) before) cpu) later (run (boot scenario) (before ++ cpu ∷ later)) sm count }
 {}
 
 /// In a list of fewer than 2^32 turns from a boot state each alarm has status 0, whoever else ups its

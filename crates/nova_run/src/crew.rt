@@ -15,16 +15,25 @@ const STIRS: u64 = 262_144;
 /// How long pauses are at most, in looks at nothing.
 static PACES: [u64; 6] = [16, 64, 256, 1024, 4096, 8192];
 
+/// How many turns a worker takes in one use of the kernel at most, so that others aren't kept waiting for long.
+const MOST_AT_ONCE: u64 = 4096;
+
+/// How many turns of all there are for each that a use has at most; and how many sizes a use may have, each half of the one before.
+const TURNS_FOR_EACH: u64 = 64;
+
+const SIZES: u64 = 13;
+
 /// How many instructions the share of a worker is at least: the last bursts of all would get ever shorter.
 const LEAST_SHARE: u64 = 16_384;
 
-/// The workers of one round: how many there are, how many have begun, how many have nothing to do, or no more, and how many turns the bursts that run
-/// may come to.
+/// The workers of one round: how many there are, how many have begun, how many have nothing to do, or no more, how many have taken the turns of the
+/// round, and how many turns the bursts that run may come to.
 #[derive(Drop)]
 pub(crate) struct Crew {
     workers: u64,
     begun: AtomicU64,
     resting: AtomicU64,
+    ended: AtomicU64,
     promised: AtomicU64,
 
     // What they draw pauses from. Of two who stir it at once one is lost, so that it differs from run to run.
@@ -44,6 +53,7 @@ impl Crew {
             workers,
             begun: AtomicU64::new(0),
             resting: AtomicU64::new(0),
+            ended: AtomicU64::new(0),
             promised: AtomicU64::new(0),
             noise: AtomicU64::new(0),
         }
@@ -116,6 +126,31 @@ impl Crew {
     /// How long the pauses of a worker are at most in its next step. It differs by much from step to step, and from run to run.
     pub(crate) fn pace(&self) -> u64 {
         PACES[(self.draw() >> 32) as usize % PACES.len()]
+    }
+
+    /// How many turns a worker takes in its next use of the kernel at most, where so many turns were seen: few in the beginning, so that short runs
+    /// come in many orders, and later now and then, so that at any place another worker may go on. Nobody foresees how many. Now and then the worker
+    /// also yields.
+    pub(crate) fn portion(&self, seen: u64) -> u64 {
+        if self.is_lone() {
+            return MOST_AT_ONCE;
+        }
+        let most = (seen / TURNS_FOR_EACH).min(MOST_AT_ONCE);
+        let drawn = self.draw();
+        if drawn >> 61 == 0 {
+            thread::yield_now();
+        }
+        (most >> ((drawn >> 32) % SIZES)).max(1)
+    }
+
+    /// A worker has taken the turns of the round, so that it is over for all.
+    pub(crate) fn end(&self) {
+        self.ended.fetch_add(1, Ordering::SeqCst);
+    }
+
+    /// Whether a worker has.
+    pub(crate) fn is_over(&self) -> bool {
+        self.ended.load(Ordering::SeqCst) > 0
     }
 
     /// A worker has nothing to do, or ends.

@@ -20,21 +20,16 @@ use std::sync::Wait;
 use std::thread;
 use std::thread::Threads;
 
-/// How many turns a worker takes in the first round, before it ends with the step in which it took the last, and how many in each later one: all
-/// wait for the slowest at the end of a round. A burst has as many instructions at most, or `FIRST_TURNS` after a step of one turn, and then
-/// `GROWTH` times as many with each burst.
+/// How many turns a worker takes in the first round, which ends with the step in which one took the last, and how many in each later one. A burst has
+/// as many instructions at most, or `FIRST_TURNS` after a step of one turn, and then `GROWTH` times as many with each burst.
 const FIRST_TURNS: u64 = 4096;
 
 const MOST_TURNS: u64 = 4_194_304;
 
 const GROWTH: u64 = 16;
 
-/// How many turns a worker takes in one use of the kernel at most, so that others aren't kept waiting for long. It is one in the first round, where
-/// there are others, so that short runs come in many orders.
-const MOST_AT_ONCE: u64 = 4096;
-
 /// How often a worker looks again at an idle processor in one round.
-const LOOKS: u64 = 2048;
+const LOOKS: u64 = 8192;
 
 /// How long the pauses between the steps of a worker are in all in the first round, so that short runs come in many orders; and what each counts for
 /// beside its length.
@@ -42,8 +37,10 @@ const PAUSES: u64 = 65_536;
 
 const SHORTEST: u64 = 64;
 
-/// How much longer a pause between looks is at most with each of them.
+/// How much longer a pause between looks is at most with each of them, and how much with all.
 const LONGER: u64 = 8;
+
+const LONGEST: u64 = 2048;
 
 /// How much a worker takes in a step: instructions of a burst, and else turns in one use of the kernel.
 #[derive(Clone, Copy)]
@@ -105,25 +102,24 @@ fn look<R: Wait, G: Gate>(rt: &R, shared: &Shared, gate: &G, seat: &mut CpuSeat)
     }
 }
 
-/// Looks again and again at an idle processor, with pauses that grow, while other workers of the round have something to do; and whether it took a
-/// turn at last.
+/// Looks again and again at an idle processor, with pauses that grow, while other workers of the round have something to do and the round isn't over;
+/// and whether it took a turn at last.
 fn wake<R: Wait, G: Gate>(
     rt: &R,
     shared: &Shared,
     gate: &G,
     crew: &Crew,
-    pace: u64,
     seat: &mut CpuSeat,
 ) -> bool
     requires { IsCpuSeat shared.now seat.old }
     ensures { seat.new ≡ record seat.old { front = seat.new.front } }
 {
     for looks in 0..LOOKS {
-        let last = crew.rests();
+        let last = crew.rests() || crew.is_over();
         match look(rt, shared, gate, seat) {
             Some(true) => return true,
             Some(false) if !last => {
-                crew.pause(pace.saturating_add(looks * LONGER));
+                crew.pause(SHORTEST.saturating_add((looks * LONGER).min(LONGEST)));
             }
             Some(false) | None => return false,
         }
@@ -131,14 +127,14 @@ fn wake<R: Wait, G: Gate>(
     false
 }
 
-/// A step of a worker, or where its processor is idle the turn that wakes it at last. It tells how many turns were taken, none where the worker ends.
+/// A step of a worker, or where its processor is idle the turn that wakes it at last. It tells how many turns were taken, none where the worker ends, as
+/// it does where the round is over.
 fn go<R: Wait, G: Gate>(
     rt: &R,
     alloc: Global,
     shared: &Shared,
     gate: &G,
     crew: &Crew,
-    pace: u64,
     seat: &mut CpuSeat,
     most: Most,
 ) -> Option<Taken>
@@ -146,12 +142,16 @@ fn go<R: Wait, G: Gate>(
     ensures seat { seat.new ≡ record seat.old { front = seat.new.front } }
     ensures some { IfSome result (λ t. 0 < t.turns) }
 {
+    if crew.is_over() {
+        crew.rest();
+        return None;
+    }
     let taken = step(rt, alloc, shared, gate, crew, seat, most);
     if taken.is_some() {
         return taken;
     }
     crew.rest();
-    if !wake(rt, shared, gate, crew, pace, seat) {
+    if !wake(rt, shared, gate, crew, seat) {
         return None;
     }
     crew.resume();
@@ -171,7 +171,7 @@ fn longer(most: u64, taken: Taken, turns: u64) -> u64 {
 }
 
 /// One worker's steps in a round, once all others have begun: until its processor is idle and no other worker has anything to do, there are as many
-/// turns as there may be, memory is refused, or it took so many turns.
+/// turns as there may be, memory is refused, or a worker took so many turns.
 fn work<R: Wait, G: Gate>(
     rt: &R,
     alloc: Global,
@@ -191,33 +191,28 @@ fn work<R: Wait, G: Gate>(
     }
     let mut left = turns;
     let mut burst = turns;
-    let at_once = if is_first && !crew.is_lone() {
-        1
-    } else {
-        MOST_AT_ONCE
-    };
     let mut pauses = if is_first { PAUSES } else { 0 };
     while left > 0 {
-        let pace = if is_first { crew.pace() } else { SHORTEST };
         if pauses > 0 {
             pauses = pauses
                 .saturating_sub(SHORTEST)
-                .saturating_sub(crew.pause(pace));
+                .saturating_sub(crew.pause(crew.pace()));
         }
         let most = Most {
             burst,
-            turns: at_once,
+            turns: crew.portion(seat.seen()),
         };
-        let Some(taken) = go(rt, alloc, shared, gate, crew, pace, seat, most) else {
+        let Some(taken) = go(rt, alloc, shared, gate, crew, seat, most) else {
             return;
         };
         left = left.saturating_sub(taken.turns);
         burst = longer(burst, taken, turns);
     }
+    crew.end();
     crew.rest();
 }
 
-/// A round: each processor has a worker, in a thread of its own, which takes at most so many turns, and those of its last step.
+/// A round: each processor has a worker, in a thread of its own, until one of them took so many turns, with those of its last step.
 fn round<R: Threads + Wait + Sync, G: Gate + Sync>(
     rt: &R,
     alloc: Global,
@@ -332,13 +327,13 @@ fn share<R: Threads + Wait + Sync, G: Gate + Sync>(
 
 /// Runs a kernel with a thread for each of its processors, of which there is one or more, for at most `limit` turns; the kernel has room in its log
 /// for as many. In turn come sweeps, in which each processor has a turn that is not idle, and rounds, until a sweep takes no turn or there are
-/// `limit` turns. The workers of a round begin together. Each takes steps until it took 4,096 turns, in later rounds 4,194,304; while its processor
-/// is idle it looks again and again, some thousand times at most, until no other worker has anything to do. A step is a burst where a virtual CPU
-/// acts, can be leased, and has 256 turns of its quantum left, or 4,096 where there is one worker: instructions up to the end of its quantum, and no
-/// more than its worker's share of the turns that may follow and are promised to no other burst. They run on copies of up to 16 frames beside the
-/// other processors, and then count as so many turns. Else, and where a burst comes to nothing, it is one turn, and after a plain step up to 4,095
-/// plain steps that come next, but of these none in the first round where there are several workers. Before each step and each look the worker calls
-/// the gate, with the processor and how many turns of it there were.
+/// `limit` turns. The workers of a round begin together. Each takes steps until one of them took 4,096 turns, in later rounds 4,194,304; while its
+/// processor is idle it looks again and again, some thousand times at most, until no other worker has anything to do. A step is a burst where a
+/// virtual CPU acts, can be leased, and has 256 turns of its quantum left, or 4,096 where there is one worker: instructions up to the end of its
+/// quantum, and no more than its worker's share of the turns that may follow and are promised to no other burst. They run on copies of up to 16 frames
+/// beside the other processors, and then count as so many turns. Else, and where a burst comes to nothing, it is one turn, and after a plain step up
+/// to 4,095 plain steps that come next; where there are several workers, nobody foresees how many, few in the beginning. Before each step and each look
+/// the worker calls the gate, with the processor and how many turns of it there were.
 ///
 /// Whatever the workers did, there is one order of turns, and what comes is the run over it. It ends quiet or has `limit` turns. The only error is
 /// `Memory`, where memory is refused. It may wait; what it promises holds if it returns.

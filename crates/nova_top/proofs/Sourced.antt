@@ -1,16 +1,17 @@
 -- Each source of a scenario that was read is told of, by the laws of sources.
-use Rattle.std.proofs.Common.{◌≡◌, ℕ, zero, suc, ◌+◌, ◌<◌, ◌^◌, List, [], ◌∷◌, ap, sym, ◌∙◌, subst}
-use Rattle.std.specs.Prelude.{length, map, slice_get, true, Option, Some, None}
+use Rattle.std.proofs.Common.{◌≡◌, ℕ, zero, suc, ◌+◌, ◌<◌, ◌^◌, List, [], ◌∷◌, ◌++◌, ap, sym, ◌∙◌, subst}
+use Rattle.std.specs.Prelude.{length, map, slice_get, true, Some, None}
 use Rattle.std.specs.List.{AllByRecursion}
 use Rattle.std.proofs.lemmas.Option.{same_Some}
+use Rattle.law_turns.proofs.Passes.{run_append}
 use Rattle.nova_boot.specs.Boot.{scenario_of, source_of}
-use Rattle.nova_gsi.specs.Counters.{total}
+use Rattle.nova_gsi.specs.Counters.{IsBalanced, MakesSemaphore}
 use Rattle.nova_gsi.specs.Firings.{alarms_from, alarms_of, fired, is_irq, moments_until, unrung}
 use Rattle.nova_gsi.specs.Laws.{AreOfMoments}
 use Rattle.nova_model.specs.Boot.{Scenario, boot}
 use Rattle.nova_model.specs.Choice.{is_quiet}
-use Rattle.nova_model.specs.Runs.{run, trace}
-use Rattle.nova_model.specs.Semaphores.{semaphore, semaphore_at}
+use Rattle.nova_model.specs.Runs.{after, run, trace}
+use Rattle.nova_model.specs.Semaphores.{semaphore_at}
 use Rattle.nova_model.specs.State.{KernelState, Semaphore}
 use Rattle.nova_model.specs.Times.{clock, due_on}
 use Rattle.nova_model.specs.declared.event.Event.{Event}
@@ -30,8 +31,9 @@ pub record HasSourceLaws : Type 0 where
   pub quiet : (s : Scenario) (turns : List ℕ) (n : ℕ) (a : Alarm) → slice_get (alarms_of s) n ≡ Some a → a.cpu < s.cpus → is_quiet (run (boot s) turns) ≡ true →
       fired (trace (boot s) turns) n ≡ a.count
   pub statuses : (s : Scenario) (turns : List ℕ) (place : ℕ) (e : Event) → length turns < 2 ^ 32 → slice_get (trace (boot s) turns) place ≡ Some e → is_irq e.kind ≡ true → e.b ≡ 0
-  pub counters : (k : KernelState) (turns : List ℕ) (sm : ℕ) (s : Semaphore) → semaphore_at k.semaphores sm ≡ Some s →
-      (semaphore (run k turns).semaphores sm).count + total (λ e. e.downs) k sm turns ≡ s.count + total (λ e. e.ups) k sm turns + total (λ e. e.irqs) k sm turns
+  pub counters : (k : KernelState) (turns : List ℕ) (sm : ℕ) (s : Semaphore) → semaphore_at k.semaphores sm ≡ Some s → IsBalanced k turns (run k turns) sm s.count
+  pub made : (s : Scenario) (before later : List ℕ) (cpu sm count : ℕ) → MakesSemaphore (run (boot s) before) cpu sm count →
+      IsBalanced (after (run (boot s) before) cpu) later (run (boot s) (before ++ cpu ∷ later)) sm count
 
 -- an alarm of a boot state is that of a source, of a processor that is there
 record IsOne (cpus : ℕ) (alarms : List Alarm) (n : ℕ) (a : AlarmState) : Type 0 where
@@ -56,7 +58,11 @@ told laws from sound turns few = record {
   until = λ n a is. let o = its n a is in laws.until s turns n a.alarm o.there o.cpu;
   quiet = λ n a is. let o = its n a is in laws.quiet s turns n a.alarm o.there o.cpu;
   statuses = λ place e. laws.statuses s turns place e few;
-  counters = laws.counters (boot s) turns;
+  counters = λ before later sm semaphore all there.
+      let last : run (run (boot s) before) later ≡ run (boot s) turns = sym (run_append (boot s) before later) ∙ ap (run (boot s)) all in
+      subst (λ (l : KernelState). IsBalanced (run (boot s) before) later l sm semaphore.count) last (laws.counters (run (boot s) before) later sm semaphore there);
+  made = λ before later cpu sm count all makes.
+      subst (λ (order : List ℕ). IsBalanced (after (run (boot s) before) cpu) later (run (boot s) order) sm count) all (laws.made s before later cpu sm count makes);
 }
   where
     s : Scenario

@@ -46,7 +46,8 @@ said_by (Bench number most) = summary number
 -- with nothing left of it: nobody reaches by what comes from the revoker what the range led to. And each virtual CPU that
 -- was made at one of its turns is a guest alone from then on: its view at the end, its exits and its bytes are what the guest alone makes of its inputs.
 -- Whatever one of its turns changes, the one whose turn it is had the authority for it, or it came by itself: an alarm, a deadline or the clock. Each input of
--- a virtual CPU comes from who has the right to it. And each source of the scenario fired at its moments, none lost or doubled, which its lines of the report tell.
+-- a virtual CPU comes from who has the right to it. And each source of the scenario fired not before its moments, none lost or doubled, which its lines of the
+-- report tell; and counters of semaphores are balanced, of those of the boot state and of those that turns made.
 pub record IsRun {D : Type 0} (d : Depots D) (command : Command) (k : KernelState) (old new : D) (complete : Bool) (bytes text : List ℕ) : Type 0 where
   pub order : List ℕ
   pub of_command : IsOrderOf d command k old new order bytes

@@ -2,10 +2,10 @@ use Rattle.std.specs.Prelude.{ℕ}
 use Rattle.nova_model.specs.Boot.{boot}
 use Rattle.nova_model.specs.Runs.{run}
 use Rattle.nova_model.specs.State.{KernelState, pd_of}
-use Rattle.nova_range.specs.Rights.{write_right}
 use Rattle.law_integrity.specs.Confined.{Pair}
 use Rattle.law_integrity.proofs.Apart.{apart_along, apart_flipped, contexts_stay}
 use Rattle.law_integrity.proofs.Confined.{acts_along, reach_along, set_stores, turn_blind}
+use Rattle.law_integrity.proofs.Confining.{any_reached}
 use Rattle.law_integrity.proofs.Leaving.{flipped, leaves_along}
 use Rattle.law_integrity.proofs.confinement.guests_that_share_nothing_stay_apart.Goals as goal
 
@@ -35,17 +35,17 @@ returns-clause-stays c s before turns guest monitor other_guest other_monitor cp
     (apart_flipped (run (boot s) before) (pair (run (boot s) before) guest monitor) (pair (run (boot s) before) other_guest other_monitor) apart.apart)
 
 pub returns-clause-frames : goal.returns-clause-frames
-returns-clause-frames c s before turns guest monitor other_guest other_monitor cpu ec right frame apart acts_ m reaches =
+returns-clause-frames c s before turns guest monitor other_guest other_monitor cpu ec frame apart acts_ m reaches =
     set_stores s before turns (pair (run (boot s) before) guest monitor) (pair (run (boot s) before) other_guest other_monitor) cpu ec frame apart.apart.separate acts_ m
-    (λ mine. apart.memory write_right right frame mine reaches)
+    (λ mine. apart.memory frame (any_reached mine) reaches)
 
 pub returns-clause-blind : goal.returns-clause-blind
-returns-clause-blind c s before turns guest monitor other_guest other_monitor cpu ec right frame bytes apart acts_ m reaches =
+returns-clause-blind c s before turns guest monitor other_guest other_monitor cpu ec frame bytes apart acts_ m reaches =
     turn_blind s before turns (pair (run (boot s) before) guest monitor) (pair (run (boot s) before) other_guest other_monitor) cpu ec frame bytes apart.apart.separate acts_ m
-    (λ its mine. apart.memory its right frame mine reaches)
+    (λ its mine. apart.memory frame (any_reached mine) reaches)
 
 pub returns-clause-flipped : goal.returns-clause-flipped
 returns-clause-flipped c k guest monitor other_guest other_monitor apart = record {
   apart = apart_flipped k (pair k guest monitor) (pair k other_guest other_monitor) apart.apart;
-  memory = λ right other frame theirs mine. apart.memory other right frame mine theirs;
+  memory = λ frame theirs mine. apart.memory frame mine theirs;
 }

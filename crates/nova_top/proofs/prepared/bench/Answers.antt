@@ -21,5 +21,6 @@ returns g c =
         quiet = c.firings_are_of_their_moments.ensures.quiet;
         statuses = c.alarms_have_room.ensures;
         counters = c.counters_tell_what_ended.ensures.counts;
+        made = c.counters_tell_what_ended.ensures.made;
       };
     })

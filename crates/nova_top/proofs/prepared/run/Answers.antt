@@ -20,5 +20,6 @@ returns-clause-prepared g c order =
         quiet = c.firings_are_of_their_moments.ensures.quiet;
         statuses = c.alarms_have_room.ensures;
         counters = c.counters_tell_what_ended.ensures.counts;
+        made = c.counters_tell_what_ended.ensures.made;
       };
     })

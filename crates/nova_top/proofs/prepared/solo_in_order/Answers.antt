@@ -36,5 +36,6 @@ returns-clause-prepared g c =
         quiet = c.firings_are_of_their_moments.ensures.quiet;
         statuses = c.alarms_have_room.ensures;
         counters = c.counters_tell_what_ended.ensures.counts;
+        made = c.counters_tell_what_ended.ensures.made;
       };
     })
