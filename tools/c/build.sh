@@ -4,12 +4,13 @@
 # Compiles a program in C for RV32I, or assembles one, and writes a scenario that runs it. README.md beside this script explains it.
 set -eu
 export LC_ALL=C
-usage() {
+usage() { # says what is wrong, and which words there are
+    echo "build.sh: $fault" >&2
     cat >&2 <<'END'
 usage: build.sh [OPTION..] SOURCE.. [SCENARIO.nova] [RAM_ORDER]
   SOURCE             a file .c, .s, .S, .o or .a
   SCENARIO.nova      what is written; beside the first source, with its name, where it isn't given
-  RAM_ORDER          2^RAM_ORDER pages of memory are the program's; 2, or 6 with --libc, where it isn't given
+  RAM_ORDER          2^RAM_ORDER pages of memory are the program's; 4, or 6 with --libc, where it isn't given
   --libc             with picolibc
   --guest            as a guest, under the monitor of tools/c/monitor.c
   --monitor FILE.c   as a guest, under this monitor; given several times, the files are one monitor
@@ -18,9 +19,12 @@ usage: build.sh [OPTION..] SOURCE.. [SCENARIO.nova] [RAM_ORDER]
   --monitor-order N  a monitor has 2^N pages, and the guest 2^RAM_ORDER
   --elf              as an executable, not as words with their meaning
   --debug            compiled for a debugger; the executable with its symbols is kept beside the scenario
-  --cpus N           with N processors
-  --consoles N       with N consoles
+  --cpus N           with N processors, 1 to 8
+  --consoles N       with N consoles, 0 to 16
   --source LINE      with a source of interrupts: its processor, first moment, period and count, as one word
+  --priority N       main has this priority, 0 to 254; 1 where it isn't given
+  --stack BYTES      the stack of main has so many bytes, in whole pages
+  --writable-code    code can be written, and data executed
   -I, -D, -U, -O, -W, -f, -g, -std and -m go to the compiler
 END
     exit 2
@@ -31,6 +35,12 @@ refuse() { # what, and what to do
     exit 1
 }
 
+wrong() { # the word at fault, and why
+    fault=$*
+    usage
+}
+
+priority=1 stack='' rights='' fault='no source is named'
 here=$(cd "$(dirname "$0")" && pwd)
 tool=riscv64-unknown-elf
 compiler=${COMPILER:-gcc}
@@ -43,8 +53,13 @@ quoted() {
 }
 
 number() { # a word that is to be one
-    case $1 in '' | *[!0-9]*) usage ;; esac
+    case $1 in '' | *[!0-9]* | ?????????*) wrong "'$1' is no number" ;; esac
     echo "$1"
+}
+
+between() { # what a number is for, the number, and the least and the greatest that it may be
+    number "$2" >/dev/null
+    [ "$2" -ge "$3" ] && [ "$2" -le "$4" ] || wrong "$1: '$2' is not from $3 to $4"
 }
 
 option() { # sets what an option says, and answers how many words it has
@@ -68,15 +83,22 @@ option() { # sets what an option says, and answers how many words it has
 " ;;
         esac
         ;;
+    --priority | --stack)
+        [ $# -ge 2 ] || usage
+        words=2
+        [ "$1" = --stack ] || priority=$(number "$2")
+        [ "$1" = --priority ] || stack=$(number "$2")
+        ;;
+    --writable-code) rights=-Wl,--defsym=all_rights=1 ;;
     -[IDUOWfgm]?* | -g | -O | -std=*) flags="$flags $(quoted "$1")" ;;
-    *) usage ;;
+    *) wrong "$1: there is no such option" ;;
     esac
 }
 
 file() { # puts a word that is no option where it belongs
     case $1 in
     *.nova)
-        [ -z "$scenario" ] || usage
+        [ -z "$scenario" ] || wrong "$1: $scenario is the scenario already"
         scenario=$1
         ;;
     *[!0-9]* | '')
@@ -84,13 +106,14 @@ file() { # puts a word that is no option where it belongs
         first=${first-$1}
         ;;
     *)
-        [ -z "$order" ] || usage
+        [ -z "$order" ] || wrong "$1: $order is the order of the memory already"
         order=$1
         ;;
     esac
 }
 
 while [ $# -gt 0 ]; do
+    fault="$1: a word has to follow it"
     case $1 in
     -*)
         option "$@"
@@ -101,6 +124,7 @@ while [ $# -gt 0 ]; do
         shift
         ;;
     esac
+    fault='no source is named'
 done
 [ -n "$sources$images" ] || usage
 [ -n "$sources" ] || { eval "set -- $images" && first=${1%@*}; }
@@ -120,7 +144,23 @@ check_source() {
     esac
 }
 
+check_interrupts() { # a line of the scenario for each source
+    printf %s "$interrupts" | while read -r _ line; do
+        set -f && set -- $line
+        [ $# -eq 4 ] || wrong "--source '$line': four numbers are wanted: processor, first moment, period and count"
+        between "--source '$line', its processor" "$1" 0 $((cpus - 1))
+        between "--source '$line', its first moment" "$2" 0 10000000
+        between "--source '$line', its period" "$3" 1 10000000
+        between "--source '$line', its count" "$4" 1 10000000
+    done
+    [ "$(printf %s "$interrupts" | wc -l)" -le 32 ] || wrong "--source: there are 32 sources at most"
+}
+
 check() {
+    between --cpus "$cpus" 1 8
+    between --consoles "$consoles" 0 16
+    between --priority "$priority" 0 254
+    check_interrupts
     eval "set -- $sources"
     for source; do
         check_source "$source"
@@ -168,7 +208,7 @@ scratch=$(mktemp -d)
 trap 'rm -rf "$scratch"' EXIT
 
 # Where the memory of each ends, of a guest at address 0 of its own, of its monitor half of RAM.
-[ -n "$order" ] || { [ $libc = yes ] && order=6 || order=2; }
+[ -n "$order" ] || { [ $libc = yes ] && order=6 || order=4; }
 ram_order=$((order + $(yes_is_one $guest)))
 program_bytes=$((4096 << order))
 ram_bytes=$((4096 << ram_order))
@@ -195,7 +235,6 @@ fi
 if [ $libc = yes ]; then
     compile="$compile -isystem $picolibc/include -L$picolibc/lib/rv32i/ilp32 -ftls-model=local-exec -ffunction-sections -fdata-sections"
     compile="$compile -D_DEFAULT_SOURCE -Wl,--gc-sections"
-    compile="$compile -Wl,--defsym=stack_bytes=$((program_bytes / 8 > 16384 ? 16384 : program_bytes / 8))"
     library="$(quoted "$here/libc.c")-Wl,--start-group -lm -lc $library -Wl,--end-group"
 else
     compile="$compile -ffreestanding"
@@ -207,11 +246,30 @@ boot=$(quoted "$here/boot.s")
 start=$(quoted "$here/start.s")
 includes="-I$(quoted "$here")-I$(quoted "$here/include")"
 
+# Says what the compiler said, and whether that was for want of the C library.
+tell() {
+    cat "$scratch/said" >&2
+    [ $libc = no ] && [ -d $picolibc/include ] || return 0
+    missing=$(sed -n 's/.*fatal error: [^a-z]*\([a-z/]*\.h\).*/\1/p
+        s/.*undefined \(reference to\|symbol:\) [^a-z_]*\([a-z_0-9]*\).*/\2/p' "$scratch/said" | head -n 1)
+    case $missing in
+    '') ;;
+    *.h) [ ! -e "$picolibc/include/$missing" ] || refuse "$missing is a header of the C library; build with --libc" ;;
+    *)
+        $tool-nm --defined-only $picolibc/lib/rv32i/ilp32/lib[cm].a 2>/dev/null | grep -q " [TW] $missing\$" || return 0
+        refuse "$missing is a function of the C library; build with --libc"
+        ;;
+    esac
+}
+
 link() { # the output, the start, where the program's memory ends, its sources, and more words of the compiler
     output=$1 begin=$2 end=$3 files=$4
+    stack_bytes=$(((${stack:-$((end / 8 > 16384 ? 16384 : end / 8))} + 4095) / 4096 * 4096))
     shift 4
     eval "$compile $flags -nostdlib -Wall -Wextra $includes -Wl,-z,max-page-size=16 \
-        -Wl,--defsym=ram_bytes=$end \"\$@\" -Wl,-T,$(quoted "$here/program.ld")-o \"\$output\" $begin $files $library"
+        -Wl,--defsym=ram_bytes=$end -Wl,--defsym=stack_bytes=$stack_bytes -Wl,--defsym=main_priority=$priority $rights \
+        \"\$@\" -Wl,-T,$(quoted "$here/program.ld")-o \"\$output\" $begin $files $library" 2>"$scratch/said" || { tell && exit 1; }
+    cat "$scratch/said" >&2
     "$here/elf" --check "$output" 2>"$scratch/wrong" || refuse "$what, linked, $(sed 's/^elf: [^:]*: //' "$scratch/wrong")"
 }
 
@@ -239,9 +297,10 @@ build() {
     what=$first
     if [ $guest = yes ]; then
         if [ -n "$sources" ]; then
-            link "$scratch/guest" "$own_start" $program_bytes "$sources" -DGUEST -Wl,-e,_start -Wl,--defsym=guest_program=1
+            link "$scratch/guest" "$own_start" $program_bytes "$sources" -DGUEST -Wl,-e,_start
             set -- -Wl,--defsym=guest_entry="$(symbol "$scratch/guest" _start)" \
-                -Wl,--defsym=guest_code_end="$(symbol "$scratch/guest" __tls_begin)"
+                -Wl,--defsym=guest_code_end="$(symbol "$scratch/guest" code_end)" \
+                -Wl,--defsym=guest_stack_guard="$(symbol "$scratch/guest" stack_guard)"
         else
             set --
         fi
@@ -271,7 +330,7 @@ data() { # executable, section
 }
 
 words() { # executable, where its address 0 lies
-    $tool-objdump -h "$1" | awk '$2 ~ /^\.(boot|text|tdata|data)$/ && $3 !~ /^0+$/ { print $2, $4 }' | while read -r section address; do
+    $tool-objdump -h "$1" | awk '$2 ~ /^\.(boot|guards|text|tdata|rodata|data)$/ && $3 !~ /^0+$/ { print $2, $4 }' | while read -r section address; do
         printf '\nimage 0x%08x hex\n' $(($2 + 0x$address))
         case $section in
         .boot | .text) code "$1" "$section" ;;
@@ -323,7 +382,7 @@ write() {
     printf 'cpus %s\nram %s\nconsoles %s\n' "$cpus" $ram_order "$consoles"
     begin=entry
     [ $elf = yes ] || begin=$($tool-readelf -h "$program" | awk '/Entry point/ { print $4 }')
-    printf 'root %s 0x%x 2 10\n%s' "$begin" $monitor_bytes "$interrupts"
+    printf 'root %s 0x%x %s 10\n%s' "$begin" $monitor_bytes $((priority + 1)) "$interrupts"
     if [ $guest = no ]; then
         $form "$program" 0
         return

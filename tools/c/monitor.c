@@ -1,6 +1,6 @@
 /* The monitor of `build.sh --guest`. It gives the guest each page when that is first used, its code to read and execute and the rest to
-   read and write, and writes the byte of each ecall to the console. A fault elsewhere, a store to the code and a jump to the data end the
-   monitor, and the guest with it. */
+   read and write, and writes the byte of each ecall to the console. A fault elsewhere, as below the stack, a store to the code and a jump to
+   the data end the monitor, and the guest with it. */
 #include "console.h"
 #include "guest.h"
 #include "nova.h"
@@ -8,7 +8,7 @@
 /* Selectors. */
 enum { HANDLER = 32, DOMAIN = 33, GUEST_CPU = 34, GUEST_TURNS = 35, EVENTS = 64 };
 
-static unsigned char stack[512] __attribute__((aligned(16)));
+NOVA_STACK(stack, 512);
 
 NOVA_PORTAL(startup, on_startup);
 NOVA_PORTAL(fault, on_fault);
@@ -31,7 +31,9 @@ void on_fault(uint32_t reason)
     int is_code = address < guest_code_end;
     uint32_t rights = NOVA_READ | (is_code ? NOVA_EXECUTE : NOVA_WRITE);
 
-    if (address < GUEST_BEGIN || address >= guest_bytes || reason == (is_code ? NOVA_STORE_FAULT : NOVA_FETCH_FAULT))
+    if (address < GUEST_BEGIN || address >= guest_bytes || page == nova_page_of(guest_stack_guard))
+        __builtin_trap();
+    if (reason == (is_code ? NOVA_STORE_FAULT : NOVA_FETCH_FAULT))
         __builtin_trap();
     nova_delegate(0, nova_memory(nova_page_of((uint32_t)guest_memory) + page, 0, rights), page);
     nova_set_counts(0, 1);

@@ -65,3 +65,33 @@ nova_starter:
     li a7, 1
     ecall
     ebreak
+
+# The handler of startups of nova_give: the portal's identifier is the address of how many gifts there are and where they lie. The count is set
+# to 0, and the virtual CPU, at address 0, dies.
+    .section .text.giver, "ax"
+    .globl nova_giver
+nova_giver:
+    li t0, 0xfffff000
+    lw t1, 0(a0)
+    lw t2, 4(a0)
+    slli t3, t1, 16
+    sw t3, 0(t0)            # word 0: so many items
+    sw zero, 16(t0)         # word 4: no register is written
+    sw zero, 0(a0)
+    addi t0, t0, 504        # item 0, and then downward
+gift:
+    beqz t1, given
+    lw t3, 0(t2)
+    lw t4, 4(t2)
+    slli t4, t4, 12
+    ori t4, t4, 1
+    sw t3, 0(t0)
+    sw t4, 4(t0)
+    addi t2, t2, 8
+    addi t0, t0, -8
+    addi t1, t1, -1
+    j gift
+given:
+    li a7, 1
+    ecall
+    ebreak

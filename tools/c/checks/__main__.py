@@ -16,6 +16,7 @@ import sys
 import tempfile
 from pathlib import Path
 
+import calls
 import constants
 import linux
 import others
@@ -44,6 +45,7 @@ def main(words: argparse.Namespace) -> int:
     with tempfile.TemporaryDirectory() as folder:
         tools = programs.Tools(TOP, Path(words.program).resolve(), Path(folder))
         constants.look(outcome, tools)
+        calls.look(outcome, tools)
         if tools.has_compiler:
             refusals.look(outcome, tools)
             programs.look(outcome, tools)

@@ -15,10 +15,10 @@ if TYPE_CHECKING:
 
 LIMIT = "10000000"
 
-# What a run ends by: ebreak, or a store that faults at address 0.
-FINE, NULL = "raise 7 0", "raise 4 0"
+# What a run ends by: ebreak, a store that faults at address 0, or one that faults elsewhere.
+FINE, NULL, FAULT = "raise 7 0", "raise 4 0", r"raise 4 [1-9]\d*"
 
-# Of the host's statuses that which a store through a null pointer gives.
+# Of the host's statuses that which a store gives that faults.
 SEGMENTATION_FAULT = -11
 
 
@@ -88,12 +88,15 @@ CASES = [
     Case("printf"),
     Case("setjmp"),
     Case("exit", status=77),
+    Case("overflow", end=FAULT),
+    Case("constant", end=FAULT),
 ]
 
 # Programs that speak to the hypervisor, which the host can't run.
 OWN = [
     Case("threads", "--cpus 2", status=2),
     Case("monitor_null", "--monitor tools/c/tests/monitor_null.c", end=NULL, ec=10),
+    Case("thread_overflow", ""),
     Case("assembler", "", status=7, ec=1, suffix=".s"),
 ]
 
@@ -146,7 +149,7 @@ def wrong_on_host(tools: Tools, case: Case) -> str:
                           stderr=subprocess.STDOUT, text=True, check=False)
     if done.stdout != (tools.c / "tests" / f"{case.name}.text").read_text():
         return f"the host writes {done.stdout!r}"
-    wanted = SEGMENTATION_FAULT if case.end == NULL else case.status
+    wanted = case.status if case.end == FINE else SEGMENTATION_FAULT
     return "" if done.returncode == wanted else f"the host ends with {done.returncode}"
 
 

@@ -31,9 +31,43 @@ WRONG_WORDS = [
     (["main.c", "out.nova", "15"], ["15: memory has at most"]),
     (["--guest", "main.c", "out.nova", "14"], ["14: memory has at most"]),
     (["-march=rv32im", "main.c", "out.nova"], ["main.c, linked, was compiled for rv32i", "compile it with -march=rv32i"]),
-    (["--cpus", "two", "main.c", "out.nova"], ["usage: build.sh"]),
+    (["--cpus", "two", "main.c", "out.nova"], ["'two' is no number", "usage: build.sh"]),
+    (["--cpus", "9", "main.c", "out.nova"], ["--cpus: '9' is not from 1 to 8"]),
+    (["--cpus"], ["--cpus: a word has to follow it"]),
+    (["--consoles", "17", "main.c", "out.nova"], ["--consoles: '17' is not from 0 to 16"]),
+    (["--priority", "255", "main.c", "out.nova"], ["--priority: '255' is not from 0 to 254"]),
+    (["--quantum", "3", "main.c", "out.nova"], ["--quantum: there is no such option", "usage: build.sh"]),
+    (["--source", "0 100 50", "main.c", "out.nova"], ["--source '0 100 50': four numbers are wanted"]),
+    (["--source", "1 100 50 2", "main.c", "out.nova"], ["its processor: '1' is not from 0 to 0"]),
+    (["--source", "0 100 0 2", "main.c", "out.nova"], ["its period: '0' is not from 1 to 10000000"]),
+    (["main.c", "out.nova", "other.nova"], ["other.nova: out.nova is the scenario already"]),
+    (["main.c", "out.nova", "3", "4"], ["4: 3 is the order of the memory already"]),
+    (["out.nova"], ["no source is named"]),
+    (["header.c", "out.nova"], ["stdio.h is a header of the C library; build with --libc"]),
+    (["function.c", "out.nova"], ["printf is a function of the C library; build with --libc"]),
+    (["--stack", "60000", "main.c", "out.nova"], ["the memory is too small"]),
     (["main.c", "library.a", "out.nova"], ["library.a: its member compressed.o has compressed instructions", "compile it with"]),
     (["large.c", "out.nova"], ["the memory is too small", "give build.sh a greater RAM_ORDER"]),
+]
+
+# Calls with a constant that is outside its range, and what the compiler has to say.
+WRONG_CONSTANTS = [
+    ("nova_create_ec(40, NOVA_OWN_PD, NOVA_LOCAL, 256, 0, 0)", "a processor is 0 to 255"),
+    ("nova_create_ec(40, NOVA_OWN_PD, (enum nova_kind)3, 0, 0, 0)", "an execution context is"),
+    ("nova_create_sc(40, NOVA_OWN_PD, 41, 256, 10)", "a priority is 0 to 255"),
+    ("nova_create_sc(40, NOVA_OWN_PD, 41, 1, 16777216)", "a quantum is 1 to 16,777,215"),
+    ("nova_create_sc(40, NOVA_OWN_PD, 41, 1, 0)", "a quantum is 1 to 16,777,215"),
+    ("nova_memory(1048576, 0, NOVA_READ)", "a range has an order"),
+    ("nova_memory(1, 1, NOVA_READ)", "a range has an order"),
+    ("nova_objects(0, 21, NOVA_ALL_RIGHTS)", "a range has an order"),
+    ("nova_objects(40, 0, 32)", "a range has an order"),
+    ("nova_set_counts(125, 0)", "a message has at most 124 words"),
+    ("nova_set_counts(0, 63)", "a message has at most 124 words"),
+    ("nova_delegate(62, NOVA_NULL, 0)", "an item is 0 to 61"),
+    ("nova_delegate(0, NOVA_NULL, 1048576)", "an item is 0 to 61, and a hotspot is below 2^20"),
+    ("nova_translate(62, NOVA_NULL)", "an item is 0 to 61"),
+    ("(void)nova_item(62)", "an item is 0 to 61"),
+    ("nova_give(&domain, 0, 63)", "at most 62 ranges"),
 ]
 
 # The words for elf, and what its line has to have.
@@ -57,7 +91,9 @@ def make(tools: Tools, folder: Path) -> None:
     for name in ("folder", "folder.nova"):
         (folder / name).mkdir(parents=True)
     (folder / "main.c").write_text(MAIN)
-    (folder / "large.c").write_text("char large[20000]; int main(void) { return large[9]; }\n")
+    (folder / "large.c").write_text("char large[60000]; int main(void) { return large[9]; }\n")
+    (folder / "header.c").write_text("#include <stdio.h>\n" + MAIN)
+    (folder / "function.c").write_text('int printf(const char *, ...); int main(void) { return printf("x"); }\n')
     (folder / "notes.txt").write_text("notes\n")
     (folder / "elsewhere.ld").write_text(ELSEWHERE)
     (folder / "host.o").write_bytes(b"\x7fELF\x02\x01\x01" + bytes(57))
@@ -89,5 +125,8 @@ def look(outcome: Outcome, tools: Tools) -> None:
     make(tools, folder)
     for words, parts in WRONG_WORDS:
         outcome.count(f"refused: build.sh {' '.join(words)}", wrong(folder, [str(tools.c / "build.sh"), *words], parts))
+    for call, part in WRONG_CONSTANTS:
+        (folder / "constant.c").write_text(f'#include "nova.h"\nstruct nova_domain domain;\nint main(void) {{ {call}; return 0; }}\n')
+        outcome.count(f"refused: {call}", wrong(folder, [str(tools.c / "build.sh"), "constant.c", "out.nova"], [f"error: nova.h: {part}"]))
     for words, parts in WRONG_EXECUTABLES:
         outcome.count(f"refused: elf {' '.join(words)}", wrong(folder, [str(tools.c / "elf"), *words], parts))

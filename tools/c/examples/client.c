@@ -7,8 +7,8 @@
 /* Selectors. */
 enum { DOMAIN = 32, SERVER = 33, OPEN = 34, COUNT = 35 };
 
-/* Of the eight pages the program has the first, and the stack of main the last. The server shares pages 0 to 3. */
-enum { SHARED_ORDER = 2, TEXT_PAGE = 5 };
+/* Of the sixteen pages the program has the first, and the stack of main the last. The server shares pages 0 to 7. */
+enum { SHARED_ORDER = 3, TEXT_PAGE = 9 };
 
 static char *const text = (char *)(TEXT_PAGE * NOVA_PAGE_BYTES);
 

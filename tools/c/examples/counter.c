@@ -8,7 +8,7 @@ enum { ROUNDS = 5 };
 enum { FREE = 32, DONE = 33, STARTER = 34, OTHER = 36, EVENTS = 48 };
 
 static volatile unsigned counter;
-static unsigned char stack[512] __attribute__((aligned(16)));
+NOVA_STACK(stack, 512);
 
 NOVA_THREAD(other_begins, other);
 

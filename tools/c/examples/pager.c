@@ -8,7 +8,7 @@
 enum { HANDLER = 32, DOMAIN = 33, GUEST_CPU = 34, GUEST_TURNS = 35, EVENTS = 64 };
 
 static uint32_t pages;
-static unsigned char stack[512] __attribute__((aligned(16)));
+NOVA_STACK(stack, 512);
 
 NOVA_PORTAL(startup, on_startup);
 NOVA_PORTAL(fault, on_fault);
@@ -38,15 +38,16 @@ void on_startup(uint32_t identifier)
     nova_set_counts(0, 0);
 }
 
-/* The page is given, and the guest's instruction is made again. A fault where the guest has no memory, a store to its code and a jump to its
-   data end the monitor, and so the guest. */
+/* The page is given, and the guest's instruction is made again. A fault where the guest has no memory, as below its stack, a store to its code
+   and a jump to its data end the monitor, and so the guest. */
 void on_fault(uint32_t identifier)
 {
     uint32_t address = nova_words[NOVA_EXIT_Q0], page = nova_page_of(address);
     int code = address < guest_code_end;
     uint32_t rights = code ? NOVA_READ | NOVA_EXECUTE : NOVA_READ | NOVA_WRITE;
 
-    if (address < GUEST_BEGIN || address >= guest_bytes || identifier == (code ? NOVA_STORE_FAULT : NOVA_FETCH_FAULT)) {
+    if (address < GUEST_BEGIN || address >= guest_bytes || page == nova_page_of(guest_stack_guard) ||
+        identifier == (code ? NOVA_STORE_FAULT : NOVA_FETCH_FAULT)) {
         note("no memory at ", address);
         __builtin_trap();
     }

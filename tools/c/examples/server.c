@@ -3,7 +3,7 @@
 
 enum { WINDOW = 0x100 }; /* the page at which the server takes what it is given */
 
-static unsigned char stack[512] __attribute__((aligned(16)));
+NOVA_STACK(stack, 512);
 
 unsigned char *const server_stack_end = stack + sizeof stack;
 

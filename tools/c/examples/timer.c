@@ -13,7 +13,7 @@ enum { TICK = 1500 }; /* turns from one tick to the next */
 static uint32_t tick_function; /* the guest's */
 static int masked = 1;         /* whether ticks are passed over, as from a tick until the guest resumes */
 static volatile int finished;
-static unsigned char stack[512] __attribute__((aligned(16)));
+NOVA_STACK(stack, 512);
 
 NOVA_PORTAL(startup, on_startup);
 NOVA_PORTAL(recall, on_recall);
@@ -42,14 +42,15 @@ static uint32_t give(uint32_t items, uint32_t page, uint32_t end, uint32_t right
     return items;
 }
 
-/* The guest begins at its entry, with all its memory but the page of its null pointer. */
+/* The guest begins at its entry, with all its memory but the page of its null pointer and that below its stack. */
 void on_startup(uint32_t identifier)
 {
     uint32_t data = nova_page_of(guest_code_end);
     uint32_t items = give(0, nova_page_of(GUEST_BEGIN), data, NOVA_READ | NOVA_EXECUTE);
 
     (void)identifier;
-    items = give(items, data, nova_page_of(guest_bytes), NOVA_READ | NOVA_WRITE);
+    items = give(items, data, nova_page_of(guest_stack_guard), NOVA_READ | NOVA_WRITE);
+    items = give(items, nova_page_of(guest_stack_guard) + 1, nova_page_of(guest_bytes), NOVA_READ | NOVA_WRITE);
     nova_words[NOVA_EXIT_PC] = guest_entry;
     nova_words[NOVA_EXIT_GROUPS] = NOVA_PC;
     nova_set_counts(0, items);

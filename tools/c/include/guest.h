@@ -11,6 +11,7 @@ extern unsigned char guest_memory[];
 extern char guest_bytes_symbol[] __asm__("guest_bytes");
 extern char guest_entry_symbol[] __asm__("guest_entry");
 extern char guest_code_end_symbol[] __asm__("guest_code_end");
+extern char guest_stack_guard_symbol[] __asm__("guest_stack_guard");
 
 /* How many bytes it has, whole pages. The guest's stack comes down from there. */
 #define guest_bytes ((uint32_t)guest_bytes_symbol)
@@ -18,8 +19,11 @@ extern char guest_code_end_symbol[] __asm__("guest_code_end");
 /* Where it begins. */
 #define guest_entry ((uint32_t)guest_entry_symbol)
 
-/* Where its code ends, a multiple of a page; from there on are its data. */
+/* Where its code and constants end, a multiple of a page; from there on are its data. */
 #define guest_code_end ((uint32_t)guest_code_end_symbol)
+
+/* The page below its stack, which it isn't given, so that a stack that grows too large faults. */
+#define guest_stack_guard ((uint32_t)guest_stack_guard_symbol)
 
 /* Its program's first address. A fault below it is one of a null pointer. */
 #define GUEST_BEGIN 0x1000u

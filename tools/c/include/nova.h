@@ -203,6 +203,7 @@ enum nova_held {
 /* The word of an exit's message that has register x0 to x31. */
 #define nova_register(number) (nova_words[NOVA_EXIT_X0 + (number)])
 
+#include "nova_checks.h"
 #include "nova_messages.h"
 
 /* Hypercalls. */
@@ -242,16 +243,25 @@ static inline enum nova_status nova_create_pd(nova_selector target, nova_selecto
     return nova_hypercall(NOVA_CREATE_PD, target, pd, first, 0, 0, 0);
 }
 
-/* Makes an execution context in a domain and on a processor, with `sp` in x2. */
+/* Makes an execution context in a domain and on a processor, with `sp` in x2. A processor above 255 is NOVA_BAD_CPU. */
 static inline enum nova_status nova_create_ec(nova_selector target, nova_selector pd, enum nova_kind kind, uint32_t cpu, uint32_t sp,
     nova_selector event_base)
 {
+    if (!NOVA_HOLDS(cpu <= 255, nova_wrong_cpu))
+        return NOVA_BAD_CPU;
+    if (!NOVA_HOLDS((uint32_t)kind <= NOVA_VCPU, nova_wrong_kind))
+        return NOVA_BAD_PAR;
     return nova_hypercall(NOVA_CREATE_EC, target, pd, (uint32_t)kind << 8 | cpu, sp, event_base, 0);
 }
 
-/* Makes a scheduling context for a global thread or a virtual CPU, which can have turns from then on. */
+/* Makes a scheduling context for a global thread or a virtual CPU, which can have turns from then on. A priority above NOVA_MOST_PRIORITY
+   and a quantum of 0 or above NOVA_MOST_QUANTUM are NOVA_BAD_PAR. */
 static inline enum nova_status nova_create_sc(nova_selector target, nova_selector pd, nova_selector ec, uint32_t priority, uint32_t quantum)
 {
+    if (!NOVA_HOLDS(priority <= NOVA_MOST_PRIORITY, nova_wrong_priority))
+        return NOVA_BAD_PAR;
+    if (!NOVA_HOLDS(quantum > 0 && quantum <= NOVA_MOST_QUANTUM, nova_wrong_quantum))
+        return NOVA_BAD_PAR;
     return nova_hypercall(NOVA_CREATE_SC, target, pd, ec, quantum << 8 | priority, 0, 0);
 }
 
@@ -330,5 +340,6 @@ static inline enum nova_status nova_down_with_deadline(nova_selector sm, uint32_
 
 #include "nova_entries.h"
 #include "nova_pages.h"
+#include "nova_domains.h"
 
 #endif

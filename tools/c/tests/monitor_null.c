@@ -13,7 +13,7 @@ int main(void)
 
 enum { HANDLER = 32, DOMAIN, CPU, TURNS, EVENTS = 64 };
 
-static unsigned char stack[512] __attribute__((aligned(16)));
+NOVA_STACK(stack, 512);
 static int *volatile nowhere;
 
 NOVA_PORTAL(startup, on_startup);

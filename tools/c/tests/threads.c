@@ -7,7 +7,7 @@ enum { STARTER = 32, EVENTS = 48, THREAD = 64, DONE = 66, HANDLER = 67, ADD = 68
 static _Thread_local int mine = 7;
 static _Thread_local int zero;
 static int shared = 1;
-static unsigned char stacks[2][1024] __attribute__((aligned(16)));
+NOVA_STACKS(stacks, 2, 1024);
 
 NOVA_THREAD(other_entry, other);
 NOVA_PORTAL(add_entry, add);
@@ -57,7 +57,7 @@ static void must(enum nova_status status, const char *what)
 
 static void call_handler(void)
 {
-    must(nova_create_ec(HANDLER, NOVA_OWN_PD, NOVA_LOCAL, 0, (uint32_t)(stacks + 1), 0), "handler ");
+    must(nova_create_ec(HANDLER, NOVA_OWN_PD, NOVA_LOCAL, 0, (uint32_t)(stacks[0] + sizeof stacks[0]), 0), "handler ");
     must(nova_create_pt(ADD, NOVA_OWN_PD, HANDLER, 0, add_entry), "portal ");
     must(nova_create_pt(ASK, NOVA_OWN_PD, HANDLER, 0, ask_entry), "portal ");
     must(nova_pt_ctrl(ADD, 5), "identifier ");
@@ -80,7 +80,7 @@ int main(void)
     put_all("main  ");
     must(nova_create_sm(DONE, NOVA_OWN_PD, 0), "semaphore ");
     must(nova_create_ec(STARTER, NOVA_OWN_PD, NOVA_LOCAL, 1, 0, 0), "starter ");
-    must(nova_start(THREAD, 1, STARTER, EVENTS, other_entry, stacks + 2, 1, 10), "start ");
+    must(nova_start(THREAD, 1, STARTER, EVENTS, other_entry, stacks[1] + sizeof stacks[1], 1, 10), "start ");
     must(nova_down(DONE), "down ");
     call_handler();
     put_all("main  ");

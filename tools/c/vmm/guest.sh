@@ -84,4 +84,4 @@ eval "set -- $words $flags"
 [ $two = no ] || set -- "$@" --monitors 2
 [ -z "$tree" ] || { padded "$tree" tree && set -- "$@" --image "$scratch/tree@$(((1 << order) - 1))"; }
 exec_image=$scratch/${kernel##*/}@0
-"$here/../build.sh" --elf -flto --monitor-order 5 "-I$here" "-I$here/../examples" --image "$exec_image" "$@" "$scenario" "$order"
+"$here/../build.sh" --elf -flto --writable-code --monitor-order 5 "-I$here" "-I$here/../examples" --image "$exec_image" "$@" "$scenario" "$order"

@@ -19,6 +19,7 @@ info threads
 x/8xw 0xfffff000
 next
 next
+next
 print/x address
 print page
 thread 3.1
@@ -57,7 +58,7 @@ monitor console
 thread 1.1
 reverse-continue
 monitor turn
-monitor goto 388
+monitor goto 759
 maintenance flush register-cache
 continue
 info threads

@@ -351,7 +351,9 @@ class Meaning(unittest.TestCase):
             with self.subTest(path.stem):
                 unpaid = sum(event.kind in UNPAID for event in report.events)
                 paid = sum(payer.ticks for payer in report.payers)
-                self.assertEqual(sum(ticks.within(*gap) or 0 for gap in gaps), report.turns - paid - unpaid)
+                told = [ticks.within(*gap) for gap in gaps]
+                compare = self.assertLessEqual if None in told else self.assertEqual
+                compare(sum(count or 0 for count in told), report.turns - paid - unpaid)
 
     def test_clocks(self) -> None:
         order = Order([0, 1, 0, 1], [5, 8, 15, 16])

@@ -218,8 +218,8 @@ class Asked(Format):
         self.assertIn(Doing.UNTOLD, {span.doing for span in told.spans})
         self.assertNotIn(Doing.UNTOLD, {span.doing for span in known.spans})
         wakes = [(arrow.place, arrow.target, arrow.sure) for arrow in known.arrows if arrow.lead is Lead.WAKE]
-        self.assertIn((455, 6, True), wakes)
-        self.assertNotIn(403, [place for place, _, _ in wakes])
+        self.assertIn((763, 6, True), wakes)
+        self.assertNotIn(752, [place for place, _, _ in wakes])
 
     def test_another_run_is_not_asked(self) -> None:
         words = [sys.executable, PICTURE, "run", EXAMPLES / "c_counter.report", "--scenario", EXAMPLES / "c_counter.nova", "--program", asked]
