@@ -140,6 +140,8 @@ static void lookups(void)
     tell("lookup", status, value);
     status = nova_sc_ctrl(NOVA_OWN_SC, &value);
     tell("sc_ctrl", status, value > 1000 && value < 100000);
+    value = nova_own_turns();
+    tell("own_turns", NOVA_SUCCESS, value > 1000 && value < 100000);
     value = NOTHING;
     status = nova_sc_ctrl(NOVA_OWN_EC, &value);
     tell("sc_ctrl", status, value);
