@@ -6,9 +6,10 @@ use Rattle.nova_calls.specs.declared.numbers.TheConstants.{SM_CTRL}
 use Rattle.nova_model.specs.Boot.{Scenario, boot}
 use Rattle.nova_model.specs.Capabilities.{down_right}
 use Rattle.nova_model.specs.Runs.{after, run}
-use Rattle.nova_model.specs.State.{KernelState, context_at, context_in}
+use Rattle.nova_model.specs.State.{KernelState, context, context_at, context_in}
 use Rattle.nova_model.specs.declared.context.EcState.{EcState}
 use Rattle.nova_model.specs.declared.context.State.{State}
+use Rattle.nova_model.specs.declared.context.State.TheVariants.{Blocked}
 use Rattle.law_turns.proofs.TablesFit.{TablesFit, boot_run_fits}
 use Rattle.law_origins.specs.Giving.{Acts}
 use Rattle.law_origins.proofs.Lists.{run_append}
@@ -69,6 +70,32 @@ waits_after s before S T cpu a b objects waits n sm blocked mine theirs = by_cam
         by_holds (inl h) = objects sm (any_held held) (any_held h)
         by_holds (inr later) = absurd (let below = target_there k S down_right sm (reached_homed s before) held in omega (arith, below, later))
 
+queues_after : (s : Scenario) (before : List ℕ) (S T : ℕ → Type 0) (cpu n m sm : ℕ) → AreApart (run (boot s) before) S T → (context (after (run (boot s) before) cpu) n).state ≡ Blocked sm →
+    (context (after (run (boot s) before) cpu) m).state ≡ Blocked sm → IsMember (after (run (boot s) before) cpu) (more (run (boot s) before) S cpu) n →
+    IsMember (after (run (boot s) before) cpu) (more (run (boot s) before) T cpu) m → ⊥
+queues_after s before S T cpu n m sm apart first second mine theirs = by_both (blocked_came s before cpu n sm first) (blocked_came s before cpu m sm second)
+  where
+    k : KernelState
+    k = run (boot s) before
+
+    fits : TablesFit k
+    fits = boot_run_fits s before
+
+    its : (y : EcState) → context_at k n ≡ Some y → IsMember k S n
+    its y at = member_was k cpu S n fits.tables (context_below k n y fits.tables at) mine
+
+    other : (y : EcState) → context_at k m ≡ Some y → IsMember k T m
+    other y at = member_was k cpu T m fits.tables (context_below k m y fits.tables at) theirs
+
+    was : (e : ℕ) (y : EcState) → context_at k e ≡ Some y → y.state ≡ Blocked sm → (context k e).state ≡ Blocked sm
+    was e y at is = ap (λ (o : Option EcState). (context_in o).state) at ∙ is
+
+    by_both : BlockedBy k cpu n sm → BlockedBy k cpu m sm → ⊥
+    by_both (Before y at is) (Before z there also) = apart.queues n m sm (was n y at is) (was m z there also) (its y at) (other z there)
+    by_both (Before y at is) (Now acts_ z there asks) = apart.first n sm (was n y at is) (its y at) (any_held (holds_of k T m SM_CTRL sm down_right (other z there) asks.names))
+    by_both (Now acts_ y at asks) (Before z there also) = apart.second m sm (was m z there also) (other z there) (any_held (holds_of k S n SM_CTRL sm down_right (its y at) asks.names))
+    by_both (Now acts_ y at asks) (Now also_ z there too) = both_member k S T m apart.separate.disjoint (subst (IsMember k S) (acts_one k cpu n m acts_ also_) (its y at)) (other z there)
+
 -- ALONG TURNS
 
 pub apart_flipped : (k : KernelState) (S T : ℕ → Type 0) → AreApart k S T → AreApart k T S
@@ -77,6 +104,7 @@ apart_flipped k S T apart = record {
   objects = λ object theirs mine. apart.objects object mine theirs;
   first = apart.second;
   second = apart.first;
+  queues = λ n m sm first second theirs mine. apart.queues m n sm second first mine theirs;
 }
 
 apart_after : (s : Scenario) (before : List ℕ) (S T : ℕ → Type 0) (cpu : ℕ) → AreApart (run (boot s) before) S T →
@@ -89,6 +117,7 @@ apart_after s before S T cpu apart =
       objects = λ object. objects_after (run (boot s) before) S T cpu object a b (reached_homed s before) apart;
       first = waits_after s before S T cpu a b apart.objects apart.first;
       second = waits_after s before T S cpu b a (λ object theirs mine. apart.objects object mine theirs) apart.second;
+      queues = λ n m sm first second mine theirs. queues_after s before S T cpu n m sm apart first second mine theirs;
     }
 
 pub apart_along : (s : Scenario) (before turns : List ℕ) (S T : ℕ → Type 0) → AreApart (run (boot s) before) S T →

@@ -1,6 +1,6 @@
 -- Whatever a turn changes, the one whose turn it is had the authority for it.
 use Rattle.std.proofs.Common.{◌≡◌, ◌⊎◌, ◌/◌, ℕ, List, inl, inr, refl, sym, ap, ◌∙◌, subst}
-use Rattle.std.specs.Prelude.{Bool, true, false, ◌==◌, ◌&&◌, if◌then◌else◌, slice_get, option_map, Option, Some, None}
+use Rattle.std.specs.Prelude.{◌≢◌, IfSome, Bool, true, false, ◌==◌, ◌&&◌, if◌then◌else◌, slice_get, option_map, Option, Some, None}
 use Rattle.std.proofs.lemmas.Option.{same_Some}
 use Rattle.nova_objects.specs.declared.object.Object.TheVariants.{Sc}
 use Rattle.nova_model.specs.Boot.{Scenario, boot}
@@ -13,7 +13,7 @@ use Rattle.nova_model.specs.Forest.{IsForest}
 use Rattle.nova_model.specs.Inputs.{is_stirred}
 use Rattle.nova_model.specs.Runs.{after, run}
 use Rattle.nova_model.specs.State.{KernelState, budget_at, is_local_thread, pd_of}
-use Rattle.nova_model.specs.declared.deed.Deed.TheVariants.{Gives}
+use Rattle.nova_model.specs.declared.deed.Deed.TheVariants.{Gives, Rests}
 use Rattle.nova_model.specs.declared.delegation.Derivation.{Derivation}
 use Rattle.nova_model.specs.Turn.{event_of}
 use Rattle.nova_model.specs.declared.budget.Budget.{Budget}
@@ -24,6 +24,7 @@ use Rattle.law_forest.proofs.Turning.{acting_is, acting_kind, acts_chosen, chose
 use Rattle.law_isolation.proofs.Runs.{reached_sound}
 use Rattle.law_turns.specs.Scheduling.{IsPaidBy}
 use Rattle.law_turns.proofs.Candidates.{IsCandidate, schedule_of, the_chosen}
+use Rattle.law_turns.proofs.Chosen.{chosen_does}
 use Rattle.law_turns.proofs.Paid.{turn_paid}
 use Rattle.law_turns.specs.Giving.{IsShared}
 use Rattle.law_turns.proofs.Serving.{IsActor, actor_of, awaited}
@@ -84,6 +85,11 @@ HasShares k = (ec : ℕ) (child : Derivation) (cursor : ℕ) → deed k ec ≡ G
 reached_shares : (s : Scenario) (turns : List ℕ) → HasShares (run (boot s) turns)
 reached_shares s turns ec child cursor is = children_shared s turns ec cursor child is
 
+-- who is chosen does something
+chosen_something : (k : KernelState) (cpu : ℕ) (c : Candidate) → next_to_act k cpu ≡ Some c → TablesFit k → deed k c.actor ≢ Rests
+chosen_something k cpu c chosen fits =
+    subst (λ (o : Option Candidate). IfSome o (λ d. deed k d.actor ≢ Rests)) (acts_chosen k cpu c chosen).0 (chosen_does k cpu (is_local_thread k) fits.served.well)
+
 -- what the turn of who is chosen leaves, part by part
 turned_right : (k : KernelState) (cpu : ℕ) (c : Candidate) → IsForest k.delegations → HasShares k → AreSelectors k → TablesFit k → next_to_act k cpu ≡ Some c → after k cpu ≡ turned k cpu (acting k c) →
     IsByRight k (turned k cpu (acting k c)) cpu c.actor c.sc
@@ -94,7 +100,7 @@ turned_right k cpu c forest shares selectors fits chosen state =
     let grows = subst (Grows k c.actor) state (chosen_grows k cpu c chosen) in
     let paid = subst (λ (s : KernelState). IsPaidBy k s cpu c.sc) state (turn_paid k cpu (event_of cpu c (deed k c.actor)) (acting_kind (deed k c.actor)) (chosen_answers k cpu c chosen)) in
     record {
-      does = record { after = sym (acting_is k cpu c); rightful = r; asks = deed_asks_for k c.actor };
+      does = record { after = sym (acting_is k cpu c); rightful = r; something = chosen_something k cpu c chosen fits; asks = deed_asks_for k c.actor };
       serves = λ caller mark serves. (awaited (is_local_thread k) k.contexts c.actor caller mark actor serves fits.served).waits;
       frames = stores.0;
       log = stores.1;

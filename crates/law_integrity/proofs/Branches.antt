@@ -1,5 +1,5 @@
 -- What a deed does to objects and delegations, and by what right.
-use Rattle.std.proofs.Common.{◌≡◌, ℕ, ◌≤◌, ◌⊎◌, List, [], ◌∷◌, ◌++◌, length, refl, sym, ap, ◌∙◌, subst, inl, inr, arith}
+use Rattle.std.proofs.Common.{◌≡◌, ℕ, ◌≤◌, List, [], ◌∷◌, ◌++◌, length, refl, sym, ap, ◌∙◌, subst, arith}
 use Rattle.std.specs.Prelude.{Bool, true, false, not, ◌==◌, drop, filter, if◌then◌else◌, slice_get, Option, Some, None, option_and_then}
 use Rattle.std.proofs.lemmas.Option.{same_Some}
 use Rattle.nova_model.specs.Choice.{Candidate, next_to_act}

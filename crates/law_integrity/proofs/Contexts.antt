@@ -62,7 +62,7 @@ two_edits k w ec h n e f apart right =
 
 call_right : (k : KernelState) (w : List ℕ) (ec h ip number : ℕ) (items : Bool) → IsCall k ec h ip number items → IsRight k ec h w (Some (serving (context k h) ec mark.Call ip number items))
 call_right k w ec h ip number items c =
-    let r = send_reaches k.contexts ec h c.flag c.admits in
+    let r = send_reaches k.contexts ec h _ c.admits in
     inr (Called c.at (context k h) (of_there k.contexts h (reached_there k.contexts ec h r)) (reached_parked k ec h r)
     (ap (λ (i : ℕ). Some (serving (context k h) ec mark.Call i number items)) c.begins
     ∙ ap (λ (i : ℕ). Some (serving (context k h) ec mark.Call c.at.ip i items)) c.number_is
@@ -135,8 +135,8 @@ others_edited k ec n (deeds.Sends handler ip number mtd reason q0 q1) is r asks 
     (λ same. subst (λ (h : ℕ). IsRight k ec h (words_after k ec (deeds.Sends handler ip number mtd reason q0 q1)) (Some (serving (context k h) ec mark.Exit ip number false))) (sym same)
     (exit_right k _ ec handler ip number mtd.0 reason q0 q1 r))
 others_edited k ec n (deeds.Replies caller came true) is r asks actor fits apart = own_edit k _ ec n (edits_by k ec (deeds.Replies caller came true)) apart (refl, tt)
-others_edited k ec n (deeds.Replies caller mark.Call false) is r asks actor fits apart = replied k _ ec caller n mark.Call (message k ec) (λ x. refl) actor fits r.0 apart
-others_edited k ec n (deeds.Replies caller mark.Exit false) is r asks actor fits apart = replied k _ ec caller n mark.Exit (message k ec) (λ x. refl) actor fits r.0 apart
+others_edited k ec n (deeds.Replies caller mark.Call false) is r asks actor fits apart = replied k _ ec caller n mark.Call (message k ec) (λ x. refl) actor fits r.serves apart
+others_edited k ec n (deeds.Replies caller mark.Exit false) is r asks actor fits apart = replied k _ ec caller n mark.Exit (message k ec) (λ x. refl) actor fits r.serves apart
 others_edited k ec n (deeds.Recalls whose) is r asks actor fits apart = recalled k _ ec whose n (Answers Success None) r apart _ refl
 others_edited k ec n (deeds.Ups sm whom) is r asks actor fits apart = upped k _ ec sm n (Answers Success None) whom is r asks fits apart
 others_edited k ec n (deeds.Finishes item end words after) is r asks actor fits apart = followed k (words_after k ec (deeds.Finishes item end words after)) ec n after asks.1 actor fits apart

@@ -1,6 +1,6 @@
 -- Each deed is rightful, as it is decided.
-use Rattle.std.proofs.Common.{◌≡◌, ◌<◌, ℕ, ◌^◌, ◌+◌, refl, sym, ap, ap₂, ◌∙◌, subst, arith, inl, inr}
-use Rattle.std.specs.Prelude.{Bool, true, false, slice_get, option_map, Option, Some, None, Result, Ok, Err, ◌==◌, ◌&&◌}
+use Rattle.std.proofs.Common.{◌≡◌, ◌<◌, ◌≤◌, ℕ, ◌^◌, ◌+◌, refl, sym, ap, ap₂, ◌∙◌, subst, arith, inl, inr}
+use Rattle.std.specs.Prelude.{Bool, true, false, not, if◌then◌else◌, slice_get, option_map, Option, Some, None, Result, Ok, Err, ◌==◌, ◌&&◌, ◌||◌}
 use Rattle.std.specs.List.{find}
 use Rattle.std.proofs.lemmas.Bool.{and_parts, eq-eqb, eqb-false, eqb-true}
 use Rattle.std.proofs.lemmas.Option.{same_Some}
@@ -18,23 +18,26 @@ use Rattle.nova_objects.specs.declared.object.Object.{Object}
 use Rattle.nova_objects.specs.declared.object.Object.TheVariants.{Pt}
 use Rattle.nova_range.specs.declared.range.Range.{Range}
 use Rattle.nova_range.specs.declared.rights.Rights.{Rights}
+use Rattle.nova_utcb.specs.Messages.{has_counts}
 use Rattle.nova_range.specs.declared.status.Status.{Status}
-use Rattle.nova_range.specs.declared.status.Status.TheVariants.{Timeout}
-use Rattle.nova_model.specs.Calls.{exit_admitted}
+use Rattle.nova_range.specs.declared.status.Status.TheVariants.{Aborted, BadCpu, Timeout}
+use Rattle.nova_model.specs.Calls.{admitted, exit_admitted, is_parked, is_same_cpu}
 use Rattle.nova_model.specs.Capabilities.{call_right, control_right, down_right, event_right, is_ec, is_pt, is_sc, is_sm, named, up_right}
 use Rattle.nova_range.specs.RangeWords.{word_of}
 use Rattle.nova_model.specs.Delegations.{covers, has_place, is_same_kind, range_of}
 use Rattle.nova_model.specs.Deeds.{deed, deed_in, instruction, ready, removes, signalled, stepping}
 use Rattle.nova_model.specs.Deliveries.{delivery, delivery_between, first_delivery, given_to, taken_from, told_by}
-use Rattle.nova_model.specs.Edges.{is_giving}
+use Rattle.nova_model.specs.Edges.{circle, cpu_in, is_dead, is_giving, state_in}
 use Rattle.nova_model.specs.Exits.{exit_at, exit_portal, exit_to, exits, raised_exit}
 use Rattle.nova_model.specs.Forest.{IsForest}
 use Rattle.nova_model.specs.Hypercalls.{and_then, asked, deadline_after, downed_by, downed_within, hypercall, looked_up, new_domain, or_refuses, row, sm_ctrl, ticks_in, unless, upped_by}
 use Rattle.nova_model.specs.Portals.{handler_in, handler_of, identifier, ip_of, mtd_in}
 use Rattle.nova_model.specs.Revokes.{Revocation, in_scope, next_leaf}
 use Rattle.nova_model.specs.Semaphores.{answer_of, semaphore, woken}
-use Rattle.nova_model.specs.State.{KernelState, budget_at, context, event_base, is_thread, pd_of, processor_of, transfer}
+use Rattle.nova_model.specs.State.{Contexts, KernelState, Semaphore, budget_at, context, event_base, is_thread, message, pd_of, processor_of, transfer}
 use Rattle.nova_model.specs.Times.{clock}
+use Rattle.nova_model.specs.Translations.{translated}
+use Rattle.nova_model.specs.declared.admit.Admit.TheVariants.{Help, Refused, Send}
 use Rattle.nova_model.specs.declared.admit.ExitAdmit.{ExitAdmit}
 use Rattle.nova_model.specs.declared.admit.ExitAdmit.TheVariants as exit
 use Rattle.nova_model.specs.declared.context.Mark.{Mark}
@@ -48,12 +51,14 @@ use Rattle.nova_model.specs.declared.semaphore.Down.{Down}
 use Rattle.nova_model.specs.declared.semaphore.Down.TheVariants as lowering
 use Rattle.nova_model.specs.declared.semaphore.Overflow.{Overflow}
 use Rattle.nova_model.specs.declared.transfer.Delivery.{Delivery}
+use Rattle.nova_model.specs.declared.transfer.ItemEnd.{ItemEnd}
+use Rattle.nova_model.specs.declared.transfer.ItemEnd.TheVariants.{Given, Skipped, Translated}
 use Rattle.nova_model.specs.declared.transfer.Sequel.TheVariants as sequel
 use Rattle.law_forest.specs.Courses.{IsLeaf}
 use Rattle.law_forest.specs.Made.{IsGivenChild}
 use Rattle.law_forest.proofs.Leaves.{leaf_facts}
 use Rattle.law_forest.proofs.Members.{contains_from_in, found_in, in_filtered, in_from_contains}
-use Rattle.law_forest.proofs.Walk.{IfDone, giving_holds}
+use Rattle.law_forest.proofs.Walk.{EndsAs, IfDone, giving_holds, job_in}
 use Rattle.law_turns.specs.Asked.{HoldsAt}
 use Rattle.law_turns.specs.Tables.{IsOf}
 use Rattle.law_turns.proofs.Holding.{named_is}
@@ -61,9 +66,16 @@ use Rattle.law_turns.proofs.Rows.{call_holds, create_pd_holds, makes_hold, reply
 use Rattle.law_origins.specs.Events.{AreSelectors}
 use Rattle.law_origins.proofs.Rights.{IsUnder, under}
 use Rattle.law_integrity.specs.Rights.{Again, AtCall, CallsAt, GivesFirst, GivesTo, IsAsking, MayTake, Names, RepliesWith, TakesOfCaller}
-use Rattle.law_integrity.specs.Rightful.{IsExitAt, IsRightful, IsTold, OfNothing, OfRange, OfTicks, AtStartup, OfInstruction, OfRecall, IsOfExit}
+use Rattle.law_integrity.specs.Rightful.{IsExitAt, IsHelp, IsRightful, IsTold, OfNothing, OfRange, OfTicks, AtStartup, OfInstruction, OfRecall, IsOfExit}
 use Rattle.law_integrity.proofs.Refusals.{IsUndone, asked_holds, asked_undone}
 use Rattle.law_integrity.proofs.Selected.{ReadsAction, Selects, call_selected, named_by, names, portal_at}
+
+-- how an item ended
+abbrev pub Ended : KernelState → ℕ → ItemEnd → Type 0
+Ended k ec (Given children) = children ≡ (transfer k ec).children
+Ended k ec (Skipped skip) = (v : Delivery) × (delivery k ec (context k ec).state ≡ Some v) × (job_in v ≡ Err skip)
+Ended k ec (Translated word) =
+    (v : Delivery) × (delivery k ec (context k ec).state ≡ Some v) × (word ≡ translated k.delegations.list v.range_word v.translations v.giver v.receiver)
 
 -- what is found while a deed is decided; what it may make is known already
 abbrev pub Found : KernelState → ℕ → Deed → Type 0
@@ -71,7 +83,7 @@ Found k ec (deeds.Makes call target made) = Unit {0}
 Found k ec (deeds.Opens target domain) = Unit {0}
 Found k ec (deeds.Gives child cursor) = Unit {0}
 Found k ec (deeds.Skips reason place cursor) = Unit {0}
-Found k ec (deeds.Finishes item end words follows) = Unit {0}
+Found k ec (deeds.Finishes item end words follows) = Ended k ec end
 Found k ec (deeds.Revokes range own) = reg (context k ec).regs 17 ≡ REVOKE
 Found k ec deeds.Returns = Unit {0}
 Found k ec (deeds.Aborts handler came) = (context k ec).state ≡ Calling handler
@@ -106,15 +118,50 @@ of_sm : (k : KernelState) (ec sm right n : ℕ) → IsAsking k ec → SM_CTRL �
     Names k ec SM_CTRL right n × IsOf k.objects is_sm n
 of_sm k ec sm right n asking numbered at is = let its = named_by k (pd_of k ec) is_sm right sm n is in (names k ec SM_CTRL sm right n is_sm asking numbered at its, its.object)
 
+-- a down is done where the counter is above 0, and waits where it is 0
+done_above : (s : Semaphore) → answer_of s ≡ lowering.Done → 0 < s.count
+done_above s is = by_test (s.count == 0) refl is
+  where
+    by_test : (t : Bool) → (s.count == 0) ≡ t → (if t then lowering.Blocked else lowering.Done) ≡ lowering.Done → 0 < s.count
+    by_test true none e = absurd (cc)
+    by_test false none e = let some : s.count ≡ 0 → ⊥ = eqb-false s.count 0 none in omega arith
+
+waits_at_none : (s : Semaphore) → answer_of s ≡ lowering.Blocked → s.count ≡ 0
+waits_at_none s is = by_test (s.count == 0) refl is
+  where
+    by_test : (t : Bool) → (s.count == 0) ≡ t → (if t then lowering.Blocked else lowering.Done) ≡ lowering.Blocked → s.count ≡ 0
+    by_test true none e = eqb-true s.count 0 none
+    by_test false none e = absurd (cc)
+
+-- only a call that waits helps
+help_waits : (cs : Contexts) (caller handler : ℕ) (flag : Bool) → admitted cs caller handler flag ≡ Help → flag ≡ false
+help_waits cs caller handler flag is =
+    by_tests (not (is_same_cpu (cpu_in cs handler) (cpu_in cs caller))) (is_dead (state_in cs handler) || circle cs handler caller) (is_parked (state_in cs handler)) flag is
+  where
+    by_tests : (away lost parked at_once : Bool) →
+        (if away then Refused BadCpu else if lost then Refused Aborted else if parked then Send else if at_once then Refused Timeout else Help) ≡ Help → at_once ≡ false
+    by_tests true lost parked at_once e = absurd (cc)
+    by_tests false true parked at_once e = absurd (cc)
+    by_tests false false true at_once e = absurd (cc)
+    by_tests false false false true e = absurd (cc)
+    by_tests false false false false e = refl
+
+helps_found : (k : KernelState) (ec handler : ℕ) (flag : Bool) → CallsAt k ec handler → has_counts (message k ec) ≡ true → flag ≡ (reg (context k ec).regs 11 == 1) → reg (context k ec).regs 11 ≤ 1 →
+    admitted k.contexts ec handler flag ≡ Help → IsHelp k ec handler
+helps_found k ec handler flag at counts reads low admits =
+    let none : flag ≡ false = help_waits k.contexts ec handler flag admits in
+    let other : reg (context k ec).regs 11 ≡ 1 → ⊥ = eqb-false (reg (context k ec).regs 11) 1 (sym reads ∙ none) in
+    record { at = at; counts = counts; waits = omega (arith, low, other); admits = ap (admitted k.contexts ec handler) (sym none) ∙ admits }
+
 -- a down that waits to a deadline
 within_found : (k : KernelState) (ec sm ticks : ℕ) → IsAsking k ec → SM_CTRL ≡ reg (context k ec).regs 17 → (sm ≡ reg (context k ec).regs 10) × (sm < 2 ^ 20) → reg (context k ec).regs 11 ≡ 2 → ticks ≡ reg (context k ec).regs 12 →
     IfDone (Found k ec) (sm_ctrl k ec (pd_of k ec) sm (act.DownWithin ticks))
 within_found k ec sm ticks asking numbered at within ticks_is = by_name (named k (pd_of k ec) is_sm down_right sm) refl
   where
-    by_ticks : (n : ℕ) → named k (pd_of k ec) is_sm down_right sm ≡ Ok n → (none : Bool) → ticks == 0 ≡ none →
+    by_ticks : (n : ℕ) → named k (pd_of k ec) is_sm down_right sm ≡ Ok n → answer_of (semaphore k.semaphores n) ≡ lowering.Blocked → (none : Bool) → ticks == 0 ≡ none →
         IfDone (Found k ec) (unless none Timeout (Ok (deeds.Blocks n (Some (deadline_after k ec n ticks)))))
-    by_ticks n is true none = tt
-    by_ticks n is false none =
+    by_ticks n is answers true none = tt
+    by_ticks n is answers false none =
         let its = of_sm k ec sm down_right n asking numbered at is in
         let left : ticks ≡ 0 → ⊥ = eqb-false ticks 0 none in (
           record { names = its.0; down = inr within },
@@ -126,36 +173,40 @@ within_found k ec sm ticks asking numbered at within ticks_is = by_name (named k
             at = ap (λ (t : ℕ). clock k.times (processor_of k ec) + 1 + t) ticks_is;
             some = subst (λ (t : ℕ). 0 < t) ticks_is (omega arith);
           },
+          waits_at_none (semaphore k.semaphores n) answers,
         )
 
-    by_answer : (n : ℕ) → named k (pd_of k ec) is_sm down_right sm ≡ Ok n → (d : Down) → IfDone (Found k ec) (downed_within n ticks (deadline_after k ec n ticks) d)
-    by_answer n is lowering.Done = let its = of_sm k ec sm down_right n asking numbered at is in (record { names = its.0; down = inr within }, its.1)
-    by_answer n is lowering.Blocked = by_ticks n is (ticks == 0) refl
+    by_answer : (n : ℕ) → named k (pd_of k ec) is_sm down_right sm ≡ Ok n → (d : Down) → answer_of (semaphore k.semaphores n) ≡ d → IfDone (Found k ec) (downed_within n ticks (deadline_after k ec n ticks) d)
+    by_answer n is lowering.Done answers =
+        let its = of_sm k ec sm down_right n asking numbered at is in (record { names = its.0; down = inr within }, its.1, done_above (semaphore k.semaphores n) answers)
+    by_answer n is lowering.Blocked answers = by_ticks n is answers (ticks == 0) refl
 
     by_name : (o : Result ℕ Status) → named k (pd_of k ec) is_sm down_right sm ≡ o →
         IfDone (Found k ec) (and_then o (λ n. downed_within n ticks (deadline_after k ec n ticks) (answer_of (semaphore k.semaphores n))))
-    by_name (Ok n) is = by_answer n is (answer_of (semaphore k.semaphores n))
+    by_name (Ok n) is = by_answer n is (answer_of (semaphore k.semaphores n)) refl
     by_name (Err status) is = tt
 
 sm_found : (k : KernelState) (ec sm : ℕ) (action : SmAction) → IsAsking k ec → SM_CTRL ≡ reg (context k ec).regs 17 → (sm ≡ reg (context k ec).regs 10) × (sm < 2 ^ 20) → ReadsAction (context k ec).regs action →
     IfDone (Found k ec) (sm_ctrl k ec (pd_of k ec) sm action)
 sm_found k ec sm act.Up asking numbered at reads = by_name (named k (pd_of k ec) is_sm up_right sm) refl
   where
-    by_woken : (n : ℕ) → named k (pd_of k ec) is_sm up_right sm ≡ Ok n → (o : Result (Option ℕ) Overflow) → IfDone (Found k ec) (upped_by n o)
-    by_woken n is (Ok whom) = let its = of_sm k ec sm up_right n asking numbered at is in (record { names = its.0; up = reads }, its.1)
-    by_woken n is (Err full) = tt
+    by_woken : (n : ℕ) → named k (pd_of k ec) is_sm up_right sm ≡ Ok n → (o : Result (Option ℕ) Overflow) → woken (semaphore k.semaphores n) ≡ o → IfDone (Found k ec) (upped_by n o)
+    by_woken n is (Ok whom) wakes = let its = of_sm k ec sm up_right n asking numbered at is in (record { names = its.0; up = reads }, its.1, wakes)
+    by_woken n is (Err full) wakes = tt
 
     by_name : (o : Result ℕ Status) → named k (pd_of k ec) is_sm up_right sm ≡ o → IfDone (Found k ec) (and_then o (λ n. upped_by n (woken (semaphore k.semaphores n))))
-    by_name (Ok n) is = by_woken n is (woken (semaphore k.semaphores n))
+    by_name (Ok n) is = by_woken n is (woken (semaphore k.semaphores n)) refl
     by_name (Err status) is = tt
 sm_found k ec sm act.Down asking numbered at reads = by_name (named k (pd_of k ec) is_sm down_right sm) refl
   where
-    by_answer : (n : ℕ) → named k (pd_of k ec) is_sm down_right sm ≡ Ok n → (d : Down) → Found k ec (downed_by n d)
-    by_answer n is lowering.Done = let its = of_sm k ec sm down_right n asking numbered at is in (record { names = its.0; down = inl reads }, its.1)
-    by_answer n is lowering.Blocked = let its = of_sm k ec sm down_right n asking numbered at is in (record { names = its.0; down = inl reads }, its.1, reads)
+    by_answer : (n : ℕ) → named k (pd_of k ec) is_sm down_right sm ≡ Ok n → (d : Down) → answer_of (semaphore k.semaphores n) ≡ d → Found k ec (downed_by n d)
+    by_answer n is lowering.Done answers =
+        let its = of_sm k ec sm down_right n asking numbered at is in (record { names = its.0; down = inl reads }, its.1, done_above (semaphore k.semaphores n) answers)
+    by_answer n is lowering.Blocked answers =
+        let its = of_sm k ec sm down_right n asking numbered at is in (record { names = its.0; down = inl reads }, its.1, reads, waits_at_none (semaphore k.semaphores n) answers)
 
     by_name : (o : Result ℕ Status) → named k (pd_of k ec) is_sm down_right sm ≡ o → IfDone (Found k ec) (and_then o (λ n. Ok (downed_by n (answer_of (semaphore k.semaphores n)))))
-    by_name (Ok n) is = by_answer n is (answer_of (semaphore k.semaphores n))
+    by_name (Ok n) is = by_answer n is (answer_of (semaphore k.semaphores n)) refl
     by_name (Err status) is = tt
 sm_found k ec sm (act.DownWithin ticks) asking numbered at reads = within_found k ec sm ticks asking numbered at reads.0 reads.1
 
@@ -174,9 +225,17 @@ looked k ec range = by_found (find (covers range.kind (pd_of k ec) range.base) k
 row_found : (k : KernelState) (ec : ℕ) (c : Call) → IsAsking k ec → number_of c ≡ reg (context k ec).regs 17 → Selects (context k ec).regs c → IfDone (Found k ec) (row k ec (pd_of k ec) c)
 row_found k ec (asks.Call portal flag) asking numbered at =
     call_holds (Found k ec) k ec (pd_of k ec) portal flag
-    (λ pt is. record { at = calls_at k ec portal pt asking numbered at is.portal; begins = refl; number_is = refl; items_are = refl; flag = flag; admits = is.admits })
-    (λ pt is. record { at = calls_at k ec portal pt asking numbered at is.portal; flag = flag; admits = is.admits })
-row_found k ec asks.Reply asking numbered at = reply_holds (Found k ec) k ec (λ caller mark is. (is.serves, is.local, sym numbered))
+    (λ pt is. record {
+      at = calls_at k ec portal pt asking numbered at.0 is.portal;
+      begins = refl;
+      number_is = refl;
+      items_are = refl;
+      counts = is.counts;
+      admits = ap (admitted k.contexts ec (handler_of k pt)) (sym at.1) ∙ is.admits;
+    })
+    (λ pt is. helps_found k ec (handler_of k pt) flag (calls_at k ec portal pt asking numbered at.0 is.portal) is.counts at.1 at.2 is.admits)
+row_found k ec asks.Reply asking numbered at =
+    reply_holds (Found k ec) k ec (λ caller mark is. record { serves = is.serves; local = is.local; number = sym numbered; items_are = refl; counts = is.counts })
 row_found k ec (asks.CreatePd target pd first) asking numbered at = create_pd_holds (Found k ec) k (pd_of k ec) target pd first (new_pd_found k ec target first)
 row_found k ec (asks.CreateEc target pd cpu kind sp event) asking numbered at = makes_hold (Found k ec) CREATE_EC target (λ made. tt) k (pd_of k ec) pd _
 row_found k ec (asks.CreateSc target pd its quantum priority) asking numbered at = makes_hold (Found k ec) CREATE_SC target (λ made. tt) k (pd_of k ec) pd _
@@ -328,9 +387,14 @@ removes_found : (k : KernelState) (ec : ℕ) (range : Range) (own : Bool) → Is
 removes_found k ec range own forest state None next = tt
 removes_found k ec range own forest state (Some leaf) next = may_take k ec range own leaf forest state next
 
+how_ended : (k : KernelState) (ec : ℕ) (v : Delivery) (end : ItemEnd) (answer : ℕ) → delivery k ec (context k ec).state ≡ Some v → EndsAs k ec v end answer → Ended k ec end
+how_ended k ec v (Given children) answer present is = is.0
+how_ended k ec v (Skipped skip) answer present is = (v, present, is.0)
+how_ended k ec v (Translated word) answer present is = (v, present, is.0)
+
 giving_found : (k : KernelState) (ec : ℕ) → is_giving (context k ec).state ≡ true → Found k ec (deed k ec)
 giving_found k ec gives =
-    giving_holds (Found k ec) k ec gives tt (record { gives = λ d x g. tt; skips = λ d reason place is. tt; finishes = λ v end answer present is. tt })
+    giving_holds (Found k ec) k ec gives tt (record { gives = λ d x g. tt; skips = λ d reason place is. tt; finishes = λ v end answer present is. how_ended k ec v end answer present is })
 
 pub deed_found : (k : KernelState) (ec : ℕ) → IsForest k.delegations → AreSelectors k → Found k ec (deed k ec)
 unfolding deed

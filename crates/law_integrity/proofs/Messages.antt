@@ -40,10 +40,10 @@ own_words k ec n m steps (Some s) is e =
 pub message_by : (k : KernelState) (ec n : ℕ) (d : Deed) (m : List ℕ) → deed k ec ≡ d → IsRightful k ec d → Asks k ec d → IsActor k.contexts ec → AreServed (is_local_thread k) k.contexts →
     words_by k ec d ≡ Some (n, m) → Written k ec n m
 message_by k ec n deeds.Steps m is r asks actor served e = own_words k ec n m is (store_of (instruction k ec)) refl e
-message_by k ec n (deeds.Calls handler ip number items) m is r asks actor served e = at_number k ec handler n _ m (CopiesCall r.at (reached_parked k ec handler (send_reaches k.contexts ec handler r.flag r.admits)) refl) e
+message_by k ec n (deeds.Calls handler ip number items) m is r asks actor served e = at_number k ec handler n _ m (CopiesCall r.at (reached_parked k ec handler (send_reaches k.contexts ec handler _ r.admits)) refl) e
 message_by k ec n (deeds.Sends handler ip number mtd reason q0 q1) m is r asks actor served e =
     at_number k ec handler n _ m (CopiesExit (exits_at k ec handler ip number mtd.0 reason q0 q1 _ r) (reached_parked k ec handler (exit_reaches k.contexts ec handler r.admits)) refl) e
-message_by k ec n (deeds.Replies caller mark.Call items) m is r asks actor served e = at_number k ec caller n _ m (CopiesReply r.0 (awaited (is_local_thread k) k.contexts ec caller mark.Call actor r.0 served).waits refl) e
+message_by k ec n (deeds.Replies caller mark.Call items) m is r asks actor served e = at_number k ec caller n _ m (CopiesReply r.serves (awaited (is_local_thread k) k.contexts ec caller mark.Call actor r.serves served).waits refl) e
 message_by k ec n (deeds.Replies caller mark.Exit items) m is r asks actor served e = absurd (cc)
 message_by k ec n (deeds.Finishes item end None after) m is r asks actor served e = absurd (cc)
 message_by k ec n (deeds.Finishes item end (Some w) after) m is r asks actor served e = at_number k ec w.ec n _ m (TellsItem asks.0 item end w r.1 refl refl) e

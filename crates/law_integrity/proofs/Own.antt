@@ -195,11 +195,11 @@ deed_own k ec (deeds.Opens target domain) is r asks next actor fits =
     one_own k ec (Becomes (Granting (Some domain))) actor (comes_to k ec (context k ec) (Granting (Some domain)) (ap (λ (n : ℕ). Some n) next, r))
 deed_own k ec (deeds.Finishes item end words after) is r asks next actor fits = follows_own k ec _ after actor fits asks.1
 deed_own k ec (deeds.Calls handler ip number items) is r asks next actor fits =
-    two_own k ec handler (Becomes (Calling handler)) (Serves ec mark.Call ip number items) actor (not_parked k ec handler actor (reached_parked k ec handler (send_reaches k.contexts ec handler r.flag r.admits)))
+    two_own k ec handler (Becomes (Calling handler)) (Serves ec mark.Call ip number items) actor (not_parked k ec handler actor (reached_parked k ec handler (send_reaches k.contexts ec handler _ r.admits)))
     (comes_to k ec (context k ec) (Calling handler) (inl r.at))
 deed_own k ec (deeds.Helps handler) is r asks next actor fits = one_own k ec (Becomes (Helping handler)) actor (comes_to k ec (context k ec) (Helping handler) r.at)
-deed_own k ec (deeds.Replies caller came true) is r asks next actor fits = one_own k ec (Becomes Replying) actor (comes_to k ec (context k ec) Replying (caller, came, r.0))
-deed_own k ec (deeds.Replies caller came false) is r asks next actor fits = replies_own k ec caller came (message k ec) actor fits r.0
+deed_own k ec (deeds.Replies caller came true) is r asks next actor fits = one_own k ec (Becomes Replying) actor (comes_to k ec (context k ec) Replying (caller, came, r.serves))
+deed_own k ec (deeds.Replies caller came false) is r asks next actor fits = replies_own k ec caller came (message k ec) actor fits r.serves
 deed_own k ec (deeds.Aborts handler mark.Call) is r asks next actor fits = one_own k ec (Answers Aborted None) actor (answers k ec (context k ec) Aborted None tt)
 deed_own k ec (deeds.Aborts handler mark.Exit) is r asks next actor fits = one_own k ec (Becomes Dead) actor (comes_to k ec (context k ec) Dead (Left handler r.0 (actor.waits handler r.0)))
 deed_own k ec (deeds.Revokes range own) is r asks next actor fits = one_own k ec (Becomes (Revoking range own)) actor (comes_to k ec (context k ec) (Revoking range own) r.1)

@@ -5,12 +5,13 @@ use Rattle.std.proofs.lemmas.Option.{same_Some}
 use Rattle.nova_range.specs.declared.status.Status.TheVariants.{Success, Timeout}
 use Rattle.nova_model.specs.Choice.{Candidate}
 use Rattle.nova_model.specs.Deeds.{answered}
-use Rattle.nova_model.specs.Semaphores.{changed, greatest, raised, semaphore, semaphore_at, without_one, woken_of}
+use Rattle.nova_model.specs.Semaphores.{changed, greatest, raised, semaphore, semaphore_at, without_one, woken, woken_of}
 use Rattle.nova_model.specs.State.{KernelState, Semaphore, context_at, deadline_of, ec_in, ec_of, entry}
 use Rattle.nova_model.specs.Times.{alarm_sm, deadline_sm, next_moment, rung_in, rung_once}
-use Rattle.nova_model.specs.Turn.{chosen_by, counted, state_after, status_of, tick_by, turn, turn_by, whom_of}
+use Rattle.nova_model.specs.Turn.{chosen_by, counted, event_without, number_in, state_after, status_of, tick_by, turn, turn_by, whom_of}
 use Rattle.nova_model.specs.declared.context.EcState.{EcState}
 use Rattle.nova_model.specs.declared.context.State.TheVariants.{Blocked}
+use Rattle.nova_model.specs.declared.event.EventKind.TheVariants.{Irq}
 use Rattle.nova_model.specs.declared.semaphore.Overflow.{Overflow}
 use Rattle.nova_model.specs.declared.times.AlarmState.{AlarmState}
 use Rattle.nova_model.specs.declared.times.Deadline.{Deadline}
@@ -205,8 +206,8 @@ done_in_time k cpu (Falls (due.Alarm alarm)) is fits =
       rises = rung_itself k.times.alarms alarm its.0 its.1;
       whom = whom_of (alarm_up k alarm);
       raises = subst (λ (sm : ℕ). IsRaised k (turned k cpu (passing k (Falls (due.Alarm alarm)))) sm (whom_of (alarm_up k alarm))) (ap alarm_sm its.1) (alarm_raises k cpu alarm fits);
-      status = status_of (alarm_up k alarm);
-      named = event_answered (turn k cpu) ∙ ap event_in (due_answers k cpu (due.Alarm alarm) is);
+      named = event_answered (turn k cpu) ∙ ap event_in (due_answers k cpu (due.Alarm alarm) is)
+          ∙ ap (λ (o : Option AlarmState). Some (event_without cpu (number_in (whom_of (alarm_up k alarm))) Irq alarm (status_of (woken (semaphore k.semaphores (alarm_sm o)))))) its.1;
     }
 done_in_time k cpu (Falls (due.Deadline ec)) is fits =
     let its = deadline_due k cpu ec is in

@@ -20,7 +20,7 @@ use Rattle.law_origins.specs.Giving.{Acts}
 use Rattle.law_origins.proofs.Coming.{came}
 use Rattle.law_origins.proofs.Origins.{opened_now}
 use Rattle.law_integrity.specs.Confined.{IsMember, IsOwned}
-use Rattle.law_integrity.specs.Rights.{CallsAt, ExitsAt, GivesFirst, GivesTo, Names, RepliesWith, TakesOfCaller}
+use Rattle.law_integrity.specs.Rights.{AsksDown, CallsAt, ExitsAt, GivesFirst, GivesTo, Names, RepliesWith, TakesOfCaller}
 use Rattle.law_integrity.specs.Trusted.{IsWithinPolicy, Labelled, MayHold, MayTakeTurn, OrTrusted, labels_after}
 use Rattle.law_integrity.proofs.Blocked.{Before, BlockedBy, Now}
 use Rattle.law_integrity.proofs.Confining.{Child, Newest, Old, Whence, acting_one, acts_one, child_target, local_member, member_pd, newest_object, object_kept, order_none, schedulable_member, waits_edge, whence}
@@ -302,11 +302,50 @@ firsts_after k label cpu t policy ec new is side = elim (came k cpu ec (Granting
     there None at = absurd (cc)
     there (Some x) at = refl
 
+queues_after : (k : KernelState) (label : ℕ → ℕ) (cpu n m sm : ℕ) → IsTaken k cpu → IsWithinPolicy k label → (context (after k cpu) n).state ≡ Blocked sm → (context (after k cpu) m).state ≡ Blocked sm →
+    labels_after k label cpu (pd_of (after k cpu) n) ≢ 0 → OrTrusted (labels_after k label cpu) (labels_after k label cpu (pd_of (after k cpu) n)) (pd_of (after k cpu) m)
+queues_after k label cpu n m sm t policy first second side = by_both (t.came n sm first) (t.came m sm second)
+  where
+    ec : (e : ℕ) (y : EcState) → context_at k e ≡ Some y → IsEc k e
+    ec e y at = context_ec k e t.fits.tables (ap (λ (o : Option EcState). is_some o) at)
+
+    was : (e : ℕ) (y : EcState) → context_at k e ≡ Some y → y.state ≡ Blocked sm → (context k e).state ≡ Blocked sm
+    was e y at is = ap (λ (o : Option EcState). (context_in o).state) at ∙ is
+
+    some : IsEc k n → label (pd_of k n) ≢ 0
+    some i none = side (label_kept k label cpu n t.fits.tables i ∙ none)
+
+    kept : IsEc k n → IsEc k m → OrTrusted label (label (pd_of k n)) (pd_of k m) → OrTrusted (labels_after k label cpu) (labels_after k label cpu (pd_of (after k cpu) n)) (pd_of (after k cpu) m)
+    kept i j (inl same) = inl (label_kept k label cpu m t.fits.tables j ∙ same ∙ sym (label_kept k label cpu n t.fits.tables i))
+    kept i j (inr none) = inr (label_kept k label cpu m t.fits.tables j ∙ none)
+
+    -- who asks for a down holds the semaphore, where nobody of another side waits
+    asked : (e other : ℕ) → label (pd_of k e) ≢ 0 → AsksDown k e sm → (context k other).state ≡ Blocked sm → OrTrusted label (label (pd_of k e)) (pd_of k other)
+    asked e other own asks waits =
+        let at = asks.names.at in
+        (held_may k label e at.capability policy own at.held.there at.held.kind at.held.holder).waits other (waits ∙ ap (λ (s : ℕ). Blocked s) (sym at.leads))
+
+    turned_round : label (pd_of k n) ≢ 0 → (label (pd_of k m) ≡ 0) ⊎ (label (pd_of k m) ≢ 0) → AsksDown k m sm → (context k n).state ≡ Blocked sm → OrTrusted label (label (pd_of k n)) (pd_of k m)
+    turned_round own (inl none) asks waits = inr none
+    turned_round own (inr other) asks waits = by_asked (asked m n other asks waits)
+      where
+        by_asked : OrTrusted label (label (pd_of k m)) (pd_of k n) → OrTrusted label (label (pd_of k n)) (pd_of k m)
+        by_asked (inl same) = inl (sym same)
+        by_asked (inr none) = absurd (own none)
+
+    by_both : BlockedBy k cpu n sm → BlockedBy k cpu m sm → OrTrusted (labels_after k label cpu) (labels_after k label cpu (pd_of (after k cpu) n)) (pd_of (after k cpu) m)
+    by_both (Before y at is) (Before z there also) = kept (ec n y at) (ec m z there) (policy.queues n m sm (was n y at is) (was m z there also) (some (ec n y at)))
+    by_both (Before y at is) (Now acts_ z there asks) =
+        kept (ec n y at) (ec m z there) (turned_round (some (ec n y at)) (place (label (pd_of k m)) 0) asks (was n y at is))
+    by_both (Now acts_ y at asks) (Before z there also) = kept (ec n y at) (ec m z there) (asked n m (some (ec n y at)) asks (was m z there also))
+    by_both (Now acts_ y at asks) (Now also_ z there too) = inl (ap (λ (e : ℕ). labels_after k label cpu (pd_of (after k cpu) e)) (acts_one k cpu m n also_ acts_))
+
 pub policy_after : (k : KernelState) (label : ℕ → ℕ) (cpu : ℕ) → IsTaken k cpu → IsWithinPolicy k label → MayTakeTurn k label cpu → IsWithinPolicy (after k cpu) (labels_after k label cpu)
 policy_after k label cpu t policy take = record {
   capabilities = capabilities_after k label cpu t policy take;
   edges = edges_after k label cpu t policy take;
   firsts = firsts_after k label cpu t policy;
+  queues = λ n m sm first second side. queues_after k label cpu n m sm t policy first second side;
 }
 
 -- A SIDE TOUCHES NOTHING OF ANOTHER SIDE

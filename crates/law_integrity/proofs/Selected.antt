@@ -1,6 +1,6 @@
 -- The selector in x10 of a call, and what it names.
-use Rattle.std.proofs.Common.{◌≡◌, ◌<◌, ℕ, ◌^◌, slice_get, Option, Some, None, Ok, IfSome, subst, refl, sym, arith}
-use Rattle.std.specs.Prelude.{Bool, true, option_map}
+use Rattle.std.proofs.Common.{◌≡◌, ◌<◌, ◌≤◌, ℕ, ◌^◌, slice_get, Option, Some, None, Ok, IfSome, subst, refl, sym, arith}
+use Rattle.std.specs.Prelude.{◌==◌, Bool, true, option_map}
 use Rattle.std.proofs.lemmas.Bool.Decides.{nat_tests}
 use Rattle.rv_model.specs.Registers.{Registers, reg}
 use Rattle.nova_calls.specs.Hypercalls.{call_row, ec_ctrl_row, sc_ctrl_row, pt_ctrl_row, sm_ctrl_row, rows, call_of}
@@ -20,7 +20,7 @@ use Rattle.law_turns.proofs.Holding.{IsNamedAt, named_at}
 use Rattle.law_forest.proofs.Walk.{IfDone}
 use Rattle.law_integrity.specs.Rights.{IsAsking, Names}
 
--- the selector is one, and stands in x10; an identifier stands in x11
+-- the selector is one, and stands in x10; an identifier stands in x11, as does the flag of a call
 abbrev IsAt : Registers → ℕ → Type 0
 IsAt r selector = (selector ≡ reg r 10) × (selector < 2 ^ 20)
 
@@ -31,7 +31,7 @@ ReadsAction r act.Down = reg r 11 ≡ 1
 ReadsAction r (act.DownWithin ticks) = (reg r 11 ≡ 2) × (ticks ≡ reg r 12)
 
 abbrev pub Selects : Registers → Call → Type 0
-Selects r (call.Call portal flag) = IsAt r portal
+Selects r (call.Call portal flag) = IsAt r portal × (flag ≡ (reg r 11 == 1)) × (reg r 11 ≤ 1)
 Selects r (call.EcCtrl ec) = IsAt r ec
 Selects r (call.ScCtrl sc) = IsAt r sc
 Selects r (call.PtCtrl pt identifier) = IsAt r pt × (identifier ≡ reg r 11)

@@ -8,7 +8,7 @@ use Rattle.nova_model.specs.Capabilities.{is_sc}
 use Rattle.nova_model.specs.Creation.{budget_of, object_of}
 use Rattle.nova_model.specs.Deeds.{answered, deed}
 use Rattle.nova_model.specs.Semaphores.{Semaphores, changed, changed_by, greatest, raised, semaphore, semaphore_at, woken, woken_of}
-use Rattle.nova_model.specs.State.{Contexts, KernelState, Semaphore, budget_at, context_at, context_in, ec_in, ec_of, entry}
+use Rattle.nova_model.specs.State.{Contexts, KernelState, Semaphore, budget_at, context_in, ec_in, ec_of, entry}
 use Rattle.nova_model.specs.Times.{alarm_sm}
 use Rattle.nova_model.specs.Turn.{quantum_in, whom_of}
 use Rattle.nova_model.specs.declared.budget.Budget.{Budget}

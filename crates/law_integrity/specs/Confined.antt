@@ -97,12 +97,13 @@ pub record AreSeparate (k : KernelState) (S T : ℕ → Type 0) : Type 0 where
 abbrev pub WaitsApart : KernelState → (ℕ → Type 0) → (ℕ → Type 0) → Type 0
 WaitsApart k S T = (n sm : ℕ) → (context k n).state ≡ Blocked sm → IsMember k S n → HoldsAny k T sm → ⊥
 
--- and no object is held by both; and nobody of one waits at a semaphore that the other holds
+-- and no object is held by both; nobody of one waits at a semaphore that the other holds; and nobody of one waits where one of the other does, in whose queue each would decide who is woken
 pub record AreApart (k : KernelState) (S T : ℕ → Type 0) : Type 0 where
   pub separate : AreSeparate k S T
   pub objects : (object : ℕ) → HoldsAny k S object → HoldsAny k T object → ⊥
   pub first : WaitsApart k S T
   pub second : WaitsApart k T S
+  pub queues : (n m sm : ℕ) → (context k n).state ≡ Blocked sm → (context k m).state ≡ Blocked sm → IsMember k S n → IsMember k T m → ⊥
 
 -- THE SET ALONG TURNS
 

@@ -17,16 +17,16 @@ use Rattle.nova_calls.specs.declared.numbers.TheConstants.{EC_CTRL, PT_CTRL}
 use Rattle.nova_model.specs.Capabilities.{control_right}
 use Rattle.nova_model.specs.Choice.{choose}
 use Rattle.nova_model.specs.Deeds.{answered, answered_registers, deed, done, gave, instruction, recall, resumed, serving, skipped, transfer_after}
-use Rattle.nova_model.specs.Delegations.{Delegations, added, without}
+use Rattle.nova_model.specs.Delegations.{added, without}
 use Rattle.nova_model.specs.Edges.{is_dead, state_in}
 use Rattle.nova_model.specs.Forest.{IsWithin}
 use Rattle.nova_model.specs.Guests.{input}
 use Rattle.nova_model.specs.Inputs.{stirred}
 use Rattle.nova_model.specs.Portals.{identifier}
-use Rattle.nova_model.specs.Semaphores.{lowered, raised, semaphore, semaphore_at, without_one}
+use Rattle.nova_model.specs.Semaphores.{lowered, raised, semaphore, semaphore_at, without_one, woken}
 use Rattle.nova_model.specs.State.{KernelState, Semaphore, budget_at, context, context_at, deadline_of, entry, message, no_transfer, no_words, pd_of, transfer, transfer_at}
 use Rattle.nova_model.specs.Times.{due_on, next_moment, rung_once, ticked}
-use Rattle.nova_model.specs.Turn.{Step, charged, counted, event_without, number_in, turn, what_is_due}
+use Rattle.nova_model.specs.Turn.{Step, charged, counted, event_without, number_in, status_of, turn, what_is_due}
 use Rattle.nova_model.specs.declared.context.EcState.{EcState}
 use Rattle.nova_model.specs.declared.context.Mark.{Mark}
 use Rattle.nova_model.specs.declared.context.Mark.TheVariants.{Call, Exit}
@@ -231,10 +231,11 @@ pub record IsNewBudget (k new : KernelState) (ec n : ℕ) : Type 0 where
 -- A TURN
 
 -- the state after is what comes of a deed of `ec`, of the stir counts that it raises, and of the charge of `sc` with a turn of the processor. The deed is the one that `ec` is about to do,
--- which is rightful, and which it asks for where only a hypercall does it.
+-- which is rightful and isn't to rest, and which it asks for where only a hypercall does it.
 pub record IsAfterDeed (k new : KernelState) (cpu ec sc : ℕ) : Type 0 where
   pub after : new ≡ charged (stirred k ec (deed k ec) (done k ec (deed k ec))) cpu sc
   pub rightful : IsRightful k ec (deed k ec)
+  pub something : deed k ec ≢ deeds.Rests
   pub asks : IsOfCall (deed k ec) → IsAsking k ec
 
 -- the turn of a processor in which `ec` acts and `sc` pays: it does the deed of `ec`; and so each part of the state stays, or changes by right
@@ -292,16 +293,15 @@ pub data DeadlineByTime (k : KernelState) (what : Option Due) (n : ℕ) (new : O
 pub data AlarmByTime (what : Option Due) (n : ℕ) (old new : Option AlarmState) : Type 0 where
   Rings : what ≡ Some (due.Alarm n) → (a : AlarmState) → old ≡ Some a → new ≡ Some (rung_once a) → AlarmByTime what n old new
 
--- what is due is done: the alarm comes to its next moment and its semaphore is raised, where the event `irq` of the turn names the execution context that goes on, or 0; or who has the deadline leaves the
--- queue and goes on without it
+-- what is due is done: the alarm comes to its next moment and its semaphore is raised, where the event `irq` of the turn names the execution context that goes on, or 0, with the
+-- status of that up; or who has the deadline leaves the queue and goes on without it
 pub record IsRung (k new : KernelState) (cpu n : ℕ) : Type 0 where
   pub alarm : AlarmState
   pub there : slice_get k.times.alarms n ≡ Some alarm
   pub rises : slice_get new.times.alarms n ≡ Some (rung_once alarm)
   pub whom : Option ℕ
   pub raises : IsRaised k new alarm.alarm.sm whom
-  pub status : ℕ
-  pub named : option_map (λ (s : Step). s.event) (turn k cpu) ≡ Some (event_without cpu (number_in whom) Irq n status)
+  pub named : option_map (λ (s : Step). s.event) (turn k cpu) ≡ Some (event_without cpu (number_in whom) Irq n (status_of (woken (semaphore k.semaphores alarm.alarm.sm))))
 
 pub record IsLate (k new : KernelState) (ec : ℕ) : Type 0 where
   pub deadline : Deadline

@@ -1,5 +1,5 @@
 -- What one that acts is about to do is rightful: what the deed names of others is what its domain holds, or whom it serves.
-use Rattle.std.specs.Prelude.{◌≡◌, ◌≢◌, ◌<◌, ℕ, ◌+◌, Bool, true, false, Contains, IfSome, Option, Some, None, slice_get}
+use Rattle.std.specs.Prelude.{◌≡◌, ◌≢◌, ◌<◌, ◌==◌, ℕ, ◌+◌, ◌%◌, Bool, true, false, Contains, IfSome, Option, Some, None, Ok, Err, slice_get}
 use Rattle.rv_model.specs.Registers.{Registers, reg}
 use Rattle.rv_model.specs.Step.{Raised, Store, Went, environment_call}
 use Rattle.nova_model.specs.Deeds.{instruction}
@@ -7,46 +7,63 @@ use Rattle.nova_calls.specs.declared.numbers.TheConstants.{EC_CTRL, LOOKUP, PT_C
 use Rattle.nova_objects.specs.declared.object.Object.TheVariants.{Pt}
 use Rattle.nova_range.specs.declared.status.Status.{Status}
 use Rattle.nova_range.specs.declared.status.Status.TheVariants.{Success}
-use Rattle.nova_utcb.specs.Messages.{has_items}
+use Rattle.nova_utcb.specs.Messages.{has_counts, has_items}
 use Rattle.nova_model.specs.Calls.{admitted, exit_admitted}
 use Rattle.nova_model.specs.Capabilities.{control_right, event_right, is_ec, is_pt, is_sc, is_sm}
 use Rattle.nova_range.specs.RangeWords.{word_of}
 use Rattle.nova_model.specs.Delegations.{range_of}
+use Rattle.nova_model.specs.Deliveries.{delivery}
 use Rattle.nova_model.specs.Exits.{raised_exit}
 use Rattle.nova_model.specs.Hypercalls.{ticks_in}
 use Rattle.nova_model.specs.Portals.{identifier}
-use Rattle.nova_model.specs.State.{KernelState, budget_at, context, event_base, is_local_thread, is_thread, message, pd_of, processor_of}
+use Rattle.nova_model.specs.Semaphores.{semaphore, woken}
+use Rattle.nova_model.specs.State.{KernelState, budget_at, context, event_base, is_local_thread, is_thread, message, pd_of, processor_of, transfer}
 use Rattle.nova_model.specs.Times.{clock}
+use Rattle.nova_model.specs.Transfers.{job_of}
+use Rattle.nova_model.specs.Translations.{translated}
 use Rattle.nova_model.specs.declared.admit.Admit.TheVariants.{Help, Send}
 use Rattle.nova_model.specs.declared.admit.ExitAdmit.{ExitAdmit}
 use Rattle.nova_model.specs.declared.admit.ExitAdmit.TheVariants as exit
+use Rattle.nova_model.specs.declared.context.Mark.{Mark}
 use Rattle.nova_model.specs.declared.context.State.TheVariants.{Calling, Fresh, Ready}
 use Rattle.nova_model.specs.declared.deed.Deed.{Deed}
 use Rattle.nova_model.specs.declared.deed.Deed.TheVariants as deed
 use Rattle.nova_model.specs.declared.delegation.Derivation.{Derivation}
 use Rattle.nova_model.specs.declared.times.Deadline.{Deadline}
+use Rattle.nova_model.specs.declared.transfer.Delivery.{Delivery}
+use Rattle.nova_model.specs.declared.transfer.ItemEnd.{ItemEnd}
+use Rattle.nova_model.specs.declared.transfer.ItemEnd.TheVariants.{Given, Skipped, Translated}
 use Rattle.law_forest.specs.Made.{IsGivenChild, MayCreate}
 use Rattle.law_turns.specs.Asked.{HoldsAt}
-use Rattle.law_turns.specs.Left.{IsSkippedFor}
+use Rattle.law_turns.specs.Left.{HasGivenAll, IsSkippedFor}
 use Rattle.law_turns.specs.Revoking.{AsksRevoke, HasRevoked}
 use Rattle.law_turns.specs.Tables.{IsOf}
 use Rattle.law_turns.specs.Windows.{EndsItem, TellsOfItem}
 use Rattle.law_integrity.specs.Rights.{AsksDown, AsksUp, CallsAt, GivesTo, IsServing, MayTake, Names}
 
--- a call that is sent: its handler begins where the portal says, with the portal's identifier, and takes items exactly where the message counts some
+-- a call that is sent: its handler is parked, begins where the portal says, with the portal's identifier, and takes items exactly where the message counts some, which counts no more words than it has
 pub record IsCall (k : KernelState) (ec handler ip number : ℕ) (items : Bool) : Type 0 where
   pub at : CallsAt k ec handler
   pub begins : ip ≡ at.ip
   pub number_is : number ≡ identifier k at.portal
   pub items_are : items ≡ has_items (message k ec)
-  pub flag : Bool
-  pub admits : admitted k.contexts ec handler flag ≡ Send
+  pub counts : has_counts (message k ec) ≡ true
+  pub admits : admitted k.contexts ec handler (reg (context k ec).regs 11 == 1) ≡ Send
 
--- a call that helps the handler of its portal, which is busy
+-- a call that helps the handler of its portal, which is busy, as its x11 asks for: 0 waits
 pub record IsHelp (k : KernelState) (ec handler : ℕ) : Type 0 where
   pub at : CallsAt k ec handler
-  pub flag : Bool
-  pub admits : admitted k.contexts ec handler flag ≡ Help
+  pub counts : has_counts (message k ec) ≡ true
+  pub waits : reg (context k ec).regs 11 ≡ 0
+  pub admits : admitted k.contexts ec handler false ≡ Help
+
+-- a reply of a local thread to the caller that it serves, with items exactly where its message counts some, which counts no more words than it has
+pub record IsReply (k : KernelState) (ec caller : ℕ) (mark : Mark) (items : Bool) : Type 0 where
+  pub serves : IsServing k ec caller mark
+  pub local : is_local_thread k ec ≡ true
+  pub number : reg (context k ec).regs 17 ≡ REPLY
+  pub items_are : items ≡ has_items (message k ec)
+  pub counts : has_counts (message k ec) ≡ true
 
 -- an exit that was raised with this reason and these qualifications, at the portal that its domain holds at event base + reason with the right to send exits, whose handler, ip
 -- and descriptor these are; and what comes of it there
@@ -111,14 +128,23 @@ abbrev pub IsLimit : KernelState → ℕ → ℕ → Option Deadline → Type 0
 IsLimit k ec sm None = reg (context k ec).regs 11 ≡ 1
 IsLimit k ec sm (Some d) = IsOwnDeadline k ec sm d
 
--- of one that waits for a reply, the handler keeps it as its caller, by the mark with which it came; a part of an item is skipped for a reason that holds; an item ends as it is, and words tell of it to
+-- how the present item ends: a delegation, of which nothing is left, with the children that it made; a delegation that is skipped as a whole, for what its words read as; or a translation, with this word
+abbrev pub IsEnd : KernelState → ℕ → ItemEnd → Type 0
+IsEnd k ec (Given children) = (all : HasGivenAll k ec) × (children ≡ (transfer k ec).children) × (all.is_with.item.second_word % 2 ≡ 1)
+IsEnd k ec (Skipped skip) =
+    (item : Delivery) × (delivery k ec (context k ec).state ≡ Some item) × (job_of item.range_word item.second_word item.delegations item.giver item.receiver ≡ Err skip) × (item.second_word % 2 ≡ 1)
+IsEnd k ec (Translated word) =
+    (item : Delivery) × (delivery k ec (context k ec).state ≡ Some item) × (word ≡ translated k.delegations.list item.range_word item.translations item.giver item.receiver)
+    × (item.second_word % 2 ≡ 0)
+
+-- an up has no overflow; a down that is done finds the counter above 0, and one that waits finds it 0; of one that waits for a reply, the handler keeps it as its caller, by the mark with which it came; a part of an item is skipped for a reason that holds; an item ends as it is, and words tell of it to
 -- whom it is for; a revoke is the one that the registers ask for, and returns where nothing is left of its scope
 abbrev pub IsRightful : KernelState → ℕ → Deed → Type 0
 IsRightful k ec deed.Steps = IsStep k ec
 IsRightful k ec (deed.Raises reason q0 q1) = IsRaise k ec reason q0 q1
 IsRightful k ec (deed.Calls handler ip number items) = IsCall k ec handler ip number items
 IsRightful k ec (deed.Helps handler) = IsHelp k ec handler
-IsRightful k ec (deed.Replies caller mark items) = IsServing k ec caller mark × (is_local_thread k ec ≡ true) × (reg (context k ec).regs 17 ≡ REPLY)
+IsRightful k ec (deed.Replies caller mark items) = IsReply k ec caller mark items
 IsRightful k ec (deed.Sends handler ip number mtd reason q0 q1) = IsExitAt k ec handler ip number mtd.0 reason q0 q1 exit.Sends
 IsRightful k ec (deed.Waits handler reason q0 q1) = (ip : ℕ) × (number : ℕ) × (mtd : ℕ) × IsExitAt k ec handler ip number mtd reason q0 q1 exit.Waits
 IsRightful k ec (deed.Dies reason q0) = IsLost k ec reason q0
@@ -127,14 +153,14 @@ IsRightful k ec (deed.Refuses call status) = IsRefused k ec call status
 IsRightful k ec (deed.Recalls whose) = Names k ec EC_CTRL control_right whose × IsOf k.objects is_ec whose
 IsRightful k ec (deed.Names pt number) = Names k ec PT_CTRL control_right pt × IsOf k.objects is_pt pt × (number ≡ reg (context k ec).regs 11)
 IsRightful k ec (deed.Tells call value) = (call ≡ reg (context k ec).regs 17) × IsTold k ec call value
-IsRightful k ec (deed.Ups sm woken) = AsksUp k ec sm × IsOf k.objects is_sm sm
-IsRightful k ec (deed.Downs sm) = AsksDown k ec sm × IsOf k.objects is_sm sm
-IsRightful k ec (deed.Blocks sm until) = AsksDown k ec sm × IsOf k.objects is_sm sm × IsLimit k ec sm until
+IsRightful k ec (deed.Ups sm whom) = AsksUp k ec sm × IsOf k.objects is_sm sm × (woken (semaphore k.semaphores sm) ≡ Ok whom)
+IsRightful k ec (deed.Downs sm) = AsksDown k ec sm × IsOf k.objects is_sm sm × (0 < (semaphore k.semaphores sm).count)
+IsRightful k ec (deed.Blocks sm until) = AsksDown k ec sm × IsOf k.objects is_sm sm × IsLimit k ec sm until × ((semaphore k.semaphores sm).count ≡ 0)
 IsRightful k ec (deed.Makes call target made) = MayCreate k (pd_of k ec)
 IsRightful k ec (deed.Opens target domain) = MayCreate k (pd_of k ec)
 IsRightful k ec (deed.Gives child cursor) = (g : IsGivenChild k ec child) × GivesTo k ec g.source.pd child.pd
 IsRightful k ec (deed.Skips reason place cursor) = IsSkippedFor k ec reason
-IsRightful k ec (deed.Finishes item end words follows) = EndsItem k ec item words follows × IfSome words (TellsOfItem k ec item end)
+IsRightful k ec (deed.Finishes item end words follows) = EndsItem k ec item words follows × IfSome words (TellsOfItem k ec item end) × IsEnd k ec end
 IsRightful k ec (deed.Revokes range own) = (reg (context k ec).regs 17 ≡ REVOKE) × AsksRevoke k ec range own
 IsRightful k ec (deed.Removes leaf) = MayTake k ec leaf
 IsRightful k ec deed.Returns = HasRevoked k ec

@@ -28,12 +28,13 @@ pub record MayHold (k : KernelState) (label : ℕ → ℕ) (side object : ℕ) :
   pub alone : slice_get k.objects object ≡ Some Sm → (d : Derivation) → Contains k.delegations.list d → d.kind ≡ Obj → d.target ≡ object → OrTrusted label side d.pd
   pub waits : (n : ℕ) → (context k n).state ≡ Blocked object → OrTrusted label side (pd_of k n)
 
--- each side holds only what it may; who waits for a handler of a side, by a call, a help or an exit, is of that side; and so is a domain to which one of a side gives a first range. What is trusted may
--- hold what it likes.
+-- each side holds only what it may; who waits for a handler of a side, by a call, a help or an exit, is of that side; and so is a domain to which one of a side gives a first range; and whoever waits
+-- at a semaphore where one of a side waits is of that side, or trusted. What is trusted may hold what it likes.
 pub record IsWithinPolicy (k : KernelState) (label : ℕ → ℕ) : Type 0 where
   pub capabilities : (d : Derivation) → Contains k.delegations.list d → d.kind ≡ Obj → label d.pd ≢ 0 → MayHold k label (label d.pd) d.target
   pub edges : (waiter handler : ℕ) → edge k.contexts waiter ≡ Some handler → label (pd_of k handler) ≢ 0 → label (pd_of k waiter) ≡ label (pd_of k handler)
   pub firsts : (ec new : ℕ) → (context k ec).state ≡ Granting (Some new) → label (pd_of k ec) ≢ 0 → label new ≡ label (pd_of k ec)
+  pub queues : (n m sm : ℕ) → (context k n).state ≡ Blocked sm → (context k m).state ≡ Blocked sm → label (pd_of k n) ≢ 0 → OrTrusted label (label (pd_of k n)) (pd_of k m)
 
 -- ALONG TURNS
 

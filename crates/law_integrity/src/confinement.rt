@@ -65,9 +65,9 @@ pub fn closed_sets_are_blind_to_the_rest()
 {}
 
 /// Two guests, each with its monitor, that share nothing after some turns: no domain, no object, no frame, neither
-/// side waits for the other or at what the other holds, and neither holds a scheduling context of the other. Whatever turns follow, so it stays, and whoever acts is of one of the sides. A
-/// guest and its monitor, with the domains that are made of theirs, reach no frame, by no right, that they didn't
-/// reach then. A turn of one side leaves each execution context of the other as it is, and what else the other has;
+/// side waits for the other, at what the other holds or where the other waits, and neither holds a scheduling context
+/// of the other. Whatever turns follow, so it stays, and whoever acts is of one of the sides. A guest and its monitor,
+/// with the domains that are made of theirs, reach no frame, by no right, that they didn't reach then. A turn of one side leaves each execution context of the other as it is, and what else the other has;
 /// it leaves each frame that the other side reached then; and it is the same whatever the bytes of that frame are.
 pub fn guests_that_share_nothing_stay_apart()
     ensures apart { (scenario : Scenario) (before turns : List ℕ) (guest monitor other_guest other_monitor : ℕ)

@@ -38,11 +38,12 @@ pub fn turns_change_by_right()
 /// only where no such portal's handler takes it, and nothing else becomes of one than that it is sent, waits for
 /// its handler or ends it. A reply goes to the caller that it serves. Recalls, numbers of
 /// portals, ticks, ups and downs are of what its domain holds at the selector in x10, with the right to them;
-/// an up or a down is the one that x11 asks for, and a wait has a deadline exactly where x11 asks for one, on its
-/// own processor and so many ticks after the turn as x12 says. A lookup tells 0, or the word of a derivation of
+/// an up or a down is the one that x11 asks for, an up has no overflow, a down is done where the counter is above 0
+/// and waits where it is 0, and a wait has a deadline exactly where x11 asks for one, on its own processor and so many
+/// ticks after the turn as x12 says. A call waits for a busy handler only where x11 is 0. A lookup tells 0, or the word of a derivation of
 /// its own domain. A refusal is of the call in x17, and doesn't say SUCCESS. What only a hypercall does is done by
 /// a thread whose next instruction is one, or that makes its call again. A part of an item is skipped for a reason
-/// that holds, an item ends as it is and tells whom it is for, and a revoke is the one that the registers ask for
+/// that holds, an item ends as it is, as given only where nothing of it is left, and tells whom it is for, and a revoke is the one that the registers ask for
 /// and returns where nothing is left of its scope. One that waits for a reply acts only where its handler has
 /// ended, which keeps it as the caller that came by that mark, and one that gives a first range made that domain
 /// in a turn of its own.
