@@ -1,156 +1,210 @@
-"""Proves and builds the program, and shows how far it is.
+"""Proves and builds a program, and shows how far it is.
 
-  python3 tools/build [CRATE] [-- WORD..]
+  python3 tools/build [--plan] [CRATE] [-- WORD..]
+  python3 tools/build --built [CRATE]
 
 proves each crate that CRATE (nova, if none is named) stands on, and then makes CRATE and runs it with the words. A line tells of each
-crate that is proved, how many there are, and how long that took. What `rt` kept in the out/ folders is used again.
+crate that is proved, how many there are, how long that took, and how long the rest may take. What was built of the same sources by the same
+kit is used again, by checksums: the times of files mean nothing. With --plan nothing is built: it says what would be, how long that takes, and
+the room on disk. --built says by its status, 0 or 1, whether CRATE is built of the sources that are here.
 
-Crates are proved side by side, each as soon as those below it are proved. A proof holds its crate and all below it, so each worker has a
-tree of links of its own, and libraries are linked from one tree to the others; `rt` never writes into a file that is there.
+Crates are proved side by side, each as soon as those below it are proved, that with the longest way to the top first. How long it takes yet
+is reckoned from costs.txt, which has each crate's seconds on four idle cores, and from how fast this machine was so far.
 
-How long it takes yet is reckoned from costs.txt, which has each crate's seconds on four idle cores, and from how fast this machine was so far.
+Ended by a signal, it ends what it began. A second one in the same tree waits for the first.
 """
 
+from __future__ import annotations
+
 import concurrent.futures
-import math
-import os
-import pathlib
+import contextlib
+import fcntl
 import shutil
-import subprocess
+import signal
 import sys
 import tempfile
 import time
+from collections.abc import Iterator
+from pathlib import Path
 
-TOP = pathlib.Path(__file__).resolve().parents[2]
-# More workers than this are no quicker: the longest chain of crates is the clock.
-WORKERS = min(3, os.cpu_count() or 1)
-# The seconds of a crate that costs.txt doesn't know.
-UNKNOWN = 30
-# A crate that takes no more seconds was kept.
+from built import TOP, WORKERS, State, path_of, record, schedule, state_of
+from children import Children, Ended
+from kit import NoKit, folder, proved
+from schedule import Schedule
+from trees import copy_of_sources, hand_on
+
+# A crate that takes no more seconds was kept, and tells nothing of how fast the machine is.
 KEPT = 4
+# After so many seconds without a line there is one.
+SILENCE = 60
+# What the libraries below a program take on disk, in bytes for each second of cost: 2,409 seconds of nova's take some 9 GB.
+ROOM = 3_800_000
 
 
-def dependencies():
-    """The repository's crates, each with those of them that it names in crates.txt."""
-    named = {}
-    for line in (TOP / "crates.txt").read_text().splitlines():
-        name, colon, others = line.split("#")[0].partition(":")
-        if colon:
-            named[name.split()[0]] = others.split()
-    return {crate: [other for other in others if other in named] for crate, others in named.items()}
+def say(text: str) -> None:
+    """A line on standard error."""
+    print(f"nova: {text}", file=sys.stderr, flush=True)
 
 
-def costs():
-    """The seconds of each crate's proof on four idle cores."""
-    lines = (pathlib.Path(__file__).parent / "costs.txt").read_text().splitlines()
-    return {crate: int(seconds) for crate, seconds in map(str.split, lines)}
+class Builder:
+    """The building of one program: what is proved, what is being proved since when, and how fast this machine is."""
 
+    def __init__(self, plan: Schedule, done: set[str]) -> None:
+        self.plan = plan
+        self.proved = done
+        self.children = Children()
+        self._begun: dict[str, float] = {}
+        self._anew: dict[str, float] = {}
+        self._trees: list[Path] = []
 
-def minutes_left(wanted, proved, named, cost, pace):
-    """How many minutes the crates take that are not proved yet: those of all workers, or of the longest chain, on a machine of that pace."""
-    ends = {}
-    for crate in wanted:
-        own = 0 if crate in proved else cost.get(crate, UNKNOWN)
-        ends[crate] = own + max((ends[other] for other in named[crate]), default=0)
-    work = sum(cost.get(crate, UNKNOWN) for crate in wanted if crate not in proved)
-    return math.ceil(pace * max(work / WORKERS, *ends.values()) / 60)
+    def minutes_left(self) -> int:
+        """How many minutes all that is left may take."""
+        now = time.monotonic()
+        running = {crate: now - begun for crate, begun in self._begun.items()}
+        return self.plan.minutes_left(self.proved, running, self._pace(running))
 
+    def _pace(self, running: dict[str, float]) -> float:
+        """How many seconds this machine takes for one of cost. What runs for longer than it should counts as well."""
+        late = {crate: spent for crate, spent in running.items() if spent > self.plan.cost[crate]}
+        seen = self._anew | late
+        return sum(seen.values()) / sum(self.plan.cost[crate] for crate in seen) if seen else 1.0
 
-def in_order(crate, named, found):
-    """Adds to what was found the crates that this one stands on, each after those below it."""
-    for other in named[crate]:
-        in_order(other, named, found)
-        if other not in found:
-            found.append(other)
-    return found
+    def prove(self, crate: str) -> tuple[int, str]:
+        """Proves a crate in a tree that nobody uses. The answer is rt's status and what it wrote."""
+        tree = self._trees.pop()
+        for other in [*self.plan.below[crate], crate]:
+            hand_on(other, TOP, tree)
+        status, said = self.children.run(["rt", "lib"], tree / "crates" / crate)
+        if status == 0:
+            hand_on(crate, tree, TOP)
+        self._trees.append(tree)
+        return status, said
 
+    def make(self) -> tuple[int, str]:
+        """Proves and compiles the program itself."""
+        return self.children.run(["rt", "run", "--", *self.words], TOP / "crates" / self.plan.program)
 
-def link(source, target):
-    """Gives a file a second name, or copies it where the file system has no such names."""
-    try:
-        os.link(source, target)
-    except OSError:
-        shutil.copyfile(source, target)
+    def build(self, words: list[str]) -> int:
+        """Builds what is left, the program last, which is run with the words. The answer is a status."""
+        self.words = words
+        left = [crate for crate in self.plan.below if crate not in self.proved]
+        out = path_of(self.plan.program).parent
+        out.mkdir(parents=True, exist_ok=True)
+        with tempfile.TemporaryDirectory(prefix="trees-", dir=out) as room, concurrent.futures.ThreadPoolExecutor(WORKERS) as pool:
+            self._trees = [copy_of_sources(room) for _ in range(min(WORKERS, len(left) - 1))]
+            try:
+                return self._build(left, pool)
+            except BaseException:
+                self.children.stop()
+                raise
 
-
-def copy_of_sources(folder):
-    """Makes a tree with links to the repository's sources, in a new folder of this one."""
-    tree = pathlib.Path(tempfile.mkdtemp(dir=folder))
-    for file in ("HANDLES", "crates.txt"):
-        link(TOP / file, tree / file)
-    shutil.copytree(TOP / "crates", tree / "crates", ignore=shutil.ignore_patterns("out", "must-fail"), copy_function=link)
-    return tree
-
-
-def hand_on(crate, source, target):
-    """Links what one tree has kept of a crate into another one."""
-    for part in ("rlib", "incremental"):
-        kept, to = source / "crates" / crate / "out" / part, target / "crates" / crate / "out" / part
-        if kept.is_dir():
-            shutil.rmtree(to, ignore_errors=True)
-            shutil.copytree(kept, to, copy_function=link)
-
-
-def rt(words, folder):
-    """Calls rt in a folder. The answer is its status and what it wrote."""
-    how = {"stdin": subprocess.DEVNULL, "stdout": subprocess.PIPE, "stderr": subprocess.STDOUT, "text": True}
-    done = subprocess.run(["rt", *words], cwd=folder, **how)
-    return done.returncode, done.stdout
-
-
-def prove(trees, crate, below):
-    """Proves a crate in a tree that nobody uses. The answer is rt's status, what it wrote, and how many seconds it took."""
-    began, tree = time.monotonic(), trees.pop()
-    for other in [*below, crate]:
-        hand_on(other, TOP, tree)
-    status, said = rt(["lib"], tree / "crates" / crate)
-    if status == 0:
-        hand_on(crate, tree, TOP)
-    trees.append(tree)
-    return status, said, time.monotonic() - began
-
-
-def prove_all(wanted, named, folder):
-    """Proves crates, each once those below it are proved, in trees of their own in a folder. The answer is the status of one that failed, or 0."""
-    below = {crate: in_order(crate, named, []) for crate in wanted}
-    left, running, proved, cost, anew = list(wanted), {}, set(), costs(), {}
-    with concurrent.futures.ThreadPoolExecutor(WORKERS) as pool:
-        trees = [copy_of_sources(folder) for _ in range(WORKERS)]
+    def _build(self, left: list[str], pool: concurrent.futures.Executor) -> int:
+        running: dict[concurrent.futures.Future[tuple[int, str]], str] = {}
         while left or running:
-            ready = [crate for crate in left if proved.issuperset(below[crate])]
-            for crate in ready[: WORKERS - len(running)]:
+            for crate in self.plan.ready(left, self.proved)[: WORKERS - len(running)]:
                 left.remove(crate)
-                running[pool.submit(prove, trees, crate, below[crate])] = crate
-            for done in concurrent.futures.wait(running, return_when=concurrent.futures.FIRST_COMPLETED).done:
-                crate, (status, said, seconds) = running.pop(done), done.result()
-                if status != 0:
-                    print(f"{said}nova: {crate} was not built", file=sys.stderr)
+                self._begun[crate] = time.monotonic()
+                running[pool.submit(*((self.make,) if crate == self.plan.program else (self.prove, crate)))] = crate
+            done = concurrent.futures.wait(running, SILENCE, concurrent.futures.FIRST_COMPLETED).done
+            if not done:
+                say(f"still {', '.join(running.values())}; some {self.minutes_left()} minutes left")
+            for future in done:
+                status, said = future.result()
+                if not self._is_done(running.pop(future), status, said):
+                    self.children.stop()
                     return status
-                proved.add(crate)
-                if seconds > KEPT:
-                    anew[crate] = seconds
-                pace = sum(anew.values()) / sum(cost.get(each, UNKNOWN) for each in anew) if anew else 1
-                minutes = minutes_left(wanted, proved, named, cost, pace)
-                print(f"nova: {len(proved)} of {len(wanted) + 1}: {crate}, {seconds:.0f} s; some {minutes} minutes left", file=sys.stderr, flush=True)
-    return 0
+        return 0
+
+    def _is_done(self, crate: str, status: int, said: str) -> bool:
+        """Tells of a crate that is proved, or that isn't."""
+        seconds = time.monotonic() - self._begun.pop(crate)
+        if status != 0:
+            print(said, end="", file=sys.stderr)
+            say(f"{crate} was not built")
+            return False
+        self.proved.add(crate)
+        if seconds > KEPT:
+            self._anew[crate] = seconds
+        left = f"; some {self.minutes_left()} minutes left" if crate != self.plan.program else ""
+        say(f"{len(self.proved)} of {len(self.plan.below)}: {crate}, {seconds:.0f} s{left}")
+        return True
 
 
-def main(words):
-    cut = words.index("--") if "--" in words else len(words)
-    program = words[0] if cut else "nova"
-    named = dependencies()
-    wanted = in_order(program, named, [])
-    out = TOP / "crates" / program / "out"
-    out.mkdir(exist_ok=True)
-    with tempfile.TemporaryDirectory(prefix="trees-", dir=out) as folder:
-        status = prove_all(wanted, named, folder)
-    if status != 0:
-        return status
-    print(f"nova: {len(wanted) + 1} of {len(wanted) + 1}: {program}", file=sys.stderr)
-    status, said = rt(["run", "--", *words[cut + 1 :]], TOP / "crates" / program)
-    if status != 0:
-        print(f"{said}nova: {program} was not built", file=sys.stderr)
+def begun(program: str) -> Builder:
+    """A builder of a program, who knows what is built already."""
+    plan = schedule(program)
+    below = plan.below[program]
+    return Builder(plan, proved(below))
+
+
+def needs(builder: Builder) -> str:
+    """What is to be built, how long that takes, and the room on disk."""
+    left = [crate for crate in builder.plan.below if crate not in builder.proved]
+    gigabytes = sum(builder.plan.cost[crate] for crate in left) * ROOM / 1e9
+    free = shutil.disk_usage(TOP).free / 1e9
+    told = f"{len(left)} of {len(builder.plan.below)} crates are to be proved: some {builder.minutes_left()} minutes on four idle cores"
+    return f"{told}; {gigabytes:.1f} GB on disk, where {free:.1f} GB are free{' (which may not do)' if free < gigabytes else ''}"
+
+
+@contextlib.contextmanager
+def alone() -> Iterator[None]:
+    """Waits until no other builder is at work in this tree."""
+    (TOP / "out").mkdir(exist_ok=True)
+    with (TOP / "out" / "building").open("w") as lock:
+        try:
+            fcntl.flock(lock, fcntl.LOCK_EX | fcntl.LOCK_NB)
+        except BlockingIOError:
+            say("another build of this tree is at work: waiting for it")
+            fcntl.flock(lock, fcntl.LOCK_EX)
+        yield
+
+
+def end_on(*numbers: signal.Signals) -> None:
+    """Has these signals end the builder in order, as an interrupt from the keyboard does."""
+
+    def end(number: int, _: object) -> None:
+        say("ended by a signal: what is proved is kept")
+        raise SystemExit(128 + number)
+
+    for number in numbers:
+        signal.signal(number, end)
+
+
+def build(program: str, words: list[str]) -> int:
+    """Builds a program, and runs it with the words."""
+    with alone():
+        builder = begun(program)
+        say(needs(builder))
+        status = builder.build(words)
+        if status == 0:
+            record(program)
     return status
+
+
+def main(words: list[str]) -> int:
+    """Does what the words say. The status is that of rt where something isn't built, 2 for wrong words, and 3 where there is no kit."""
+    cut = words.index("--") if "--" in words else len(words)
+    options = {word for word in words[:cut] if word.startswith("-")}
+    named = [word for word in words[:cut] if not word.startswith("-")]
+    program = named[0] if named else "nova"
+    if options - {"--plan", "--built"} or len(named) > 1 or not (TOP / "crates" / program / "src" / "main.rt").is_file():
+        print(__doc__.strip() if options & {"-h", "--help"} else f"build: no program is named so: {' '.join(words[:cut])}", file=sys.stderr)
+        return 0 if options & {"-h", "--help"} else 2
+    if "--built" in options:
+        return 0 if state_of(program) is State.BUILT else 1
+    end_on(signal.SIGTERM, signal.SIGHUP)
+    try:
+        folder()
+        if "--plan" in options:
+            print(needs(begun(program)))
+            return 0
+        return build(program, words[cut + 1 :])
+    except NoKit as why:
+        say(str(why))
+        return 3
+    except (KeyboardInterrupt, Ended):
+        say("interrupted: what is proved is kept")
+        return 130
 
 
 if __name__ == "__main__":

@@ -17,6 +17,10 @@ from pathlib import Path
 from page import gone, listed, named, section
 from tables import CITED, ENUMERATIONS, Enumeration, citing, tables
 
+sys.path.append(str(Path(__file__).resolve().parents[1] / "build"))
+
+from ending import ended  # noqa: E402
+
 TOP = Path(__file__).resolve().parents[2]
 PAGE = "docs/ARCHITECTURE.md"
 
@@ -65,4 +69,4 @@ def main(words: argparse.Namespace) -> int:
 
 
 if __name__ == "__main__":
-    sys.exit(main(parser().parse_args()))
+    sys.exit(ended("changes", lambda: main(parser().parse_args())))

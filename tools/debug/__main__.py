@@ -1,10 +1,10 @@
 """Goes through a run in both directions.
 
 gdb-multiarch PROGRAM.elf -ex 'target remote | python3 tools/debug SCENARIO [ORDER]'
-python3 tools/debug trace SCENARIO [ORDER] [--from N] [--to N] [--ec E] [--elf FILE] [--semaphores]
+python3 tools/debug trace SCENARIO [ORDER] [--from N] [--to N] [--ec E] [--semaphores]
 python3 tools/debug symbols SCENARIO FILE
 
-The first two take [--limit N] [--program FILE]; the first [--keep BYTES] [--one] [--log FILE].
+The first two take [--limit N] [--elf FILE] [--names FILE] [--program FILE]; the first [--keep BYTES] [--one] [--log FILE].
 """
 
 from __future__ import annotations
@@ -15,14 +15,15 @@ import signal
 import sys
 from pathlib import Path
 
-from backend import BYTES, MOST, BackEnd, Refused
-from listing import Listing, list_turns
-from packets import Closed, Line
-from symbols import write_symbols
-from target import Target
+sys.path += [str(Path(__file__).resolve().parents[1] / name) for name in ("build", "picture")]
 
-TOP = Path(__file__).resolve().parents[2]
-PROGRAM = TOP / "crates" / "nova_debug" / "out" / "nova_debug"
+from backend import BYTES, MOST, BackEnd, Refused  # noqa: E402
+from built import Missing, find  # noqa: E402
+from listing import Listing, list_turns  # noqa: E402
+from naming import Names, Unread, add_words, names_of, selectors_in  # noqa: E402
+from packets import Closed, Line  # noqa: E402
+from symbols import write_symbols  # noqa: E402
+from target import Target  # noqa: E402
 
 
 def parser(trace: bool) -> argparse.ArgumentParser:
@@ -31,12 +32,14 @@ def parser(trace: bool) -> argparse.ArgumentParser:
     words.add_argument("scenario", type=Path, metavar="SCENARIO")
     words.add_argument("order", type=Path, nargs="?", metavar="ORDER", help="the order of turns of the run (round robin)")
     words.add_argument("--limit", type=int, default=MOST, metavar="N", help=f"the most turns of the run ({MOST})")
-    words.add_argument("--program", type=Path, default=PROGRAM, metavar="FILE", help="another program in place of the repository's")
+    words.add_argument("--program", type=Path, metavar="FILE", help="another program in place of the repository's")
+    add_words(words)
+    told = "an executable whose functions and lines are told" if trace else "an executable whose constants name selectors; gdb has its own"
+    words.add_argument("--elf", type=Path, metavar="FILE", help=told)
     if trace:
         words.add_argument("--from", dest="first", type=int, default=0, metavar="N", help="the turn to begin with (0)")
         words.add_argument("--to", dest="last", type=int, metavar="N", help="the turn to end before (that of the run's end)")
         words.add_argument("--ec", type=int, metavar="E", help="the turns of one execution context alone")
-        words.add_argument("--elf", type=Path, metavar="FILE", help="an executable whose functions and lines are told")
         words.add_argument("--semaphores", action="store_true", help="the turns alone that change semaphores, with which")
     else:
         kept = f"what states on the way may take, 0 for none ({BYTES})"
@@ -46,11 +49,33 @@ def parser(trace: bool) -> argparse.ArgumentParser:
     return words
 
 
+def opened(asked: argparse.Namespace) -> BackEnd:
+    """The program that is asked, with the run. Raises Refused where there is none, or it doesn't take the scenario or the order."""
+    try:
+        return BackEnd(asked.program or find("nova_debug"), asked.scenario, asked.order, asked.limit)
+    except Missing as why:
+        raise Refused(f"{why}; --program FILE takes it") from why
+
+
+def naming(asked: argparse.Namespace, back: BackEnd) -> Names:
+    """The names of objects, by what domains hold at the end of the run."""
+    if asked.names is None and asked.elf is None:
+        return Names()
+    here = back.turn
+    back.go(back.end)
+    held = selectors_in(back.delegations())
+    back.go(here)
+    try:
+        return names_of(asked.names, [asked.elf] if asked.elf else [], held)
+    except Unread as why:
+        raise Refused(str(why)) from why
+
+
 def trace(words: list[str]) -> int:
     """Lists turns."""
     asked = parser(True).parse_args(words)
-    back = BackEnd(asked.program, asked.scenario, asked.order, asked.limit)
-    list_turns(back, Listing(asked.first, asked.last, asked.ec, asked.elf, asked.semaphores), sys.stdout)
+    back = opened(asked)
+    list_turns(back, Listing(asked.first, asked.last, asked.ec, asked.elf, asked.semaphores, naming(asked, back)), sys.stdout)
     back.close()
     return 0
 
@@ -59,11 +84,11 @@ def serve(words: list[str]) -> int:
     """Answers gdb. An interrupt from the keyboard is gdb's alone."""
     asked = parser(False).parse_args(words)
     signal.signal(signal.SIGINT, signal.SIG_IGN)
-    back = BackEnd(asked.program, asked.scenario, asked.order, asked.limit)
+    back = opened(asked)
     back.keep(asked.keep)
     log = asked.log.open("w") if asked.log else None
     try:
-        Target(Line(0, 1), back, asked.one).serve(log)
+        Target(Line(0, 1), back, asked.one, naming(asked, back)).serve(log)
     except Closed:
         back.close()
     return 0
@@ -89,6 +114,9 @@ def main(words: list[str]) -> int:
         return 1
     except BrokenPipeError:
         os.dup2(os.open(os.devnull, os.O_WRONLY), sys.stdout.fileno())
+        return 1
+    except OSError as error:
+        print(f"debug: {f'{error.filename}: ' if error.filename else ''}{error.strerror}", file=sys.stderr)
         return 1
 
 

@@ -10,6 +10,7 @@ from typing import TextIO
 
 from access import STORE, access_of
 from backend import OWN_PAGE, PAGE, BackEnd, Event, context_of
+from naming import Names
 
 ADDR2LINE = "riscv64-unknown-elf-addr2line"
 # Of how many turns the program is asked at a time, and how many lines it may tell of execution contexts then.
@@ -29,6 +30,7 @@ class Listing:
     context: int | None
     executable: Path | None
     semaphores: bool
+    names: Names = Names()
 
 
 def places_of(executable: Path, addresses: Iterable[int]) -> dict[int, str]:
@@ -191,7 +193,7 @@ class Lister:
         words, stored = self._instruction(event, before) if before and turn.executes else (["-"], "")
         changed = changes(before, turn.after.get(event.actor)) if before else []
         told = "" if event.kind in SILENT else f"{event.kind} {event.a} {event.b}"
-        parts = (f"{event.place + 1} cpu {event.cpu} ec {event.actor} sc {event.payer}", *words, *changed, stored, told, *moved)
+        parts = (f"{event.place + 1} cpu {event.cpu} {self._listing.names.of(event.actor, 'ec')} sc {event.payer}", *words, *changed, stored, told, *moved)
         return "  ".join(filter(None, parts))
 
     def _instruction(self, event: Event, line: str) -> tuple[list[str], str]:
@@ -229,7 +231,8 @@ class Lister:
         """The semaphores that were changed, each as it was and is."""
         before, self._semaphores = self._semaphores, self._read_semaphores()
         after = self._semaphores
-        return [f"{before.get(number, 'none')} -> {line}" for number, line in after.items() if before.get(number) != line]
+        named = self._listing.names.line
+        return [f"{before.get(number, 'none')} -> {named(line)}" for number, line in after.items() if before.get(number) != line]
 
 
 def list_turns(back: BackEnd, listing: Listing, out: TextIO) -> None:

@@ -7,6 +7,7 @@ from typing import TextIO
 
 from backend import BackEnd, Context, Refused
 from going import Breakpoint, Going, Stop
+from naming import Names
 from packets import Closed, Line
 
 REGISTERS = 33
@@ -38,10 +39,11 @@ SIGNALS = {"interrupt": 2, "birth": 0}
 class Target:
     """A run, as gdb sees it."""
 
-    def __init__(self, line: Line, back: BackEnd, one: bool) -> None:
+    def __init__(self, line: Line, back: BackEnd, one: bool, names: Names = Names()) -> None:
         self._line = line
         self._back = back
         self._one = one
+        self._names = names
         self._going = Going(back, line.interrupted)
         self._multi = False
         # Those that were there at some turn: gdb doesn't take back the last thread of an inferior.
@@ -164,7 +166,7 @@ class Target:
     def _threads(self, said: str) -> str:
         self._look()
         rows = [
-            f'<thread id="{self._name(n)}" core="{c.cpu}" name="ec {n} {c.kind}">{self._state(n)}</thread>' for n, c in self._ever.items()
+            f'<thread id="{self._name(n)}" core="{c.cpu}" name="{self._names.of(n, "ec")} {c.kind}">{self._state(n)}</thread>' for n, c in self._ever.items()
         ]
         return self._part('<?xml version="1.0"?><threads>' + "".join(rows) + "</threads>", said)
 
@@ -246,11 +248,11 @@ class Target:
             case "event":
                 return "none yet" if not back.turn else back.ask(f"events {back.turn - 1} {back.turn}")[0]
             case "contexts":
-                return "\n".join(f"ec {n} {c.kind} in {c.domain}: {self._state(n)}" for n, c in self._look().items())
+                return "\n".join(self._names.line(f"ec {n} {c.kind} in {c.domain}: {self._state(n)}") for n, c in self._look().items())
             case "delegations":
                 return "\n".join(line for line in back.delegations() if not rest or line.split()[3] == rest[0])
             case "semaphores":
-                return "\n".join(back.semaphores()) or "none"
+                return "\n".join(map(self._names.line, back.semaphores())) or "none"
             case "console":
                 return self._console(int(rest[0]) if rest else 0)
             case "goto":

@@ -17,6 +17,10 @@ from names import defined, laws_of
 from rows import edits_gone, left_out, links, missing
 from table import Row, read, wrong
 
+sys.path.append(str(Path(__file__).resolve().parents[1] / "build"))
+
+from ending import ended  # noqa: E402
+
 TOP = Path(__file__).resolve().parents[2]
 
 
@@ -61,4 +65,4 @@ def main(words: argparse.Namespace) -> int:
 
 
 if __name__ == "__main__":
-    sys.exit(main(parser().parse_args()))
+    sys.exit(ended("definitions", lambda: main(parser().parse_args())))

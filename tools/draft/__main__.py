@@ -1,38 +1,95 @@
-"""Runs the program unproved: a draft, for whoever can't wait for its proofs.
+"""Runs a program unproved: a draft, for whoever can't wait for its proofs.
 
-  python3 tools/draft WORD..      as ./nova draft WORD..
+  ./nova draft WORD..             nova
+  ./nova draft NAME WORD..        another program of the repository: debug is nova_debug
+  ./nova draft --path [NAME]      makes it, and writes where it is, for the option --program of the tools
 
-compiles the sources with checks, as `rt try` does, and runs the program on the words. Nothing of such a run is proved. It stops at an overflow, an index
-out of bounds or a broken allocation, is some hundred times slower than the proved program, has a minute, and writes at most 1 MiB. A file that a
-word names is read as it stands; what the run writes to files, as the order of `run`, is lost.
+It is compiled without its proofs, once for each state of the sources, which takes one to two minutes, and kept in out/draft. It reads and writes
+files where it is called, as the proved program does, and its turns take some two or three times as long. Nothing of such a run is proved: before
+and after it a line on standard error says so. Checks are compiled in, so it ends by a signal at an overflow or an index out of bounds.
 """
 
-import pathlib
+from __future__ import annotations
+
+import os
+import signal
 import subprocess
 import sys
+import time
+from pathlib import Path
 
-TOP = pathlib.Path(__file__).resolve().parents[2]
+from making import TOP, Children, NoKit, NotMade, make  # makes tools/build known
 
+from built import draft_of
 
-def words_for(words):
-    """The words as the draft gets them, and the files that it is given, by name: it runs in a folder of its own."""
-    files, given = {}, []
-    for word in words:
-        path = pathlib.Path(word)
-        if path.is_file():
-            word = f"{len(files)}-{path.name}"
-            files[word] = path.resolve()
-        given.append(word)
-    return given, files
+# How a run is ended by a check of its own.
+CHECKS = (signal.SIGILL, signal.SIGTRAP, signal.SIGABRT, signal.SIGSEGV)
 
 
-def main(words):
-    given, files = words_for(words)
-    print("nova: DRAFT: nothing of this run is proved. It is compiled first, which takes two minutes or three", file=sys.stderr, flush=True)
-    data = [part for name, path in files.items() for part in ("--data", f"{name}={path}")]
-    status = subprocess.run(["rt", "try", *data, "--", *given], cwd=TOP / "crates/nova", stdin=subprocess.DEVNULL).returncode
-    print("nova: that was a DRAFT: nothing of it is proved. ./nova without draft proves the program and builds it", file=sys.stderr)
-    return status
+def say(text: str) -> None:
+    """A line on standard error."""
+    print(f"nova: {text}", file=sys.stderr, flush=True)
+
+
+def program_of(words: list[str]) -> tuple[str, list[str]]:
+    """The program that is meant, by the crate's name or the part behind nova_, and the words for it."""
+    for name in (f"nova_{words[0]}", words[0]) if words else ():
+        if name.isidentifier() and (TOP / "crates" / name / "src" / "main.rt").is_file():
+            return name, words[1:]
+    return "nova", words
+
+
+def made(name: str) -> Path:
+    """The draft of a program. Says what takes long."""
+    place = draft_of(name)
+    if place.exists():
+        os.utime(place.parent)
+        return place
+    say(f"DRAFT: {name} is compiled without its proofs, which takes one to two minutes, once for these sources")
+    began, children = time.monotonic(), Children()
+    signal.signal(signal.SIGTERM, signal.default_int_handler)
+    try:
+        make(name, place, children)
+    finally:
+        children.stop()
+    say(f"DRAFT: {name} was compiled in {time.monotonic() - began:.0f} s")
+    return place
+
+
+def run(place: Path, words: list[str]) -> int:
+    """Runs a draft, with the caller's input and output. An interrupt from the keyboard is the draft's."""
+    say("DRAFT: nothing of this run is proved")
+    signal.signal(signal.SIGINT, signal.SIG_IGN)
+    restored = lambda: signal.signal(signal.SIGINT, signal.SIG_DFL)  # noqa: E731
+    status = subprocess.run([str(place), *words], preexec_fn=restored, check=False).returncode
+    if -status in CHECKS:
+        say(f"DRAFT: a check that is compiled in ended it ({signal.Signals(-status).name})")
+    say("that was a DRAFT: nothing of it is proved. ./nova without draft proves the program and builds it")
+    return status if status >= 0 else 128 - status
+
+
+def main(words: list[str]) -> int:
+    """Runs a draft, or says where it is. The status is its own, or 1 where it could not be made."""
+    if words[:1] in (["--help"], ["-h"]):
+        print(__doc__.strip())
+        return 0
+    asks = words[:1] == ["--path"]
+    name, rest = program_of(words[1:] if asks else words)
+    if asks and rest:
+        say(f"draft --path: no program is named so: {' '.join(rest)}")
+        return 2
+    try:
+        place = made(name)
+    except (NotMade, NoKit, OSError) as why:
+        say(f"DRAFT: {name} could not be made: {why}")
+        return 1
+    except KeyboardInterrupt:
+        say("DRAFT: interrupted")
+        return 130
+    if asks:
+        print(place)
+        return 0
+    return run(place, rest)
 
 
 if __name__ == "__main__":

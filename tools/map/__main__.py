@@ -14,6 +14,10 @@ from dataclasses import dataclass, field
 from html import escape
 from pathlib import Path
 
+sys.path.append(str(Path(__file__).resolve().parents[1] / "build"))
+
+from ending import ended  # noqa: E402
+
 TOP = Path(__file__).resolve().parents[2]
 WIDTH, SIDE, ROW, GAP, LETTER = 880, 200, 30, 10, 7.2
 BELOW = ("Vectors", "Tests")
@@ -143,4 +147,4 @@ def main(words: list[str]) -> int:
 
 
 if __name__ == "__main__":
-    sys.exit(main(sys.argv[1:]))
+    sys.exit(ended("map", lambda: main(sys.argv[1:])))

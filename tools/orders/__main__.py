@@ -10,6 +10,7 @@ They take [--executor dask:ADDRESS]. All take [--turns N] [--jobs N] [--program 
 
 from __future__ import annotations
 
+import os
 import signal
 import sys
 import tempfile
@@ -20,14 +21,15 @@ from typing import TypeVar
 
 from asking import Ask, parser
 from choice import Choice, Wanted
+from finding import find_program, find_staying
 from longest import Scout
 from outcome import Outcome, broken, outcome_of
 from pool import Pool
-from program import DONE, End, Program, Stopped, Trouble, find_program, find_staying
+from program import DONE, End, Program, Stopped, Trouble
 from remote import Job
 from sample import Habits
 from sending import DASK, Dask, Sending, processes
-from shared import Fault, counted, read_order, read_report, read_settings
+from shared import Fault, Names, Unread, counted, names_of, read_order, read_report, read_settings, selectors
 from shrinking import Shrinker, search_simpler
 from tally import Tally
 from telling import Progress, outcome_texts, size_of, write_orders
@@ -114,11 +116,23 @@ class Work:
             status = self.interrupted()
         self.progress.end()
         folder = self.ask.output or Path(f"{self.ask.scenario.stem}.orders")
+        named = self.naming(tally).line
         names = write_orders(tally.groups(), folder)
         orders, outcomes = counted(tally.orders, "different order", "different orders"), counted(tally.outcomes, "outcome", "outcomes")
         print(f"{self.ask.scenario}: {orders}, {outcomes}")
-        print("\n".join([*(f"  {line}" for line in choice.account()), *outcome_texts(tally, names)]))
+        print("\n".join([*(f"  {line}" for line in choice.account()), *outcome_texts(tally, names, named)]))
         return status
+
+    def naming(self, tally: Tally[Outcome]) -> Names:
+        """The names of objects, by the report of the simplest order: in others some objects may have other numbers."""
+        groups = tally.groups()
+        if not groups or not (self.ask.names or self.ask.elf):
+            return Names()
+        report = read_report(self.program.run_text(text_of(groups[0].simplest)).report)
+        try:
+            return names_of(self.ask.names, self.ask.elf, selectors(report.ranges))
+        except Unread as why:
+            raise Trouble(str(why)) from why
 
     def expect(self) -> int:
         """Tries orders until one breaks what is expected, and writes that one."""
@@ -219,6 +233,9 @@ def main(arguments: list[str]) -> int:
             return Work(ask, Path(folder)).do()
     except Fault as fault:
         print(f"orders: a report of the program: {fault}", file=sys.stderr)
+        return REFUSED
+    except BrokenPipeError:
+        os.dup2(os.open(os.devnull, os.O_WRONLY), sys.stdout.fileno())
         return REFUSED
     except (Trouble, OSError) as error:
         print(f"orders: {error}", file=sys.stderr)

@@ -41,6 +41,8 @@ class Ask:
     stays: Path | None = None
     executor: str | None = None
     open: bool = False
+    names: Path | None = None
+    elf: tuple[Path, ...] = ()
 
     @staticmethod
     def of(words: argparse.Namespace) -> Ask:
@@ -52,6 +54,7 @@ class Ask:
             chosen = words.by or [aspects_of(DEFAULT)]
             given["aspects"] = tuple(aspect for several in chosen for aspect in several)
             del given["by"]
+            given["elf"] = tuple(words.elf)
         for name in ("never", "always"):
             if name in given:
                 given[name] = tuple(given[name] or ())
@@ -126,6 +129,8 @@ def parser() -> argparse.ArgumentParser:
     what = f"what makes an outcome: {parts} ({DEFAULT}); may be given again"
     explore.add_argument("--by", action="append", type=refusing(aspects_of), metavar="WHAT", help=what)
     explore.add_argument("--output", type=Path, metavar="FOLDER", help="where to write the orders (NAME.orders, for NAME.nova)")
+    explore.add_argument("--names", type=Path, metavar="FILE", help="names of objects: lines OBJECT NAME, or PD:SELECTOR NAME")
+    explore.add_argument("--elf", type=Path, action="append", default=[], metavar="FILE", help="an executable whose constants name selectors")
     pattern = {"type": refusing(pattern_of), "metavar": "PATTERN"}
     expect.add_argument("--never", action="append", **pattern, help="nothing in a report matches this regular expression")
     expect.add_argument("--always", action="append", **pattern, help="something in each report matches this regular expression")

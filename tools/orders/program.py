@@ -12,7 +12,6 @@ from queue import SimpleQueue
 from staying import Staying
 from turns import Blocks, text_of
 
-TOP = Path(__file__).resolve().parents[2]
 DONE, SCENARIO, ORDER, LIMIT = 0, 4, 5, 7
 IDLE = ("nova: order line ", ": Idle")
 
@@ -120,26 +119,3 @@ class Program:
             if self._stopped:
                 raise Stopped
         return child.returncode, report, said.strip()
-
-
-def find_staying(named: Path | None, program: Path | None) -> Path | None:
-    """The program that stays: the one that is named, or that of the repository where it is built and no other program is wanted."""
-    if named is not None or program is not None:
-        return named
-    built = TOP / "crates" / "nova_debug" / "out" / "nova_debug"
-    return built if built.exists() else None
-
-
-def find_program(named: Path | None, scenario: Path) -> Path:
-    """The program to start: the one that is named, or that of the repository, built where it is not there or old.
-
-    What it says of that, or of a fault of the scenario, stands on standard error. Raises Trouble where the scenario cannot be run.
-    """
-    asked = named or TOP / "nova"
-    try:
-        checked = subprocess.run([str(asked), "check", str(scenario)], stdout=subprocess.DEVNULL, check=False)
-    except OSError as error:
-        raise Trouble(f"{asked}: {error.strerror}") from error
-    if checked.returncode != DONE:
-        raise Trouble(f"{scenario} was not run")
-    return named or TOP / "crates" / "nova" / "out" / "nova"

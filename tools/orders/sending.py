@@ -26,7 +26,7 @@ Found = TypeVar("Found")
 HERE = Path(__file__).resolve().parent
 # What the tool consists of on a worker, beside the program: the files of this folder that `remote` needs, and what tools/picture shares.
 OWN = "longest", "pool", "program", "remote", "sample", "search", "shared", "staying", "turns", "outcome"
-SHARED = "order", "report", "scenario", "words"
+SHARED = "naming", "order", "report", "scenario", "words"
 ARRIVAL = "arrival.py"
 DASK = "dask:"
 # How many random orders a piece of work has at most.

@@ -7,6 +7,7 @@ from pathlib import Path
 
 sys.path.append(str(Path(__file__).resolve().parent.parent / "picture"))
 
+from naming import Names, Unread, names_of, selectors  # noqa: E402
 from order import read_order  # noqa: E402
 from report import FORMS, Event, Fault, Kind, Report, read_report  # noqa: E402
 from scenario import Moments, Settings, read_settings  # noqa: E402
@@ -16,6 +17,6 @@ from words import CREATE_SC, SM_CTRL, counted  # noqa: E402
 ROOT = 1
 
 __all__ = [
-    *("CREATE_SC", "FORMS", "ROOT", "SM_CTRL", "Event", "Fault", "Kind", "Moments", "Report", "Settings"),
-    *("counted", "read_order", "read_report", "read_settings"),
+    *("CREATE_SC", "FORMS", "ROOT", "SM_CTRL", "Event", "Fault", "Kind", "Moments", "Names", "Report", "Settings", "Unread"),
+    *("counted", "names_of", "read_order", "read_report", "read_settings", "selectors"),
 ]

@@ -3,7 +3,7 @@
 from __future__ import annotations
 
 import time
-from collections.abc import Iterator
+from collections.abc import Callable, Iterator
 from pathlib import Path
 from typing import TextIO
 
@@ -57,14 +57,15 @@ def parting_text(mine: Blocks, other: Blocks) -> str:
     return f"parts from order 1 in turn {place.turn}, line {place.line}: {here}, there {there}"
 
 
-def outcome_texts(tally: Tally[Outcome], names: list[Path]) -> Iterator[str]:
-    """What is said of each outcome: how often it was seen, its simplest order and where that parts from the first one's, and its lines."""
+def outcome_texts(tally: Tally[Outcome], names: list[Path], named: Callable[[str], str] = str) -> Iterator[str]:
+    """What is said of each outcome: how often it was seen, its simplest order and where that parts from the first one's, and its lines, as `named`
+    has them."""
     groups = tally.groups()
     for number, (group, name) in enumerate(zip(groups, names), 1):
         yield f"outcome {number}: {counted(group.orders, 'order', 'orders')}; the simplest, {size_of(group.simplest)}: {name}"
         if number > 1:
             yield f"  {parting_text(group.simplest, groups[0].simplest)}"
-        yield from (f"  {line}" for line in group.outcome or ("nothing of what was asked for",))
+        yield from (f"  {named(line)}" for line in group.outcome or ("nothing of what was asked for",))
 
 
 def write_orders(groups: list[Group[Outcome]], folder: Path) -> list[Path]:

@@ -18,6 +18,9 @@ from machine import Machine
 from samples import Tried, try_page
 
 TOP = Path(__file__).resolve().parents[2]
+sys.path.append(str(TOP / "tools" / "build"))
+
+from ending import ended  # noqa: E402
 
 
 def parser() -> argparse.ArgumentParser:
@@ -44,7 +47,11 @@ def main(words: argparse.Namespace) -> int:
     """Writes the faults and a line of counts; the status is 1 where there is a fault."""
     top = words.top.resolve()
     links, faults = faults_of(top)
-    tried = Tried() if words.links else tried_of(top, words.program or top / "crates/nova/out/nova")
+    program = words.program or top / "crates/nova/out/nova"
+    if not words.links and not program.is_file():
+        print(f"pages: {program} isn't there: `python3 tools/build` builds it, --program FILE names another, --links follows links alone", file=sys.stderr)
+        return 1
+    tried = Tried() if words.links else tried_of(top, program)
     for fault in faults + tried.faults:
         print(fault.replace(f"{top}/", ""), file=sys.stderr)
     print(f"{links} links, {tried.count} samples, {tried.left} not tried; {len(faults) + len(tried.faults)} faults")
@@ -52,4 +59,4 @@ def main(words: argparse.Namespace) -> int:
 
 
 if __name__ == "__main__":
-    sys.exit(main(parser().parse_args()))
+    sys.exit(ended("pages", lambda: main(parser().parse_args())))

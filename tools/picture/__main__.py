@@ -4,7 +4,8 @@ python3 tools/picture run REPORT [--order FILE] [--scenario FILE] [--from TURN] 
 python3 tools/picture delegations REPORT [--from TURN] [--to TURN] [--all] [--fold N] [--page] [--output FILE]
 python3 tools/picture trace REPORT [--order FILE] [--scenario FILE] [--from TURN] [--to TURN] [--output FILE.json.gz]
 
-With a scenario, run and trace ask nova_debug what the report doesn't tell, where that is built; [--program FILE] names another one.
+With a scenario, run and trace ask nova_debug what the report doesn't tell, where that is built; [--program FILE] names another one. All take
+[--names FILE] and [--elf FILE], for names of objects.
 """
 
 from __future__ import annotations
@@ -22,9 +23,10 @@ from typing import IO, BinaryIO, TypeVar
 
 from clocks import Firing, find_firings, misfit, mistimed
 from drawing import page, svg
-from exact import PROGRAM, Exact
+from exact import Exact, there
 from exact import Refused as NotAsked
 from history import Wakes
+from naming import Names, Unread, add_words, names_of, selectors
 from order import Order, read_order
 from report import Fault, Report, read_report
 from run_picture import draw_run
@@ -71,6 +73,8 @@ def parser() -> argparse.ArgumentParser:
         picture.add_argument("--from", dest="first", type=int, metavar="TURN", help="the first turn to draw (1)")
         picture.add_argument("--to", dest="last", type=int, metavar="TURN", help="the last turn to draw (that of the run)")
         picture.add_argument("--output", type=Path, metavar="FILE", help="where to write (standard output)")
+        picture.add_argument("--elf", type=Path, action="append", default=[], metavar="FILE", help="an executable whose constants name selectors")
+        add_words(picture)
     for picture in (run, trees):
         picture.add_argument("--all", action="store_true", help="draw all turns that are asked for, also where the picture passes 5 MB")
         picture.add_argument("--page", action="store_true", help="write a page of HTML that shows a mark's line, not an SVG")
@@ -125,21 +129,26 @@ def draw_window(words: argparse.Namespace, text: str, events: Events, window: Wi
     """The picture of the window."""
     report = read_window(words, text, events, window)
     if words.picture == "delegations":
-        scene = draw_delegations(words.report.stem, report, window, words.fold)
+        scene = draw_delegations(words.report.stem, report, window, words.fold, naming(words, report))
     else:
         order = None
         if words.order is not None:
             order = faultless(words.order, lambda: read_order(read_text(words.order), report.turns, events.turns, events.cpus()))
         firings = firings_of(words.scenario, report, events, order) if words.scenario is not None else {}
         with asked(words, report) as ask:
-            scene = draw_run(words.report.stem, report, order, window, words.fold, firings, ask)
+            scene = draw_run(words.report.stem, report, order, window, words.fold, firings, ask, naming(words, report))
     return (page(scene) if words.page else svg(scene)).encode("utf-8", "replace")
+
+
+def naming(words: argparse.Namespace, report: Report) -> Names:
+    """The names that were given, and those of executables."""
+    return names_of(words.names, words.elf, selectors(report.ranges))
 
 
 def firings_of(scenario: Path, report: Report, events: Events, order: Order | None) -> dict[int, Firing]:
     """When the sources of the run were due, by the scenario."""
     settings = faultless(scenario, lambda: read_settings(read_text(scenario)))
-    if not misfit(settings, report.sources):
+    if not misfit(settings, report):
         found = find_firings(settings, report.sources, events.firings(), order)
         if not found or not mistimed(found, report.sources, events.firings()):
             return found
@@ -174,10 +183,11 @@ def asked(words: argparse.Namespace, report: Report) -> Iterator[Wakes]:
 
 def open_exact(words: argparse.Namespace, report: Report) -> Exact | None:
     """The program that makes the run of the scenario again, if there is one. Where one that isn't named makes another run, that is said."""
-    if words.scenario is None or not (words.program or PROGRAM.exists()):
+    program = words.program or (there("nova_debug") if words.scenario else None)
+    if words.scenario is None or program is None:
         return None
     try:
-        return Exact(words.program or PROGRAM, words.scenario, words.order, report)
+        return Exact(program, words.scenario, words.order, report)
     except NotAsked as why:
         if words.program:
             raise Refused(str(why)) from why
@@ -191,7 +201,7 @@ def trace(words: argparse.Namespace) -> Iterator[str]:
     window = window_of(report.turns, words)
     exact = open_exact(words, report)
     slices = list(exact.slices(window.first, window.last)) if exact else []
-    yield from text_of(trace_events(report, window, slices, exact.woken if exact else None))
+    yield from text_of(trace_events(report, window, slices, exact.woken if exact else None, naming(words, report)))
     if exact:
         exact.close()
 
@@ -228,7 +238,7 @@ def main(arguments: list[str]) -> int:
             sys.stdout.buffer.write(picture)
         else:
             words.output.write_bytes(picture)
-    except (Refused, OSError) as error:
+    except (Refused, Unread, OSError) as error:
         print(f"picture: {error}", file=sys.stderr)
         return 1
     return 0

@@ -145,9 +145,15 @@ def find_firings(
     return found
 
 
-def misfit(settings: Settings, sources: list[Source]) -> bool:
-    """Whether the sources of a scenario are not those of a report, by their processors."""
-    return [one.cpu for one in settings.sources] != [one.cpu for one in sources]
+def misfit(settings: Settings, report: Report) -> bool:
+    """Whether a scenario is not that of a report, by its processors, and by its sources: where they are and how often they fire. A run that came to
+    rest has had all firings."""
+    if [one.cpu for one in settings.sources] != [one.cpu for one in report.sources]:
+        return True
+    if any(one.cpu >= settings.cpus for one in (*report.payers, *report.events)):
+        return True
+    left = [one.count - seen.fired for one, seen in zip(settings.sources, report.sources)]
+    return any(left) if report.quiet else min(left, default=0) < 0
 
 
 def mistimed(found: dict[int, Firing], sources: list[Source], fired: Iterable[tuple[int, int]]) -> bool:

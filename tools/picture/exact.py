@@ -9,13 +9,15 @@ from pathlib import Path
 from report import Report
 
 TOP = Path(__file__).resolve().parents[2]
-sys.path.append(str(TOP / "tools" / "debug"))
+sys.path += [str(TOP / "tools" / "debug"), str(TOP / "tools" / "build")]
 
 from backend import PART, BackEnd, Refused, Slice  # noqa: E402
+from built import path_of, there  # noqa: E402
 
-PROGRAM = TOP / "crates" / "nova_debug" / "out" / "nova_debug"
+# Where the repository's program is, once it is built.
+PROGRAM = path_of("nova_debug")
 
-__all__ = ["PROGRAM", "Exact", "Refused", "Slice"]
+__all__ = ["PROGRAM", "Exact", "Refused", "Slice", "there"]
 
 
 def _words_of(line: str) -> list[str]:
@@ -65,6 +67,18 @@ class Exact:
             yield from self._back.slices(first - 1, last)
         except Refused:
             return
+
+    def domains(self) -> dict[int, int]:
+        """The protection domain of each execution context."""
+        return self._back.domains()
+
+    def began(self, context: int) -> int | None:
+        """The address of the first instruction that an execution context executed; none where it executed none."""
+        self._back.go(0)
+        found = self._back.run([f"by {context}"], self._back.end)
+        following = self._back.next() if found else None
+        self._back.go(self._back.end)
+        return following[2] if following else None
 
     def close(self) -> None:
         """Ends the program."""

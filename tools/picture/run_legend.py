@@ -7,6 +7,7 @@ from functools import partial
 
 from history import Doing, Lead
 from legend import Entry
+from naming import Names
 from report import UNPAID
 from run import Run
 from scene import Arrow, Box, Item, Line, Mark, Shape
@@ -17,7 +18,7 @@ from words import counted
 MOST_PAYERS = 24
 
 
-def run_entries(run: Run) -> Iterator[Entry]:
+def run_entries(run: Run, names: Names = Names()) -> Iterator[Entry]:
     """All entries: the marks, the arrows, the lines and bars, and who pays."""
     drawn = {shape_of(event) for event, _ in run.events}
     for shape in (shape for shape in Shape if shape in drawn):
@@ -33,17 +34,17 @@ def run_entries(run: Run) -> Iterator[Entry]:
         yield Entry(partial(_doing, doing), doing.value)
     if any(firing.delay for firing in run.firings.values()):
         yield Entry(_due, "a source is due, and fires at the end")
-    yield from _payer_entries(run)
+    yield from _payer_entries(run, names)
 
 
-def _payer_entries(run: Run) -> Iterator[Entry]:
+def _payer_entries(run: Run, names: Names) -> Iterator[Entry]:
     used = {payer for _, payers in run.events for payer in payers}
     shown = [payer for payer in run.report.payers if len(run.report.payers) <= MOST_PAYERS or payer.number in used]
     for payer in shown[:MOST_PAYERS]:
         owner = run.history.owners.get(payer.number)
         whose = f" of EC {owner}" if owner is not None else ""
         colours = colours_of(frozenset({payer.number}), run.ranks)
-        yield Entry(partial(_mark, Shape.SQUARE, colours), f"SC {payer.number}{whose} pays: {counted(payer.ticks, 'turn', 'turns')}")
+        yield Entry(partial(_mark, Shape.SQUARE, colours), names.text(f"SC {payer.number}{whose} pays: {counted(payer.ticks, 'turn', 'turns')}"))
     if any(event.kind in UNPAID for event, _ in run.events):
         yield Entry(partial(_mark, Shape.SQUARE, NOBODY), "nobody pays")
     if any(not payers and event.kind not in UNPAID for event, payers in run.events):

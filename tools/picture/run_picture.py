@@ -10,6 +10,7 @@ import scene
 from clocks import Firing
 from history import Arrow, Doing, Lead, Span, Wakes
 from legend import place_legend, place_title
+from naming import Names
 from objects import ROOT
 from order import Order
 from report import Event, Kind, Report, Source
@@ -52,12 +53,13 @@ def draw_run(
     fold: int,
     firings: dict[int, Firing] | None = None,
     ask: Wakes | None = None,
+    names: Names = Names(),
 ) -> Scene:
     """The picture of the turns of the window; a stretch of more than `fold` turns without an event is drawn short, and so is one of ticks
     alone. `firings` are those of the sources by their turns, where it is told when they were due. Who was woken when is asked, where one can."""
     run = gather(report, order, window, firings or {}, ask)
     lanes = _place_lanes(run)
-    texts = [row_text(event, run) for event, _ in run.events]
+    texts = [names.text(row_text(event, run)) for event, _ in run.events]
     text_x = lanes.right + BETWEEN
     widest = max(map(text_width, [*texts, _fold_text(report.turns, None)]))
     title = f"{name}: {title_of(run)}"
@@ -65,14 +67,14 @@ def draw_run(
     width = max(LEAST_WIDTH, text_x + widest + MARGIN, max(text_width(title, TITLE), text_width(note)) + 2 * MARGIN)
     picture = Scene(title, width)
     titles, above = place_title(title, note, MARGIN)
-    legend, below = place_legend(list(run_entries(run)), MARGIN, above, width - 2 * MARGIN)
+    legend, below = place_legend(list(run_entries(run, names)), MARGIN, above, width - 2 * MARGIN)
     head = below + 12
     timeline = Timeline([event.place for event, _ in run.events], window, fold, head + HEAD, run.ticks.within)
     picture.items += [*titles, *legend]
     picture.items += _folds(run, timeline, width, text_x)
     if order is not None:
         picture.items += draw_strips(order, timeline, lanes.strips)
-    picture.items += _heads(run, lanes, head)
+    picture.items += _heads(run, lanes, head, names)
     picture.items += _spans(run, lanes, timeline)
     picture.items += _source_lanes(run, lanes, timeline)
     for (event, payers), text in zip(run.events, texts):
@@ -132,7 +134,7 @@ def _group_name(cpu: int | None) -> str:
     return f"processor {cpu}" if cpu is not None else "without a turn"
 
 
-def _heads(run: Run, lanes: Lanes, top: float) -> Iterator[Item]:
+def _heads(run: Run, lanes: Lanes, top: float, names: Names) -> Iterator[Item]:
     """The names of the processors and of the execution contexts."""
     yield Label(lanes.left, top + 48, "turn", "end small")
     for cpu, left, right in lanes.groups:
@@ -142,10 +144,10 @@ def _heads(run: Run, lanes: Lanes, top: float) -> Iterator[Item]:
     for number, x in lanes.lanes.items():
         context = contexts[number]
         sort = "root" if number == ROOT else context.sort
-        yield _head(f"EC {number}", sort, context.line, x, top, LANE)
+        yield _head(f"EC {number}", names.head(number, sort), context.line, x, top, LANE)
     for number, x in lanes.sources.items():
         source = run.report.sources[number]
-        yield _head(f"source {number}", f"ups SM {source.semaphore}", source.line, x, top, SOURCE_LANE)
+        yield _head(f"source {number}", names.head(source.semaphore, f"ups SM {source.semaphore}"), source.line, x, top, SOURCE_LANE)
     for x in lanes.strips.values():
         yield Label(x + STRIP / 2, top + 48, "turns", "mid small")
 

@@ -14,6 +14,7 @@ from functools import cache
 
 from exact import Slice
 from history import Doing, History, Lead, Wakes, find_history
+from naming import Names
 from report import Kind, Report
 from timeline import Window
 from words import sentence
@@ -39,12 +40,12 @@ def _slice(process: int, track: int, start: int, end: int, name: str, more: str 
     return f'{{"ph":"X","pid":{process},"tid":{track},"ts":{start},"dur":{end - start},"name":{_text(name)}{more}}}'
 
 
-def _names(report: Report, slices: list[Slice]) -> Iterator[TraceEvent]:
+def _names(report: Report, slices: list[Slice], names: Names) -> Iterator[TraceEvent]:
     for process, text in _PROCESSES:
         yield _name("process_name", process, 0, text)
     for context in report.contexts:
         for process in (CONTEXTS, STATES):
-            yield _name("thread_name", process, context.number, f"EC {context.number} {context.sort}")
+            yield _name("thread_name", process, context.number, f"{names.of(context.number)} {context.sort}")
     for cpu in sorted({event.cpu for event in report.events} | {one.cpu for one in slices}):
         yield _name("thread_name", PROCESSORS, cpu, f"processor {cpu}")
 
@@ -100,10 +101,10 @@ def _flows(report: Report, history: History, window: Window) -> Iterator[TraceEv
         yield f'{{"ph":"f","bp":"e","ts":{arrow.place},"pid":{STATES},"tid":{arrow.target},{both}}}'
 
 
-def trace_events(report: Report, window: Window, slices: list[Slice], ask: Wakes | None = None) -> Iterator[TraceEvent]:
+def trace_events(report: Report, window: Window, slices: list[Slice], ask: Wakes | None = None, names: Names = Names()) -> Iterator[TraceEvent]:
     """All trace events of a window of a run."""
     history = find_history(report, ask)
-    yield from _names(report, slices)
+    yield from _names(report, slices, names)
     yield from _states(history, window)
     yield from _turns(slices)
     yield from _instants(report, history, window)

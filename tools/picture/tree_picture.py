@@ -9,6 +9,7 @@ from functools import partial
 
 from drawing import colour
 from legend import Entry, place_legend, place_title
+from naming import Names
 from objects import Life, Objects, find_lives, find_objects
 from report import CapRange, Kind, Report, Space
 from scene import TITLE, Box, Group, Item, Label, Line, Scene, text_width
@@ -58,14 +59,15 @@ class Column:
     text: Callable[[Forest, int], str]
 
 
-def draw_delegations(name: str, report: Report, window: Window, fold: int) -> Scene:
+def draw_delegations(name: str, report: Report, window: Window, fold: int, names: Names = Names()) -> Scene:
     """The ranges made or removed in the window and what these came from; all of them where the window is the whole run.
 
     Of more than `fold` ranges one under another that nothing was given from, only the first and last are drawn.
     """
     forest = _plant(report, window)
     rows = list(_rows(forest, fold))
-    columns = [column for column in COLUMNS if any(column.text(forest, row.number) for row in rows)]
+    named = [Column(column.name, partial(_named, names, column)) for column in COLUMNS]
+    columns = [column for column in named if any(column.text(forest, row.number) for row in rows)]
     xs = _column_places(forest, rows, columns)
     scene = Scene(f"{name}: {_title(report, window, forest)}")
     note = window.note(report.turns)
@@ -211,6 +213,11 @@ COLUMNS = (
     Column("leads to", _target),
     Column("when", _life),
 )
+
+
+def _named(names: Names, column: Column, forest: Forest, number: int) -> str:
+    """A text of a column, with names."""
+    return names.text(column.text(forest, number))
 
 
 def _column_places(forest: Forest, rows: list[Row], columns: list[Column]) -> list[float]:

@@ -18,6 +18,9 @@ import texts
 from runner import Runner
 
 TOP = Path(__file__).resolve().parents[2]
+sys.path.append(str(TOP / "tools" / "build"))
+
+from built import ended, find  # noqa: E402
 
 # How many texts there are, and how long each run may take.
 COUNT, SECONDS = 2000, 20.0
@@ -26,7 +29,7 @@ COUNT, SECONDS = 2000, 20.0
 def parser() -> argparse.ArgumentParser:
     """The words that the program takes."""
     words = argparse.ArgumentParser(prog="refusals", description="Refuses the program what it reads, writes and takes, and looks at how it ends.")
-    words.add_argument("--program", default=str(TOP / "nova"), metavar="FILE", help="the program (nova at the top of the repository)")
+    words.add_argument("--program", metavar="FILE", help="the program (nova of the repository)")
     words.add_argument("--seconds", type=float, default=SECONDS, metavar="S", help=f"how long a run may take ({SECONDS})")
     which = words.add_subparsers(dest="which", required=True)
     which.add_parser("calls", help="refuse each call to the C library once")
@@ -59,9 +62,10 @@ def main(words: argparse.Namespace) -> int:
     """Does what the words say."""
     if words.which == "texts" and words.show is not None:
         return show(words.show)
+    program = words.program or str(find("nova"))
     with tempfile.TemporaryDirectory() as name:
         folder = Path(name)
-        runner = Runner(os.path.abspath(words.program), folder, words.seconds)
+        runner = Runner(os.path.abspath(program), folder, words.seconds)
         if words.which == "texts":
             seen = texts.look(runner, folder, range(words.first, words.first + words.count), words.keep)
             return tell(seen.endings, [f"seed {seed}: {said}" for seed, said in seen.wrong.items()])
@@ -74,4 +78,4 @@ def main(words: argparse.Namespace) -> int:
 
 
 if __name__ == "__main__":
-    sys.exit(main(parser().parse_args()))
+    sys.exit(ended("refusals", lambda: main(parser().parse_args())))

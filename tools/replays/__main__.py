@@ -20,6 +20,9 @@ from replay import Replay, Verdict, not_by_threads, processors_of, replay
 from scenarios import random_scenario
 
 TOP = Path(__file__).resolve().parents[2]
+sys.path.append(str(TOP / "tools" / "build"))
+
+from built import Missing, ended, find  # noqa: E402
 
 # How many random scenarios there are, how many turns each may take, and how many seconds a command.
 COUNT, LIMIT, SECONDS = 100, 5000, 120
@@ -34,7 +37,7 @@ def parser() -> argparse.ArgumentParser:
     words.add_argument("--times", type=int, default=1, metavar="N", help="run each scenario so many times (1)")
     words.add_argument("--limit", type=int, default=LIMIT, metavar="N", help=f"how many turns a run may take ({LIMIT})")
     words.add_argument("--seconds", type=int, default=SECONDS, metavar="N", help=f"how many seconds a command may take ({SECONDS})")
-    words.add_argument("--program", default=str(TOP / "nova"), metavar="FILE", help="the program (nova at the top of the repository)")
+    words.add_argument("--program", metavar="FILE", help="the program (nova of the repository)")
     words.add_argument("--keep", type=Path, metavar="FOLDER", help="keep scenarios and orders in this folder")
     words.add_argument("--show", type=int, metavar="SEED", help="write the scenario of a seed, and run nothing")
     return words
@@ -72,6 +75,13 @@ def main(words: argparse.Namespace) -> int:
     if words.show is not None:
         print(random_scenario(words.show), end="")
         return 0
+    if words.folder is not None and not any(words.folder.glob("*.nova")):
+        raise Missing(f"{words.folder}: {'no scenario is there' if words.folder.is_dir() else 'there is no such folder'}")
+    return replay_all(words, words.program or str(find("nova")))
+
+
+def replay_all(words: argparse.Namespace, program: str) -> int:
+    """Runs the scenarios, and takes their orders again."""
     with tempfile.TemporaryDirectory() as folder:
         work = words.keep or Path(folder)
         work.mkdir(parents=True, exist_ok=True)
@@ -81,10 +91,10 @@ def main(words: argparse.Namespace) -> int:
             orders = [work / (f"{path.stem}.{number}.order" if number > 1 else f"{path.stem}.order") for path, number in runs]
             for order in orders:
                 order.unlink(missing_ok=True)
-            replayed = partial(replay, words.program, limit=words.limit, seconds=words.seconds)
+            replayed = partial(replay, program, limit=words.limit, seconds=words.seconds)
             seen = list(workers.map(replayed, paths, orders))
         return 0 if told(list(zip(paths, seen))) else 1
 
 
 if __name__ == "__main__":
-    sys.exit(main(parser().parse_args()))
+    sys.exit(ended("replays", lambda: main(parser().parse_args())))

@@ -22,6 +22,10 @@ from measures import Program
 from rows import EXAMPLES, rows
 
 TOP = Path(__file__).resolve().parents[2]
+sys.path.append(str(TOP / "tools" / "build"))
+
+from built import ended, find  # noqa: E402
+
 MOST = 10_000_000
 PAIRS = ("race", "mutex", "semaphores", "revoking", "processors")
 
@@ -112,7 +116,7 @@ def table(program: Program, folder: Path, only: str | None) -> int:
 def arguments() -> argparse.Namespace:
     """The words of the call."""
     parser = argparse.ArgumentParser(prog="speed", description="Measures the program's speed on this machine.")
-    parser.add_argument("--program", type=Path, default=TOP / "crates/nova/out/nova", metavar="FILE", help="the program (the repository's)")
+    parser.add_argument("--program", type=Path, metavar="FILE", help="the program (the repository's)")
     parser.add_argument("--scenarios", type=Path, default=EXAMPLES, metavar="FOLDER", help="where scenarios of Lua and bzip2 are (the examples)")
     what = parser.add_mutually_exclusive_group()
     what.add_argument("--only", choices=[measure.__name__ for measure in ALL], help="these rows alone")
@@ -125,7 +129,7 @@ def main() -> int:
     """Does what the words say."""
     given = arguments()
     with tempfile.TemporaryDirectory() as folder:
-        program = Program(given.program, Path(folder))
+        program = Program(given.program or find("nova"), Path(folder))
         if given.kept:
             return compare(program, given.scenarios)
         if given.keep:
@@ -135,4 +139,4 @@ def main() -> int:
 
 
 if __name__ == "__main__":
-    sys.exit(main())
+    sys.exit(ended("speed", main))

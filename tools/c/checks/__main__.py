@@ -28,12 +28,15 @@ import vmm
 from outcome import Outcome
 
 TOP = Path(__file__).resolve().parents[3]
+sys.path.append(str(TOP / "tools" / "build"))
+
+from built import ended, find  # noqa: E402
 
 
 def parser() -> argparse.ArgumentParser:
     """The words that the program takes."""
     words = argparse.ArgumentParser(prog="checks", description="Looks at the programs in C.")
-    words.add_argument("--program", default=str(TOP / "nova"), metavar="FILE", help="the program (nova at the top of the repository)")
+    words.add_argument("--program", metavar="FILE", help="the program (nova of the repository)")
     words.add_argument("--others", action="store_true", help="fetch and build what others wrote, too")
     words.add_argument("--only", default="", metavar="WORD", help="only what has this word in its name")
     return words
@@ -42,8 +45,9 @@ def parser() -> argparse.ArgumentParser:
 def main(words: argparse.Namespace) -> int:
     """Looks at everything."""
     outcome = Outcome(words.only)
+    program = Path(words.program) if words.program else find("nova")
     with tempfile.TemporaryDirectory() as folder:
-        tools = programs.Tools(TOP, Path(words.program).resolve(), Path(folder))
+        tools = programs.Tools(TOP, program.resolve(), Path(folder))
         constants.look(outcome, tools)
         calls.look(outcome, tools)
         if tools.has_compiler:
@@ -61,4 +65,4 @@ def main(words: argparse.Namespace) -> int:
 
 
 if __name__ == "__main__":
-    sys.exit(main(parser().parse_args()))
+    sys.exit(ended("checks", lambda: main(parser().parse_args())))

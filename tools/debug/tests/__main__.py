@@ -27,18 +27,20 @@ TOOL = HERE.parent
 TOP = TOOL.parents[1]
 sys.path.insert(0, str(TOOL))
 sys.path.insert(1, str(TOP / "tools" / "replays"))
+sys.path.insert(2, str(TOP / "tools" / "build"))
 
 from access import Access, access_of  # noqa: E402
 from backend import BYTES, BackEnd, Event, Refused, Slice  # noqa: E402
+from built import Missing, find  # noqa: E402
 from scenarios import random_scenario  # noqa: E402
 from times import print_times  # noqa: E402
 
 # What the tests are made with, and how many random scenarios there are; each may take so many turns.
-PROGRAM, NOVA, COUNT, LIMIT = TOP / "crates/nova_debug/out/nova_debug", TOP / "nova", 40, 2000
+COUNT, LIMIT = 40, 2000
 TOLD = ("ec", "sm", "console", "cap")
 GDB, COMPILER = "gdb-multiarch", "riscv64-unknown-elf-gcc"
 
-given = argparse.Namespace(program=PROGRAM, nova=NOVA, random=COUNT, write=False)
+given = argparse.Namespace(program=None, nova=None, random=COUNT, write=False)
 
 
 def state_of(back: BackEnd) -> list[str]:
@@ -231,12 +233,17 @@ class Gdb(unittest.TestCase):
 def main() -> None:
     """Runs the tests that are named, or all."""
     words = argparse.ArgumentParser(prog="tests")
-    words.add_argument("--program", type=Path, default=PROGRAM, metavar="FILE")
-    words.add_argument("--nova", type=Path, default=NOVA, metavar="FILE")
+    words.add_argument("--program", type=Path, metavar="FILE")
+    words.add_argument("--nova", type=Path, metavar="FILE")
     words.add_argument("--random", type=int, default=COUNT, metavar="N")
     words.add_argument("--write", action="store_true")
     words.add_argument("--times", action="store_true")
     _, rest = words.parse_known_args(namespace=given)
+    try:
+        given.program = given.program or find("nova_debug")
+        given.nova = given.nova or find("nova")
+    except Missing as why:
+        sys.exit(f"tests: {why}")
     if given.times:
         print_times(given)
         return

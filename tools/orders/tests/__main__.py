@@ -111,6 +111,11 @@ class Examples(unittest.TestCase):
                 told = explored(str(case.scenario), "--random", "20", "--lengths", "1-30", "--by", case.by)
                 self.assertEqual(told.outcomes.keys() - case.outcomes.keys(), set())
 
+    def test_a_firing_lets_a_processor_that_was_left_out_go_on(self) -> None:
+        told = explored(str(HERE / "woken.nova"), "--random", "40", "--lengths", "40-60", "--by", "events:irq,died")
+        first, second, died = "at - 1 1 irq 0 0", "at - 1 0 irq 0 0", "at - 0 1 died 7 0"
+        self.assertLessEqual({(first, second, died), (first, died, second)}, told.outcomes.keys())
+
     def test_pictures_are_those_that_stand_here(self) -> None:
         for name, report in (("race", "race"), ("race_right", "race_right"), ("mutex", "mutex")):
             scenario = EXAMPLES / f"{'mutex' if name == 'mutex' else 'race'}.nova"

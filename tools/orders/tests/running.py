@@ -15,7 +15,8 @@ EXAMPLES = TOOL.parents[1] / "examples"
 PICTURE = TOOL.parent / "picture"
 sys.path.insert(0, str(TOOL))
 
-from program import Program, find_program  # noqa: E402
+from finding import find_program  # noqa: E402
+from program import Program  # noqa: E402
 from shared import Settings, read_settings  # noqa: E402
 
 # The words of `--program`, for each start of the tool.
@@ -28,7 +29,7 @@ def orders(*words: str) -> subprocess.CompletedProcess[str]:
 
 
 class Told:
-    """What `explore` wrote: the orders of each outcome by its lines, and how many orders it is said to be of."""
+    """What `explore` wrote: the orders of each outcome by its lines without remarks, and how many orders it is said to be of."""
 
     def __init__(self, answer: subprocess.CompletedProcess[str], folder: Path) -> None:
         self.answer = answer
@@ -38,7 +39,7 @@ class Told:
         for number, part in enumerate(parts[1:], 1):
             head, *lines = part.splitlines()
             self.counts.append(int(head.split(": ")[1].split(" ")[0].replace(",", "")))
-            found = tuple(line.strip() for line in lines if not line.startswith("  parts from"))
+            found = tuple(line.split("  # ")[0].strip() for line in lines if not line.startswith("  parts from"))
             self.outcomes[found] = (folder / f"{number}.order").read_text()
 
 

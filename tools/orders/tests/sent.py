@@ -15,10 +15,11 @@ from pathlib import Path
 from running import EXAMPLES, HERE, MEANS, TOOL, Told, explored
 
 from choice import Choice, Wanted
+from finding import find_program, find_staying
 from longest import Scout
 from outcome import Outcome, aspects_of, outcome_of
 from pool import Pool
-from program import Program, Trouble, find_program, find_staying
+from program import Program, Trouble
 from remote import Job, draw
 from sample import Habits
 from search import Tried

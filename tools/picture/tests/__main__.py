@@ -58,6 +58,7 @@ CASES = (
     Case("wide", "run {}/wide.report"),
     Case("time", "run {}/time.report --order {}/time.order --scenario {}/time.nova"),
     Case("time-window", "run {}/time.report --from 20 --to 41"),
+    Case("timer-delegations", "delegations {}/../../../examples/timer.report"),
     Case("nothing", "run {}/nothing.report"),
     Case("nothing-delegations", "delegations {}/nothing.report"),
 )
@@ -114,6 +115,26 @@ ORDER_FAULTS = (
     ("0 3\n1 6\n", "line 2: turn 4 is of processor 0 in the report"),
 )
 GOOD = HEAD + EVENT + END
+# The root calls a handler, which another context, whose payer is one of two, may help; then the handler makes a semaphore.
+HELPED = """\
+run open 40
+at 3 0 1 answer 3 0
+at 6 0 1 answer 5 0
+at 9 0 1 answer 3 0
+at 12 0 1 answer 3 0
+at 15 0 1 answer 4 0
+at 18 0 1 answer 4 0
+at 20 0 1 begin 0 3
+{help}at 30 0 3 answer 6 0
+ec 1 global calling 00000000
+ec 3 local ready 00000000
+ec 5 global fresh 00000000
+ec 6 global fresh 00000000
+sc 2 0 40
+sc 7 0 0
+sc 8 0 0
+sm 9 0 0
+"""
 SCENARIO_FAULTS = (
     ("ram 0\nimage 0 asm\ncpus 1\n", "line 1: a scenario has a line `cpus` before its images"),
     ("cpus x\n", "line 1: 1 number is wanted"),
@@ -214,6 +235,16 @@ class Pictures(unittest.TestCase):
                     self.assertEqual((whole == text, len(whole) > 5_000_000), (not cut, cut))
             text = picture("run", str(report), "--from", "10001", "--to", "100000").stdout
             self.assertIn("Turns 10,001 to 14,997 of 110,010 are drawn: up to turn 100,000 the picture", text)
+
+    def test_a_scenario_that_fires_otherwise_is_refused(self) -> None:
+        sources = TOP.parents[1] / "examples" / "sources"
+        text = sources.with_suffix(".nova").read_text()
+        with tempfile.TemporaryDirectory() as folder:
+            scenario = Path(folder, "other.nova")
+            for count in (1, 99):
+                scenario.write_text(re.sub(r"^(source \d+ \d+ \d+) \d+", rf"\1 {count}", text, flags=re.M))
+                answer = picture("run", f"{sources}.report", "--scenario", str(scenario))
+                self.assertEqual((answer.returncode, answer.stderr), (1, f"picture: {scenario}: its sources are not those of the report\n"))
 
     def test_other_refusals(self) -> None:
         for words, line in (
@@ -320,6 +351,12 @@ class Meaning(unittest.TestCase):
         "dead": history.Doing.DEAD,
     }
 
+    def test_a_payer_in_doubt_is_not_told_as_sure(self) -> None:
+        for help_line, paid in (("", {2}), ("at 22 0 5 help 3 0\n", set())):
+            replay = history.Replay(read_report(HELPED.format(help=help_line)))
+            replay.follow()
+            self.assertEqual((replay.history.payers[6], replay.history.payers[-1]), ({2}, paid))
+
     def test_each_context_ends_in_the_state_of_its_line(self) -> None:
         for path in REPORTS:
             report = read_report(path.read_text())
@@ -378,7 +415,7 @@ class Meaning(unittest.TestCase):
                 for source in report.sources:
                     delays = [firings[place].delay for place, number in events.firings() if number == source.number]
                     self.assertEqual((len(delays), max(delays, default=0)), (source.fired, source.worst))
-                self.assertFalse(misfit(settings, report.sources))
+                self.assertFalse(misfit(settings, report))
                 self.assertEqual(find_firings(Settings(2, settings.sources), report.sources, events.firings(), None), {})
 
     def test_stretches(self) -> None:

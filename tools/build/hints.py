@@ -1,0 +1,187 @@
+"""Says what the program's own line doesn't: which file can't be read or written and why, or why words are no command.
+
+It judges nothing: the program is started whatever it says. Where nothing is amiss that can be seen from outside, it says nothing.
+"""
+
+from __future__ import annotations
+
+import difflib
+import os
+import stat
+import sys
+from dataclasses import dataclass, field
+
+MOST_TURNS, MOST_DOMAINS = 10_000_000, 90_000
+HELP = f"""\
+nova solo SCENARIO [ORDER]    runs a scenario, in rounds or in the order of turns of ORDER, and writes its report
+nova run SCENARIO ORDER       runs it with a thread of the host for each processor, and appends to ORDER the order that came of it
+nova check SCENARIO           says whether a scenario has a fault
+nova twin NAME                compares a virtual CPU of one run with one of another
+nova bench NUMBER             makes NUMBER protection domains, 1 to {MOST_DOMAINS:,}
+  --limit N                   the most turns, 1 to {MOST_TURNS:,} (1,000,000)
+./nova draft WORD..           the same at once, unproved; ./nova draft --help tells more
+
+Status: 0 done, 2 no command, 3 a file isn't read, 4 a fault of the scenario, 5 of the order, 6 a file isn't written, 7 not quiet: the limit or
+the end of the order came first, 8 out of memory, 10 a fault of a twin text. docs/FORMATS.md explains the word of each fault, docs/TOOLS.md each
+command. What a report says, in sentences: python3 tools/explain REPORT
+"""
+# The names of each command, and what the last one is for.
+FORMS = {
+    "run": ("SCENARIO", "ORDER"),
+    "solo": ("SCENARIO",),
+    "check": ("SCENARIO",),
+    "twin": ("NAME",),
+    "bench": ("NUMBER",),
+}
+
+
+@dataclass(slots=True)
+class Words:
+    """The words of a command: its names, the limits that are given, and what is no option."""
+
+    names: list[str] = field(default_factory=list)
+    limits: list[str | None] = field(default_factory=list)
+    odd: list[str] = field(default_factory=list)
+
+    @classmethod
+    def of(cls, words: list[str]) -> Words:
+        """Sorts words. Behind `--` all are names."""
+        found, left = cls(), iter(words)
+        for word in left:
+            if word == "--":
+                found.names += left
+            elif word == "--limit":
+                found.limits.append(next(left, None))
+            elif word.startswith("--limit="):
+                found.limits.append(word.removeprefix("--limit="))
+            elif word.startswith("-") and word != "-":
+                found.odd.append(word)
+            else:
+                found.names.append(word)
+        return found
+
+
+def number_of(text: str) -> int | None:
+    """A number of the formats' form: decimal digits, or 0x and hexadecimal digits."""
+    digits, base = (text[2:], 16) if text.startswith("0x") else (text, 10)
+    try:
+        return int(digits, base) if digits.isascii() and digits.isalnum() else None
+    except ValueError:
+        return None
+
+
+def out_of(name: str, text: str | None, most: int) -> str | None:
+    """Why a text is no number from 1 to the most."""
+    if text is None:
+        return f"{name} wants a number behind it"
+    number = number_of(text)
+    if number is None:
+        return f"{name}: {text!r} is no number"
+    return None if 1 <= number <= most else f"{name}: {number:,} is not from 1 to {most:,}"
+
+
+def of_names(names: list[str]) -> str | None:
+    """Why names are no command."""
+    if not names:
+        return "no command is named"
+    command, given = names[0], names[1:]
+    if command not in FORMS:
+        like = difflib.get_close_matches(command, FORMS, 1)
+        meant = f"; {like[0]} is one" if like else "; run a scenario by: ./nova solo SCENARIO" if command.endswith(".nova") else ""
+        return f"{command!r} is no command{meant}"
+    wanted = FORMS[command]
+    most = 2 if command == "solo" else len(wanted)
+    if len(given) < len(wanted):
+        why = ", the file to which the order of turns is appended" if wanted[len(given)] == "ORDER" else ""
+        return f"{command} wants {wanted[len(given)]}{why}"
+    if len(given) > most:
+        return f"{command} takes no further word: {given[most]!r}"
+    return out_of("bench", given[0], MOST_DOMAINS) if command == "bench" else None
+
+
+def no_command(words: Words) -> str | None:
+    """Why words are no command."""
+    if words.odd:
+        return f"there is no option {words.odd[0]} (a file with such a name stands behind --)"
+    if len(words.limits) > 1:
+        return "--limit is given twice"
+    for limit in words.limits:
+        if why := out_of("--limit", limit, MOST_TURNS):
+            return why
+    return of_names(words.names)
+
+
+def unread(file: str) -> str | None:
+    """Why a file can't be read. A pipe is left alone."""
+    try:
+        kind = os.stat(file).st_mode
+        if stat.S_ISDIR(kind):
+            return f"{file} is a folder"
+        if stat.S_ISREG(kind):
+            with open(file, "rb"):
+                return None
+        return None if os.access(file, os.R_OK) else f"{file} can't be read"
+    except OSError as error:
+        return f"{file}: {error.strerror}"
+
+
+def other_executable(file: str) -> str | None:
+    """Why an executable in a scenario is none for this machine, where its first bytes say so. A pipe is left alone."""
+    if not os.path.isfile(file):
+        return None
+    with open(file, "rb") as opened:
+        lines = opened.read().split(b"\n")
+    for number, line in enumerate(lines[:-1], 1):
+        words = line.split(b"#")[0].split()
+        if words[:1] != [b"image"] or words[-1] != b"elf":
+            continue
+        head = b"".join(lines[number].split(b"#")[0].split())[:40].decode("ascii", "replace").lower()
+        if head.startswith("7f454c4602"):
+            return f"{file}, line {number + 1}: this executable is of 64 bits; -march=rv32i -mabi=ilp32 makes one of 32"
+        if head.startswith("7f454c4601") and len(head) == 40 and head[36:] != "f300":
+            return f"{file}, line {number + 1}: this executable is not for RISC-V"
+    return None
+
+
+def unwritten(file: str) -> str | None:
+    """Why nothing can be appended to a file."""
+    folder = os.path.dirname(file) or "."
+    if os.path.isdir(file):
+        return f"{file} is a folder"
+    if os.path.exists(file):
+        return None if os.access(file, os.W_OK) else f"{file} can't be written"
+    if not os.path.isdir(folder):
+        return f"{file} can't be made: there is no folder {folder}"
+    return None if os.access(folder, os.W_OK) else f"{file} can't be made in {folder}"
+
+
+def hints(given: list[str]) -> list[str]:
+    """What is to be said of words."""
+    if any(not word.isprintable() and "\udc80" <= max(word) <= "\udcff" for word in given if word):
+        return ["a word is not UTF-8"]
+    words = Words.of(given)
+    why = no_command(words)
+    if why is not None:
+        return [f"these words are no command: {why}. ./nova --help lists them"]
+    command, *files = words.names
+    if command == "bench":
+        return []
+    read = files[:1] if command == "run" else files
+    said = [*map(unread, read), *map(unwritten, files[len(read) :])]
+    if not any(said) and command in ("run", "solo", "check"):
+        said.append(other_executable(files[0]))
+    return [line for line in said if line]
+
+
+def main(given: list[str]) -> int:
+    """Says what there is to say, a line each."""
+    if given == ["--help"]:
+        print(HELP, end="")
+        return 0
+    for line in hints(given):
+        print(f"nova: {line}".encode(errors="replace").decode())
+    return 0
+
+
+if __name__ == "__main__":
+    sys.exit(main(sys.argv[1:]))

@@ -1,0 +1,277 @@
+"""The tests of the builder, over a repository of four small crates and a kit that only writes down what it is asked.
+
+python3 tools/build/tests [NAME..]
+"""
+
+from __future__ import annotations
+
+import os
+import shutil
+import signal
+import subprocess
+import sys
+import tempfile
+import time
+import unittest
+from pathlib import Path
+
+TOOL = Path(__file__).resolve().parents[1]
+sys.path.insert(0, str(TOOL))
+
+from children import Children, Ended  # noqa: E402
+from hints import hints  # noqa: E402
+from schedule import Schedule, costs, dependencies, in_order  # noqa: E402
+
+CRATES = "# Crates.\nlow:\nlong: low\nshort: low\nnova: long short clap # the program\n"
+SECONDS = {"low": 10, "long": 100, "short": 20, "nova": 30}
+# What the kit's rt does: it writes down its words and its folder, and takes as long as the test says, with a child of its own.
+RT = """#!/bin/sh
+echo "$1 $(basename "$PWD")" >>{log}
+sleep {seconds} &
+echo $! >>{log}.pids
+wait $!
+[ "$(basename "$PWD")" != {broken} ] || {{ echo 'goal 1 is open'; exit 1; }}
+mkdir -p out/rlib/$(basename "$PWD").rlib
+cat src/*.rt >out/rlib/stamp
+[ "$1" = lib ] || {{ cp src/main.rt out/nova; chmod +x out/nova; shift 2; out/nova "$@"; }}
+"""
+LIBRARY = """
+import os
+class Crate:
+    def __init__(self, folder):
+        self.folder, self.name = folder, os.path.basename(folder)
+    def stamp(self):
+        return "".join(open(f"{self.folder}/src/{name}").read() for name in sorted(os.listdir(f"{self.folder}/src")))
+    def is_built(self):
+        kept = f"{self.folder}/out/rlib/stamp"
+        return os.path.isfile(kept) and open(kept).read() == self.stamp()
+def crates_below(top):
+    return [Crate(f"{top}/crates/{name}") for name in sorted(os.listdir(f"{top}/crates"))]
+"""
+
+
+class Repository:
+    """A repository and a kit in a folder."""
+
+    def __init__(self, folder: str, seconds: float = 0, broken: str = "none") -> None:
+        self.top, self.kit = Path(folder, "top"), Path(folder, "kit")
+        self.log = Path(folder, "log")
+        shutil.copytree(TOOL, self.top / "tools/build")
+        shutil.copytree(TOOL.parent / "draft", self.top / "tools/draft")
+        (self.top / "crates.txt").write_text(CRATES)
+        (self.top / "HANDLES").write_text("Handles allowed: none.\n")
+        for crate in SECONDS:
+            source = self.top / "crates" / crate / "src" / ("main.rt" if crate == "nova" else "lib.rt")
+            source.parent.mkdir(parents=True)
+            source.write_text(f"#!/bin/sh\n# {crate}\necho ran\n")
+        (self.top / "tools/build/costs.txt").write_text("".join(f"{crate} {seconds}\n" for crate, seconds in SECONDS.items()))
+        (self.kit / "bin").mkdir(parents=True)
+        (self.kit / "KIT-ID").write_text("kit one\n")
+        (self.kit / "bin/rtlib.py").write_text(LIBRARY)
+        (self.kit / "bin/rt").write_text(RT.format(log=self.log, seconds=seconds, broken=broken))
+        (self.kit / "bin/rt").chmod(0o755)
+
+    def words(self, *words: str) -> list[str]:
+        """A call of the builder."""
+        return [sys.executable, str(self.top / "tools/build"), *words]
+
+    def path(self) -> dict[str, str]:
+        """The environment in which the kit's rt is found."""
+        return os.environ | {"PATH": f"{self.kit / 'bin'}:{os.environ['PATH']}"}
+
+    def build(self, *words: str) -> subprocess.CompletedProcess[str]:
+        """Calls the builder."""
+        return subprocess.run(self.words(*words), capture_output=True, text=True, env=self.path(), check=False)
+
+    def asked(self) -> list[str]:
+        """What rt was asked since the last time."""
+        lines = self.log.read_text().splitlines() if self.log.exists() else []
+        self.log.unlink(missing_ok=True)
+        return lines
+
+
+def is_there(pid: int) -> bool:
+    """Whether a process runs, and is no zombie."""
+    try:
+        return Path(f"/proc/{pid}/stat").read_text().rsplit(")", 1)[1].split()[0] != "Z"
+    except OSError:
+        return False
+
+
+class Schedules(unittest.TestCase):
+    """Which crate is next, and how long the rest takes."""
+
+    plan = Schedule.of("nova", dependencies(CRATES), SECONDS, 2)
+
+    def test_the_crates_of_a_program(self) -> None:
+        self.assertEqual(in_order("nova", dependencies(CRATES)), ["low", "long", "short"])
+        self.assertEqual(list(self.plan.below), ["low", "long", "short", "nova"])
+
+    def test_the_longest_way_to_the_top_comes_first(self) -> None:
+        plan = Schedule.of("nova", dependencies(CRATES.replace("long short", "short long")), SECONDS, 2)
+        self.assertEqual(plan.ways(), {"low": 140, "long": 130, "short": 50, "nova": 30})
+        self.assertEqual(plan.ready(plan.below, set()), ["low"])
+        self.assertEqual(plan.ready(["short", "long", "nova"], {"low"}), ["long", "short"])
+
+    def test_what_is_left_counts_the_last_crate_and_what_is_begun(self) -> None:
+        self.assertEqual(self.plan.seconds_left([], {}, 1), 140)
+        self.assertEqual(self.plan.seconds_left(["low"], {"long": 40}, 1), 90)
+        self.assertEqual(self.plan.seconds_left(["low", "long", "short"], {"nova": 10}, 2), 50)
+        self.assertEqual(self.plan.minutes_left(["low", "long", "short"], {"nova": 90}, 2), 0)
+        alone = Schedule.of("nova", dependencies(CRATES), SECONDS, 1)
+        self.assertEqual(alone.seconds_left([], {}, 1), 160)
+
+    def test_the_costs_are_of_crates_that_are_there(self) -> None:
+        named = dependencies((TOOL.parents[1] / "crates.txt").read_text())
+        self.assertEqual(set(costs()) - set(named), set())
+
+
+class Builds(unittest.TestCase):
+    """The builder as a whole."""
+
+    def test_a_build_and_what_is_done_again(self) -> None:
+        with tempfile.TemporaryDirectory() as folder:
+            made = Repository(folder)
+            self.assertEqual(made.build("--built").returncode, 1)
+            told = made.build("--plan")
+            self.assertIn("4 of 4 crates are to be proved: some 3 minutes on four idle cores; ", told.stdout)
+            told = made.build("--", "solo")
+            self.assertEqual(told.returncode, 0, told.stderr)
+            first, *middle, last = made.asked()
+            self.assertEqual((first, sorted(middle), last), ("lib low", ["lib long", "lib short"], "run nova"))
+            self.assertIn("nova: 4 of 4: nova, ", told.stderr)
+            self.assertEqual(made.build("--built").returncode, 0)
+            self.assertEqual(list((made.top / "crates/nova/out").glob("trees-*")), [])
+
+    def test_times_of_files_mean_nothing_and_their_bytes_all(self) -> None:
+        with tempfile.TemporaryDirectory() as folder:
+            made = Repository(folder)
+            made.build()
+            made.asked()
+            source = made.top / "crates/long/src/lib.rt"
+            os.utime(source)
+            self.assertEqual(made.build("--built").returncode, 0)
+            shutil.copytree(made.top, Path(folder, "copy"))
+            made.top = Path(folder, "copy")
+            self.assertEqual(made.build("--built").returncode, 0)
+            text, before = (made.top / "crates/long/src/lib.rt").read_text(), source.stat()
+            (made.top / "crates/long/src/lib.rt").write_text(text.replace("ran", "RAN"))
+            os.utime(made.top / "crates/long/src/lib.rt", (before.st_atime, 1))
+            self.assertEqual(made.build("--built").returncode, 1)
+            self.assertEqual((made.build().returncode, made.asked()), (0, ["lib long", "run nova"]))
+            (made.kit / "KIT-ID").write_text("kit two\n")
+            self.assertEqual(made.build("--built").returncode, 1)
+
+    def test_a_program_without_a_note_is_taken_by_its_time(self) -> None:
+        with tempfile.TemporaryDirectory() as folder:
+            made = Repository(folder)
+            made.build()
+            (made.top / "crates/nova/out/nova.sources").unlink()
+            self.assertEqual(made.build("--built").returncode, 0)
+            (made.top / "crates/nova/out/nova.sources").unlink()
+            os.utime(made.top / "crates/nova/out/nova", (1, 1))
+            self.assertEqual(made.build("--built").returncode, 1)
+
+    def test_a_note_of_another_program_counts_for_nothing(self) -> None:
+        with tempfile.TemporaryDirectory() as folder:
+            made = Repository(folder)
+            made.build()
+            source, program = made.top / "crates/nova/src/main.rt", made.top / "crates/nova/out/nova"
+            source.write_text(source.read_text().replace("ran", "RAN"))
+            self.assertEqual(made.build("--built").returncode, 1)
+            program.write_text(source.read_text())
+            self.assertEqual(made.build("--built").returncode, 0)
+
+    def test_a_crate_that_is_not_proved_ends_the_build(self) -> None:
+        with tempfile.TemporaryDirectory() as folder:
+            made = Repository(folder, broken="short")
+            told = made.build()
+            self.assertEqual(told.returncode, 1)
+            self.assertIn("goal 1 is open\nnova: short was not built\n", told.stderr)
+            self.assertNotIn("run nova", made.asked())
+
+    def test_a_signal_ends_what_was_begun(self) -> None:
+        for number, status in ((signal.SIGTERM, 143), (signal.SIGHUP, 129), (signal.SIGINT, 130)):
+            with self.subTest(number), tempfile.TemporaryDirectory() as folder:
+                made = Repository(folder, seconds=60)
+                builder = subprocess.Popen(made.words(), stderr=subprocess.DEVNULL, env=made.path(), start_new_session=True)
+                pids = Path(f"{made.log}.pids")
+                for _ in range(200):
+                    if pids.exists() and pids.read_text().strip():
+                        break
+                    time.sleep(0.05)
+                builder.send_signal(number)
+                self.assertEqual(builder.wait(20), status)
+                self.assertEqual([pid for pid in map(int, pids.read_text().split()) if is_there(pid)], [])
+
+    def test_words(self) -> None:
+        with tempfile.TemporaryDirectory() as folder:
+            made = Repository(folder)
+            self.assertEqual([made.build(*words).returncode for words in (["nosuch"], ["low"], ["--fast"], ["--help"])], [2, 2, 2, 0])
+            bare = os.environ | {"PATH": "/usr/bin:/bin"}
+            if shutil.which("rt", path=bare["PATH"]) is None:
+                told = subprocess.run(made.words(), capture_output=True, text=True, env=bare, check=False)
+                self.assertEqual((told.returncode, "rt, the command of the Rattle kit, is not on the path" in told.stderr), (3, True))
+
+
+class Commands(unittest.TestCase):
+    """Commands that are begun."""
+
+    def test_all_of_a_group_end(self) -> None:
+        children = Children()
+        self.assertEqual(children.run(["sh", "-c", "echo one; exit 3"], Path("/")), (3, "one\n"))
+        children.stop()
+        with self.assertRaises(Ended):
+            children.run(["true"], Path("/"))
+
+
+class Hints(unittest.TestCase):
+    """What is said beside the program's own line."""
+
+    def test_why_words_are_no_command(self) -> None:
+        for words, why in (
+            ([], "no command is named"),
+            (["sol", "a"], "'sol' is no command; solo is one"),
+            (["solo"], "solo wants SCENARIO"),
+            (["run", "a"], "run wants ORDER, the file to which the order of turns is appended"),
+            (["check", "a", "b"], "check takes no further word: 'b'"),
+            (["bench", "0"], "bench: 0 is not from 1 to 90,000"),
+            (["bench", "0x15f91"], "bench: 90,001 is not from 1 to 90,000"),
+            (["solo", "a", "--limit", "20000000"], "--limit: 20,000,000 is not from 1 to 10,000,000"),
+            (["solo", "a", "--limit=x"], "--limit: 'x' is no number"),
+            (["solo", "a", "--limit"], "--limit wants a number behind it"),
+            (["solo", "a", "--limit=1", "--limit=1"], "--limit is given twice"),
+            (["solo", "-odd"], "there is no option -odd (a file with such a name stands behind --)"),
+        ):
+            with self.subTest(words):
+                self.assertEqual(hints(words), [f"these words are no command: {why}. ./nova --help lists them"])
+
+    def test_which_file_and_why(self) -> None:
+        with tempfile.TemporaryDirectory() as folder:
+            there, missing = Path(folder, "a.nova"), Path(folder, "b.nova")
+            there.touch()
+            for words, said in (
+                (["solo", str(there)], []),
+                (["solo", "--", str(there)], []),
+                (["run", str(there), str(missing)], []),
+                (["check", str(missing)], [f"{missing}: No such file or directory"]),
+                (["solo", str(there), str(missing)], [f"{missing}: No such file or directory"]),
+                (["twin", folder], [f"{folder} is a folder"]),
+                (["run", str(there), f"{folder}/c/d"], [f"{folder}/c/d can't be made: there is no folder {folder}/c"]),
+                (["bench", "7"], []),
+            ):
+                with self.subTest(words):
+                    self.assertEqual(hints(words), said)
+
+
+    def test_an_executable_for_another_machine(self) -> None:
+        with tempfile.TemporaryDirectory() as folder:
+            for head, said in (("7f454c4602", "is of 64 bits; -march=rv32i"), (f"7f454c4601{'0' * 26}3e00", "is not for RISC-V"), (f"7f454c4601{'0' * 26}f300", "")):
+                scenario = Path(folder, "a.nova")
+                scenario.write_text(f"cpus 1\nimage 0 elf # here\n{head} 00\nend\n")
+                told = hints(["solo", str(scenario)])
+                self.assertEqual([f"{scenario}, line 3: this executable {said}" in line for line in told], [True] if said else [])
+
+
+if __name__ == "__main__":
+    unittest.main()
