@@ -1,10 +1,9 @@
--- Where nothing is watched, nothing that is watched is touched.
-use Rattle.std.proofs.Common.{◌≡◌, List, [], ◌∷◌, refl}
+-- Where nothing is watched, no access is to what is watched.
+use Rattle.std.proofs.Common.{◌≡◌, [], refl}
 use Rattle.std.specs.Prelude.{false, Option, Some, None}
 use Rattle.nova_recording.specs.Watches.{is_seen_by}
-use Rattle.nova_recording.specs.declared.watches.Touch.{Touch}
-use Rattle.nova_recording.specs.declared.watches.Watch.{Watch}
+use Rattle.nova_recording.specs.declared.preview.Access.{Access}
 
-pub nothing_seen : (touch : Option Touch) → is_seen_by [] touch ≡ false
-nothing_seen (Some touch) = refl
+pub nothing_seen : (access : Option Access) → is_seen_by [] access ≡ false
+nothing_seen (Some access) = refl
 nothing_seen None = refl

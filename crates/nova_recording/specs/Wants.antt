@@ -1,13 +1,16 @@
 -- Which turns are wanted: by what the one that acts in them is about to do.
-use Rattle.std.specs.Prelude.{◌≡◌, ℕ, ◌+◌, ◌<◌, ◌≤◌, ◌==◌, ◌&&◌, ◌||◌, Bool, true, false, not, if◌then◌else◌, List, Option, Some, None, slice_get}
+use Rattle.std.specs.Prelude.{◌≡◌, ℕ, ◌+◌, ◌<◌, ◌≤◌, ◌==◌, ◌&&◌, ◌||◌, Bool, true, false, not, if◌then◌else◌, List, Option, Some, None, slice_get, option_and_then}
 use Rattle.std.specs.List.{list_any}
+use Rattle.law_forest.specs.Turns.{is_passing}
 use Rattle.nova_model.specs.State.{KernelState, context, pd_of}
 use Rattle.nova_model.specs.declared.context.EcState.{EcState}
 use Rattle.nova_model.specs.declared.context.State.{State}
 use Rattle.nova_model.specs.declared.context.State.TheVariants.{Ready}
 use Rattle.nova_model.specs.declared.event.Event.{Event}
 use Rattle.nova_recording.specs.Recordings.{RecordingView, at_turn}
-use Rattle.nova_recording.specs.Watches.{is_seen_by, touched}
+use Rattle.nova_recording.specs.Accesses.{accessed}
+use Rattle.nova_recording.specs.Watches.{is_seen_by}
+use Rattle.nova_recording.specs.declared.preview.Access.{Access}
 use Rattle.nova_recording.specs.declared.wants.Next.{Next}
 use Rattle.nova_recording.specs.declared.wants.Search.{Search}
 use Rattle.nova_recording.specs.declared.wants.Want.{Want}
@@ -25,13 +28,18 @@ is_going x = is_ready x.state && not x.recall
 abbrev pub next_in : EcState → ℕ → ℕ → Option Next
 next_in x pd ec = if is_going x then Some (record { ec = ec; pd = pd; pc = x.regs.pc }) else None
 
--- that of the next turn of a state
+-- that of an execution context in a state
 abbrev pub next_of : KernelState → ℕ → Option Next
 next_of k ec = next_in (context k ec) (pd_of k ec) ec
 
+-- that of a turn with this event: nobody acts where a deadline, an alarm or a tick comes
 abbrev pub next_by : KernelState → Option Event → Option Next
-next_by k (Some e) = next_of k e.ec
+next_by k (Some e) = if is_passing e.kind then None else next_of k e.ec
 next_by k None = None
+
+-- what such a turn loads or stores
+abbrev pub access_by : KernelState → Option Event → Option Access
+access_by k event = option_and_then (λ (next : Next). accessed k next.ec) (next_by k event)
 
 abbrev pub is_met : Next → Want → Bool
 is_met next (At pd address) = (next.pd == pd) && (next.pc == address)
@@ -39,7 +47,7 @@ is_met next (By ec) = next.ec == ec
 
 -- whether it is an instruction that is looked for, or loads or stores what is watched
 abbrev pub is_wanted : Search → KernelState → Option Next → Bool
-is_wanted search k (Some next) = list_any (is_met next) search.wants.items || is_seen_by search.watches.items (touched k next)
+is_wanted search k (Some next) = list_any (is_met next) search.wants.items || is_seen_by search.watches.items (accessed k next.ec)
 is_wanted search k None = false
 
 -- whether the turn after so many is wanted

@@ -4,13 +4,13 @@ ghost use Rattle.nova_recording.specs.Recordings.{IsAt, IsDone, IsSameRun};
 
 use crate::copies::{Copies, Kept};
 use crate::events::listed;
+use crate::preview::Preview;
 use crate::sizes::bytes_of;
 use nova_kernel::{Event, Kernel, Rights};
 use nova_shared::Finished;
 use nova_trace::Trace;
 use std::alloc::{AllocError, Global};
 use std::marker::Model;
-use std::mem;
 
 /// A run that was made, in the state after so many of its turns. States on the way are kept, so that it goes back from the newest of
 /// them; each is the state of its own turn.
@@ -18,7 +18,7 @@ use std::mem;
 pub struct Recording {
     opening: Kernel,
     events: Vec<Event>,
-    kernel: Kernel,
+    pub(crate) preview: Preview,
     turn: usize,
     pub(crate) copies: Copies,
 }
@@ -33,11 +33,11 @@ impl Model for Recording {
       opening = r.opening.state;
       events = r.events.items;
       turn = r.turn;
-      state = r.kernel.state;
-      room = r.kernel.room;
+      state = r.preview.kernel.state;
+      room = r.preview.kernel.room;
     } };
 
-    ghost invariant = { λ r. AreTurns r.opening.state r.events.items × (IsAt r.opening.state r.events.items r.turn r.kernel.state
+    ghost invariant = { λ r. AreTurns r.opening.state r.events.items × (IsAt r.opening.state r.events.items r.turn r.preview.kernel.state
         × All (IsKept r.opening.state r.events.items) r.copies) };
 }
 
@@ -83,7 +83,7 @@ impl Recording {
                 Ok(Recording {
                     opening,
                     events,
-                    kernel,
+                    preview: Preview::new(kernel),
                     turn: 0,
                     copies: Copies::none(alloc),
                 })
@@ -100,7 +100,7 @@ impl Recording {
     pub fn keep_within(&mut self, bytes: usize)
         ensures { self.new ≡ self.old }
     {
-        let room = bytes / bytes_of(&self.kernel);
+        let room = bytes / bytes_of(self.preview.kernel());
         let spacing = self.events.len() / room.max(1);
         self.copies.begin(bytes, spacing.max(1), self.turn);
     }
@@ -132,7 +132,7 @@ impl Recording {
         ensures state { result.now.state ≡ self.now.state }
         ensures at { IsAt self.now.opening self.now.events self.now.turn self.now.state }
     {
-        &self.kernel
+        &self.preview.kernel
     }
 
     /// What a page of a protection domain leads to in the present state: a frame, and what is allowed there; none where it leads nowhere.
@@ -141,7 +141,7 @@ impl Recording {
         ensures at { IsAt self.old.opening self.old.events self.old.turn self.old.state }
         ensures kept { self.new ≡ self.old }
     {
-        self.kernel.reach(pd, page)
+        self.preview.kernel.reach(pd, page)
     }
 
     /// Makes room for so many turns more in the console log.
@@ -149,7 +149,7 @@ impl Recording {
         ensures ok { OnOk result (self.new ≡ record self.old { room = max self.old.room turns }) }
         ensures err { OnErr result (self.new ≡ self.old) }
     {
-        self.kernel.reserve_log(turns)
+        self.preview.kernel.reserve_log(turns)
     }
 
     /// Keeps the present state, where its turn has come.
@@ -159,11 +159,11 @@ impl Recording {
         if !self.copies.is_due(self.turn) {
             return Ok(());
         }
-        self.copies.make_room(bytes_of(&self.kernel));
+        self.copies.make_room(bytes_of(self.preview.kernel()));
         if !self.copies.is_due(self.turn) {
             return Ok(());
         }
-        let kernel = self.kernel.copy()?;
+        let kernel = self.preview.copy()?;
         let turn = self.turn;
         self.copies.add(Kept { turn, kernel })
     }
@@ -179,7 +179,7 @@ impl Recording {
     {
         self.keep()?;
         let cpu = self.events[self.turn].cpu;
-        self.kernel.turn(cpu)?;
+        self.preview.turn(cpu)?;
         self.turn += 1;
         Ok(())
     }
@@ -189,7 +189,7 @@ impl Recording {
         requires { IsAt self.old.opening self.old.events turn kernel.state }
         ensures { self.new ≡ record self.old { turn = turn; state = kernel.state; room = kernel.room } }
     {
-        let before = mem::replace(&mut self.kernel, kernel);
+        let before = self.preview.replace(kernel);
         self.turn = turn;
         let_go(before);
     }

@@ -1,11 +1,12 @@
 ghost use Rattle.std.specs.Prelude.{◌≡◌, slice_get};
 ghost use Rattle.std.specs.List.{list_any};
-ghost use Rattle.nova_model.specs.State.{pd_of};
+ghost use Rattle.law_forest.specs.Turns.{is_passing};
 ghost use Rattle.nova_recording.specs.Wants.{is_ready, is_met, wanted_in, next_of, next_by};
 
+use crate::preview::pd_of;
 use crate::recording::Recording;
 use crate::watches::Watch;
-use nova_kernel::{Kernel, Object, State};
+use nova_kernel::{EventKind, Kernel, State};
 
 /// An instruction that an execution context is about to execute: its own number, its protection domain and the address.
 #[derive(Clone, Copy)]
@@ -56,16 +57,6 @@ fn is_ready(state: State) -> bool
     matches!(state, State::Ready)
 }
 
-/// The protection domain of an execution context; a number that no domain has where it is none.
-fn pd_of(kernel: &Kernel, ec: u32) -> u32
-    ensures { result ≡ pd_of kernel.now.state ec }
-{
-    match kernel.object(ec) {
-        Some(Object::Ec { pd, .. }) => *pd,
-        _ => u32::MAX,
-    }
-}
-
 /// The instruction that an execution context is about to execute; none where it is about to do anything else.
 pub fn next_of(kernel: &Kernel, ec: u32) -> Option<Next>
     ensures { result ≡ next_of kernel.now.state ec }
@@ -81,12 +72,22 @@ pub fn next_of(kernel: &Kernel, ec: u32) -> Option<Next>
     })
 }
 
+/// Whether an event is a deadline, an alarm or a tick, in whose turn nobody acts.
+pub fn is_passing(kind: EventKind) -> bool
+    ensures { result ≡ is_passing kind }
+{
+    matches!(kind, EventKind::Late | EventKind::Irq | EventKind::Tick)
+}
+
 impl Recording {
     /// The instruction that the next turn of the run is about to execute; none where it does anything else, and at the end.
     pub fn next(&self) -> Option<Next>
         ensures { result ≡ next_by self.now.state (slice_get self.now.events self.now.turn) }
     {
         let event = self.events().get(self.turn())?;
+        if is_passing(event.kind) {
+            return None;
+        }
         next_of(self.kernel(), event.ec)
     }
 

@@ -1,8 +1,8 @@
 ghost use Rattle.std.specs.Prelude.{◌≡◌, ◌+◌, ◌++◌, ◌<◌, ◌≤◌, ◌^◌, count_by, find, length, option_map, position, reverse, take_while, OnOk, string_bytes};
-ghost use Rattle.law_forest.specs.Turns.{is_passing};
 ghost use Rattle.nova_telling.specs.Slices.{begins, goes_on, is_of, is_same, last_of, payer_text, slice_in, slice_line, slice_text_at, slices_text, who};
 
-use nova_kernel::{Event, EventKind};
+use nova_kernel::Event;
+use nova_recording::is_passing;
 use std::alloc::AllocError;
 
 /// Turns of a processor, one after another, which the same scheduling context pays and in which the same execution context acts: the
@@ -14,12 +14,6 @@ pub struct Slice {
     pub last: usize,
     pub turns: usize,
     pub payer: Option<(u32, u32)>,
-}
-
-fn is_passing(kind: EventKind) -> bool
-    ensures { result ≡ is_passing kind }
-{
-    matches!(kind, EventKind::Late | EventKind::Irq | EventKind::Tick)
 }
 
 /// Who pays for a turn, and who acts in it; nobody where a deadline or an alarm comes, or the clock alone goes on.

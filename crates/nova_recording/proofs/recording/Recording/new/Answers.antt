@@ -1,4 +1,5 @@
 use Rattle.std.proofs.Common.{◌≡◌, ◌∙◌, ap}
+use Rattle.nova_kernel.specs.Views.{KernelView}
 use Rattle.nova_recording.specs.Recordings.{order_of}
 use Rattle.nova_recording.proofs.Copied.{none_kept}
 use Rattle.nova_recording.proofs.Turns.{are_turns, at_start}
@@ -12,7 +13,7 @@ invariant_of-result c =
     ap order_of (c.in-Ok.ensures.events ∙ c.requires.finished.trace) ∙ c.a_trace_has_an_event_a_turn.ensures.processors k c.requires.order c.requires.no_idle in (
       are_turns k events c.requires.order same c.requires.processors c.requires.few,
       (
-        at_start k c.in-Ok.field-0.kernel.state events c.in-Ok.ensures.kernel,
+        at_start k c.new.result.kernel.state events (ap (λ (v : KernelView). v.state) c.new.ensures ∙ c.in-Ok.ensures.kernel),
         none_kept k events c.none.result c.none.ensures,
       ),
     )

@@ -12,7 +12,7 @@ invariant_of-self-2 c =
     let there : slice_get events n ≡ Some c.index.result.now = is_entry events n c.index.result.now more c.index.ensures in (
       c.self.invariant.0,
       (
-        is_next k c.self.inside.kernel.state c.turn.new.self.state events n c.index.result.now c.in_ok-turn.field-0 c.self.invariant.1.0 there more
+        is_next k c.self.inside.preview.kernel.state c.turn.new.self.kernel.state events n c.index.result.now c.in_ok-turn.field-0 c.self.invariant.1.0 there more
             c.in_ok-turn.ensures.state c.in_ok-turn.ensures.counted c.turn.ensures.cpus,
         c.self.invariant.1.1,
       ),
