@@ -14,8 +14,8 @@ EXAMPLES = TOP / "examples"
 
 # Scenarios of real programs, and the turns between which theirs are compared. Those of Lua and bzip2 are built by scripts of tools/c/examples.
 PROGRAMS = {
-    "sort": (500, 5_000),
-    "crc": (200, 700),
+    "sort": (1_000, 5_000),
+    "crc": (450, 950),
     "lua": (10_000, 60_000),
     "lua_guest": (10_000, 60_000),
     "bzip2": (10_000, 60_000),
