@@ -412,6 +412,9 @@ class Meaning(unittest.TestCase):
             settings = read_settings(scenario.read_text())
             firings = find_firings(settings, report.sources, events.firings(), order)
             with self.subTest(path.stem):
+                if order is None and settings.cpus > 1:
+                    self.assertEqual(firings, {})
+                    continue
                 for source in report.sources:
                     delays = [firings[place].delay for place, number in events.firings() if number == source.number]
                     self.assertEqual((len(delays), max(delays, default=0)), (source.fired, source.worst))
