@@ -25,7 +25,7 @@ from programs import program
 HERE = Path(__file__).resolve().parent
 C = HERE.parents[1]
 TOP = C.parents[1]
-LIMIT, ORDER = 300_000, 6
+LIMIT, ORDER = 500_000, 6
 
 # The memory of the first of two guests, in the scenario.
 IMAGE = re.compile(rf"^image 0x{4096 << ORDER:08x} hex\n.*?^end\n", re.DOTALL | re.MULTILINE)
@@ -55,7 +55,10 @@ class Side:
         scenario = self.folder / "both.nova"
         self.build(scenario, words)
         self.text = scenario.read_text(encoding="ascii")
-        self.known = Known(self.run(self.text))
+        known = self.run(self.text)
+        if not known.text.startswith("run quiet"):
+            raise SystemExit(f"fuzz: two harts don't end within {LIMIT} turns")
+        self.known = Known(known)
 
     def build(self, scenario: Path, words: list[str]) -> None:
         """Builds the scenario of two, with the guests' memory as words."""
