@@ -160,7 +160,7 @@ def alone() -> Iterator[None]:
 
 
 def end_on(*numbers: signal.Signals) -> None:
-    """Has these signals end the builder in order, as an interrupt from the keyboard does."""
+    """Has these signals end the builder in order, also where what began it has them ignored."""
 
     def end(number: int, _: object) -> None:
         say("ended by a signal: what is proved is kept")
@@ -192,7 +192,7 @@ def main(words: list[str]) -> int:
         return 0 if options & {"-h", "--help"} else 2
     if "--built" in options:
         return 0 if state_of(program) is State.BUILT else 1
-    end_on(signal.SIGTERM, signal.SIGHUP)
+    end_on(signal.SIGTERM, signal.SIGHUP, signal.SIGINT)
     try:
         folder()
         if "--plan" in options:
