@@ -199,7 +199,7 @@ class Gdb(unittest.TestCase):
         script = work / f"{name}.gdb"
         names = {"work": str(work), "top": str(TOP), "program": str(given.program.resolve())}
         script.write_text((HERE / f"{name}.gdb").read_text().format_map(names))
-        words, both = [GDB, "-q", "-nx", "-batch", "-x", str(script)], subprocess.STDOUT
+        words, both = [GDB, "-q", "-nx", "-batch", "-l", "60", "-x", str(script)], subprocess.STDOUT  # a busy machine answers late
         text = subprocess.run(words, stdout=subprocess.PIPE, stderr=both, text=True, check=False, cwd=work, timeout=120).stdout
         for place, word in ((str(work), "WORK"), (os.path.relpath(TOP, work), "TOP"), (str(TOP), "TOP")):
             text = text.replace(place, word)
