@@ -89,6 +89,18 @@ enum Extension {
     Sign,
 }
 
+/// How a number that an instruction loads becomes a word.
+#[inline(always)]
+fn extension_by(mnemonic: Mnemonic) -> Extension
+    ensures sign { (mnemonic ≡ Mnemonic.Lb) ⊎ (mnemonic ≡ Mnemonic.Lh) → result ≡ Extension.Sign }
+    ensures zero { (mnemonic ≡ Mnemonic.Lbu) ⊎ (mnemonic ≡ Mnemonic.Lhu) → result ≡ Extension.Zero }
+{
+    match mnemonic {
+        Mnemonic::Lb | Mnemonic::Lh => Extension::Sign,
+        _ => Extension::Zero,
+    }
+}
+
 /// Loads a number of a width from an aligned address into rd.
 #[inline(always)]
 fn load<B: Bus>(
@@ -162,6 +174,7 @@ fn execute<B: Bus>(regs: &mut Regs, bus: &mut B, mnemonic: Mnemonic, operands: O
         Follows B.stored once regs.old (B.state bus.old) result regs.new (B.state bus.new) }
 {
     let Operands { rd, rs1, rs2, imm } = operands;
+    let left = regs.get(rs1);
     match mnemonic {
         Mnemonic::Lui => set(regs, rd, imm),
         Mnemonic::Auipc => {
@@ -173,127 +186,82 @@ fn execute<B: Bus>(regs: &mut Regs, bus: &mut B, mnemonic: Mnemonic, operands: O
             jump(regs, rd, pc.wrapping_add(imm))
         }
         Mnemonic::Jalr => {
-            let addr = regs.get(rs1).wrapping_add(imm);
+            let addr = left.wrapping_add(imm);
             jump(regs, rd, addr & !1)
         }
         Mnemonic::Beq => {
-            let left = regs.get(rs1);
             let right = regs.get(rs2);
             branch(regs, left == right, imm)
         }
         Mnemonic::Bne => {
-            let left = regs.get(rs1);
             let right = regs.get(rs2);
             branch(regs, left != right, imm)
         }
         Mnemonic::Blt => {
-            let left = regs.get(rs1);
             let right = regs.get(rs2);
             branch(regs, left.cast_signed() < right.cast_signed(), imm)
         }
         Mnemonic::Bge => {
-            let left = regs.get(rs1);
             let right = regs.get(rs2);
             branch(regs, left.cast_signed() >= right.cast_signed(), imm)
         }
         Mnemonic::Bltu => {
-            let left = regs.get(rs1);
             let right = regs.get(rs2);
             branch(regs, left < right, imm)
         }
         Mnemonic::Bgeu => {
-            let left = regs.get(rs1);
             let right = regs.get(rs2);
             branch(regs, left >= right, imm)
         }
-        Mnemonic::Lb => {
-            let addr = regs.get(rs1).wrapping_add(imm);
-            load(regs, bus, rd, Extension::Sign, 1, addr)
+        Mnemonic::Lb | Mnemonic::Lbu => {
+            let addr = left.wrapping_add(imm);
+            load(regs, bus, rd, extension_by(mnemonic), 1, addr)
         }
-        Mnemonic::Lh => {
-            let addr = regs.get(rs1).wrapping_add(imm);
-            load(regs, bus, rd, Extension::Sign, 2, addr)
+        Mnemonic::Lh | Mnemonic::Lhu => {
+            let addr = left.wrapping_add(imm);
+            load(regs, bus, rd, extension_by(mnemonic), 2, addr)
         }
         Mnemonic::Lw => {
-            let addr = regs.get(rs1).wrapping_add(imm);
+            let addr = left.wrapping_add(imm);
             load(regs, bus, rd, Extension::Zero, 4, addr)
         }
-        Mnemonic::Lbu => {
-            let addr = regs.get(rs1).wrapping_add(imm);
-            load(regs, bus, rd, Extension::Zero, 1, addr)
-        }
-        Mnemonic::Lhu => {
-            let addr = regs.get(rs1).wrapping_add(imm);
-            load(regs, bus, rd, Extension::Zero, 2, addr)
-        }
         Mnemonic::Sb => {
-            let addr = regs.get(rs1).wrapping_add(imm);
+            let addr = left.wrapping_add(imm);
             let right = regs.get(rs2);
             store(regs, bus, 1, addr, right)
         }
         Mnemonic::Sh => {
-            let addr = regs.get(rs1).wrapping_add(imm);
+            let addr = left.wrapping_add(imm);
             let right = regs.get(rs2);
             store(regs, bus, 2, addr, right)
         }
         Mnemonic::Sw => {
-            let addr = regs.get(rs1).wrapping_add(imm);
+            let addr = left.wrapping_add(imm);
             let right = regs.get(rs2);
             store(regs, bus, 4, addr, right)
         }
-        Mnemonic::Addi => {
-            let left = regs.get(rs1);
-            set(regs, rd, left.wrapping_add(imm))
-        }
-        Mnemonic::Slti => {
-            let left = regs.get(rs1);
-            set(regs, rd, u32::from(left.cast_signed() < imm.cast_signed()))
-        }
-        Mnemonic::Sltiu => {
-            let left = regs.get(rs1);
-            set(regs, rd, u32::from(left < imm))
-        }
-        Mnemonic::Xori => {
-            let left = regs.get(rs1);
-            set(regs, rd, left ^ imm)
-        }
-        Mnemonic::Ori => {
-            let left = regs.get(rs1);
-            set(regs, rd, left | imm)
-        }
-        Mnemonic::Andi => {
-            let left = regs.get(rs1);
-            set(regs, rd, left & imm)
-        }
-        Mnemonic::Slli => {
-            let left = regs.get(rs1);
-            set(regs, rd, left << (imm % 32))
-        }
-        Mnemonic::Srli => {
-            let left = regs.get(rs1);
-            set(regs, rd, left >> (imm % 32))
-        }
-        Mnemonic::Srai => {
-            let left = regs.get(rs1);
-            set(regs, rd, shift_right_signed(left, imm))
-        }
+        Mnemonic::Addi => set(regs, rd, left.wrapping_add(imm)),
+        Mnemonic::Slti => set(regs, rd, u32::from(left.cast_signed() < imm.cast_signed())),
+        Mnemonic::Sltiu => set(regs, rd, u32::from(left < imm)),
+        Mnemonic::Xori => set(regs, rd, left ^ imm),
+        Mnemonic::Ori => set(regs, rd, left | imm),
+        Mnemonic::Andi => set(regs, rd, left & imm),
+        Mnemonic::Slli => set(regs, rd, left << (imm % 32)),
+        Mnemonic::Srli => set(regs, rd, left >> (imm % 32)),
+        Mnemonic::Srai => set(regs, rd, shift_right_signed(left, imm)),
         Mnemonic::Add => {
-            let left = regs.get(rs1);
             let right = regs.get(rs2);
             set(regs, rd, left.wrapping_add(right))
         }
         Mnemonic::Sub => {
-            let left = regs.get(rs1);
             let right = regs.get(rs2);
             set(regs, rd, left.wrapping_sub(right))
         }
         Mnemonic::Sll => {
-            let left = regs.get(rs1);
             let right = regs.get(rs2);
             set(regs, rd, left << (right % 32))
         }
         Mnemonic::Slt => {
-            let left = regs.get(rs1);
             let right = regs.get(rs2);
             set(
                 regs,
@@ -302,32 +270,26 @@ fn execute<B: Bus>(regs: &mut Regs, bus: &mut B, mnemonic: Mnemonic, operands: O
             )
         }
         Mnemonic::Sltu => {
-            let left = regs.get(rs1);
             let right = regs.get(rs2);
             set(regs, rd, u32::from(left < right))
         }
         Mnemonic::Xor => {
-            let left = regs.get(rs1);
             let right = regs.get(rs2);
             set(regs, rd, left ^ right)
         }
         Mnemonic::Srl => {
-            let left = regs.get(rs1);
             let right = regs.get(rs2);
             set(regs, rd, left >> (right % 32))
         }
         Mnemonic::Sra => {
-            let left = regs.get(rs1);
             let right = regs.get(rs2);
             set(regs, rd, shift_right_signed(left, right))
         }
         Mnemonic::Or => {
-            let left = regs.get(rs1);
             let right = regs.get(rs2);
             set(regs, rd, left | right)
         }
         Mnemonic::And => {
-            let left = regs.get(rs1);
             let right = regs.get(rs2);
             set(regs, rd, left & right)
         }

@@ -34,7 +34,9 @@ impl Reading {
     }
 
     /// The reading of `addi x0, x0, 0`.
-    pub fn nothing() -> Reading {
+    pub fn nothing() -> Reading
+        ensures { result.word ≡ 0x13 }
+    {
         nothing()
     }
 
@@ -73,7 +75,9 @@ fn place_of(word: u32) -> usize
 }
 
 /// The reading of `addi x0, x0, 0`.
-fn nothing() -> Reading {
+fn nothing() -> Reading
+    ensures { result.word ≡ 0x13 }
+{
     Reading {
         word: 0x13,
         mnemonic: Mnemonic::Addi,
