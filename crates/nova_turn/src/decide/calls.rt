@@ -14,6 +14,7 @@ impl Parts {
     /// `CALL`: sends a call through a portal, or helps its handler where that is busy. `BadPar` where
     /// the message counts more words than there are, `BadCap` where the capability names no portal with
     /// the right to call; then what `admit` answers.
+    #[inline(always)]
     pub(crate) fn call(&self, ec: u32, domain: u32, portal: u32, flag: bool) -> Result<Deed, Status>
         requires { IsSome (context_at (state_of self.now) ec) }
         ensures row { result ≡ call (state_of self.now) ec domain portal flag }
@@ -38,6 +39,7 @@ impl Parts {
 
     /// `REPLY`: replies to the caller. `BadPar` where no local thread asks, or where the message counts
     /// more words than there are.
+    #[inline(always)]
     pub(crate) fn reply(&self, ec: u32) -> Result<Deed, Status>
         requires { IsSome (context_at (state_of self.now) ec) }
         ensures row { result ≡ reply (state_of self.now) ec }
