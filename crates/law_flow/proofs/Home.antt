@@ -1,0 +1,376 @@
+-- A turn of a processor of the side's in two states, and of any other.
+use Rattle.std.proofs.Common.{◌≡◌, ℕ, zero, suc, List, [], ◌∷◌, refl, sym, ap, ◌∙◌, subst, inl, inr}
+use Rattle.std.specs.Prelude.{Bool, true, IfSome, IsSome, is_some, slice_get, slice_set, option_map, option_and_then, Option, Some, None}
+use Rattle.std.proofs.lemmas.Option.{same_Some}
+use Rattle.nova_calls.specs.Hypercalls.{call_of}
+use Rattle.nova_objects.specs.declared.object.EcKind.{EcKind}
+use Rattle.nova_objects.specs.declared.object.Object.{Object}
+use Rattle.nova_objects.specs.declared.object.Object.TheVariants.{Pd, Ec, Sc, Pt, Sm}
+use Rattle.nova_range.specs.declared.status.Status.{Status}
+use Rattle.nova_range.specs.Statuses.{status_code}
+use Rattle.nova_range.specs.declared.status.Status.TheVariants.{Success, Timeout}
+use Rattle.nova_model.specs.Boot.{Scenario, boot}
+use Rattle.nova_model.specs.Capabilities.{is_ec}
+use Rattle.nova_model.specs.Choice.{Candidate, choice, next_to_act, unless_due}
+use Rattle.nova_model.specs.Deeds.{deed}
+use Rattle.nova_model.specs.Edges.{AreEdges, after_edges, cpu_in, edge}
+use Rattle.nova_model.specs.Inputs.{is_stirred}
+use Rattle.nova_model.specs.Runs.{after, run}
+use Rattle.nova_model.specs.Semaphores.{raised, semaphore, without_one, woken}
+use Rattle.nova_model.specs.State.{Contexts, KernelState, Semaphore, context_at, deadline_of, entry, pd_in, pd_of, processor_in, processor_of}
+use Rattle.nova_model.specs.Times.{alarm_sm, deadline_sm, due_on, next_entry, next_moment, rung_in, rung_once}
+use Rattle.nova_model.specs.Turn.{answer_of, event_by, event_without, number_in, status_of, turn, whom_of}
+use Rattle.nova_model.specs.declared.context.EcState.{EcState}
+use Rattle.nova_model.specs.declared.deed.Deed.{Deed}
+use Rattle.nova_model.specs.declared.event.Event.{Event}
+use Rattle.nova_model.specs.declared.event.EventKind.TheVariants.{Irq, Late}
+use Rattle.nova_model.specs.declared.event.Turn.TheVariants.{Stepped}
+use Rattle.nova_model.specs.declared.times.AlarmState.{AlarmState}
+use Rattle.nova_model.specs.declared.times.Deadline.{Deadline}
+use Rattle.nova_model.specs.declared.times.Due.{Due}
+use Rattle.nova_model.specs.declared.times.Due.TheVariants as due
+use Rattle.law_forest.specs.Effects.{Falls, Passing, Ticks, all_edited, clears_by, deadlines_with, ends_by, passing_ends, passing_semaphore, semaphores_with, with_status}
+use Rattle.law_forest.specs.Turns.{IsPassing, passing, passing_event, turned}
+use Rattle.law_forest.proofs.Turning.{acts_next, due_answers, due_turn, event_at, idle_none, tick_answers, tick_turn}
+use Rattle.law_turns.proofs.Deadlines.{at_home}
+use Rattle.law_turns.proofs.Dues.{due_is}
+use Rattle.law_turns.proofs.Links.{place}
+use Rattle.law_turns.proofs.Serving.{actor_of}
+use Rattle.law_turns.proofs.Setting.{get_other}
+use Rattle.law_turns.proofs.Stamps.{stamps_below}
+use Rattle.law_turns.proofs.Suited.{tables_suit}
+use Rattle.law_turns.proofs.TablesFit.{chosen_acts}
+use Rattle.law_turns.proofs.TablesKept.{context_is}
+use Rattle.law_turns.specs.Tables.{Suits}
+use Rattle.law_isolation.specs.Sound.{IsSound}
+use Rattle.law_isolation.proofs.Runs.{reached_sound}
+use Rattle.law_integrity.specs.Confined.{IsOwned, Of}
+use Rattle.law_integrity.specs.Rights.{Again, AtCall, HasTurn, IsAsking}
+use Rattle.law_integrity.proofs.Authorised.{has_turn}
+use Rattle.law_integrity.proofs.Beside.{idle_stays}
+use Rattle.law_flow.specs.Flow.{AreAlike, HasSameClock, gain_for, is_at_work, IsPartitioned, IsAtWork, IsCallAtWork, if_own, own_deed, own_turn}
+use Rattle.law_flow.specs.Processors.{AreTimed, IsAtHome}
+use Rattle.law_flow.proofs.Seeing.{Both, context_same, instruction_same, semaphore_same, thread_same}
+use Rattle.law_flow.proofs.Deciding.{deed_own}
+use Rattle.law_flow.proofs.Doing.{by_deed, change_same, deadlines_same, edits_alike}
+use Rattle.law_flow.proofs.Timing.{clock_same, deadline_mine, due_same, entries_same}
+use Rattle.law_flow.proofs.Choosing.{ChosenSame, Rank, chosen_same, stamped}
+use Rattle.law_flow.proofs.Paying.{clocks_ticked, own_timed}
+use Rattle.law_flow.proofs.Telling.{chosen_told, event_told, none_told}
+use Rattle.law_flow.proofs.Turns.{AreTwins, decided, own_alike, own_gains, own_is, own_turned, work_as}
+
+-- WHAT COMES BY ITSELF ON A PROCESSOR OF THE SIDE'S
+
+-- it ends the same waits in both, changes the same semaphore in the same way, and has the same event
+record PassSame (k l : KernelState) (cpu : ℕ) (p : Passing) : Type 0 where
+  ends : passing_ends l p ≡ passing_ends k p
+  semaphore : passing_semaphore l p ≡ passing_semaphore k p
+  event : passing_event l cpu p ≡ passing_event k cpu p
+
+passed_alike : (k l : KernelState) (S P : ℕ → Type 0) → Both k l S P → (cpu : ℕ) (p : Passing) → PassSame k l cpu p → AreAlike (turned k cpu (passing k p)) (turned l cpu (passing l p)) S P
+passed_alike k l S P b cpu p same = record {
+  objects = b.alike.objects;
+  contexts = λ n q.
+      ap (λ (e : Option (ℕ × Status)). slice_get (all_edited l.contexts (ends_by e)) n) same.ends ∙ edits_alike P k.contexts l.contexts (ends_by (passing_ends k p)) b.alike.contexts n q;
+  messages = b.alike.messages;
+  transfers = b.alike.transfers;
+  identifiers = b.alike.identifiers;
+  semaphores = λ n q.
+      ap (λ (o : Option (ℕ × (Semaphore → Semaphore))). slice_get (semaphores_with l.semaphores o) n) same.semaphore
+      ∙ change_same P k.semaphores l.semaphores (passing_semaphore k p) b.alike.semaphores n q;
+  ticks = b.alike.ticks;
+  deadlines = λ n q.
+      ap (λ (e : Option (ℕ × Status)). slice_get (deadlines_with l.times.deadlines (clears_by e)) n) same.ends
+      ∙ deadlines_same P k.times.deadlines l.times.deadlines (clears_by (passing_ends k p)) b.alike.deadlines n q;
+  spaces = b.alike.spaces;
+  frames = b.alike.frames;
+  size = b.alike.size;
+}
+
+abbrev alarm_ends : KernelState → Option AlarmState → Option (ℕ × Status)
+alarm_ends k o = with_status Success (whom_of (woken (semaphore k.semaphores (alarm_sm o))))
+
+abbrev rung_event : ℕ → ℕ → Semaphore → Event
+rung_event cpu n s = event_without cpu (number_in (whom_of (woken s))) Irq n (status_of (woken s))
+
+pass_same : (k l : KernelState) (S P C : ℕ → Type 0) → Both k l S P → IsSound k → IsAtHome k S P C → AreTimed k l P C → (cpu : ℕ) (p : Passing) → C cpu → IsPassing k cpu p → PassSame k l cpu p
+pass_same k l S P C b sound home t cpu (Falls (due.Alarm n)) c is =
+    let its = due_is k.times cpu (due.Alarm n) is in
+    let a = its.entry.alarm in
+    let here : C a.alarm.cpu = subst C (sym its.entry.its) c in
+    let sm : P a.alarm.sm = home.has.alarms n a its.entry.there here in
+    let one : slice_get l.times.alarms n ≡ slice_get k.times.alarms n = t.alarms n a its.entry.there here ∙ sym its.entry.there in
+    let mine : P (alarm_sm (slice_get k.times.alarms n)) = subst P (sym (ap alarm_sm its.entry.there)) sm in
+    record {
+      ends = ap (alarm_ends l) one ∙ ap (λ (s : Semaphore). with_status Success (whom_of (woken s))) (semaphore_same k l S P b (alarm_sm (slice_get k.times.alarms n)) mine);
+      semaphore = ap (λ (o : Option AlarmState). Some (alarm_sm o, raised)) one;
+      event = ap (λ (o : Option AlarmState). rung_event cpu n (semaphore l.semaphores (alarm_sm o))) one
+          ∙ ap (rung_event cpu n) (semaphore_same k l S P b (alarm_sm (slice_get k.times.alarms n)) mine);
+    }
+pass_same k l S P C b sound home t cpu (Falls (due.Deadline ec)) c is =
+    let its = due_is k.times cpu (due.Deadline ec) is in
+    let p = deadline_mine k S P C sound b.side home ec its.entry.deadline its.entry.there (subst C (sym its.entry.its) c) in
+    let one : deadline_of l.times ec ≡ deadline_of k.times ec = ap (λ (o : Option (Option Deadline)). entry o) (b.alike.deadlines ec p) in
+    record {
+      ends = refl;
+      semaphore = ap (λ (o : Option Deadline). Some (deadline_sm o, without_one ec)) one;
+      event = ap (λ (o : Option Deadline). event_without cpu ec Late (deadline_sm o) (status_code Timeout)) one;
+    }
+pass_same k l S P C b sound home t cpu Ticks c is = record { ends = refl; semaphore = refl; event = refl }
+
+set_there : {T : Type 0} (xs : List T) (n : ℕ) (x : T) → IsSome (slice_get xs n) → slice_get (slice_set xs n x) n ≡ Some x
+set_there [] n x there = absurd (cc)
+set_there (y ∷ xs) zero x there = refl
+set_there (y ∷ xs) (suc n) x there = set_there xs n x there
+
+rung_same : (C : ℕ → Type 0) (xs ys : List AlarmState) (n : ℕ) (b : AlarmState) → slice_get xs n ≡ Some b → slice_get ys n ≡ Some b →
+    ((i : ℕ) (a : AlarmState) → slice_get xs i ≡ Some a → C a.alarm.cpu → slice_get ys i ≡ Some a) → (i : ℕ) (a : AlarmState) → slice_get (rung_in xs n (slice_get xs n)) i ≡ Some a → C a.alarm.cpu →
+    slice_get (rung_in ys n (slice_get ys n)) i ≡ Some a
+rung_same C xs ys n b first second same i a at c = elim (place i n) [
+  | inl is ↦
+      let ours : slice_get (rung_in xs n (slice_get xs n)) i ≡ Some (rung_once b) =
+      ap (λ (o : Option AlarmState). slice_get (rung_in xs n o) i) first ∙ ap (slice_get (slice_set xs n (rung_once b))) is ∙ set_there xs n (rung_once b) (subst IsSome (sym first) refl) in
+      let theirs : slice_get (rung_in ys n (slice_get ys n)) i ≡ Some (rung_once b) =
+      ap (λ (o : Option AlarmState). slice_get (rung_in ys n o) i) second ∙ ap (slice_get (slice_set ys n (rung_once b))) is ∙ set_there ys n (rung_once b) (subst IsSome (sym second) refl) in
+      theirs ∙ sym ours ∙ at
+  | inr other ↦
+      ap (λ (o : Option AlarmState). slice_get (rung_in ys n o) i) second ∙ get_other ys n i (rung_once b) other
+      ∙ same i a (sym (get_other xs n i (rung_once b) other) ∙ sym (ap (λ (o : Option AlarmState). slice_get (rung_in xs n o) i) first) ∙ at) c
+]
+
+passed_timed : (k l : KernelState) (P C : ℕ → Type 0) (cpu : ℕ) (p : Passing) → AreTimed k l P C → C cpu → IsPassing k cpu p → AreTimed (turned k cpu (passing k p)) (turned l cpu (passing l p)) P C
+passed_timed k l P C cpu (Falls (due.Alarm n)) t c is =
+    let its = due_is k.times cpu (due.Alarm n) is in
+    let here : C its.entry.alarm.alarm.cpu = subst C (sym its.entry.its) c in
+    let there = t.alarms n its.entry.alarm its.entry.there here in
+    record {
+      clocks = clocks_ticked k l P C cpu t c;
+      alarms = rung_same C k.times.alarms l.times.alarms n its.entry.alarm its.entry.there there t.alarms;
+      same_alarms = rung_same C l.times.alarms k.times.alarms n its.entry.alarm there its.entry.there t.same_alarms;
+      left = t.left;
+      order = t.order;
+    }
+passed_timed k l P C cpu (Falls (due.Deadline ec)) t c is = record { clocks = clocks_ticked k l P C cpu t c; alarms = t.alarms; same_alarms = t.same_alarms; left = t.left; order = t.order }
+passed_timed k l P C cpu Ticks t c is = record { clocks = clocks_ticked k l P C cpu t c; alarms = t.alarms; same_alarms = t.same_alarms; left = t.left; order = t.order }
+
+-- THE TURN OF A PROCESSOR OF THE SIDE'S
+
+-- both states after it
+pub record HomeTurn (k l : KernelState) (S P C : ℕ → Bool) (cpu : ℕ) : Type 0 where
+  pub alike : AreAlike (after k cpu) (after l cpu) (Of S) (Of P)
+  pub timed : AreTimed (after k cpu) (after l cpu) (Of P) (Of C)
+  pub deeds : own_deed S l cpu ≡ own_deed S k cpu
+  pub bytes : gain_for l cpu (own_turn S l cpu) ≡ gain_for k cpu (own_turn S k cpu)
+  pub event : event_at l cpu ≡ event_at k cpu
+  pub works : (ec sc : ℕ) → own_turn S l cpu ≡ Some (ec, sc) → IsAtWork (Unit {0}) l ec
+
+-- the same turn is one at work in the second too
+pub works_too : (timed : Type 0) (k l : KernelState) (S P : ℕ → Type 0) → Both k l S P → (ec : ℕ) → P ec → S (pd_of k ec) → IsAtWork timed k ec → IsAtWork timed l ec
+works_too timed k l S P b ec p s works = record {
+  state = ap (λ (x : EcState). is_at_work x.state) (context_same k l S P b ec p) ∙ works.state;
+  calls = λ asks_. subst (λ (x : EcState). IsCallAtWork timed (call_of x.regs)) (sym (context_same k l S P b ec p)) (works.calls (by_asks asks_));
+}
+  where
+    by_asks : IsAsking l ec → IsAsking k ec
+    by_asks (Again handler is) = Again handler (sym (ap (λ (x : EcState). x.state) (context_same k l S P b ec p)) ∙ is)
+    by_asks (AtCall c) = AtCall (record {
+      state = sym (ap (λ (x : EcState). x.state) (context_same k l S P b ec p)) ∙ c.state;
+      recall = sym (ap (λ (x : EcState). x.recall) (context_same k l S P b ec p)) ∙ c.recall;
+      thread = sym (thread_same k l S P b ec p) ∙ c.thread;
+      q0 = c.q0;
+      q1 = c.q1;
+      raises = sym (instruction_same k l S P b ec p s) ∙ c.raises;
+    })
+
+-- a turn in which nobody acts
+pub nobody_own : (S : ℕ → Bool) (k : KernelState) (cpu : ℕ) → next_to_act k cpu ≡ None → own_turn S k cpu ≡ None
+nobody_own S k cpu none = ap (λ (o : Option Candidate). option_and_then (λ c. if_own (S (pd_of k c.actor)) c) o) none
+
+due_nobody : (k : KernelState) (cpu : ℕ) (what : Due) → due_on k.times cpu ≡ Some what → next_to_act k cpu ≡ None
+unfolding next_to_act
+due_nobody k cpu what is = ap (λ (o : Option Due). unless_due o (choice k cpu)) is
+
+pub own_none_deed : (S : ℕ → Bool) (k : KernelState) (cpu : ℕ) → own_turn S k cpu ≡ None → own_deed S k cpu ≡ None
+own_none_deed S k cpu none = ap (λ (o : Option (ℕ × ℕ)). option_map (λ (p : ℕ × ℕ). (p.0, deed k p.0)) o) none
+
+-- a down with a deadline is for the clock of its processor
+working_at : (timed : Type 0) (k : KernelState) (ec : ℕ) → IsAtWork (Unit {0}) k ec → timed → IsAtWork timed k ec
+working_at timed k ec works its = work_as (Unit {0}) timed k ec (λ none. its) works
+
+-- who acts is an execution context of the processor
+way_cpu : (cs : Contexts) → AreEdges cs → (m n f : ℕ) → after_edges m (edge cs) n ≡ Some f → cpu_in cs f ≡ cpu_in cs n
+way_cpu cs sound zero n f is = ap (cpu_in cs) (sym (same_Some n f is))
+way_cpu cs sound (suc m) n f is = by_edge (edge cs n) refl is (λ h later. way_cpu cs sound m h f later)
+  where
+    by_edge : (o : Option ℕ) → edge cs n ≡ o → option_and_then (after_edges m (edge cs)) o ≡ Some f → ((h : ℕ) → after_edges m (edge cs) h ≡ Some f → cpu_in cs f ≡ cpu_in cs h) → cpu_in cs f ≡ cpu_in cs n
+    by_edge None at h rest = absurd (cc)
+    by_edge (Some g) at h rest = rest g h ∙ sound.one_processor n g at
+
+pub record IsActorOf (k : KernelState) (cpu ec : ℕ) : Type 0 where
+  pub pd : ℕ
+  pub kind : EcKind
+  pub event : ℕ
+  pub object : slice_get k.objects ec ≡ Some (Ec pd cpu kind event)
+
+pub actor_there : (s : Scenario) (before : List ℕ) (cpu : ℕ) (c : Candidate) → next_to_act (run (boot s) before) cpu ≡ Some c → IsActorOf (run (boot s) before) cpu c.actor
+actor_there s before cpu c is = by_object (slice_get k.objects c.actor) refl kind processor
+  where
+    k : KernelState
+    k = run (boot s) before
+
+    sound : IsSound (run (boot s) before)
+    sound = reached_sound s before
+
+    turn : HasTurn (run (boot s) before) cpu c.actor c.sc
+    turn = has_turn k cpu c sound.kept.edges is
+
+    there : is_some (context_at (run (boot s) before) c.actor) ≡ true
+    there = ap is_some (actor_of k.contexts c.actor (chosen_acts k cpu c is)).there
+
+    kind : option_map is_ec (slice_get (run (boot s) before).objects c.actor) ≡ Some true
+    kind = context_is k c.actor there sound.kept.tables
+
+    donor_cpu : cpu_in (run (boot s) before).contexts turn.donor ≡ Some cpu
+    donor_cpu = (subst (λ (o : Option Object). IfSome o (Suits k c.sc)) turn.object (tables_suit s before c.sc)).1
+
+    processor : processor_of (run (boot s) before) c.actor ≡ cpu
+    processor =
+        let both : Some (processor_of k c.actor) ≡ Some cpu = sym (at_home k c.actor there sound.kept.tables) ∙ way_cpu k.contexts sound.kept.edges turn.leads.edges turn.donor c.actor turn.leads.way ∙ donor_cpu in
+        same_Some (processor_of k c.actor) cpu both
+
+    by_object : (o : Option Object) → slice_get (run (boot s) before).objects c.actor ≡ o → option_map is_ec o ≡ Some true → processor_in o ≡ cpu → IsActorOf (run (boot s) before) cpu c.actor
+    by_object (Some (Ec pd its kind_ event)) at h same = record { pd = pd; kind = kind_; event = event; object = at ∙ ap (λ (n : ℕ). Some (Ec pd n kind_ event)) same }
+    by_object (Some Pd) at h same = absurd (cc)
+    by_object (Some (Sc ec its priority quantum)) at h same = absurd (cc)
+    by_object (Some (Pt ec mtd ip)) at h same = absurd (cc)
+    by_object (Some Sm) at h same = absurd (cc)
+    by_object None at h same = absurd (cc)
+
+-- the one that is chosen there is the side's
+own_chosen : (s : Scenario) (before : List ℕ) (S P : ℕ → Bool) (T : ℕ → Type 0) (cpu : ℕ) (c : Candidate) → IsPartitioned (run (boot s) before) (Of S) T (Of P) → P c.actor ≡ true →
+    next_to_act (run (boot s) before) cpu ≡ Some c → own_turn S (run (boot s) before) cpu ≡ Some (c.actor, c.sc)
+own_chosen s before S P T cpu c part p is =
+    ap (λ (o : Option Candidate). option_and_then (λ c. if_own (S (pd_of k c.actor)) c) o) is ∙ ap (λ (t : Bool). if_own t c) mine
+  where
+    k : KernelState
+    k = run (boot s) before
+
+    mine : S (pd_of (run (boot s) before) c.actor) ≡ true
+    mine =
+        let its = actor_there s before cpu c is in
+        ap (λ (o : Option Object). S (pd_in o)) its.object ∙ subst (IsOwned k (Of S) c.actor) its.object (part.guarded.owned c.actor p)
+
+same_pair : (m n i j : ℕ) → ◌≡◌ {A = Option (ℕ × ℕ)} (Some (m, n)) (Some (i, j)) → m ≡ i
+same_pair m n i j is = ap (λ (p : ℕ × ℕ). p.0) (same_Some {A = ℕ × ℕ} (m, n) (i, j) is)
+
+pub home_turn : (a b : Scenario) (x y : List ℕ) (S P C : ℕ → Bool) (T U : ℕ → Type 0) (cpu : ℕ) →
+    IsPartitioned (run (boot a) x) (Of S) T (Of P) → IsPartitioned (run (boot b) y) (Of S) U (Of P) → AreAlike (run (boot a) x) (run (boot b) y) (Of S) (Of P) →
+    AreTimed (run (boot a) x) (run (boot b) y) (Of P) (Of C) → IsAtHome (run (boot a) x) (Of S) (Of P) (Of C) → IsAtHome (run (boot b) y) (Of S) (Of P) (Of C) →
+    ((ec sc : ℕ) → own_turn S (run (boot a) x) cpu ≡ Some (ec, sc) → IsAtWork (Unit {0}) (run (boot a) x) ec) → C cpu ≡ true → HomeTurn (run (boot a) x) (run (boot b) y) S P C cpu
+home_turn a b x y S P C T U cpu first second alike timed home abroad works c = by_due (due_on k.times cpu) refl
+  where
+    k : KernelState
+    k = run (boot a) x
+
+    l : KernelState
+    l = run (boot b) y
+
+    sound : IsSound (run (boot a) x)
+    sound = reached_sound a x
+
+    also : IsSound (run (boot b) y)
+    also = reached_sound b y
+
+    twins : AreTwins (run (boot a) x) (run (boot b) y) S P
+    twins = record { side = first.side; alike = alike; first = sound; second = also }
+
+    two : Both (run (boot a) x) (run (boot b) y) (Of S) (Of P)
+    two = record { side = first.side; alike = alike; first = sound.kept.edges; second = also.kept.edges }
+
+    entry_so : next_entry (run (boot b) y).times cpu ≡ next_entry (run (boot a) x).times cpu
+    entry_so = entries_same k l (Of S) (Of P) (Of C) cpu sound also first.side second.side home abroad alike timed c
+
+    due_so : due_on (run (boot b) y).times cpu ≡ due_on (run (boot a) x).times cpu
+    due_so = due_same k l (Of P) (Of C) cpu timed c entry_so
+
+    moment_so : next_moment (run (boot b) y).times cpu ≡ next_moment (run (boot a) x).times cpu
+    moment_so = ap (option_map (λ e. e.moment)) entry_so
+
+    chosen : ChosenSame (run (boot a) x) (run (boot b) y) (Of P) cpu
+    chosen = chosen_same k l (Of S) (Of P) (Of C) cpu sound also two second.side home abroad timed c
+
+    -- by states that both come to
+    so : (m n : KernelState) → after (run (boot a) x) cpu ≡ m → after (run (boot b) y) cpu ≡ n → AreAlike m n (Of S) (Of P) → AreTimed m n (Of P) (Of C) →
+        own_turn S (run (boot a) x) cpu ≡ None → own_turn S (run (boot b) y) cpu ≡ None → event_at (run (boot b) y) cpu ≡ event_at (run (boot a) x) cpu →
+        HomeTurn (run (boot a) x) (run (boot b) y) S P C cpu
+    so m n is its alike_ timed_ one other told = record {
+      alike = subst (λ (s : KernelState). AreAlike s (after l cpu) (Of S) (Of P)) (sym is) (subst (λ (s : KernelState). AreAlike m s (Of S) (Of P)) (sym its) alike_);
+      timed = subst (λ (s : KernelState). AreTimed s (after l cpu) (Of P) (Of C)) (sym is) (subst (λ (s : KernelState). AreTimed m s (Of P) (Of C)) (sym its) timed_);
+      deeds = own_none_deed S l cpu other ∙ sym (own_none_deed S k cpu one);
+      bytes = ap (gain_for l cpu) other ∙ sym (ap (gain_for k cpu) one);
+      event = told;
+      works = λ ec sc own. absurd (let both : None ≡ Some (ec, sc) = sym other ∙ own in cc);
+    }
+
+    passes : (p : Passing) → IsPassing (run (boot a) x) cpu p → after (run (boot a) x) cpu ≡ turned (run (boot a) x) cpu (passing (run (boot a) x) p) →
+        after (run (boot b) y) cpu ≡ turned (run (boot b) y) cpu (passing (run (boot b) y) p) → next_to_act (run (boot a) x) cpu ≡ None → next_to_act (run (boot b) y) cpu ≡ None →
+        answer_of (turn (run (boot a) x) cpu) ≡ Stepped (passing_event (run (boot a) x) cpu p) → answer_of (turn (run (boot b) y) cpu) ≡ Stepped (passing_event (run (boot b) y) cpu p) →
+        HomeTurn (run (boot a) x) (run (boot b) y) S P C cpu
+    passes p is one other none nothing first_answer second_answer =
+        let same = pass_same k l (Of S) (Of P) (Of C) two sound home timed cpu p c is in
+        so _ _ one other (passed_alike k l (Of S) (Of P) two cpu p same) (passed_timed k l (Of P) (Of C) cpu p timed c is) (nobody_own S k cpu none) (nobody_own S l cpu nothing)
+        (event_told l cpu (passing_event l cpu p) second_answer ∙ ap (λ (e : Event). Some e) same.event ∙ sym (event_told k cpu (passing_event k cpu p) first_answer))
+
+    acts_ : (r : Rank) → chosen.rank ≡ Some r → due_on (run (boot a) x).times cpu ≡ None → HomeTurn (run (boot a) x) (run (boot b) y) S P C cpu
+    acts_ r is calm =
+        let pays = chosen.pays r is in
+        let one : next_to_act k cpu ≡ Some (stamped k r) = acts_next k cpu (stamped k r) (chosen.first ∙ ap (option_map (stamped k)) is) calm in
+        let other : next_to_act l cpu ≡ Some (stamped l r) = acts_next l cpu (stamped l r) (chosen.second ∙ ap (option_map (stamped l)) is) (due_so ∙ calm) in
+        let own : own_turn S k cpu ≡ Some (r.actor, r.sc) = own_chosen a x S P T cpu (stamped k r) first pays.2 one in
+        let theirs : own_turn S l cpu ≡ Some (r.actor, r.sc) = own_chosen b y S P U cpu (stamped l r) second pays.2 other in
+        let its = own_is S k cpu r.actor r.sc own in
+        let actor = actor_there a x cpu (stamped k r) one in
+        let clock_so : HasSameClock k l r.actor = clock_same k l (Of P) (Of C) (processor_of k r.actor) timed (ap (λ (o : Option Object). C (processor_in o)) actor.object ∙ c) in
+        let at_work = working_at (HasSameClock k l r.actor) k r.actor (works r.actor r.sc own) clock_so in
+        let same = decided k l S P cpu r.actor r.sc twins own at_work in
+        let mine = deed_own (HasSameClock k l r.actor) k l (Of S) (Of P) two r.actor pays.2 its.of at_work in
+        record {
+          alike = own_alike k l S P cpu cpu r.actor r.sc twins own theirs at_work;
+          timed =
+              subst (λ (s : KernelState). AreTimed s (after l cpu) (Of P) (Of C)) (sym (own_turned S k cpu r.actor r.sc its))
+              (subst (λ (s : KernelState). AreTimed (turned k cpu (by_deed k r.actor r.sc (deed k r.actor) (is_stirred k r.actor (deed k r.actor)))) s (Of P) (Of C))
+              (sym (own_turned S l cpu r.actor r.sc (own_is S l cpu r.actor r.sc theirs) ∙ ap (λ (d : Deed). turned l cpu (by_deed l r.actor r.sc d (is_stirred l r.actor d))) same))
+              (own_timed (HasSameClock k l r.actor) k l (Of P) (Of C) cpu r.actor r.sc (deed k r.actor) (is_stirred k r.actor (deed k r.actor)) (is_stirred l r.actor (deed k r.actor)) mine timed c pays.0
+              (alike.objects r.sc pays.0) pays.1 (stamps_below a x) (stamps_below b y)));
+          deeds =
+              ap (λ (o : Option (ℕ × ℕ)). option_map (λ (p : ℕ × ℕ). (p.0, deed l p.0)) o) theirs ∙ ap (λ (d : Deed). Some (r.actor, d)) same
+              ∙ sym (ap (λ (o : Option (ℕ × ℕ)). option_map (λ (p : ℕ × ℕ). (p.0, deed k p.0)) o) own);
+          bytes = ap (gain_for l cpu) theirs ∙ own_gains k l S P cpu cpu r.actor r.sc twins own theirs at_work ∙ sym (ap (gain_for k cpu) own);
+          event =
+              chosen_told l cpu (stamped l r) other ∙ ap (λ (d : Deed). Some (event_by cpu r.sc r.actor d)) same
+              ∙ sym (chosen_told k cpu (stamped k r) one);
+          works = λ ec sc its_own.
+              let both = same_pair r.actor r.sc ec sc (sym theirs ∙ its_own) in
+              subst (λ (n : ℕ). IsAtWork (Unit {0}) l n) both (works_too (Unit {0}) k l (Of S) (Of P) two r.actor pays.2 its.of (works r.actor r.sc own));
+        }
+
+    by_moment : (o : Option ℕ) → next_moment (run (boot a) x).times cpu ≡ o → due_on (run (boot a) x).times cpu ≡ None → choice (run (boot a) x) cpu ≡ None → choice (run (boot b) y) cpu ≡ None →
+        HomeTurn (run (boot a) x) (run (boot b) y) S P C cpu
+    by_moment None quiet calm none nothing =
+        so k l (idle_stays k cpu none quiet) (idle_stays l cpu nothing (moment_so ∙ quiet)) alike timed (nobody_own S k cpu (idle_none k cpu none)) (nobody_own S l cpu (idle_none l cpu nothing))
+        (none_told l cpu nothing (moment_so ∙ quiet) ∙ sym (none_told k cpu none quiet))
+    by_moment (Some moment) comes_ calm none nothing =
+        let some : IsSome (next_moment k.times cpu) = subst IsSome (sym comes_) refl in
+        passes Ticks (calm, none, some) (tick_turn k cpu calm none some) (tick_turn l cpu (due_so ∙ calm) nothing (subst IsSome (sym moment_so) some)) (idle_none k cpu none) (idle_none l cpu nothing)
+        (tick_answers k cpu calm none some) (tick_answers l cpu (due_so ∙ calm) nothing (subst IsSome (sym moment_so) some))
+
+    by_rank : (o : Option Rank) → chosen.rank ≡ o → due_on (run (boot a) x).times cpu ≡ None → HomeTurn (run (boot a) x) (run (boot b) y) S P C cpu
+    by_rank (Some r) is calm = acts_ r is calm
+    by_rank None is calm =
+        by_moment (next_moment k.times cpu) refl calm (chosen.first ∙ ap (option_map (stamped k)) is) (chosen.second ∙ ap (option_map (stamped l)) is)
+
+    by_due : (o : Option Due) → due_on (run (boot a) x).times cpu ≡ o → HomeTurn (run (boot a) x) (run (boot b) y) S P C cpu
+    by_due (Some what) is =
+        passes (Falls what) is (due_turn k cpu what is) (due_turn l cpu what (due_so ∙ is)) (due_nobody k cpu what is) (due_nobody l cpu what (due_so ∙ is))
+        (due_answers k cpu what is) (due_answers l cpu what (due_so ∙ is))
+    by_due None is = by_rank chosen.rank refl is

@@ -1,0 +1,48 @@
+-- What the turns of a processor tell: their events are of it, so that a trace is told apart by processors.
+use Rattle.std.proofs.Common.{◌≡◌, ℕ, List, ◌∷◌, refl, ap, ◌∙◌}
+use Rattle.std.specs.Prelude.{Bool, true, false, IfSome, Option, Some, None, option_map, if◌then◌else◌}
+use Rattle.nova_model.specs.Choice.{Candidate, choice, in_front, next_to_act}
+use Rattle.nova_model.specs.Deeds.{deed}
+use Rattle.nova_model.specs.State.{KernelState}
+use Rattle.nova_model.specs.Times.{next_moment}
+use Rattle.nova_model.specs.Turn.{Step, answer_of, event_of, turn}
+use Rattle.nova_model.specs.declared.event.Event.{Event}
+use Rattle.nova_model.specs.declared.event.Turn.TheVariants.{Stepped}
+use Rattle.law_forest.specs.Turns.{Acts, IsTurning, Passes, Turning}
+use Rattle.law_forest.proofs.Actors.{chosen_answers}
+use Rattle.law_forest.proofs.Turning.{event_answered, event_at, event_in, none_taken, outcome}
+use Rattle.law_turns.proofs.Ticks.{event_on}
+use Rattle.law_flow.specs.Processors.{events_on}
+
+-- the event of a turn by its answer, and of one who acts
+pub event_told : (k : KernelState) (cpu : ℕ) (e : Event) → answer_of (turn k cpu) ≡ Stepped e → event_at k cpu ≡ Some e
+event_told k cpu e is = event_answered (turn k cpu) ∙ ap event_in is
+
+pub chosen_told : (k : KernelState) (cpu : ℕ) (c : Candidate) → next_to_act k cpu ≡ Some c → event_at k cpu ≡ Some (event_of cpu c (deed k c.actor))
+chosen_told k cpu c is = event_told k cpu (event_of cpu c (deed k c.actor)) (chosen_answers k cpu c is)
+
+pub none_told : (k : KernelState) (cpu : ℕ) → choice k cpu ≡ None → next_moment k.times cpu ≡ None → event_at k cpu ≡ None
+none_told k cpu none quiet = ap (option_map (λ (s : Step). s.event)) (none_taken k cpu none quiet)
+
+turning_on : (k : KernelState) (cpu : ℕ) (t : Turning) (e : Event) → IsTurning k cpu t e → e.cpu ≡ cpu
+turning_on k cpu t e (Acts c chosen is event) = ap (λ (x : Event). x.cpu) event
+turning_on k cpu t e (Passes p due is event) = ap (λ (x : Event). x.cpu) event ∙ event_on k cpu p
+
+on_it : (k : KernelState) (cpu : ℕ) → IfSome (event_at k cpu) (λ e. e.cpu ≡ cpu)
+on_it k cpu = outcome (λ s o. IfSome o (λ e. e.cpu ≡ cpu)) k cpu (λ none. tt) (turning_on k cpu)
+
+-- of a trace the events of the side's processors begin with the event of such a turn
+pub told_here : (C : ℕ → Bool) (k : KernelState) (cpu : ℕ) (rest : List Event) → C cpu ≡ true → events_on C (in_front (event_at k cpu) rest) ≡ in_front (event_at k cpu) (events_on C rest)
+told_here C k cpu rest c = by_event (event_at k cpu) (on_it k cpu)
+  where
+    by_event : (o : Option Event) → IfSome o (λ e. e.cpu ≡ cpu) → events_on C (in_front o rest) ≡ in_front o (events_on C rest)
+    by_event None on = refl
+    by_event (Some e) on = ap (λ (t : Bool). if t then e ∷ events_on C rest else events_on C rest) (ap C on ∙ c)
+
+-- and leave out that of a turn elsewhere
+pub told_away : (C : ℕ → Bool) (k : KernelState) (cpu : ℕ) (rest : List Event) → C cpu ≡ false → events_on C (in_front (event_at k cpu) rest) ≡ events_on C rest
+told_away C k cpu rest c = by_event (event_at k cpu) (on_it k cpu)
+  where
+    by_event : (o : Option Event) → IfSome o (λ e. e.cpu ≡ cpu) → events_on C (in_front o rest) ≡ events_on C rest
+    by_event None on = refl
+    by_event (Some e) on = ap (λ (t : Bool). if t then e ∷ events_on C rest else events_on C rest) (ap C on ∙ c)

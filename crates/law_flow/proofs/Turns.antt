@@ -1,0 +1,289 @@
+-- A turn of one of a side in two states, and turns one after another.
+use Rattle.std.proofs.Common.{◌≡◌, ℕ, List, [], ◌∷◌, ◌++◌, length, refl, sym, ap, ap₂, ◌∙◌, subst}
+use Rattle.std.specs.Prelude.{Bool, true, false, drop, is_some, slice_get, option_map, option_and_then, Option, Some, None}
+use Rattle.std.proofs.lemmas.Option.{same_Some}
+use Rattle.nova_objects.specs.declared.object.Object.{Object}
+use Rattle.nova_objects.specs.declared.object.Object.TheVariants.{Pd, Ec, Sc, Pt, Sm}
+use Rattle.nova_calls.specs.Hypercalls.{call_of}
+use Rattle.nova_calls.specs.declared.call.Call.{Call}
+use Rattle.nova_calls.specs.declared.call.Call.TheVariants as asks
+use Rattle.nova_calls.specs.declared.call.SmAction.TheVariants as act
+use Rattle.nova_range.specs.declared.status.Status.{Status}
+use Rattle.std.specs.Prelude.{Result, Ok}
+use Rattle.nova_model.specs.Capabilities.{is_ec}
+use Rattle.nova_model.specs.Choice.{Candidate, in_front, next_to_act}
+use Rattle.nova_model.specs.Deeds.{deed}
+use Rattle.nova_model.specs.Inputs.{is_stirred}
+use Rattle.nova_model.specs.Runs.{after, run}
+use Rattle.nova_model.specs.State.{KernelState, context, pd_in, pd_of}
+use Rattle.nova_model.specs.declared.deed.Deed.{Deed}
+use Rattle.nova_model.specs.declared.log.LogByte.{LogByte}
+use Rattle.nova_model.specs.Memory.{Memory}
+use Rattle.law_forest.specs.Effects.{memory_with, store_by}
+use Rattle.law_forest.specs.Turns.{turned}
+use Rattle.law_forest.proofs.Turning.{chosen_turn}
+use Rattle.law_turns.proofs.Serving.{actor_of}
+use Rattle.law_turns.proofs.TablesKept.{context_is}
+use Rattle.law_isolation.specs.Sound.{IsSound}
+use Rattle.law_isolation.proofs.Runs.{turn_sound}
+use Rattle.law_origins.specs.Giving.{Acts}
+use Rattle.law_origins.proofs.Actors.{is_able}
+use Rattle.law_integrity.specs.Confined.{Of}
+use Rattle.law_flow.specs.Flow.{AreAlike, AreLeftAlone, AreAtWorkTimeless, HasSameClock, IsSide, IsAtWork, IsCallAtWork, if_own, gain_for, own_bytes, own_deeds, own_turn, schedule}
+use Rattle.law_flow.proofs.Seeing.{Both, reach_same}
+use Rattle.law_flow.proofs.Deciding.{deed_own, deed_same}
+use Rattle.law_flow.proofs.Doing.{by_deed, memory_same, turned_alike}
+use Rattle.law_flow.proofs.Keeping.{turned_side}
+
+-- THE SAME PART
+
+pub alike_flipped : (k l : KernelState) (S P : ℕ → Type 0) → AreAlike k l S P → AreAlike l k S P
+alike_flipped k l S P a = record {
+  objects = λ n p. sym (a.objects n p);
+  contexts = λ n p. sym (a.contexts n p);
+  messages = λ n p. sym (a.messages n p);
+  transfers = λ n p. sym (a.transfers n p);
+  identifiers = λ n p. sym (a.identifiers n p);
+  semaphores = λ n p. sym (a.semaphores n p);
+  ticks = λ n p. sym (a.ticks n p);
+  deadlines = λ n p. sym (a.deadlines n p);
+  spaces = λ kind pd place s. sym (a.spaces kind pd place s);
+  frames = λ pd page to s leads. sym (a.frames pd page to s (sym (reach_same k l S P a pd page s) ∙ leads));
+  size = sym a.size;
+}
+
+pub alike_itself : (k : KernelState) (S P : ℕ → Bool) → AreAlike k k (Of S) (Of P)
+alike_itself k S P = record {
+  objects = λ n p. refl;
+  contexts = λ n p. refl;
+  messages = λ n p. refl;
+  transfers = λ n p. refl;
+  identifiers = λ n p. refl;
+  semaphores = λ n p. refl;
+  ticks = λ n p. refl;
+  deadlines = λ n p. refl;
+  spaces = λ kind pd place s. refl;
+  frames = λ pd page to s leads. refl;
+  size = refl;
+}
+
+pub alike_through : (k l m : KernelState) (S P : ℕ → Type 0) → AreAlike k l S P → AreAlike l m S P → AreAlike k m S P
+alike_through k l m S P a b = record {
+  objects = λ n p. b.objects n p ∙ a.objects n p;
+  contexts = λ n p. b.contexts n p ∙ a.contexts n p;
+  messages = λ n p. b.messages n p ∙ a.messages n p;
+  transfers = λ n p. b.transfers n p ∙ a.transfers n p;
+  identifiers = λ n p. b.identifiers n p ∙ a.identifiers n p;
+  semaphores = λ n p. b.semaphores n p ∙ a.semaphores n p;
+  ticks = λ n p. b.ticks n p ∙ a.ticks n p;
+  deadlines = λ n p. b.deadlines n p ∙ a.deadlines n p;
+  spaces = λ kind pd place s. b.spaces kind pd place s ∙ a.spaces kind pd place s;
+  frames = λ pd page to s leads. b.frames pd page to s (reach_same k l S P a pd page s ∙ leads) ∙ a.frames pd page to s leads;
+  size = b.size ∙ a.size;
+}
+
+-- ONE OF THE SIDE'S TURNS
+
+pub record IsOwnTurn (S : ℕ → Bool) (k : KernelState) (cpu ec sc : ℕ) : Type 0 where
+  pub candidate : Candidate
+  pub next : next_to_act k cpu ≡ Some candidate
+  pub actor : candidate.actor ≡ ec
+  pub payer : candidate.sc ≡ sc
+  pub of : S (pd_of k ec) ≡ true
+
+pub own_is : (S : ℕ → Bool) (k : KernelState) (cpu ec sc : ℕ) → own_turn S k cpu ≡ Some (ec, sc) → IsOwnTurn S k cpu ec sc
+own_is S k cpu ec sc h = by_next (next_to_act k cpu) refl h
+  where
+    by_test : (c : Candidate) → next_to_act k cpu ≡ Some c → (t : Bool) → S (pd_of k c.actor) ≡ t → if_own t c ≡ Some (ec, sc) → IsOwnTurn S k cpu ec sc
+    by_test c is true mine g =
+        let both : (c.actor, c.sc) ≡ (ec, sc) = same_Some (c.actor, c.sc) (ec, sc) g in
+        let first : c.actor ≡ ec = ap (λ (p : ℕ × ℕ). p.0) both in
+        record { candidate = c; next = is; actor = first; payer = ap (λ (p : ℕ × ℕ). p.1) both; of = subst (λ (n : ℕ). S (pd_of k n) ≡ true) first mine }
+    by_test c is false mine g = absurd (cc)
+
+    by_next : (o : Option Candidate) → next_to_act k cpu ≡ o → option_and_then (λ c. if_own (S (pd_of k c.actor)) c) o ≡ Some (ec, sc) → IsOwnTurn S k cpu ec sc
+    by_next None is g = absurd (cc)
+    by_next (Some c) is g = by_test c is (S (pd_of k c.actor)) refl g
+
+pub own_acts : (S : ℕ → Bool) (k : KernelState) (cpu ec sc : ℕ) → IsOwnTurn S k cpu ec sc → Acts k cpu ec
+own_acts S k cpu ec sc t = ap (option_map (λ (c : Candidate). c.actor)) t.next ∙ ap (λ (n : ℕ). Some n) t.actor
+
+-- who acts is an execution context, and of the side
+pub own_there : (S : ℕ → Bool) (k : KernelState) (P : ℕ → Type 0) (cpu ec sc : ℕ) → IsSound k → IsSide k (Of S) P → IsOwnTurn S k cpu ec sc → P ec
+own_there S k P cpu ec sc sound side t = by_object (slice_get k.objects ec) refl kind t.of
+  where
+    kind : option_map is_ec (slice_get k.objects ec) ≡ Some true
+    kind = context_is k ec (ap is_some (actor_of k.contexts ec (is_able k cpu ec (own_acts S k cpu ec sc t))).there) sound.kept.tables
+
+    by_object : (o : Option Object) → slice_get k.objects ec ≡ o → option_map is_ec o ≡ Some true → S (pd_in o) ≡ true → P ec
+    by_object (Some (Ec pd its event_kind event)) is h s = side.members ec pd its event_kind event is s
+    by_object (Some Pd) is h s = absurd (cc)
+    by_object (Some (Sc donor its priority quantum)) is h s = absurd (cc)
+    by_object (Some (Pt handler mtd ip)) is h s = absurd (cc)
+    by_object (Some Sm) is h s = absurd (cc)
+    by_object None is h s = absurd (cc)
+
+pub own_turned : (S : ℕ → Bool) (k : KernelState) (cpu ec sc : ℕ) → IsOwnTurn S k cpu ec sc → after k cpu ≡ turned k cpu (by_deed k ec sc (deed k ec) (is_stirred k ec (deed k ec)))
+own_turned S k cpu ec sc t =
+    chosen_turn k cpu t.candidate t.next ∙ ap₂ (λ (n m : ℕ). turned k cpu (by_deed k n m (deed k n) (is_stirred k n (deed k n)))) t.actor t.payer
+
+-- what is asked of both states
+pub record AreTwins (k l : KernelState) (S P : ℕ → Bool) : Type 0 where
+  pub side : IsSide k (Of S) (Of P)
+  pub alike : AreAlike k l (Of S) (Of P)
+  pub first : IsSound k
+  pub second : IsSound l
+
+pub both : (k l : KernelState) (S P : ℕ → Bool) → AreTwins k l S P → Both k l (Of S) (Of P)
+both k l S P t = record { side = t.side; alike = t.alike; first = t.first.kept.edges; second = t.second.kept.edges }
+
+pub decided : (k l : KernelState) (S P : ℕ → Bool) (cpu ec sc : ℕ) → AreTwins k l S P → own_turn S k cpu ≡ Some (ec, sc) → IsAtWork (HasSameClock k l ec) k ec → deed l ec ≡ deed k ec
+decided k l S P cpu ec sc t own works =
+    let its = own_is S k cpu ec sc own in
+    deed_same k l (Of S) (Of P) (both k l S P t) ec (own_there S k (Of P) cpu ec sc t.first t.side its) its.of works
+
+pub own_alike : (k l : KernelState) (S P : ℕ → Bool) (cpu other ec sc : ℕ) → AreTwins k l S P → own_turn S k cpu ≡ Some (ec, sc) → own_turn S l other ≡ Some (ec, sc) →
+    IsAtWork (HasSameClock k l ec) k ec → AreAlike (after k cpu) (after l other) (Of S) (Of P)
+own_alike k l S P cpu other ec sc t own also works =
+    let its = own_is S k cpu ec sc own in
+    let b = both k l S P t in
+    let p = own_there S k (Of P) cpu ec sc t.first t.side its in
+    let same = deed_same k l (Of S) (Of P) b ec p its.of works in
+    let theirs = own_turned S l other ec sc (own_is S l other ec sc also) ∙ ap (λ (d : Deed). turned l other (by_deed l ec sc d (is_stirred l ec d))) same in
+    subst (λ (s : KernelState). AreAlike s (after l other) (Of S) (Of P)) (sym (own_turned S k cpu ec sc its))
+    (subst (λ (s : KernelState). AreAlike (turned k cpu (by_deed k ec sc (deed k ec) (is_stirred k ec (deed k ec)))) s (Of S) (Of P)) (sym theirs)
+    (turned_alike (HasSameClock k l ec) k l (Of S) (Of P) b cpu other ec sc p its.of (deed k ec) (deed_own (HasSameClock k l ec) k l (Of S) (Of P) b ec p its.of works) (is_stirred k ec (deed k ec)) (is_stirred l ec (deed k ec))))
+
+-- what it stores to consoles is the same
+drop_all : (xs ys : List LogByte) → drop (length xs) (xs ++ ys) ≡ ys
+drop_all [] ys = refl
+drop_all (x ∷ xs) ys = drop_all xs ys
+
+gained_is : (m later : Memory) (gained : List LogByte) → later.log ≡ m.log ++ gained → drop (length m.log) later.log ≡ gained
+gained_is m later gained is = ap (drop (length m.log)) is ∙ drop_all m.log gained
+
+pub own_gains : (k l : KernelState) (S P : ℕ → Bool) (cpu other ec sc : ℕ) → AreTwins k l S P → own_turn S k cpu ≡ Some (ec, sc) → own_turn S l other ≡ Some (ec, sc) →
+    IsAtWork (HasSameClock k l ec) k ec → gain_for l other (Some (ec, sc)) ≡ gain_for k cpu (Some (ec, sc))
+own_gains k l S P cpu other ec sc t own also works =
+    let its = own_is S k cpu ec sc own in
+    let b = both k l S P t in
+    let p = own_there S k (Of P) cpu ec sc t.first t.side its in
+    let same = deed_same k l (Of S) (Of P) b ec p its.of works in
+    let stores = (memory_same k l (Of S) (Of P) b ec p its.of (deed k ec)).gains in
+    let ours : (after k cpu).memory ≡ memory_with k.memory (store_by k ec (deed k ec)) = ap (λ (s : KernelState). s.memory) (own_turned S k cpu ec sc its) in
+    let theirs : (after l other).memory ≡ memory_with l.memory (store_by l ec (deed k ec)) =
+    ap (λ (s : KernelState). s.memory) (own_turned S l other ec sc (own_is S l other ec sc also)) ∙ ap (λ (d : Deed). memory_with l.memory (store_by l ec d)) same in
+    ap (λ (m : Memory). drop (length l.memory.log) m.log) theirs ∙ gained_is l.memory (memory_with l.memory (store_by l ec (deed k ec))) stores.gained stores.second
+    ∙ sym (ap (λ (m : Memory). drop (length k.memory.log) m.log) ours ∙ gained_is k.memory (memory_with k.memory (store_by k ec (deed k ec))) stores.gained stores.first)
+
+pub own_side : (k l : KernelState) (S P : ℕ → Bool) (cpu ec sc : ℕ) → AreTwins k l S P → own_turn S k cpu ≡ Some (ec, sc) →
+    IsAtWork (HasSameClock k l ec) k ec → IsSide (after k cpu) (Of S) (Of P)
+own_side k l S P cpu ec sc t own works =
+    let its = own_is S k cpu ec sc own in
+    let b = both k l S P t in
+    let p = own_there S k (Of P) cpu ec sc t.first t.side its in
+    subst (λ (s : KernelState). IsSide s (Of S) (Of P)) (sym (own_turned S k cpu ec sc its))
+    (turned_side (HasSameClock k l ec) k (Of S) (Of P) t.side cpu ec sc p (deed k ec) (deed_own (HasSameClock k l ec) k l (Of S) (Of P) b ec p its.of works) (is_stirred k ec (deed k ec)))
+
+-- ALONG TURNS
+
+-- of a down with a deadline something else may be asked
+pub work_as : (timed other : Type 0) (k : KernelState) (ec : ℕ) → (timed → other) → IsAtWork timed k ec → IsAtWork other k ec
+work_as timed other k ec f works = record { state = works.state; calls = λ asking. by_call (call_of (context k ec).regs) (works.calls asking) }
+  where
+    by_call : (o : Result Call Status) → IsCallAtWork timed o → IsCallAtWork other o
+    by_call (Ok (asks.SmCtrl sm (act.DownWithin ticks))) h = f h
+    by_call any h = h
+
+pub working_timed : (timed : Type 0) (k : KernelState) (ec : ℕ) → IsAtWork ⊥ k ec → IsAtWork timed k ec
+working_timed timed k ec works = work_as ⊥ timed k ec (λ none. absurd none) works
+
+abbrev pub OwnDeed : Type 0
+OwnDeed = ℕ × Deed
+
+pub record EndSame (k l : KernelState) (S P : ℕ → Bool) (es fs : List OwnDeed) (bs cs : List LogByte) : Type 0 where
+  pub alike : AreAlike k l (Of S) (Of P)
+  pub deeds : fs ≡ es
+  pub bytes : cs ≡ bs
+
+abbrev deed_for : KernelState → Option (ℕ × ℕ) → Option OwnDeed
+deed_for k o = option_map (λ (p : ℕ × ℕ). (p.0, deed k p.0)) o
+
+-- the second goes on by others' turns alone
+others_alone : (S P : ℕ → Bool) (us : List ℕ) (k l : KernelState) → AreTwins k l S P → AreLeftAlone S P l us → [] ≡ schedule S l us → EndSame k (run l us) S P [] (own_deeds S l us) [] (own_bytes S l us)
+others_alone S P [] k l t left same = record { alike = t.alike; deeds = refl; bytes = refl }
+others_alone S P (cpu ∷ us) k l t left same =
+    by_own (own_turn S l cpu) refl same (λ next rest. others_alone S P us k (after l cpu) next left.1 rest)
+  where
+    by_own : (o : Option (ℕ × ℕ)) → own_turn S l cpu ≡ o → [] ≡ in_front o (schedule S (after l cpu) us) →
+        (AreTwins k (after l cpu) S P → [] ≡ schedule S (after l cpu) us → EndSame k (run (after l cpu) us) S P [] (own_deeds S (after l cpu) us) [] (own_bytes S (after l cpu) us)) →
+        EndSame k (run (after l cpu) us) S P [] (in_front (deed_for l (own_turn S l cpu)) (own_deeds S (after l cpu) us)) [] (gain_for l cpu (own_turn S l cpu) ++ own_bytes S (after l cpu) us)
+    by_own None is rest later =
+        let ended = later (record { side = t.side; alike = alike_through k l (after l cpu) (Of S) (Of P) t.alike (left.0 is).same; first = t.first; second = turn_sound l cpu t.second }) rest in
+        record { alike = ended.alike; deeds = ap (λ (o : Option (ℕ × ℕ)). in_front (deed_for l o) (own_deeds S (after l cpu) us)) is ∙ ended.deeds; bytes = ap (λ (o : Option (ℕ × ℕ)). gain_for l cpu o ++ own_bytes S (after l cpu) us) is ∙ ended.bytes }
+    by_own (Some p) is rest later = absurd (cc)
+
+abbrev Ends : KernelState → List ℕ → KernelState → List ℕ → (ℕ → Bool) → (ℕ → Bool) → Type 0
+Ends k ts l us S P = EndSame (run k ts) (run l us) S P (own_deeds S k ts) (own_deeds S l us) (own_bytes S k ts) (own_bytes S l us)
+
+-- the second goes on until its next own turn, which is as the first's
+matched : (S P : ℕ → Bool) (us : List ℕ) (k l : KernelState) (cpu : ℕ) (ts : List ℕ) (p : ℕ × ℕ) → own_turn S k cpu ≡ Some p → IsAtWork ⊥ k p.0 → AreTwins k l S P → AreLeftAlone S P l us →
+    p ∷ schedule S (after k cpu) ts ≡ schedule S l us →
+    ((vs : List ℕ) (m : KernelState) → AreTwins (after k cpu) m S P → AreLeftAlone S P m vs → schedule S (after k cpu) ts ≡ schedule S m vs → Ends (after k cpu) ts m vs S P) →
+    EndSame (run (after k cpu) ts) (run l us) S P ((p.0, deed k p.0) ∷ own_deeds S (after k cpu) ts) (own_deeds S l us) (gain_for k cpu (Some p) ++ own_bytes S (after k cpu) ts) (own_bytes S l us)
+matched S P [] k l cpu ts p own works t left same later = absurd (cc)
+matched S P (other ∷ us) k l cpu ts p own works t left same later =
+    by_own (own_turn S l other) refl same (λ next rest. matched S P us k (after l other) cpu ts p own works next left.1 rest later)
+  where
+    timed : IsAtWork (HasSameClock k l p.0) k p.0
+    timed = working_timed (HasSameClock k l p.0) k p.0 works
+
+    by_own : (o : Option (ℕ × ℕ)) → own_turn S l other ≡ o → p ∷ schedule S (after k cpu) ts ≡ in_front o (schedule S (after l other) us) →
+        (AreTwins k (after l other) S P → p ∷ schedule S (after k cpu) ts ≡ schedule S (after l other) us →
+        EndSame (run (after k cpu) ts) (run (after l other) us) S P ((p.0, deed k p.0) ∷ own_deeds S (after k cpu) ts) (own_deeds S (after l other) us) (gain_for k cpu (Some p) ++ own_bytes S (after k cpu) ts) (own_bytes S (after l other) us)) →
+        EndSame (run (after k cpu) ts) (run (after l other) us) S P ((p.0, deed k p.0) ∷ own_deeds S (after k cpu) ts)
+        (in_front (deed_for l (own_turn S l other)) (own_deeds S (after l other) us)) (gain_for k cpu (Some p) ++ own_bytes S (after k cpu) ts) (gain_for l other (own_turn S l other) ++ own_bytes S (after l other) us)
+    by_own None is rest goes_on =
+        let ended = goes_on (record { side = t.side; alike = alike_through k l (after l other) (Of S) (Of P) t.alike (left.0 is).same; first = t.first; second = turn_sound l other t.second }) rest in
+        record { alike = ended.alike; deeds = ap (λ (o : Option (ℕ × ℕ)). in_front (deed_for l o) (own_deeds S (after l other) us)) is ∙ ended.deeds; bytes = ap (λ (o : Option (ℕ × ℕ)). gain_for l other o ++ own_bytes S (after l other) us) is ∙ ended.bytes }
+    by_own (Some q) is rest goes_on =
+        let first : p ≡ q = cc in
+        let tails : schedule S (after k cpu) ts ≡ schedule S (after l other) us = cc in
+        let also : own_turn S l other ≡ Some p = is ∙ ap (λ (r : ℕ × ℕ). Some r) (sym first) in
+        let ended = later us (after l other) (record {
+          side = own_side k l S P cpu p.0 p.1 t own timed;
+          alike = own_alike k l S P cpu other p.0 p.1 t own also timed;
+          first = turn_sound k cpu t.first;
+          second = turn_sound l other t.second;
+        }) left.1 tails in
+        record {
+          alike = ended.alike;
+          deeds =
+              ap (λ (o : Option (ℕ × ℕ)). in_front (deed_for l o) (own_deeds S (after l other) us)) also
+              ∙ ap₂ (λ (d : Deed) (es : List OwnDeed). (p.0, d) ∷ es) (decided k l S P cpu p.0 p.1 t own timed) ended.deeds;
+          bytes =
+              ap (λ (o : Option (ℕ × ℕ)). gain_for l other o ++ own_bytes S (after l other) us) also
+              ∙ ap₂ (λ (xs ys : List LogByte). xs ++ ys) (own_gains k l S P cpu other p.0 p.1 t own also timed) ended.bytes;
+        }
+
+pub runs_alike : (S P : ℕ → Bool) (ts us : List ℕ) (k l : KernelState) → AreTwins k l S P → AreLeftAlone S P k ts → AreLeftAlone S P l us → AreAtWorkTimeless S k ts → schedule S k ts ≡ schedule S l us →
+    Ends k ts l us S P
+runs_alike S P [] us k l t left right works same = others_alone S P us k l t right same
+runs_alike S P (cpu ∷ ts) us k l t left right works same =
+    by_own (own_turn S k cpu) refl same (λ j vs m next alone also works_ again. runs_alike S P ts vs j m next alone also works_ again)
+  where
+    by_own : (o : Option (ℕ × ℕ)) → own_turn S k cpu ≡ o → in_front o (schedule S (after k cpu) ts) ≡ schedule S l us →
+        ((j : KernelState) (vs : List ℕ) (m : KernelState) → AreTwins j m S P → AreLeftAlone S P j ts → AreLeftAlone S P m vs → AreAtWorkTimeless S j ts → schedule S j ts ≡ schedule S m vs → Ends j ts m vs S P) →
+        EndSame (run (after k cpu) ts) (run l us) S P (in_front (deed_for k (own_turn S k cpu)) (own_deeds S (after k cpu) ts)) (own_deeds S l us) (gain_for k cpu (own_turn S k cpu) ++ own_bytes S (after k cpu) ts) (own_bytes S l us)
+    by_own None is rest later =
+        let alone = left.0 is in
+        let ended = later (after k cpu) us l (record {
+          side = alone.side;
+          alike = alike_through (after k cpu) k l (Of S) (Of P) (alike_flipped k (after k cpu) (Of S) (Of P) alone.same) t.alike;
+          first = turn_sound k cpu t.first;
+          second = t.second;
+        }) left.1 right works.1 rest in
+        record { alike = ended.alike; deeds = ended.deeds ∙ sym (ap (λ (o : Option (ℕ × ℕ)). in_front (deed_for k o) (own_deeds S (after k cpu) ts)) is); bytes = ended.bytes ∙ sym (ap (λ (o : Option (ℕ × ℕ)). gain_for k cpu o ++ own_bytes S (after k cpu) ts) is) }
+    by_own (Some p) is rest later =
+        let ended = matched S P us k l cpu ts p is (works.0 p.0 p.1 is) t right rest (λ vs m next alone also. later (after k cpu) vs m next left.1 alone works.1 also) in
+        record { alike = ended.alike; deeds = ended.deeds ∙ sym (ap (λ (o : Option (ℕ × ℕ)). in_front (deed_for k o) (own_deeds S (after k cpu) ts)) is); bytes = ended.bytes ∙ sym (ap (λ (o : Option (ℕ × ℕ)). gain_for k cpu o ++ own_bytes S (after k cpu) ts) is) }

@@ -1,0 +1,14 @@
+use Rattle.law_flow.proofs.Meeting.{has_turn_next, meets_divided, meets_partitioned, meets_timeless}
+use Rattle.law_flow.proofs.a_run_comes_to_the_premises.Goals as goal
+
+pub returns-clause-partitioned : goal.returns-clause-partitioned
+returns-clause-partitioned c = meets_partitioned
+
+pub returns-clause-timeless : goal.returns-clause-timeless
+returns-clause-timeless c = meets_timeless
+
+pub returns-clause-divided : goal.returns-clause-divided
+returns-clause-divided c = meets_divided
+
+pub returns-clause-acts : goal.returns-clause-acts
+returns-clause-acts c = has_turn_next

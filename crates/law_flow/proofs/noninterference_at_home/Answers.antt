@@ -1,0 +1,13 @@
+use Rattle.std.proofs.Common.{refl}
+use Rattle.nova_model.specs.Boot.{boot}
+use Rattle.nova_model.specs.Runs.{run}
+use Rattle.law_integrity.specs.Confined.{Of}
+use Rattle.law_flow.proofs.Away.{home_runs}
+use Rattle.law_flow.proofs.noninterference_at_home.Goals as goal
+
+pub returns : goal.returns
+returns c = λ a b before since turns others S T U P C first second home abroad alike timed works same.
+    let ends = home_runs S P C turns others (run (boot a) before) (run (boot b) since) (Of T) (Of U)
+    (record { reached = record { scenario = a; before = before; is = refl; part = first }; home = home }) works
+    (record { reached = record { scenario = b; before = since; is = refl; part = second }; home = abroad }) alike timed same in
+    record { part = ends.alike; times = ends.timed; deeds = ends.deeds; bytes = ends.bytes; events = ends.events }

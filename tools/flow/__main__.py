@@ -1,0 +1,154 @@
+"""Two runs in which one side is the same: does its part of the reports stay the same?
+
+python3 tools/flow [--walled | --leak NAME | --leaks] [--program FILE] [--count N] [--first SEED] [--turns N] [--keep FOLDER]
+"""
+
+from __future__ import annotations
+
+import argparse
+import random
+import subprocess
+import sys
+import tempfile
+from pathlib import Path
+
+sys.path.insert(0, str(Path(__file__).resolve().parent))
+from leaks import LEAKS  # noqa: E402
+from parts import difference, free_part, part  # noqa: E402
+from premises import broken  # noqa: E402
+from scenarios import SOURCES, Attacker, Free, SetUp, Worker  # noqa: E402
+
+Blocks = list[list[int]]  # a processor and how many turns it has, in order
+MADE = [[0, 400], [1, 400], [2, 330]]  # by then the root has made both sides and ended; the second side has just begun
+MADE_OTHERWISE = [[0, 400], [2, 330], [1, 400]]
+MADE_BETWEEN = [[0, 400], [1, 120], [2, 330], [1, 280]]  # so that ranges have other numbers
+
+
+def text_of(blocks: Blocks) -> str:
+    return "".join(f"{cpu} {count}\n" for cpu, count in blocks)
+
+
+def orders(seed: object, made: Blocks, turns: int) -> Blocks:
+    """The sides are made first; then processor 1 has so many turns, at random between those of others."""
+    rng = random.Random(f"order {seed}")
+    blocks, left = [list(block) for block in made], turns
+    while left:
+        cpu, count = rng.choice([0, 1, 1, 2, 2, 2]), rng.choice([1, 1, 2, 3, 10, 40])
+        if cpu == 1:
+            count = min(count, left)
+            left -= count
+        if blocks[-1][0] == cpu:
+            blocks[-1][1] += count
+        else:
+            blocks.append([cpu, count])
+    return blocks
+
+
+class Program:
+    """Runs scenarios, whose files it keeps in a folder."""
+
+    def __init__(self, program: str, folder: Path) -> None:
+        self.program, self.folder = program, folder
+
+    def report(self, name: str, scenario: str, blocks: Blocks) -> str:
+        paths = [self.folder / f"{name}.nova", self.folder / f"{name}.order"]
+        paths[0].write_text(scenario)
+        paths[1].write_text(text_of(blocks))
+        done = subprocess.run([self.program, "solo", *paths], capture_output=True, text=True, timeout=120)
+        if done.returncode not in (0, 7):
+            raise SystemExit(f"{name}: status {done.returncode}, {done.stderr.strip()}")
+        return done.stdout
+
+
+def free_pair(program: Program, seed: int, turns: int) -> tuple[str | None, int]:
+    """How two runs differ in a side that does everything, but for numbers, and how many events it has."""
+    parts = []
+    for other in (0, 1):
+        sides = [Free(0, seed), Free(1, f"{seed} {other}")]
+        made = [[0, 400], [2, 400], [1, 400]]
+        parts.append(free_part(program.report(f"free.{seed}.{other}", SetUp().text(sides), orders(f"{seed} {other}", made, turns))))
+    return difference(*parts), len(parts[0][0])
+
+
+def compared(program: Program, name: str, scenarios: list[str], places: list[Blocks], turns: int) -> tuple[set[str], str | None, int]:
+    """Which premises fail at the places, how the side's parts differ at the ends, and how many events are compared. At the places the parts are to be the same."""
+    premises: set[str] = set()
+    parts = []
+    for other in (0, 1):
+        blocks = orders(f"{name} {other}", places[other], turns)
+        since = sum(count for _, count in places[other])
+        place = program.report(f"{name}.{other}.place", scenarios[other], places[other])
+        premises |= broken(place)
+        parts.append((part(place, since), part(program.report(f"{name}.{other}", scenarios[other], blocks), since)))
+    apart = difference(parts[0][0], parts[1][0])
+    if apart:
+        raise SystemExit(f"{name}: the sides differ where they are to be compared: {apart}")
+    return premises, difference(parts[0][1], parts[1][1]), len(parts[0][1][0])
+
+
+def walled_pair(program: Program, seed: int, turns: int) -> tuple[set[str], str | None, int]:
+    """A side at work on a processor of its own, with deadlines and a source, beside one that tries everything."""
+    scenarios = []
+    for other in (0, 1):
+        first, second = random.Random(f"source {seed}"), random.Random(f"source {seed} {other}")
+        sources = (
+            f"source 0 {second.choice([500, 900])} {second.choice([3, 70])} 1000000",
+            f"source 1 {first.choice([300, 450, 500])} {first.choice([1, 7, 40, 100])} 1000000",
+            f"source 2 {second.choice([340, 500])} {second.choice([1, 2, 9, 50])} 1000000",
+        )
+        scenarios.append(SetUp(walled=True, sources=sources).text([Worker(0, seed), Attacker(1, f"{seed} {other}")]))
+    return compared(program, f"walled.{seed}", scenarios, [MADE, MADE_BETWEEN if seed % 2 else MADE], turns)
+
+
+def tell_pairs(program: Program, walled: bool, first: int, count: int, turns: int) -> bool:
+    same = different = events = 0
+    for seed in range(first, first + count):
+        if walled:
+            premises, differs, more = walled_pair(program, seed, turns)
+            if premises:
+                print(f"{seed}: these premises fail: {', '.join(sorted(premises))}")
+                return False
+        else:
+            differs, more = free_pair(program, seed, turns)
+        events += more
+        same, different = same + (differs is None), different + (differs is not None)
+        if differs:
+            print(f"{seed}: {differs}")
+    print(f"same {same} different {different} events {events}")
+    return different == 0
+
+
+def tell_leak(program: Program, name: str, turns: int) -> bool:
+    """Whether the premises that are to fail, and they alone, do, and the side differs."""
+    leak = LEAKS[name]
+    made = MADE if leak.first == 1 else MADE_OTHERWISE
+    premises, differs, _ = compared(program, f"leak.{name}", leak.pair(name), [made, made], turns)
+    print(f"{name}: {leak.tells}\n  without {', '.join(sorted(premises)) or 'nothing'}\n  {differs or 'no difference'}")
+    return premises == leak.breaks and differs is not None
+
+
+def main() -> int:
+    parser = argparse.ArgumentParser(prog="tools/flow")
+    parser.add_argument("--program", default="./nova")
+    parser.add_argument("--count", type=int, default=50)
+    parser.add_argument("--first", type=int, default=0)
+    parser.add_argument("--turns", type=int, default=1500, help="of processor 1, after the sides are made")
+    parser.add_argument("--keep", type=Path, help="a folder for the scenarios and orders")
+    what = parser.add_mutually_exclusive_group()
+    what.add_argument("--walled", action="store_true", help="pairs that meet the premises of the law on divided processors")
+    what.add_argument("--leak", choices=sorted(LEAKS), help="a pair that meets all premises but those of this leak")
+    what.add_argument("--leaks", action="store_true", help="each of these")
+    words = parser.parse_args()
+    with tempfile.TemporaryDirectory() as folder:
+        if words.keep:
+            words.keep.mkdir(parents=True, exist_ok=True)
+        program = Program(words.program, words.keep or Path(folder))
+        if words.leak or words.leaks:
+            right = [tell_leak(program, name, words.turns) for name in ([words.leak] if words.leak else LEAKS)]
+        else:
+            right = [tell_pairs(program, words.walled, words.first, words.count, words.turns)]
+    return 0 if all(right) else 1
+
+
+if __name__ == "__main__":
+    sys.exit(main())

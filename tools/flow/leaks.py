@@ -1,0 +1,119 @@
+"""What goes wrong without each premise: two scenarios, and two runs, with the same side, whose part comes to differ.
+
+`breaks` names the premises that fail at the place where the runs are compared, see `premises`; all others hold there.
+"""
+
+from __future__ import annotations
+
+from dataclasses import dataclass
+
+from scenarios import ALL, ALL_PAGES, COMMON, CONTEXT, LENT_PAGE, OWN, SHARED, SOURCES, STARTUP_AT, Fixed, SetUp, call, li, message, word
+
+COUNTS = ["addi x9, x9, 1"]
+RESTS = ["addi x0, x0, 0"]
+SPINS = [li(9, 170), "spin: addi x9, x9, -1", "bne x9, x0, spin"]  # longer than until the place where the runs are compared
+
+
+def at(page: int, line: str) -> list[str]:
+    return [li(7, page * 4096), line]
+
+
+class Taker(Fixed):
+    """A side whose first handler opens its window for objects, and then for pages."""
+
+    takes = [
+        "lui x5, 0xfffff",
+        "lw x7, 8(x5)",
+        li(6, ALL),
+        "beq x7, x0, open",
+        li(6, ALL_PAGES),
+        "open: sw x6, 8(x5)",
+    ]
+
+
+class Giver(Fixed):
+    """A side whose first handler gives a page to who calls it."""
+
+    gives = message([(word("mem", COMMON[1], 0, 1), LENT_PAGE << 12 | 1)])
+
+
+@dataclass(frozen=True)
+class Leak:
+    """What is told without a premise; the lines of the side, and those of the other side and of the root in the two scenarios."""
+
+    tells: str
+    breaks: frozenset[str]
+    side: list[str]
+    others: tuple[list[str], list[str]] = (RESTS, RESTS)
+    once: tuple[list[str], list[str]] = ([], [])
+    root: tuple[list[str], list[str]] = (["ebreak"], ["ebreak"])
+    first: int = 1  # the processor on which a side is made first
+    handlers: tuple[type[Fixed], type[Fixed]] = (Fixed, Fixed)
+
+    def pair(self, name: str) -> list[str]:
+        """The two scenarios."""
+        set_up = SetUp(walled=True, leak=name, sources=tuple(f"source {cpu} {400 + 40 * cpu} 30 1000000" for cpu in range(SOURCES)))
+        told = [] if self.side is COUNTS else Fixed(0, []).told()
+        first, second = self.handlers
+        return [set_up.text([first(0, self.side + told), second(1, self.others[n], SPINS + self.once[n])], self.root[n]) for n in (0, 1)]
+
+
+LEAKS = {
+    "create": Leak(
+        "a processor is no capability: by a right to create the other side puts a thread of priority 255 there, which takes every turn",
+        frozenset({"IsDivided.creates"}),
+        COUNTS,
+        once=([], call(3, 100, OWN, 0x101, 0, STARTUP_AT) + call(4, 101, OWN, 100, 0x1FF)),
+    ),
+    "stranger": Leak(
+        "a thread of the other side's is on the processor: it takes turns, or has ended",
+        frozenset({"IsDivided.others"}),
+        COUNTS,
+        others=(RESTS, ["ebreak"]),
+    ),
+    "root": Leak(
+        "a thread of the root's on the processor isn't idle: it goes on, or ends",
+        frozenset({"AreSeparate.rest"}),
+        COUNTS,
+        root=(["on: j on"], SPINS + ["ebreak"]),
+    ),
+    "semaphore": Leak(
+        "both hold a semaphore: a down tells whether the other side raised it",
+        frozenset({"AreApart.objects", "IsGuarded.semaphores"}),
+        call(12, SHARED, 2, 3),
+        others=(RESTS, call(12, SHARED, 0)),
+    ),
+    "ticks": Leak(
+        "with control of the other side's scheduling context, sc_ctrl tells how many turns that one paid for",
+        frozenset({"IsClosed.capabilities", "IsSide.holds"}),
+        call(10, CONTEXT),
+        others=(RESTS, ["ebreak"]),
+        first=2,
+    ),
+    "frame": Leak(
+        "the other side writes to a frame that the side reads",
+        frozenset({"IsGuarded.memory"}),
+        at(COMMON[0], "lw x10, 0(x7)"),
+        others=(at(COMMON[1], "sw x9, 0(x7)"),) * 2,
+        once=([], [li(9, 7)]),
+    ),
+    "ancestor": Leak(
+        "a page comes of the other side's: a revoke there takes it away",
+        frozenset({"IsGuarded.lines"}),
+        at(COMMON[0], "lw x10, 0(x7)"),
+        once=([], call(7, word("mem", COMMON[1], 0, 7), 0)),
+        first=2,
+        handlers=(Taker, Giver),
+    ),
+    "outsider": Leak(
+        "an alarm of the processor rings at a semaphore of the other side's: the event says whether somebody waits there",
+        frozenset({"HasHome.alarms"}),
+        COUNTS,
+        others=(RESTS, call(12, SHARED, 1)),
+    ),
+    "alarm": Leak(
+        "an alarm of another processor rings at the side's semaphore: a down tells how many turns came there",
+        frozenset({"HasHome.rings"}),
+        call(12, SHARED, 1),
+    ),
+}

@@ -1,0 +1,113 @@
+"""What a report says of one side."""
+
+from __future__ import annotations
+
+from scenarios import SOURCES
+
+FIRST_OBJECT, FIRST_RANGE = 3 + SOURCES, 2 + 4 + SOURCES
+NAMES_A = {"help", "abort", "late"}  # events whose first number is an object's, and those whose second is
+NAMES_B = {"sent", "gone"}
+KINDS = ["pd", "ec", "pt", "pt", "pt", "ec", "sc", "ec", "pt", "ec", "sc"]  # what the root makes for a side, in order
+Part = tuple[list, list]
+
+
+def made_at(lines: list[list[str]], cpu: int) -> int:
+    """The number of the domain that the root makes on a processor."""
+    return next(int(line[6]) for line in lines if line[0] == "at" and int(line[2]) == cpu and line[4:6] == ["begin", "2"])
+
+
+def objects_of(domain: int, lines: list[list[str]]) -> set[int]:
+    """The objects of the side on processor 1: what the root makes for it, what semaphores it holds, and the one of the source there, if it isn't the others'."""
+    semaphores = {int(line[1]) for line in lines if line[0] == "sm"}
+    held = [(int(line[3]), int(line[8])) for line in lines if line[0] == "cap" and line[4] == "obj"]
+    own = {target for holder, target in held if holder == domain}
+    others = {target for holder, target in held if holder not in (0, domain)}
+    return set(range(domain, domain + 7)) | ({3 + 1} - others) | own & semaphores
+
+
+def part(report: str, since: int = 0) -> Part:
+    """The events of processor 1 after so many turns, and what there is of the side that is made there: objects by number, ranges by what they give."""
+    lines = [line.split() for line in report.splitlines()]
+    domain = made_at(lines, 1)
+    own = objects_of(domain, lines)
+    events = [line[2:] for line in lines if line[0] == "at" and line[2] == "1" and int(line[1]) > since]
+    rest = []
+    for line in lines:
+        if line[0] in ("ec", "sc", "sm") and int(line[1]) in own or line[:2] in (["source", "1"], ["console", "0"]):
+            rest.append(line)
+        elif line[0] == "cap" and int(line[3]) == domain:
+            rest.append(["cap"] + line[4:])
+    return events, sorted(rest)
+
+
+def free_part(report: str) -> Part:
+    """What a report says of side 0, with its objects and capability ranges numbered anew in their order."""
+    lines = [line.split() for line in report.splitlines()]
+    whose: dict[int, object] = {n: "root" for n in range(FIRST_OBJECT)}
+    ranges: dict[int, int] = {}
+    objects: dict[int, int] = {}
+    next_object, next_range, events = FIRST_OBJECT, FIRST_RANGE, []
+
+    def object_name(n: int) -> str:
+        return f"o{objects[n]}" if n in objects else f'{whose.get(n)}{n if whose.get(n) == "root" else ""}'
+
+    def range_name(n: int) -> str:
+        return f"r{ranges[n]}" if n in ranges else f"root{n}" if n < FIRST_RANGE else "other"
+
+    for line in lines:
+        if line[0] != "at":
+            continue
+        cpu, ec, kind, a, b = int(line[2]), int(line[3]), line[4], line[5], line[6]
+        side = whose.get(ec)
+        if side == "root" and ec != 1 and cpu > 0:  # the root's thread on a side's processor makes that side
+            side = cpu - 1
+        if kind == "answer" and a in "23456" and b == "0" or kind == "begin" and a == "2":
+            whose[next_object] = side
+            if side == 0:
+                objects[next_object] = len(objects)
+                ranges[next_range] = len(ranges)
+            next_object, next_range = next_object + 1, next_range + 1
+        if kind == "made":
+            if side == 0:
+                ranges[next_range] = len(ranges)
+            next_range += 1
+        if whose.get(ec) == 0:
+            if kind == "made":
+                a, b = range_name(int(a)), range_name(int(b))
+            elif kind == "gone":
+                a, b = range_name(int(a)), object_name(int(b))
+            elif kind in NAMES_A:
+                a = object_name(int(a))
+            elif kind == "sent" or kind == "begin" and a in ("0", "1", "2", "12"):
+                b = object_name(int(b))
+            events.append((object_name(ec), kind, a, b))
+    rest = []
+    for line in lines:
+        if line[0] in ("ec", "sc", "sm") and int(line[1]) in objects:
+            rest.append([line[0], object_name(int(line[1]))] + line[2:])
+        elif line[:2] == ["console", "0"]:
+            rest.append(line)
+        elif line[0] == "cap" and whose.get(int(line[3])) == 0:
+            parent = "-" if line[2] == "-" else range_name(int(line[2]))
+            target = object_name(int(line[8])) if line[4] == "obj" else line[8]
+            rest.append(["cap", range_name(int(line[1])), parent, object_name(int(line[3]))] + line[4:8] + [target])
+    return events, rest
+
+
+def shown(line: list, other: list) -> str:
+    """Two lines from shortly before where they differ."""
+    texts = [" ".join(map(str, words)) for words in (line, other)]
+    at = next((n for n, (first, second) in enumerate(zip(*texts)) if first != second), min(map(len, texts)))
+    begin = max(at - 30, 0)
+    return " / ".join(("..." if begin else "") + text[begin : at + 20] + ("..." if at + 20 < len(text) else "") for text in texts)
+
+
+def difference(first: Part, second: Part) -> str | None:
+    """The first line in which two parts differ."""
+    for lines, others in zip(first, second):
+        for line, other in zip(lines, others):
+            if line != other:
+                return shown(line, other)
+        if len(lines) != len(others):
+            return f"{len(lines)} lines / {len(others)} lines"
+    return None

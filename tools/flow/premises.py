@@ -1,0 +1,107 @@
+"""The premises of `noninterference_on_divided_processors` in the state at the end of a report, for the sides that a root makes.
+
+They are named as the fields of the conditions of `law_flow` and `law_integrity`. S is the domain that the root makes on processor 1, T the one on
+processor 2; P has what the root makes for S, what semaphores S holds, and the one of processor 1's source where T doesn't hold it; and processor 1 is the side's own. What objects are is known
+of how they are made; all else is read off the report.
+"""
+
+from __future__ import annotations
+
+from parts import KINDS, made_at, objects_of
+from scenarios import SOURCES
+
+WRITE, CREATE = 2, 1
+
+
+class State:
+    """A report's states, capabilities, semaphores and sources, and which domain and processor an execution context has."""
+
+    def __init__(self, report: str) -> None:
+        lines = [line.split() for line in report.splitlines()]
+        self.first, self.second = made_at(lines, 1), made_at(lines, 2)
+        self.own = objects_of(self.first, lines)
+        self.contexts = {int(line[1]): line[3] for line in lines if line[0] == "ec"}
+        self.kinds = {0: "pd"} | {int(line[1]): "sm" for line in lines if line[0] == "sm"}
+        self.homes: dict[int, tuple[int, int]] = {}  # the domain and the processor of the sides' execution contexts
+        has_stranger = self.second + 7 in self.contexts
+        for domain, cpu, count in ((self.first, 1, 7), (self.second, 2, len(KINDS) if has_stranger else 7)):
+            self.kinds |= {domain + place: kind for place, kind in enumerate(KINDS[:count])}
+            self.homes |= {domain + place: (domain, 1 if place > 6 else cpu) for place, kind in enumerate(KINDS[:count]) if kind == "ec"}
+        self.capabilities = [Capability(line) for line in lines if line[0] == "cap"]
+        self.by_number = {capability.number: capability for capability in self.capabilities}
+        self.sources = [(int(line[2]), int(line[3])) for line in lines if line[0] == "source"]  # processor and semaphore
+
+    def line(self, capability: Capability) -> list[Capability]:
+        above = []
+        while capability.parent is not None:
+            capability = self.by_number[capability.parent]
+            above.append(capability)
+        return above
+
+
+class Capability:
+    """A line `cap`."""
+
+    def __init__(self, line: list[str]) -> None:
+        self.number, self.domain, self.kind = int(line[1]), int(line[3]), line[4]
+        self.parent = None if line[2] == "-" else int(line[2])
+        self.rights, self.target = int(line[7]), int(line[8])
+        self.targets = range(self.target, self.target + 2 ** int(line[6]))
+
+
+def frames(state: State, domain: int, rights: int) -> set[int]:
+    return {frame for c in state.capabilities if c.domain == domain and c.kind == "mem" and c.rights & rights for frame in c.targets}
+
+
+def of_objects(state: State, domain: int, own: range) -> set[str]:
+    """Of what a domain's capabilities lead to: whether the set is closed, and what it may make."""
+    found = set()
+    for capability in state.capabilities:
+        if capability.domain != domain or capability.kind != "obj":
+            continue
+        kind = state.kinds.get(capability.target)
+        if kind != "sm" and capability.target not in own:
+            found.add("IsClosed.capabilities")
+        if kind == "pd" and capability.rights & CREATE and domain == state.second:
+            found.add("IsDivided.creates")
+    return found
+
+
+def of_both(state: State) -> set[str]:
+    """What both sides hold, reach, and have of one another."""
+    held = [{c.target for c in state.capabilities if c.domain == domain and c.kind == "obj"} for domain in (state.first, state.second)]
+    found = set()
+    if held[0] & held[1]:
+        found.add("AreApart.objects")
+    if held[0] - state.own:
+        found.add("IsSide.holds")
+    if any(state.kinds.get(n) == "sm" and n in held[1] for n in state.own):
+        found.add("IsGuarded.semaphores")
+    if frames(state, state.first, 7) & frames(state, state.second, WRITE):
+        found.add("IsGuarded.memory")
+    if any(above.domain == state.second for c in state.capabilities if c.domain == state.first for above in state.line(c)):
+        found.add("IsGuarded.lines")
+    return found
+
+
+def of_processors(state: State) -> set[str]:
+    """Who is on the side's processor, and what rings there."""
+    found = set()
+    for context, (domain, cpu) in state.homes.items():
+        if domain == state.second and cpu == 1:
+            found.add("IsDivided.others")
+    if any(state.contexts[n] not in ("parked", "dead") for n in state.contexts if n not in state.homes):
+        found.add("AreSeparate.rest")
+    if any(cpu == 1 and semaphore not in state.own for cpu, semaphore in state.sources):
+        found.add("HasHome.alarms")
+    if any(cpu != 1 and semaphore in state.own for cpu, semaphore in state.sources):
+        found.add("HasHome.rings")
+    return found
+
+
+def broken(report: str) -> set[str]:
+    """The premises that don't hold."""
+    state = State(report)
+    first = range(state.first, state.first + 7)
+    second = range(state.second, state.second + len(KINDS))
+    return of_objects(state, state.first, first) | of_objects(state, state.second, second) | of_both(state) | of_processors(state)

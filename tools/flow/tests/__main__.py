@@ -1,0 +1,132 @@
+"""Tests what is compared of two runs, and what is said of the premises.
+
+python3 tools/flow/tests [--program FILE]
+"""
+
+from __future__ import annotations
+
+import argparse
+import subprocess
+import sys
+import tempfile
+import unittest
+from pathlib import Path
+
+TOP = Path(__file__).resolve().parents[3]
+TOOL = TOP / "tools" / "flow"
+sys.path.insert(0, str(TOOL))
+
+from leaks import LEAKS  # noqa: E402
+from parts import difference, free_part, part  # noqa: E402
+from premises import broken  # noqa: E402
+from scenarios import Fixed, SetUp, word  # noqa: E402
+
+PROGRAM = TOP / "crates" / "nova" / "out" / "nova"
+PLACE = "0 400\n1 400\n2 330\n"
+
+
+def run(scenario: str, order: str) -> str:
+    with tempfile.TemporaryDirectory() as folder:
+        paths = [Path(folder) / "a.nova", Path(folder) / "a.order"]
+        paths[0].write_text(scenario)
+        paths[1].write_text(order)
+        return subprocess.run([PROGRAM, "solo", *paths], capture_output=True, text=True, timeout=120).stdout
+
+
+def tells(*words: str) -> tuple[int, str]:
+    done = subprocess.run([sys.executable, TOOL, "--program", PROGRAM, *words], capture_output=True, text=True, timeout=300)
+    return done.returncode, done.stdout + done.stderr
+
+
+class Parts(unittest.TestCase):
+    """Of reports: which lines are the side's, and how two are told apart."""
+
+    def setUp(self) -> None:
+        lines = ["addi x9, x9, 1"]
+        self.report = run(SetUp(walled=True).text([Fixed(0, lines), Fixed(1, lines)]), PLACE + "1 30\n")
+
+    def test_a_part_has_what_its_processor_did_and_what_its_domain_has(self) -> None:
+        events, rest = part(self.report)
+        self.assertTrue(all(event[0] == "1" for event in events))
+        self.assertEqual({line[0] for line in rest}, {"ec", "sc", "sm", "cap", "source", "console"})
+        self.assertIn(["cap", "mem", "256", "3", "7", "16"], rest)
+
+    def test_a_number_that_differs_is_found(self) -> None:
+        line = next(line for line in self.report.splitlines() if line.startswith("ec ") and "x9=" in line)
+        other = self.report.replace(line, line.replace("x9=", "x9=1"))
+        self.assertIsNone(difference(part(self.report), part(self.report)))
+        self.assertIn("x9=1", difference(part(self.report), part(other)) or difference(free_part(self.report), free_part(other)) or "")
+
+    def test_ranges_are_told_by_what_they_give(self) -> None:
+        renumbered = "".join(f"{' '.join(['cap', '99', '-'] + line.split()[3:])}\n" if line.startswith("cap") else f"{line}\n" for line in self.report.splitlines())
+        self.assertIsNone(difference(part(self.report), part(renumbered)))
+
+    def test_a_long_line_is_shown_where_it_differs(self) -> None:
+        first, second = [["console", "0", "0" * 400 + tail] for tail in ("12", "13")]
+        self.assertEqual(difference(([], [first]), ([], [second])), f"...{'0' * 29}12 / ...{'0' * 29}13")
+
+
+class Premises(unittest.TestCase):
+    """Of states: each condition fails where it is broken."""
+
+    def report(self, set_up: SetUp) -> str:
+        lines = ["addi x9, x9, 1"]
+        return run(set_up.text([Fixed(0, lines), Fixed(1, lines)]), PLACE)
+
+    def test_walled_sides_meet_all(self) -> None:
+        self.assertEqual(broken(self.report(SetUp(walled=True))), set())
+
+    def test_sides_that_may_create_are_not_divided(self) -> None:
+        self.assertEqual(broken(self.report(SetUp())), {"IsDivided.creates"})
+
+    def test_a_capability_of_the_others_is_found(self) -> None:
+        report = self.report(SetUp(walled=True))
+        line = next(line for line in report.splitlines() if line.startswith("cap") and " obj 2 " in line and line.split()[3] != "0")
+        words = line.split()
+        foreign = " ".join([*words[:8], str(int(words[8]) + 7)])
+        self.assertIn("IsClosed.capabilities", broken(report.replace(line, foreign)))
+
+    def test_a_page_that_comes_of_the_others_is_found(self) -> None:
+        report = self.report(SetUp(walled=True))
+        caps = [line.split() for line in report.splitlines() if line.startswith("cap") and line.split()[4] == "mem" and line.split()[3] != "0"]
+        domains = sorted({int(words[3]) for words in caps})  # the side's was made first
+        ours, theirs = (next(words for words in caps if int(words[3]) == domain) for domain in domains)
+        child = " ".join([*ours[:2], theirs[1], *ours[3:]])
+        self.assertEqual(broken(report.replace(" ".join(ours), child)), {"IsGuarded.lines"})
+
+
+class Runs(unittest.TestCase):
+    """Of the command: pairs that are the same, and leaks that are not."""
+
+    def test_sides_that_do_everything_differ_in_numbers_alone(self) -> None:
+        status, said = tells("--count", "4", "--turns", "800")
+        self.assertEqual((status, said.split()[:4]), (0, ["same", "4", "different", "0"]))
+
+    def test_sides_at_work_behind_walls_are_the_same(self) -> None:
+        status, said = tells("--walled", "--count", "10", "--turns", "800")
+        self.assertEqual((status, said.split()[:4]), (0, ["same", "10", "different", "0"]))
+
+    def test_each_leak_breaks_its_premises_alone_and_is_seen(self) -> None:
+        for name in LEAKS:
+            with self.subTest(name):
+                status, said = tells("--leak", name, "--turns", "600")
+                self.assertEqual(status, 0, said)
+                self.assertIn(f"without {', '.join(sorted(LEAKS[name].breaks))}\n", said)
+
+    def test_a_range_word(self) -> None:
+        self.assertEqual(word("mem", 0x100, 4, 7), 0x10021D)
+
+
+def main() -> None:
+    global PROGRAM
+    parser = argparse.ArgumentParser(prog="tools/flow/tests")
+    parser.add_argument("--program", type=Path, default=PROGRAM)
+    words, rest = parser.parse_known_args()
+    PROGRAM = words.program.resolve()
+    if not PROGRAM.exists():
+        sys.exit(f"{PROGRAM} is missing: python3 tools/build")
+    unittest.main(argv=sys.argv[:1] + rest)
+
+
+if __name__ == "__main__":
+    main()
