@@ -4,9 +4,13 @@
 # Compiles a program in C for RV32I, or assembles one, and writes a scenario that runs it. README.md beside this script explains it.
 set -eu
 export LC_ALL=C
-usage() { # says what is wrong, and which words there are
-    echo "build.sh: $fault" >&2
-    cat >&2 <<'END'
+usage() { # says what is wrong
+    echo "build.sh: $fault; build.sh --help lists the words" >&2
+    exit 2
+}
+
+list() { # which words there are
+    cat <<'END'
 usage: build.sh [OPTION..] SOURCE.. [SCENARIO.nova] [RAM_ORDER]
   SOURCE             a file .c, .s, .S, .o or .a
   SCENARIO.nova      what is written; beside the first source, with its name, where it isn't given
@@ -27,7 +31,6 @@ usage: build.sh [OPTION..] SOURCE.. [SCENARIO.nova] [RAM_ORDER]
   --writable-code    code can be written, and data executed
   -I, -D, -U, -O, -W, -f, -g, -std and -m go to the compiler
 END
-    exit 2
 }
 
 refuse() { # what, and what to do
@@ -44,7 +47,7 @@ priority=1 stack='' rights='' fault='no source is named'
 here=$(cd "$(dirname "$0")" && pwd)
 tool=riscv64-unknown-elf
 compiler=${COMPILER:-gcc}
-libc=no guest=no elf=no debug=no cpus=1 consoles=1 sources='' scenario='' order='' interrupts='' monitor='' flags='-O2'
+libc=no guest=no elf=no debug=no cpus=1 consoles=1 sources='' scenario='' order='' interrupts='' monitor='' level=-O2 flags=''
 images='' monitors=1 monitor_order=''
 
 # A name of a file as the shell has it, with an apostrophe round it.
@@ -65,10 +68,11 @@ between() { # what a number is for, the number, and the least and the greatest t
 option() { # sets what an option says, and answers how many words it has
     words=1
     case $1 in
+    --help | -h) list && exit 0 ;;
     --libc) libc=yes elf=yes ;;
     --guest) guest=yes ;;
     --elf) elf=yes ;;
-    --debug) debug=yes flags='-Og -g' ;;
+    --debug) debug=yes level='-Og -g -DNOVA_DEBUG' ;;
     --monitor | --cpus | --consoles | --source | --image | --monitors | --monitor-order)
         [ $# -ge 2 ] || usage
         words=2
@@ -126,6 +130,7 @@ while [ $# -gt 0 ]; do
     esac
     fault='no source is named'
 done
+flags="$level $flags"
 [ -n "$sources$images" ] || usage
 [ -n "$sources" ] || { eval "set -- $images" && first=${1%@*}; }
 [ -z "$images" ] || [ -n "$monitor" ] || refuse "$first: a guest that is linked already has a monitor of its own; name that by --monitor"

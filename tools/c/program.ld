@@ -69,7 +69,7 @@ SECTIONS
   main_turns = 10 << 8 | (DEFINED(main_priority) ? main_priority : 1);
   code_rights = DEFINED(all_rights) ? 7 : 5;
   data_rights = DEFINED(all_rights) ? 7 : 3;
-  ASSERT(stack_bytes + 0x2000 <= ram_bytes && __heap_start <= __heap_end, "the memory is too small: too little is left for the stack; give build.sh a greater RAM_ORDER")
+  ASSERT(stack_bytes + 0x2000 <= ram_bytes && __heap_start <= __heap_end, "the memory is too small: too little is left for the stack; give build.sh a greater RAM_ORDER, or a lesser --stack")
 
   /DISCARD/ : { *(.eh_frame .eh_frame.* .note .note.* .comment) }
 }

@@ -1,7 +1,7 @@
 """Goes through a run in both directions.
 
 gdb-multiarch PROGRAM.elf -ex 'target remote | python3 tools/debug SCENARIO [ORDER]'
-python3 tools/debug trace SCENARIO [ORDER] [--from N] [--to N] [--ec E] [--semaphores]
+python3 tools/debug trace SCENARIO [ORDER] [--from N] [--to N] [--ec E] [--semaphores] [--stores ADDRESS]
 python3 tools/debug symbols SCENARIO FILE
 
 The first two take [--limit N] [--elf FILE] [--names FILE] [--program FILE]; the first [--keep BYTES] [--one] [--log FILE].
@@ -22,16 +22,29 @@ from built import Missing, find  # noqa: E402
 from listing import Listing, list_turns  # noqa: E402
 from naming import Names, Unread, add_words, names_of, selectors_in  # noqa: E402
 from packets import Closed, Line  # noqa: E402
+from parsing import Parser  # noqa: E402
 from symbols import write_symbols  # noqa: E402
 from target import Target  # noqa: E402
 
 
+def number(text: str) -> int:
+    """Reads a number from 1 on."""
+    if int(text) < 1:
+        raise argparse.ArgumentTypeError(f"{text} is not 1 or more")
+    return int(text)
+
+
+def address(text: str) -> int:
+    """Reads an address: decimal, or hexadecimal behind 0x."""
+    return int(text, 0)
+
+
 def parser(trace: bool) -> argparse.ArgumentParser:
     """The words of a command."""
-    words = argparse.ArgumentParser(prog="debug trace" if trace else "debug", description="Goes through a run in both directions.")
+    words = Parser(prog="debug trace" if trace else "debug", description="Goes through a run in both directions.")
     words.add_argument("scenario", type=Path, metavar="SCENARIO")
     words.add_argument("order", type=Path, nargs="?", metavar="ORDER", help="the order of turns of the run (round robin)")
-    words.add_argument("--limit", type=int, default=MOST, metavar="N", help=f"the most turns of the run ({MOST})")
+    words.add_argument("--limit", type=number, default=MOST, metavar="N", help=f"the most turns of the run ({MOST})")
     words.add_argument("--program", type=Path, metavar="FILE", help="another program in place of the repository's")
     add_words(words)
     told = "an executable whose functions and lines are told" if trace else "an executable whose constants name selectors; gdb has its own"
@@ -41,6 +54,7 @@ def parser(trace: bool) -> argparse.ArgumentParser:
         words.add_argument("--to", dest="last", type=int, metavar="N", help="the turn to end before (that of the run's end)")
         words.add_argument("--ec", type=int, metavar="E", help="the turns of one execution context alone")
         words.add_argument("--semaphores", action="store_true", help="the turns alone that change semaphores, with which")
+        words.add_argument("--stores", type=address, metavar="ADDRESS", help="the turns alone that store there, as the program has the address")
     else:
         kept = f"what states on the way may take, 0 for none ({BYTES})"
         words.add_argument("--keep", type=int, default=BYTES, metavar="BYTES", help=kept)
@@ -73,9 +87,15 @@ def naming(asked: argparse.Namespace, back: BackEnd) -> Names:
 
 def trace(words: list[str]) -> int:
     """Lists turns."""
-    asked = parser(True).parse_args(words)
+    taken = parser(True)
+    asked = taken.parse_args(words)
+    if asked.first < 0 or (asked.last is not None and asked.last <= asked.first):
+        taken.error(f"--from {asked.first} --to {asked.last}: no turn lies between them" if asked.first >= 0 else f"--from {asked.first}: is no turn")
     back = opened(asked)
-    list_turns(back, Listing(asked.first, asked.last, asked.ec, asked.elf, asked.semaphores, naming(asked, back)), sys.stdout)
+    if asked.first >= back.end:
+        raise Refused(f"--from {asked.first}: the run has {back.end} turns")
+    listing = Listing(asked.first, asked.last, asked.ec, asked.elf, asked.semaphores, asked.stores, naming(asked, back))
+    list_turns(back, listing, sys.stdout)
     back.close()
     return 0
 
@@ -96,7 +116,7 @@ def serve(words: list[str]) -> int:
 
 def symbols(words: list[str]) -> int:
     """Writes an executable with the labels and lines of a scenario's images of assembler."""
-    asked = argparse.ArgumentParser(prog="debug symbols", description="Makes an executable of a scenario's images of assembler.")
+    asked = Parser(prog="debug symbols", description="Makes an executable of a scenario's images of assembler.")
     asked.add_argument("scenario", type=Path, metavar="SCENARIO")
     asked.add_argument("output", type=Path, metavar="FILE")
     given = asked.parse_args(words)

@@ -150,7 +150,7 @@ class BackEnd:
             if word == "no":
                 raise Refused(f"not understood: {line}" if not rest else said)
             if word == "idle":
-                raise Refused(f"a processor is idle in the block {rest} of the order")
+                raise Refused(f"a processor is idle in the block {rest} of the order; perhaps it is an order of another program")
             if not said:
                 raise Refused("the program has ended")
             answer.append(said)

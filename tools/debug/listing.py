@@ -8,7 +8,7 @@ from dataclasses import dataclass
 from pathlib import Path
 from typing import TextIO
 
-from access import STORE, access_of
+from access import STORE, Access, access_of
 from backend import OWN_PAGE, PAGE, BackEnd, Event, context_of
 from naming import Names
 
@@ -30,7 +30,13 @@ class Listing:
     context: int | None
     executable: Path | None
     semaphores: bool
+    stores: int | None
     names: Names = Names()
+
+    def has(self, actor: int, moved: bool, stored: Access | None) -> bool:
+        """Whether a turn is listed, by who acts in it, whether it changes a semaphore, and what it stores."""
+        is_there = self.stores is None or (stored is not None and stored.address <= self.stores < stored.address + stored.width)
+        return is_there and self.context in (None, actor) and (moved or not self.semaphores)
 
 
 def places_of(executable: Path, addresses: Iterable[int]) -> dict[int, str]:
@@ -152,8 +158,8 @@ class Lister:
         for part in self._parts(events):
             for turn in self._take(part):
                 moved = self._moved() if self._listing.semaphores and turn.event.kind not in SILENT else []
-                line = self._line(turn, moved)
-                if self._listing.context in (None, turn.event.actor) and (moved or not self._listing.semaphores):
+                line, stored = self._line(turn, moved)
+                if self._listing.has(turn.event.actor, bool(moved), stored):
                     yield line
             self._memory.end_part(part[-1])
 
@@ -186,31 +192,31 @@ class Lister:
             turns.append(Turn(event, before, self._contexts, executes))
         return turns
 
-    def _line(self, turn: Turn, moved: list[str]) -> str:
-        """The line of a turn."""
+    def _line(self, turn: Turn, moved: list[str]) -> tuple[str, Access | None]:
+        """The line of a turn, and where it stores."""
         event = turn.event
         before = turn.before.get(event.actor)
-        words, stored = self._instruction(event, before) if before and turn.executes else (["-"], "")
+        words, stored, access = self._instruction(event, before) if before and turn.executes else (["-"], "", None)
         changed = changes(before, turn.after.get(event.actor)) if before else []
         told = "" if event.kind in SILENT else f"{event.kind} {event.a} {event.b}"
         parts = (f"{event.place + 1} cpu {event.cpu} {self._listing.names.of(event.actor, 'ec')} sc {event.payer}", *words, *changed, stored, told, *moved)
-        return "  ".join(filter(None, parts))
+        return "  ".join(filter(None, parts)), access
 
-    def _instruction(self, event: Event, line: str) -> tuple[list[str], str]:
-        """The address, text and source line of an instruction, by the line of who acts, and what it stores as text."""
+    def _instruction(self, event: Event, line: str) -> tuple[list[str], str, Access | None]:
+        """The address, text and source line of an instruction, by the line of who acts, what it stores as text, and where."""
         address = int(line.split(" ", 5)[4], 16)
         word = self._memory.word(event, address)
         words = [f"{address:08x}", self._text(word), self._place(address)]
         if word & 0x7F != STORE:
-            return words, ""
+            return words, "", None
         _, kind, _, registers = context_of(line)
         access = access_of(word, registers)
         if access is None:
-            return words, ""
+            return words, "", None
         value = registers[word >> 20 & 31] % (1 << 8 * access.width)
         if event.kind == "step" and (access.address // PAGE != OWN_PAGE or kind == "vcpu"):
             self._memory.store(event, access.address, value.to_bytes(access.width, "little"))
-        return words, f"[{access.address:#x}]={value:0{2 * access.width}x}"
+        return words, f"[{access.address:#x}]={value:0{2 * access.width}x}", access
 
     def _text(self, word: int) -> str:
         if word not in self._texts:

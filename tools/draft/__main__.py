@@ -19,6 +19,7 @@ import time
 from pathlib import Path
 
 from making import TOP, Children, NoKit, NotMade, make  # makes tools/build known
+from hints import hints
 
 from built import draft_of
 
@@ -56,9 +57,18 @@ def made(name: str) -> Path:
     return place
 
 
+def amiss(name: str, words: list[str]) -> list[str]:
+    """What is to be said of words before the program's own line: as of those of the proved program."""
+    if os.environ.get("NOVA_HINTS") == "no" or name != "nova":
+        return []
+    return hints(words)
+
+
 def run(place: Path, words: list[str]) -> int:
     """Runs a draft, with the caller's input and output. An interrupt from the keyboard is the draft's."""
     say("DRAFT: nothing of this run is proved")
+    for line in amiss(place.name, words):
+        say(line.encode(errors="replace").decode())
     signal.signal(signal.SIGINT, signal.SIG_IGN)
     restored = lambda: signal.signal(signal.SIGINT, signal.SIG_DFL)  # noqa: E731
     status = subprocess.run([str(place), *words], preexec_fn=restored, check=False).returncode
@@ -77,6 +87,9 @@ def main(words: list[str]) -> int:
     name, rest = program_of(words[1:] if asks else words)
     if asks and rest:
         say(f"draft --path: no program is named so: {' '.join(rest)}")
+        return 2
+    if name == "nova_debug" and not asks and len(rest) not in (2, 3):
+        say("draft debug wants SCENARIO LIMIT [ORDER]; what goes through a run is `python3 tools/debug`, which takes a draft that was made")
         return 2
     try:
         place = made(name)

@@ -20,6 +20,7 @@ sys.path.append(str(Path(__file__).resolve().parents[1] / "picture"))
 from account import Run, account  # noqa: E402
 from exact import Exact, Refused, there  # noqa: E402
 from naming import Names, Unread, add_words, check_executable, constants, named_in, selectors  # noqa: E402
+from parsing import Parser  # noqa: E402
 from places import Place, places_of  # noqa: E402
 from report import Context, Fault, Report, read_report  # noqa: E402
 from scenario import read_settings  # noqa: E402
@@ -31,7 +32,7 @@ class Trouble(Exception):
 
 def parser() -> argparse.ArgumentParser:
     """The words that the program takes."""
-    words = argparse.ArgumentParser(prog="explain", description="Says in sentences what a report says in numbers.")
+    words = Parser(prog="explain", description="Says in sentences what a report says in numbers.")
     words.add_argument("report", type=Path, metavar="REPORT", help="the report of a run; - for standard input")
     elf = "the executable of the programs, for functions, lines and names; with PD= that of one domain"
     words.add_argument("--elf", action="append", default=[], metavar="[PD=]FILE", help=elf)

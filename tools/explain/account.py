@@ -13,7 +13,7 @@ from words import CALL, CREATE_PD, REVOKE, SM_CTRL, counted, reason
 ROOT, EBREAK, STARTUP, FETCH, STORE = 1, 7, 0, 2, 4
 UP = 1
 # Addresses below this one are most likely those of a null pointer.
-NULL = 0x1000
+NULL = PAGE = 0x1000
 # What a line `ec` has of a thread that waits at a semaphore with a deadline.
 DEADLINE = " x11=00000002"
 WAITING = ("blocked", "calling", "helping", "sending")
@@ -53,7 +53,8 @@ class Run:
     def at(self, context: Context, address: int | None = None) -> str:
         """Where an execution context is, or an address of it, as a part of a sentence."""
         place = int(context.line.split()[4], 16) if address is None else address
-        found = self.where(context, place)
+        # A program begins above page 0, where another executable than the root's has nothing of its own.
+        found = self.where(context, place) if place or context.number == ROOT else ""
         return f"at 0x{place:x}{', ' if found else ''}{found}"
 
 
@@ -101,18 +102,27 @@ def how_died(run: Run, context: Context, last: Event | None) -> str:
         return f"ended {turn}, {where}, by `ebreak`"
     if last.a == STARTUP:
         return f"died {turn} of its startup: its domain has no portal for it, or the portal's handler could not answer"
-    return f"died {turn}, {where}, of {reason(last)}{guess(last) if context.sort != 'vcpu' else ', which no portal takes'}"
+    return f"died {turn}, {where}, of {reason(last)}{guess(context, last) if context.sort != 'vcpu' else ', which no portal takes'}"
 
 
-def guess(event: Event) -> str:
+def stack_of(context: Context) -> int:
+    """The stack pointer of an execution context, x2."""
+    return int(next((word[3:] for word in context.line.split() if word.startswith("x2=")), "0"), 16)
+
+
+def guess(context: Context, event: Event) -> str:
     """What most likely led to a fault."""
+    if event.a == FETCH and event.b == 0:
+        return ": it jumped through a null pointer, or returned from an entry that is no NOVA_PORTAL or NOVA_THREAD, most likely"
     if event.a == FETCH:
         return ": it jumped to where nothing may be executed" if event.b >= NULL else ": it jumped through a null pointer, most likely"
     if event.a in (FETCH + 1, STORE):
         what = "written" if event.a == STORE else "read"
         if event.b < NULL:
             return f": a null pointer, most likely, through which nothing may be {what}"
-        return f": its domain has no page there that may be {what}"
+        stack = stack_of(context)
+        below = f", below its stack, most likely, since its x2 is 0x{stack:x}" if stack and abs(event.b - stack) < PAGE else ""
+        return f": its domain has no page there that may be {what}{below}"
     return ""
 
 

@@ -19,13 +19,14 @@ from functools import partial
 from pathlib import Path
 from typing import TypeVar
 
-from asking import Ask, parser
+from asking import MOST_TURNS, TURNS, Ask, amiss, parser
 from choice import Choice, Wanted
 from finding import find_program, find_staying
 from longest import Scout
 from outcome import Outcome, broken, outcome_of
 from pool import Pool
 from program import DONE, End, Program, Stopped, Trouble
+from reading import check_readable
 from remote import Job
 from sample import Habits
 from sending import DASK, Dask, Sending, processes
@@ -45,6 +46,7 @@ class Work:
     """One command: the program, the threads that start it, and what is told meanwhile."""
 
     def __init__(self, ask: Ask, folder: Path) -> None:
+        check_readable(ask.scenario)
         path = find_program(ask.program, ask.scenario)
         self.ask = ask
         self.program = Program(path, ask.scenario, folder, ask.jobs, find_staying(ask.stays, ask.program))
@@ -52,6 +54,7 @@ class Work:
         self.sent: str | None = None
         self.pool = self.open_pool()
         self.progress = Progress(sys.stderr, ask.progress)
+        self.turns = self.fitting_turns()
         self.rests = False
 
     def do(self) -> int:
@@ -68,6 +71,17 @@ class Work:
             self.program.stop()
             self.pool.close()
             self.progress.end()
+
+    def fitting_turns(self) -> int:
+        """How many turns an order may have: what was asked for, or else twice those that the run takes in rounds, where these are many. Says so, and where
+        what was asked for is less than the run takes."""
+        rounds = self.program.rounds(MOST_TURNS) or 0
+        turns = self.ask.turns or (min(MOST_TURNS, 2 * rounds) if rounds > TURNS else TURNS)
+        if rounds > turns or (rounds > TURNS and self.ask.turns is None):
+            told = f"--turns is {turns:,}, so that orders are cut" if rounds > turns else f"an order may have {turns:,} (--turns)"
+            many = "; all orders with several changes are very many then: --random N tries N" if (self.ask.changes or 0) > 1 else ""
+            print(f"orders: {self.ask.scenario} takes {rounds:,} turns in rounds; {told}{many}", file=sys.stderr)
+        return turns
 
     def open_pool(self) -> Pool:
         """Threads, or where a program stays, processes or the workers of an executor, to which work is sent."""
@@ -100,7 +114,7 @@ class Work:
         if len(weights) != self.scout.cpus:
             numbers, cpus = counted(len(weights), "number", "numbers"), counted(self.scout.cpus, "processor", "processors")
             raise Trouble(f"--weights has {numbers}, the scenario {cpus}")
-        return Wanted(ask.turns, ask.changes, ask.random, ask.seed, Habits(weights, *ask.lengths))
+        return Wanted(self.turns, ask.changes, ask.random, ask.seed, Habits(weights, *ask.lengths))
 
     def explore(self) -> int:
         """Groups the orders by outcome. At an interrupt all is told that was found so far."""
@@ -124,13 +138,15 @@ class Work:
         return status
 
     def naming(self, tally: Tally[Outcome]) -> Names:
-        """The names of objects, by the report of the simplest order: in others some objects may have other numbers."""
+        """The names of objects, by the report of the simplest order: in others some objects may have other numbers. None after an interrupt."""
         groups = tally.groups()
         if not groups or not (self.ask.names or self.ask.elf):
             return Names()
-        report = read_report(self.program.run_text(text_of(groups[0].simplest)).report)
         try:
+            report = read_report(self.program.run_text(text_of(groups[0].simplest)).report)
             return names_of(self.ask.names, self.ask.elf, selectors(report.ranges))
+        except Stopped:
+            return Names()
         except Unread as why:
             raise Trouble(str(why)) from why
 
@@ -144,7 +160,7 @@ class Work:
                 number += tried is not None
                 if tried is not None and tried.verdict is not None:
                     self.progress.end()
-                    size = size_of(tried.blocks)
+                    size = size_of(tried.blocks) + ("" if tried.is_quiet else " (cut by --turns, not at rest)")
                     print(f"orders: {tried.verdict}, by this order of {size}, number {number:,} of those tried:", file=sys.stderr)
                     sys.stdout.write(text_of(tried.blocks))
                     return BROKEN
@@ -158,7 +174,7 @@ class Work:
     def shrink(self) -> int:
         """Writes the simpler order. At an interrupt that is the simplest so far."""
         order = self.read_order()
-        turns = max(self.ask.turns, turns_of(order))
+        turns = max(self.turns, turns_of(order))
         shrinker = Shrinker(self.scout, turns, self.keeps_rest, lambda best: self.tell(size_of(best)))
         status = DONE
         is_least = False
@@ -177,7 +193,7 @@ class Work:
 
     def keeps(self, report: str) -> bool:
         """Whether a report has what is to be kept."""
-        return self.ask.keep.search(report) is not None
+        return self.ask.keep.is_in(report)
 
     def keeps_rest(self, report: str) -> bool:
         """Whether it does, and comes to rest where the order to begin with does, unless it need not."""
@@ -191,9 +207,9 @@ class Work:
             raise Trouble(f"{self.ask.order}: {error.strerror}") from error
         run = self.program.run_text(text)
         if run.end is End.IDLE:
-            raise Trouble(f"{self.ask.order}: in line {run.line} the processor is idle")
+            raise Trouble(f"{self.ask.order}: in line {run.line} the processor is idle; perhaps it is an order of another program")
         if not self.keeps(run.report):
-            raise Trouble(f"{self.ask.order}: the report has nothing that matches {self.ask.keep.pattern!r}")
+            raise Trouble(f"{self.ask.order}: the report has nothing that matches {self.ask.keep.words!r}")
         self.rests = run.end is End.QUIET and not self.ask.open
         report = read_report(run.report)
         order = read_order(text, report.turns, [event.place for event in report.events], [event.cpu for event in report.events])
@@ -213,11 +229,23 @@ class Work:
 
     def interrupted(self) -> int:
         """Ends all that is under way. A second interrupt changes nothing."""
-        signal.signal(signal.SIGINT, signal.SIG_IGN)
+        heed_no_more()
         self.program.stop()
         self.progress.end()
         print("orders: interrupted", file=sys.stderr)
         return INTERRUPTED
+
+
+def heed_no_more() -> None:
+    """From now on neither an interrupt nor a request to end is heeded."""
+    for number in (signal.SIGINT, signal.SIGTERM):
+        signal.signal(number, signal.SIG_IGN)
+
+
+def interrupt(*_: object) -> None:
+    """A request to end, as `timeout` sends it, is an interrupt."""
+    heed_no_more()
+    raise KeyboardInterrupt
 
 
 def main(arguments: list[str]) -> int:
@@ -225,9 +253,10 @@ def main(arguments: list[str]) -> int:
     interrupt."""
     top = parser()
     words = top.parse_args(arguments)
-    if words.command == "expect" and not (words.never or words.always):
-        top.error("expect: --never or --always is wanted")
+    if wrong := amiss(words):
+        top.error(f"{words.command}: {wrong}")
     ask = Ask.of(words)
+    signal.signal(signal.SIGTERM, interrupt)
     try:
         with tempfile.TemporaryDirectory() as folder:
             return Work(ask, Path(folder)).do()

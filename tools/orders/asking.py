@@ -10,10 +10,11 @@ from pathlib import Path
 from typing import Any
 
 from sending import DASK
-from outcome import DEFAULT, PLAIN, Aspect, aspects_of, pattern_of
+from outcome import DEFAULT, PLAIN, SHOWN, Aspect, Sought, aspects_of
+from reading import Parser
 
 MOST_TURNS = 1_000_000
-TURNS, CHANGES, LENGTHS, SEARCH = 1000, 3, (1, 8), 2000
+TURNS, CHANGES, SEED, LENGTHS, SEARCH = 1000, 3, 1, (1, 8), 2000
 
 
 @dataclass(frozen=True, slots=True)
@@ -23,7 +24,7 @@ class Ask:
     command: str
     scenario: Path
     program: Path | None
-    turns: int
+    turns: int | None
     jobs: int
     progress: bool
     output: Path | None = None
@@ -33,10 +34,10 @@ class Ask:
     weights: tuple[float, ...] = ()
     lengths: tuple[int, int] = LENGTHS
     aspects: tuple[Aspect, ...] = ()
-    never: tuple[re.Pattern[str], ...] = ()
-    always: tuple[re.Pattern[str], ...] = ()
+    never: tuple[Sought, ...] = ()
+    always: tuple[Sought, ...] = ()
     order: Path = Path()
-    keep: re.Pattern[str] = re.compile("")
+    keep: Sought = Sought.of("")
     search: int = SEARCH
     stays: Path | None = None
     executor: str | None = None
@@ -50,6 +51,8 @@ class Ask:
         given: dict[str, Any] = dict(vars(words))
         if words.command != "shrink" and words.changes is None and not words.random:
             given["changes"] = CHANGES
+        for name, value in (("seed", SEED), ("lengths", LENGTHS), ("weights", ())):
+            given[name] = value if given.get(name) is None else given[name]
         if words.command == "explore":
             chosen = words.by or [aspects_of(DEFAULT)]
             given["aspects"] = tuple(aspect for several in chosen for aspect in several)
@@ -113,9 +116,20 @@ def refusing(read: Any) -> Any:
     return checked
 
 
+def amiss(words: argparse.Namespace) -> str | None:
+    """What is wrong with words that are right one by one."""
+    if words.command == "expect" and not (words.never or words.always):
+        return "--never or --always is wanted"
+    if words.command != "shrink" and not words.random:
+        for name in ("seed", "weights", "lengths"):
+            if getattr(words, name) is not None:
+                return f"--{name} is of orders at random: --random N is wanted"
+    return None
+
+
 def parser() -> argparse.ArgumentParser:
     """The words that the program takes."""
-    top = argparse.ArgumentParser(prog="orders", description="Runs a scenario over many orders of turns.")
+    top = Parser(prog="orders", description="Runs a scenario over many orders of turns.")
     commands = top.add_subparsers(dest="command", required=True, metavar="COMMAND")
     explore = commands.add_parser("explore", help="group orders by outcome, and write the simplest order of each")
     expect = commands.add_parser("expect", help="say whether an order breaks what is expected of each report")
@@ -131,10 +145,11 @@ def parser() -> argparse.ArgumentParser:
     explore.add_argument("--output", type=Path, metavar="FOLDER", help="where to write the orders (NAME.orders, for NAME.nova)")
     explore.add_argument("--names", type=Path, metavar="FILE", help="names of objects: lines OBJECT NAME, or PD:SELECTOR NAME")
     explore.add_argument("--elf", type=Path, action="append", default=[], metavar="FILE", help="an executable whose constants name selectors")
-    pattern = {"type": refusing(pattern_of), "metavar": "PATTERN"}
-    expect.add_argument("--never", action="append", **pattern, help="nothing in a report matches this regular expression")
-    expect.add_argument("--always", action="append", **pattern, help="something in each report matches this regular expression")
-    shrink.add_argument("--keep", required=True, **pattern, help="what the report is to match")
+    pattern = {"type": refusing(Sought.of), "metavar": "PATTERN"}
+    shown = f"; behind {SHOWN} one for the text that a console shows"
+    expect.add_argument("--never", action="append", **pattern, help=f"nothing in a report matches this regular expression{shown}")
+    expect.add_argument("--always", action="append", **pattern, help=f"something in each report matches this regular expression{shown}")
+    shrink.add_argument("--keep", required=True, **pattern, help=f"what the report is to match{shown}")
     rest = "the simpler order need not come to rest where the one to begin with does"
     shrink.add_argument("--open", action="store_true", help=rest)
     search = f"at last try all orders with fewer changes, with about N runs at most ({SEARCH})"
@@ -150,18 +165,18 @@ def add_choice(command: argparse.ArgumentParser) -> None:
     switches = f"all orders with at most K changes of processor ({CHANGES}, without --random)"
     command.add_argument("--switches", dest="changes", type=number(0), metavar="K", help=switches)
     command.add_argument("--random", type=number(0), default=0, metavar="N", help="N orders at random")
-    command.add_argument("--seed", type=int, default=1, metavar="S", help="what they are drawn from (1)")
+    command.add_argument("--seed", type=int, metavar="S", help=f"what they are drawn from ({SEED})")
     often = "how often each processor has a block of these (1 for each)"
-    command.add_argument("--weights", type=weights, default=(), metavar="W,..", help=often)
+    command.add_argument("--weights", type=weights, metavar="W,..", help=often)
     workers = "send the work to the workers of a scheduler of python3-distributed, dask:ADDRESS"
     command.add_argument("--executor", type=refusing(executor), metavar="dask:ADDRESS", help=workers)
-    command.add_argument("--lengths", type=lengths, default=LENGTHS, metavar="A-B", help="how long their blocks are (1-8)")
+    command.add_argument("--lengths", type=lengths, metavar="A-B", help="how long their blocks are (1-8)")
 
 
 def add_means(command: argparse.ArgumentParser) -> None:
     """How the orders are tried."""
-    turns = f"the greatest number of turns of an order ({TURNS})"
-    command.add_argument("--turns", type=number(1, MOST_TURNS), default=TURNS, metavar="N", help=turns)
+    turns = f"the greatest number of turns of an order ({TURNS}; where the run takes more in rounds, twice those)"
+    command.add_argument("--turns", type=number(1, MOST_TURNS), metavar="N", help=turns)
     jobs = "how many runs at a time (one for each processor)"
     command.add_argument("--jobs", type=number(1), default=len(os.sched_getaffinity(0)), metavar="N", help=jobs)
     command.add_argument("--program", type=Path, metavar="FILE", help="the program to start (that of the repository)")

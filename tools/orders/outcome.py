@@ -12,6 +12,8 @@ from shared import Kind
 Outcome = tuple[str, ...]
 
 DEFAULT = "end,states,consoles,semaphores"
+# What begins so is looked for in what consoles show.
+SHOWN = "console:"
 
 
 @dataclass(frozen=True, slots=True)
@@ -87,6 +89,31 @@ def pattern_of(text: str) -> re.Pattern[str]:
         raise ValueError(f"{text!r} is no pattern: {error}") from error
 
 
+@dataclass(frozen=True, slots=True)
+class Sought:
+    """A pattern that is looked for in the lines of a report, or in the texts that its consoles show; and the words that ask for it."""
+
+    words: str
+    pattern: re.Pattern[str]
+    in_consoles: bool
+
+    @staticmethod
+    def of(words: str) -> Sought:
+        """What words ask for. Raises ValueError where there is no pattern in them."""
+        return Sought(words, pattern_of(words.removeprefix(SHOWN)), words.startswith(SHOWN))
+
+    def is_in(self, report: str) -> bool:
+        """Whether it is found."""
+        return any(map(self.pattern.search, shown_in(report) if self.in_consoles else [report]))
+
+
+def shown_in(report: str) -> Iterator[str]:
+    """The texts that consoles show, each byte a character."""
+    for line in Lines("console")(report):
+        digits = line.split()[2]
+        yield "" if digits == "-" else bytes.fromhex(digits).decode("latin-1")
+
+
 def aspects_of(text: str) -> list[Aspect]:
     """The aspects that one `--by` names: plain ones with commas between, events of some kinds, or a pattern. Raises ValueError."""
     name, colon, rest = text.partition(":")
@@ -102,12 +129,12 @@ def outcome_of(report: str, aspects: Iterable[Aspect]) -> Outcome:
     return tuple(line for aspect in aspects for line in aspect(report))
 
 
-def broken(report: str, never: Iterable[re.Pattern[str]], always: Iterable[re.Pattern[str]]) -> str | None:
+def broken(report: str, never: Iterable[Sought], always: Iterable[Sought]) -> str | None:
     """Which expectation a report breaks."""
-    for pattern in never:
-        if pattern.search(report):
-            return f"{pattern.pattern!r} is there"
-    for pattern in always:
-        if not pattern.search(report):
-            return f"{pattern.pattern!r} is not there"
+    for sought in never:
+        if sought.is_in(report):
+            return f"{sought.words!r} is there"
+    for sought in always:
+        if not sought.is_in(report):
+            return f"{sought.words!r} is not there"
     return None

@@ -4,8 +4,10 @@ from __future__ import annotations
 
 from collections import deque
 from collections.abc import Callable, Iterable, Iterator
-from concurrent.futures import Executor, Future, ThreadPoolExecutor
+from concurrent.futures import BrokenExecutor, Executor, Future, ThreadPoolExecutor
 from typing import Any, TypeVar
+
+from program import Trouble
 
 Item = TypeVar("Item")
 Found = TypeVar("Found")
@@ -30,14 +32,18 @@ class Pool:
         self._waiting: deque[Future[Any]] = deque()
 
     def map(self, work: Callable[[Item], Found], items: Iterable[Item]) -> Iterator[Found]:
-        """What comes of the work for each item, in the order of the items. Items are taken as they are needed."""
+        """What comes of the work for each item, in the order of the items. Items are taken as they are needed. Raises Trouble where a worker was
+        ended."""
         waiting = self._waiting = deque()
-        for item in items:
-            waiting.append(self._executor.submit(work, item))
-            if len(waiting) >= self.workers * AHEAD:
+        try:
+            for item in items:
+                waiting.append(self._executor.submit(work, item))
+                if len(waiting) >= self.workers * AHEAD:
+                    yield waiting.popleft().result()
+            while waiting:
                 yield waiting.popleft().result()
-        while waiting:
-            yield waiting.popleft().result()
+        except BrokenExecutor as error:
+            raise Trouble("a process that runs orders was ended") from error
 
     def close(self) -> None:
         """Waits for the work that has begun; no other begins."""

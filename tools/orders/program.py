@@ -2,6 +2,7 @@
 
 from __future__ import annotations
 
+import re
 import subprocess
 import threading
 from dataclasses import dataclass
@@ -14,6 +15,8 @@ from turns import Blocks, text_of
 
 DONE, SCENARIO, ORDER, LIMIT = 0, 4, 5, 7
 IDLE = ("nova: order line ", ": Idle")
+# How the report of a run that came to rest begins, with its turns.
+RESTS = re.compile(r"run quiet (\d+)\n")
 
 
 class Trouble(Exception):
@@ -93,6 +96,12 @@ class Program:
         if status == ORDER and said.startswith(before) and said.endswith(after):
             return Run(blocks, End.IDLE, line=int(said[len(before) : -len(after)]))
         raise Trouble(said or f"{self.path}: status {status}")
+
+    def rounds(self, most: int) -> int | None:
+        """After how many turns the run in rounds comes to rest; none where it hasn't after the most."""
+        status, report, _ = self._start("solo", str(self.scenario), "--limit", str(most))
+        found = RESTS.match(report) if status == DONE else None
+        return int(found[1]) if found else None
 
     def stop(self) -> None:
         """Ends the runs that are under way. No further one begins."""

@@ -31,13 +31,20 @@ ARRIVAL = "arrival.py"
 DASK = "dask:"
 # How many random orders a piece of work has at most.
 DRAWS = 100
-# How long a scheduler is waited for, in seconds.
+# How long a scheduler is waited for, and the tool by a process that is to end, in seconds.
 PATIENCE = 10
 
 
+def heed_the_tool() -> None:
+    """What a process begins with. It hears nothing of an interrupt from the keyboard. A request to end, which mostly goes to the tool as well, it follows
+    only after a while, in which the tool ends it otherwise."""
+    signal.signal(signal.SIGINT, signal.SIG_IGN)
+    signal.signal(signal.SIGTERM, lambda *_: signal.alarm(PATIENCE))
+
+
 def processes(number: int) -> Executor:
-    """Processes of this machine. They hear nothing of an interrupt from the keyboard."""
-    return ProcessPoolExecutor(number, initializer=signal.signal, initargs=(signal.SIGINT, signal.SIG_IGN))
+    """Processes of this machine."""
+    return ProcessPoolExecutor(number, initializer=heed_the_tool)
 
 
 class Dask(Executor):

@@ -50,7 +50,9 @@ class Staying:
         with self._lock:
             if self._stopped:
                 return None
-            child = subprocess.Popen(self._command, stdin=subprocess.PIPE, stdout=subprocess.PIPE, process_group=0)
+            pipe = subprocess.PIPE
+            # Where all is ended at once it finds nobody who reads, of which nobody wants to hear.
+            child = subprocess.Popen(self._command, stdin=pipe, stdout=pipe, stderr=subprocess.DEVNULL, process_group=0)
             self._children.append(child)
             return child
 

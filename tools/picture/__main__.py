@@ -28,6 +28,7 @@ from exact import Refused as NotAsked
 from history import Wakes
 from naming import Names, Unread, add_words, names_of, selectors
 from order import Order, read_order
+from parsing import Parser
 from report import Fault, Report, read_report
 from run_picture import draw_run
 from scenario import read_settings
@@ -53,7 +54,7 @@ class Refused(Exception):
 
 def parser() -> argparse.ArgumentParser:
     """The words that the program takes."""
-    top = argparse.ArgumentParser(prog="picture", description="Draws a picture of a run from its report.")
+    top = Parser(prog="picture", description="Draws a picture of a run from its report.")
     pictures = top.add_subparsers(dest="picture", required=True, metavar="PICTURE")
     run = pictures.add_parser("run", help="what happened in each turn, with a lane for each execution context")
     run.add_argument("--fold", type=int, default=TURNS, metavar="N", help=f"draw more than N turns without an event short ({TURNS})")

@@ -18,7 +18,7 @@ from report import CapRange, Fault, Space
 READELF = "riscv64-unknown-elf-readelf"
 LINE = re.compile(r"(?:(\d+):)?(\d+) ([!-~]{1,40})")
 OBJECT = re.compile(r"\b(EC|SM|SC|PT|PD) (\d+)\b(?! \()")
-NAME = re.compile(r"DW_AT_name\s*:\s*(?:\([^)]*\)\s*:?\s*)?(\w+)")
+NAME = re.compile(r"DW_AT_name\s*:\s*(?:\([^)]*\)\s*)*:?\s*(\w+)")
 CONSTANT = re.compile(r"DW_AT_const_value\s*:\s*(?:\(\w+\)\s*)?(\d+)")
 # What begins so is of the header, and no program's own.
 OURS = "NOVA_"
@@ -136,12 +136,13 @@ def enumerations(executable: Path) -> list[dict[str, int]]:
 
 
 def constants(executable: Path, held: Mapping[tuple[int, int], int], domains: Iterable[int]) -> dict[int, str]:
-    """Names by the constants of a program, for what its domains hold. Enumerations come first whose constants are selectors most often."""
+    """Names by the constants of a program, for what its domains hold. Enumerations come first whose constants are selectors most often; one whose
+    constants mostly are none names nothing."""
     there = set(domains)
     own = {selector: number for (domain, selector), number in held.items() if domain in there and selector >= FIRST_SELECTOR}
-    known = sorted(enumerations(executable), key=lambda one: -sum(value in own for value in one.values()))
+    counted = [(sum(value in own for value in one.values()), one) for one in enumerations(executable)]
     found: dict[int, str] = {}
-    for one in known:
+    for _, one in sorted(((count, one) for count, one in counted if 2 * count >= len(one)), key=lambda pair: -pair[0]):
         for name, value in one.items():
             if value in own:
                 found.setdefault(own[value], name)

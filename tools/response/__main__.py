@@ -12,19 +12,23 @@ from pathlib import Path
 from schedules import TOP, BackEnd, Event, Refused, Schedule, schedules_of
 from waits import Terms, Wait, waits_of
 
-PROGRAM = TOP / "crates" / "nova_debug" / "out" / "nova_debug"
+sys.path.append(str(TOP / "tools" / "build"))
+
+from built import Missing, find  # noqa: E402
+from parsing import Parser  # noqa: E402
+
 MOST, LONGEST, PART = 1_000_000, 10, 10_000
 
 
 def parser() -> argparse.ArgumentParser:
     """The words that the program takes."""
-    words = argparse.ArgumentParser(prog="response", description="How long an execution context waited, and how long it could have.")
+    words = Parser(prog="response", description="How long an execution context waited, and how long it could have.")
     words.add_argument("scenario", type=Path, metavar="SCENARIO")
     words.add_argument("order", type=Path, nargs="?", metavar="ORDER", help="the order of turns of the run (round robin)")
     words.add_argument("context", type=int, metavar="EC", help="the number of an execution context with a scheduling context")
     words.add_argument("--limit", type=int, default=MOST, metavar="N", help=f"the most turns of the run ({MOST})")
     words.add_argument("--longest", type=int, default=LONGEST, metavar="N", help=f"show this many of the longest waits, 0 for all ({LONGEST})")
-    words.add_argument("--program", type=Path, default=PROGRAM, metavar="FILE", help="another program in place of the repository's")
+    words.add_argument("--program", type=Path, metavar="FILE", help="another program in place of the repository's")
     return words
 
 
@@ -77,9 +81,12 @@ def report(own: Schedule, waits: list[Wait], longest: int) -> str:
 def main(words: argparse.Namespace) -> int:
     """Writes the table. The status is 1 where a wait was longer than its bound, and 2 where there is no such run."""
     try:
-        back = BackEnd(words.program, words.scenario, words.order, words.limit)
+        program = words.program or find("nova_debug")
+        back = BackEnd(program, words.scenario, words.order, words.limit)
+    except Missing as why:
+        raise Refused(f"{why}; --program FILE takes it") from why
     except OSError as error:
-        raise Refused(f"{words.program}: {error.strerror}") from error
+        raise Refused(f"{program}: {error.strerror}") from error
     events = events_of(back)
     schedules = schedules_of(back, words.scenario, events)
     own = schedule_of(schedules, words.context)

@@ -98,6 +98,7 @@ OWN = [
     Case("monitor_null", "--monitor tools/c/tests/monitor_null.c", end=NULL, ec=10),
     Case("thread_overflow", ""),
     Case("assembler", "", status=7, ec=1, suffix=".s"),
+    Case("refused", "-DHELD=99 --debug -Itools/c/examples"),
 ]
 
 

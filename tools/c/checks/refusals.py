@@ -31,12 +31,12 @@ WRONG_WORDS = [
     (["main.c", "out.nova", "15"], ["15: memory has at most"]),
     (["--guest", "main.c", "out.nova", "14"], ["14: memory has at most"]),
     (["-march=rv32im", "main.c", "out.nova"], ["main.c, linked, was compiled for rv32i", "compile it with -march=rv32i"]),
-    (["--cpus", "two", "main.c", "out.nova"], ["'two' is no number", "usage: build.sh"]),
+    (["--cpus", "two", "main.c", "out.nova"], ["'two' is no number; build.sh --help lists the words"]),
     (["--cpus", "9", "main.c", "out.nova"], ["--cpus: '9' is not from 1 to 8"]),
     (["--cpus"], ["--cpus: a word has to follow it"]),
     (["--consoles", "17", "main.c", "out.nova"], ["--consoles: '17' is not from 0 to 16"]),
     (["--priority", "255", "main.c", "out.nova"], ["--priority: '255' is not from 0 to 254"]),
-    (["--quantum", "3", "main.c", "out.nova"], ["--quantum: there is no such option", "usage: build.sh"]),
+    (["--quantum", "3", "main.c", "out.nova"], ["--quantum: there is no such option; build.sh --help lists the words"]),
     (["--source", "0 100 50", "main.c", "out.nova"], ["--source '0 100 50': four numbers are wanted"]),
     (["--source", "1 100 50 2", "main.c", "out.nova"], ["its processor: '1' is not from 0 to 0"]),
     (["--source", "0 100 0 2", "main.c", "out.nova"], ["its period: '0' is not from 1 to 10000000"]),
@@ -45,7 +45,7 @@ WRONG_WORDS = [
     (["out.nova"], ["no source is named"]),
     (["header.c", "out.nova"], ["stdio.h is a header of the C library; build with --libc"]),
     (["function.c", "out.nova"], ["printf is a function of the C library; build with --libc"]),
-    (["--stack", "60000", "main.c", "out.nova"], ["the memory is too small"]),
+    (["--stack", "60000", "main.c", "out.nova"], ["the memory is too small", "or a lesser --stack"]),
     (["main.c", "library.a", "out.nova"], ["library.a: its member compressed.o has compressed instructions", "compile it with"]),
     (["large.c", "out.nova"], ["the memory is too small", "give build.sh a greater RAM_ORDER"]),
 ]
@@ -117,10 +117,24 @@ def wrong(folder: Path, command: list[str], parts: list[str]) -> str:
     return "" if sorted(folder.rglob("*")) == before else "something was written"
 
 
+def wrong_list(tools: Tools) -> str:
+    """What is wrong with the list of words."""
+    done = tools.build(["--help"])
+    return "" if done.returncode == 0 and not done.stderr and "--priority N" in done.stdout else f"says {done.stderr or done.stdout!r}"
+
+
+def wrong_warning(tools: Tools, folder: Path) -> str:
+    """What is wrong with the warning of a status that isn't looked at."""
+    (folder / "unused.c").write_text('#include "nova.h"\nint main(void) { nova_down(99); nova_up(99); return 0; }\n')
+    said = tools.build([str(folder / "unused.c"), str(folder / "unused.nova")]).stderr
+    return "" if said.count("warning: ignoring return value") == 1 and "'nova_down'" in said else f"build.sh says: {said.strip()}"
+
+
 def look(outcome: Outcome, tools: Tools) -> None:
-    """Looks at all refusals."""
+    """Looks at all refusals, at the list of words that they name, and at a warning."""
     if not outcome.wants("refused"):
         return
+    outcome.count("not refused: build.sh --help", wrong_list(tools))
     folder = tools.scratch / "refused"
     make(tools, folder)
     for words, parts in WRONG_WORDS:
@@ -128,5 +142,6 @@ def look(outcome: Outcome, tools: Tools) -> None:
     for call, part in WRONG_CONSTANTS:
         (folder / "constant.c").write_text(f'#include "nova.h"\nstruct nova_domain domain;\nint main(void) {{ {call}; return 0; }}\n')
         outcome.count(f"refused: {call}", wrong(folder, [str(tools.c / "build.sh"), "constant.c", "out.nova"], [f"error: nova.h: {part}"]))
+    outcome.count("not refused: nova_down(99); with a warning", wrong_warning(tools, folder))
     for words, parts in WRONG_EXECUTABLES:
         outcome.count(f"refused: elf {' '.join(words)}", wrong(folder, [str(tools.c / "elf"), *words], parts))

@@ -226,7 +226,7 @@ static inline enum nova_status nova_hypercall(enum nova_number number, uint32_t 
 }
 
 /* Calls a portal with the message of the message words, and comes back with the reply's message in them. */
-static inline enum nova_status nova_call(nova_selector portal, enum nova_waiting waiting)
+NOVA_USED static inline enum nova_status nova_call(nova_selector portal, enum nova_waiting waiting)
 {
     return nova_hypercall(NOVA_CALL, portal, (uint32_t)waiting, 0, 0, 0, 0);
 }
@@ -238,13 +238,13 @@ static inline enum nova_status nova_reply(void)
 }
 
 /* Makes a protection domain. It begins with what the caller's domain holds in the first range, which may be NOVA_NULL. */
-static inline enum nova_status nova_create_pd(nova_selector target, nova_selector pd, nova_range first)
+NOVA_USED static inline enum nova_status nova_create_pd(nova_selector target, nova_selector pd, nova_range first)
 {
     return nova_hypercall(NOVA_CREATE_PD, target, pd, first, 0, 0, 0);
 }
 
 /* Makes an execution context in a domain and on a processor, with `sp` in x2. A processor above 255 is NOVA_BAD_CPU. */
-static inline enum nova_status nova_create_ec(nova_selector target, nova_selector pd, enum nova_kind kind, uint32_t cpu, uint32_t sp,
+NOVA_USED static inline enum nova_status nova_create_ec(nova_selector target, nova_selector pd, enum nova_kind kind, uint32_t cpu, uint32_t sp,
     nova_selector event_base)
 {
     if (!NOVA_HOLDS(cpu <= 255, nova_wrong_cpu))
@@ -256,7 +256,7 @@ static inline enum nova_status nova_create_ec(nova_selector target, nova_selecto
 
 /* Makes a scheduling context for a global thread or a virtual CPU, which can have turns from then on. A priority above NOVA_MOST_PRIORITY
    and a quantum of 0 or above NOVA_MOST_QUANTUM are NOVA_BAD_PAR. */
-static inline enum nova_status nova_create_sc(nova_selector target, nova_selector pd, nova_selector ec, uint32_t priority, uint32_t quantum)
+NOVA_USED static inline enum nova_status nova_create_sc(nova_selector target, nova_selector pd, nova_selector ec, uint32_t priority, uint32_t quantum)
 {
     if (!NOVA_HOLDS(priority <= NOVA_MOST_PRIORITY, nova_wrong_priority))
         return NOVA_BAD_PAR;
@@ -266,13 +266,13 @@ static inline enum nova_status nova_create_sc(nova_selector target, nova_selecto
 }
 
 /* Makes a portal to a local thread. Of an exit the handler is told the groups, a sum of enum nova_groups. */
-static inline enum nova_status nova_create_pt(nova_selector target, nova_selector pd, nova_selector ec, uint32_t groups, nova_entry entry)
+NOVA_USED static inline enum nova_status nova_create_pt(nova_selector target, nova_selector pd, nova_selector ec, uint32_t groups, nova_entry entry)
 {
     return nova_hypercall(NOVA_CREATE_PT, target, pd, ec, groups, (uint32_t)entry, 0);
 }
 
 /* Makes a semaphore. */
-static inline enum nova_status nova_create_sm(nova_selector target, nova_selector pd, uint32_t counter)
+NOVA_USED static inline enum nova_status nova_create_sm(nova_selector target, nova_selector pd, uint32_t counter)
 {
     return nova_hypercall(NOVA_CREATE_SM, target, pd, counter, 0, 0, 0);
 }
@@ -327,7 +327,7 @@ static inline enum nova_status nova_up(nova_selector sm)
     return nova_sm_ctrl(sm, NOVA_UP, 0);
 }
 
-static inline enum nova_status nova_down(nova_selector sm)
+NOVA_USED static inline enum nova_status nova_down(nova_selector sm)
 {
     return nova_sm_ctrl(sm, NOVA_DOWN, 0);
 }

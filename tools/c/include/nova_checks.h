@@ -8,6 +8,9 @@
 
 #define NOVA_WRONG(name, text) void name(void) __attribute__((error("nova.h: " text)))
 
+/* Of a function whose status is to be used, since it decides how a program goes on: the compiler warns where it isn't. */
+#define NOVA_USED __attribute__((warn_unused_result))
+
 NOVA_WRONG(nova_wrong_kind, "an execution context is NOVA_LOCAL, NOVA_GLOBAL or NOVA_VCPU");
 NOVA_WRONG(nova_wrong_cpu, "a processor is 0 to 255");
 NOVA_WRONG(nova_wrong_priority, "a priority is 0 to 255");

@@ -31,7 +31,7 @@ extern char nova_code_end_symbol[] __asm__("code_end");
 #define nova_code_end_page nova_page_of((uint32_t)nova_code_end_symbol)
 
 /* Makes a domain, which holds nothing yet but the portal by which it is given to. */
-static inline enum nova_status nova_create_domain(const struct nova_domain *domain)
+NOVA_USED static inline enum nova_status nova_create_domain(const struct nova_domain *domain)
 {
     enum nova_status status = nova_create_pt(domain->pd + 1, NOVA_OWN_PD, domain->starter, 0, nova_giver);
 
@@ -43,7 +43,7 @@ static inline enum nova_status nova_create_domain(const struct nova_domain *doma
 /* Gives ranges to a domain. A virtual CPU in it, ahead of all other threads, takes them by its startup, and dies. What can't be given, since
    the caller's domain doesn't hold it or the place is taken, is skipped. NOVA_BAD_PAR: more than NOVA_ITEMS; NOVA_ABORTED: `cpu` is not the
    caller's, the starter is not of `cpu` or is dead, or the caller has the greatest priority. */
-static inline enum nova_status nova_give(const struct nova_domain *domain, const struct nova_gift *gifts, uint32_t count)
+NOVA_USED static inline enum nova_status nova_give(const struct nova_domain *domain, const struct nova_gift *gifts, uint32_t count)
 {
     static struct nova_giving nothing;
     struct nova_giving giving = {.count = count, .gifts = gifts};
@@ -84,7 +84,7 @@ static inline uint32_t nova_gifts_of_pages(struct nova_gift *gifts, uint32_t cou
 }
 
 /* Gives the program's code and constants to a domain, each page to its own place, to read and execute. */
-static inline enum nova_status nova_give_code(const struct nova_domain *domain)
+NOVA_USED static inline enum nova_status nova_give_code(const struct nova_domain *domain)
 {
     struct nova_gift gifts[NOVA_ITEMS];
 
@@ -93,7 +93,7 @@ static inline enum nova_status nova_give_code(const struct nova_domain *domain)
 
 /* Does what nova_start does, with a thread in another domain: at `event_base` that one is given the portal of the startup, too. The domain
    must hold the thread's code and its stack. */
-static inline enum nova_status nova_start_in(const struct nova_domain *domain, nova_selector target, uint32_t cpu, nova_selector starter,
+NOVA_USED static inline enum nova_status nova_start_in(const struct nova_domain *domain, nova_selector target, uint32_t cpu, nova_selector starter,
     nova_selector event_base, nova_entry begin, void *stack_end, uint32_t priority, uint32_t quantum)
 {
     struct nova_gift startup = {nova_objects(event_base, 0, NOVA_PT_EVENT), event_base};

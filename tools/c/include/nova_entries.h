@@ -48,7 +48,7 @@ void nova_starter(void);
 /* Makes a global thread in the caller's domain that begins at `begin`, and gives it turns. `starter` is a local thread of the same
    processor without work of its own. At `event_base` the portal of its startup is made, at `target` the thread, and at `target` + 1 its
    scheduling context. The answer is the first status but NOVA_SUCCESS. */
-static inline enum nova_status nova_start(nova_selector target, uint32_t cpu, nova_selector starter, nova_selector event_base,
+NOVA_USED static inline enum nova_status nova_start(nova_selector target, uint32_t cpu, nova_selector starter, nova_selector event_base,
     nova_entry begin, void *stack_end, uint32_t priority, uint32_t quantum)
 {
     enum nova_status status = nova_create_pt(event_base, NOVA_OWN_PD, starter, NOVA_PC, nova_starter);
@@ -65,7 +65,7 @@ static inline enum nova_status nova_start(nova_selector target, uint32_t cpu, no
 /* Makes a local thread on each of the first `cpus` processors, since a call never crosses processors: that of processor i is held at `first`
    + i. `stacks` are those of NOVA_STACKS and `bytes` is the size of each; null and 0 for starters, which need none. The answer is the first
    status but NOVA_SUCCESS. */
-static inline enum nova_status nova_create_handlers(nova_selector first, nova_selector pd, uint32_t cpus, void *stacks, uint32_t bytes)
+NOVA_USED static inline enum nova_status nova_create_handlers(nova_selector first, nova_selector pd, uint32_t cpus, void *stacks, uint32_t bytes)
 {
     enum nova_status status = NOVA_SUCCESS;
 
@@ -75,7 +75,7 @@ static inline enum nova_status nova_create_handlers(nova_selector first, nova_se
 }
 
 /* Makes a portal to each of the handlers of nova_create_handlers: that of processor i is held at `first` + i. */
-static inline enum nova_status nova_create_portals(nova_selector first, nova_selector handlers, uint32_t cpus, uint32_t groups,
+NOVA_USED static inline enum nova_status nova_create_portals(nova_selector first, nova_selector handlers, uint32_t cpus, uint32_t groups,
     nova_entry entry)
 {
     enum nova_status status = NOVA_SUCCESS;

@@ -188,6 +188,35 @@ class Told(unittest.TestCase):
         return access_of(int.from_bytes(back.read(context, context.registers[32], 4), "little"), context.registers)
 
 
+class Listings(unittest.TestCase):
+    """What `trace` lists, and what it doesn't."""
+
+    def listed(self, *words: str) -> subprocess.CompletedProcess[str]:
+        """A listing of the race."""
+        race = [str(TOP / "examples" / name) for name in ("race.nova", "race.order")]
+        command = [sys.executable, str(TOOL), "trace", *race, *words, "--program", str(given.program)]
+        return subprocess.run(command, capture_output=True, text=True, check=False)
+
+    def test_stores_to_an_address(self) -> None:
+        told = self.listed("--stores", "0x1000").stdout.splitlines()
+        self.assertEqual([line.split()[0] for line in told], ["37", "44"])
+        self.assertTrue(all(line.endswith("sw x6, 0(x5)  [0x1000]=00000001") for line in told))
+        self.assertEqual(self.listed("--stores", "0x1002").stdout.splitlines(), told)
+        self.assertEqual(self.listed("--stores", "0x1003", "--ec", "1").stdout.splitlines(), told[1:])
+        self.assertEqual(self.listed("--stores", "0x1004").stdout, "")
+
+    def test_no_turns_are_refused(self) -> None:
+        for words, status, line in (
+            (["--from", "10", "--to", "5"], 2, "debug trace: --from 10 --to 5: no turn lies between them; --help lists the words"),
+            (["--from", "-1"], 2, "debug trace: --from -1: is no turn; --help lists the words"),
+            (["--limit", "0"], 2, "debug trace: argument --limit: 0 is not 1 or more; --help lists the words"),
+            (["--from", "54"], 1, "debug: --from 54: the run has 54 turns"),
+        ):
+            with self.subTest(words):
+                told = self.listed(*words)
+                self.assertEqual((told.returncode, told.stdout, told.stderr), (status, "", f"{line}\n"))
+
+
 @unittest.skipUnless(shutil.which(GDB) and shutil.which(COMPILER), f"{GDB} or {COMPILER} is not installed")
 class Gdb(unittest.TestCase):
     """What gdb says in batch mode."""

@@ -19,10 +19,11 @@ HERE = Path(__file__).resolve().parent
 TOOL, TOP = HERE.parent, HERE.parents[2]
 sys.path += [str(TOOL), str(TOP / "tools" / "picture"), str(TOP / "tools" / "build")]
 
+from account import Run, account  # noqa: E402
 from built import there  # noqa: E402
 from naming import Names, as_text, constants, named_in, read_names, selectors_in  # noqa: E402
 from places import place_of  # noqa: E402
-from report import Fault  # noqa: E402
+from report import Fault, read_report  # noqa: E402
 
 # Texts that are kept, each with the words that make it; {} is this folder, and EXAMPLES that of the examples.
 CASES = {
@@ -46,12 +47,22 @@ READ = """
     <203>   DW_AT_name        : FREE
     <207>   DW_AT_const_value : (data1) 32
  <2><208>: Abbrev Number: 3 (DW_TAG_enumerator)
-    <209>   DW_AT_name        : (string) OTHER
+    <209>   DW_AT_name        : (strp) (offset: 0x5e1): OTHER
     <20a>   DW_AT_const_value : 36
  <1><300>: Abbrev Number: 2 (DW_TAG_enumeration_type)
  <2><302>: Abbrev Number: 3 (DW_TAG_enumerator)
-    <303>   DW_AT_name        : ROUNDS
+    <303>   DW_AT_name        : (string) ROUNDS
     <307>   DW_AT_const_value : 36
+ <1><400>: Abbrev Number: 2 (DW_TAG_enumeration_type)
+ <2><402>: Abbrev Number: 3 (DW_TAG_enumerator)
+    <403>   DW_AT_name        : (strp) (offset: 0x6a0): WHO
+    <407>   DW_AT_const_value : 33
+ <2><408>: Abbrev Number: 3 (DW_TAG_enumerator)
+    <409>   DW_AT_name        : (strp) (offset: 0x6a4): WHAT
+    <40a>   DW_AT_const_value : (data1) 34
+ <2><40b>: Abbrev Number: 3 (DW_TAG_enumerator)
+    <40c>   DW_AT_name        : (strp) (offset: 0x6a9): MUCH
+    <40d>   DW_AT_const_value : (data1) 35
 """
 FOUND = "0x00000078\nnova_down\nnova.h:99\nadd\ncounter.c:17 (discriminator 2)\n0x00000154\nother\nother.s:3\n"
 
@@ -168,6 +179,29 @@ class Naming(unittest.TestCase):
         with self.assertRaises(Exception) as raised:
             named_in(Path("missing"), {})
         self.assertEqual(str(raised.exception), "missing: No such file or directory")
+
+
+class Guesses(unittest.TestCase):
+    """What most likely led to a fault."""
+
+    def said(self, reason: int, address: int, sort: str = "global", stack: str = "x2=0000df70 ") -> str:
+        """The sentence on an execution context, number 6, that died; where an executable tells a function for each address."""
+        lines = ["run quiet 2", f"at 1 0 6 raise {reason} {address}", f"at 2 0 6 died {reason} {address}"]
+        lines += ["ec 1 global dead 00000088", f"ec 6 {sort} dead {address if reason == 2 else 0x1128:08x} {stack}x9=00000001"]
+        report = read_report("\n".join([*lines, "sc 2 0 0", "console 0 -"]) + "\n")
+        told = "\n".join(account(Run(report, Names(), lambda context, place: "in f (a.c:1)"), ""))
+        return next(line for line in told.splitlines() if "EC 6 " in line)
+
+    def test_a_stack_that_grew_too_large(self) -> None:
+        below = ": its domain has no page there that may be written, below its stack, most likely, since its x2 is 0xdf70."
+        self.assertTrue(self.said(4, 0xDF7C).endswith(f"of a store fault (0xdf7c){below}"))
+        for address, stack in ((0xEF70, "x2=0000df70 "), (0x80000000, "x2=0000df70 "), (0x1004, "")):
+            self.assertTrue(self.said(4, address, stack=stack).endswith("its domain has no page there that may be written."))
+
+    def test_a_return_to_nowhere(self) -> None:
+        told = self.said(2, 0, "local")
+        self.assertIn("The handler EC 6 died in turn 2, at 0x0, of a fetch fault (0x0): it jumped through a null pointer, or returned from", told)
+        self.assertIn("at 0x8, in f (a.c:1), of a fetch fault (0x8): it jumped through a null pointer, most likely.", self.said(2, 8))
 
 
 class Asked(unittest.TestCase):

@@ -5,6 +5,7 @@ python3 tools/orders/tests [--program FILE [--stays FILE]] [NAME..]
 
 from __future__ import annotations
 
+import os
 import signal
 import subprocess
 import sys
@@ -23,7 +24,7 @@ from sent import AnyExecutor, Cluster
 
 from asking import parser
 from longest import Scout
-from outcome import aspects_of, outcome_of
+from outcome import Sought, aspects_of, outcome_of
 from pool import Pool
 from program import End, Program
 from search import Search
@@ -239,21 +240,61 @@ class Commands(unittest.TestCase):
             self.assertIn("\nconsole 0 2d\n", program.run_text(answer.stdout).report)
 
     def test_an_interrupt_leaves_what_was_found(self) -> None:
+        """So does a request to end, also where it is sent to all processes of the tool, as `timeout` does."""
+        for send in (
+            lambda child: child.send_signal(signal.SIGINT),
+            lambda child: child.send_signal(signal.SIGTERM),
+            lambda child: os.killpg(child.pid, signal.SIGTERM),
+        ):
+            with self.subTest(), tempfile.TemporaryDirectory() as folder:
+                race = str(HERE / "long_race.nova")
+                words = [sys.executable, str(TOOL), "explore", race, "--switches", "5", "--output", folder, "--progress", *MEANS]
+                # Where the tests run in the background, interrupts may be ignored, and so by what they start.
+                heed = lambda: signal.signal(signal.SIGINT, signal.SIG_DFL)
+                pipe = subprocess.PIPE
+                with subprocess.Popen(words, stdout=pipe, stderr=pipe, text=True, preexec_fn=heed, process_group=0) as child:
+                    assert child.stderr is not None
+                    while " runs" not in (line := child.stderr.readline()):
+                        self.assertIn("DRAFT", line)
+                    send(child)
+                    began = time.monotonic()
+                    written, said = child.communicate()
+                self.assertEqual(child.returncode, 130)
+                self.assertLess(time.monotonic() - began, 5)
+                self.assertTrue(said.endswith("orders: interrupted\n"), said)
+                self.assertNotIn("Error", said)
+                self.assertIn(", not all, with at most 5 changes of processor", written)
+
+    def test_turns_that_are_not_enough_are_told(self) -> None:
+        race = str(HERE / "long_race.nova")
+        rounds = self.rounds_of(race)
+        answer = orders("expect", race, "--random", "2", "--turns", "50", "--always", "run quiet")
+        told = f"orders: {race} takes {rounds} turns in rounds; --turns is 50, so that orders are cut\n"
+        self.assertEqual((answer.returncode, answer.stderr.startswith(told)), (1, True), answer.stderr)
+        self.assertIn("blocks, 50 turns (cut by --turns, not at rest), number 1 of those tried:", answer.stderr)
         with tempfile.TemporaryDirectory() as folder:
-            race = str(HERE / "long_race.nova")
-            words = [sys.executable, str(TOOL), "explore", race, "--switches", "5", "--output", folder, "--progress", *MEANS]
-            # Where the tests run in the background, interrupts may be ignored, and so by what they start.
-            heed = lambda: signal.signal(signal.SIGINT, signal.SIG_DFL)
-            with subprocess.Popen(words, stdout=subprocess.PIPE, stderr=subprocess.PIPE, text=True, preexec_fn=heed) as child:
-                assert child.stderr is not None
-                self.assertIn(" runs", child.stderr.readline())
-                child.send_signal(signal.SIGINT)
-                began = time.monotonic()
-                written, said = child.communicate()
-            self.assertEqual(child.returncode, 130)
-            self.assertLess(time.monotonic() - began, 5)
-            self.assertTrue(said.endswith("orders: interrupted\n"), said)
-            self.assertIn(", not all, with at most 5 changes of processor", written)
+            slow = Path(folder, "slow.nova")
+            slow.write_text("cpus 2\nram 0\nconsoles 0\nroot 0 0 1 10\nimage 0 asm\nli x5, 1000\nback:\naddi x5, x5, -1\nbne x5, x0, back\nebreak\nend\n")
+            answer = orders("expect", str(slow), "--switches", "0", "--always", "run quiet")
+            told = f"orders: {slow} takes {self.rounds_of(str(slow)):,} turns in rounds; an order may have {2 * self.rounds_of(str(slow)):,} (--turns)\n"
+            self.assertEqual((answer.returncode, answer.stderr.startswith(told)), (0, True), answer.stderr)
+            answer = orders("expect", str(slow), "--always", "run open")
+            self.assertEqual((answer.returncode, ": --random N tries N\n" in answer.stderr.splitlines(True)[0]), (1, True), answer.stderr)
+
+    def rounds_of(self, scenario: str) -> int:
+        """The turns that a scenario takes in rounds."""
+        with opened(Path(scenario)) as (program, _):
+            found = program.rounds(1_000_000)
+        assert found is not None
+        return found
+
+    def test_the_text_of_a_console(self) -> None:
+        race = str(EXAMPLES / "race.nova")
+        answer = orders("expect", race, "--switches", "2", "--always", "console:^[12]$", "--never", "console:3")
+        self.assertEqual((answer.returncode, answer.stdout), (0, ""), answer.stderr)
+        answer = orders("expect", race, "--switches", "2", "--never", "console:1")
+        self.assertEqual((answer.returncode, answer.stdout), (1, "0 24\n1 18\n0 12\n"))
+        self.assertIn("'console:1' is there", answer.stderr)
 
     def test_refusals(self) -> None:
         race, lost = str(EXAMPLES / "race.nova"), str(EXAMPLES / "race.order")
@@ -263,19 +304,23 @@ class Commands(unittest.TestCase):
             faulty.write_text("0 1\n0 1\n")
             spoilt.write_text("cpus 9\n")
             for words, line in (
-                (["explore", "missing.nova"], "nova: read fault\norders: missing.nova was not run"),
+                (["explore", "missing.nova"], "orders: missing.nova: No such file or directory"),
+                (["explore", folder], f"orders: {folder} is a folder"),
                 (["explore", str(spoilt)], f"nova: scenario line 1: Range\norders: {spoilt} was not run"),
                 (["explore", race, "--program", "missing"], "orders: missing: No such file or directory"),
                 (["explore", race, "--random", "1", "--weights", "1"], "orders: --weights has 1 number, the scenario 2 processors"),
                 (["shrink", race, "missing.order", "--keep", "x"], "orders: missing.order: No such file or directory"),
                 (["shrink", race, str(faulty), "--keep", "x"], "orders: nova: order line 2: NotMerged"),
-                (["shrink", race, str(idle), "--keep", "x"], f"orders: {idle}: in line 1 the processor is idle"),
+                (["shrink", race, str(idle), "--keep", "x"], f"orders: {idle}: in line 1 the processor is idle; perhaps it is an order of another program"),
                 (["shrink", race, lost, "--keep", "x$"], f"orders: {lost}: the report has nothing that matches 'x$'"),
             ):
                 with self.subTest(words):
                     answer = orders(*words)
                     self.assertEqual((answer.returncode, answer.stdout, answer.stderr), (3, "", f"{line}\n"))
-        self.assertEqual(orders("expect", race).returncode, 2)
+        for words in (["expect", race], ["explore", race, "--lengths", "5"], ["explore", race, "--seed", "2"], ["explore", race, "--weights", "1,2"]):
+            answer = orders(*words)
+            self.assertEqual((answer.returncode, answer.stdout), (2, ""))
+            self.assertIn("wanted", answer.stderr)
 
     def test_wrong_words(self) -> None:
         wrong = "--by colour", "--by match:(", "--by events:fall", "--turns 0", "--lengths 5-4", "--weights 1,-1", "--random x"
@@ -283,7 +328,7 @@ class Commands(unittest.TestCase):
             with self.subTest(words), redirect_stderr(StringIO()) as said, self.assertRaises(SystemExit) as ended:
                 parser().parse_args(words.split())
             self.assertEqual(ended.exception.code, 2)
-            self.assertIn("error: ", said.getvalue())
+            self.assertRegex(said.getvalue(), r"\Aorders.*: .*; --help lists the words\n\Z")
 
 
 class Parts(unittest.TestCase):
@@ -319,6 +364,8 @@ class Parts(unittest.TestCase):
         ):
             with self.subTest(text):
                 self.assertEqual(outcome_of(report, aspects_of(text)), wanted)
+        found = [Sought.of(text).is_in(report) for text in ("^console 0 4f", "console:^Oi!$", "console:4f", "console:Oi$")]
+        self.assertEqual(found, [True, True, False, False])
 
 
 __all__ = ["AnyExecutor", "Cluster"]
