@@ -1,10 +1,12 @@
-"""Compares docs/PINS.md with the definitions of the model and the laws of the crates, and docs/THEOREMS.md with the crates' contracts.
+"""Compares docs/PINS.md with the definitions of the model and the laws of the crates, docs/THEOREMS.md with the crates' contracts, and
+scenarios of specifications with the texts of examples/.
 
 python3 tools/definitions [FOLDER]
 
 Fails where a definition of the model is missing from the table of docs/PINS.md, where the table has a name that no definition has, where it
 credits a law or a clause that isn't there, or a law of another crate; and where a row of docs/THEOREMS.md links to a function that isn't in
-the file, or names a clause that the function's contract hasn't, or an edit that no crate has, or where no row has a law.
+the file, or names a clause that the function's contract hasn't, or an edit that no crate has, or where no row has a law; and where a
+scenario of a specification isn't word for word the text of its name.
 """
 
 from __future__ import annotations
@@ -15,6 +17,7 @@ from pathlib import Path
 
 from names import defined, laws_of
 from rows import edits_gone, left_out, links, missing
+from scenarios import differing
 from table import Row, read, wrong
 
 sys.path.append(str(Path(__file__).resolve().parents[1] / "build"))
@@ -56,6 +59,7 @@ def main(words: argparse.Namespace) -> int:
     faults = named_wrong(rows, words.top) + credited_wrong(rows, words.top)
     not_there = [fault for link in told for fault in missing(link, words.top)]
     faults += [f"docs/THEOREMS.md: {fault}" for fault in not_there + left_out(told, laws_of(words.top)) + edits_gone(theorems, words.top)]
+    faults += differing(words.top)
     for fault in faults:
         print(fault, file=sys.stderr)
     named = {name for row in rows for name in row.definitions}

@@ -79,7 +79,7 @@ LEAKS = {
     ),
     "semaphore": Leak(
         "both hold a semaphore: a down tells whether the other side raised it",
-        frozenset({"AreApart.objects", "IsGuarded.semaphores"}),
+        frozenset({"AreSetsApart.objects", "IsGuarded.semaphores"}),
         call(12, SHARED, 2, 3),
         others=(RESTS, call(12, SHARED, 0)),
     ),

@@ -72,7 +72,7 @@ def of_both(state: State) -> set[str]:
     held = [{c.target for c in state.capabilities if c.domain == domain and c.kind == "obj"} for domain in (state.first, state.second)]
     found = set()
     if held[0] & held[1]:
-        found.add("AreApart.objects")
+        found.add("AreSetsApart.objects")
     if held[0] - state.own:
         found.add("IsSide.holds")
     if any(state.kinds.get(n) == "sm" and n in held[1] for n in state.own):

@@ -39,8 +39,8 @@ use Rattle.law_isolation.proofs.Runs.{reached_sound, turn_sound}
 use Rattle.law_origins.specs.Giving.{Acts}
 use Rattle.law_origins.proofs.Actors.{object_stays}
 use Rattle.law_origins.proofs.Lists.{run_append}
-use Rattle.law_integrity.specs.Confined.{Holds, IsMade, IsMember, IsOwned, Of, more}
-use Rattle.law_integrity.specs.Integrity.{Acts as ActsRightly, AlarmByTime, Creates, Gives, GrowsByRight, Idles as IsIdleTurn, IsAuthorised, IsByTime, Keeps, Passes as PassesBy, Rings, Takes as TakesLeaf}
+use Rattle.law_integrity.specs.Confined.{Holds, JoinsSet, IsMember, IsOwned, Of, more}
+use Rattle.law_integrity.specs.Integrity.{ByActor as ActsRightly, AlarmByTime, Creates, Gives, GrowsByRight, Idles as IsIdleTurn, IsAuthorised, IsByTime, Keeps, Passes as PassesBy, Rings, Takes as TakesLeaf}
 use Rattle.law_integrity.proofs.Apart.{apart_along}
 use Rattle.law_integrity.proofs.Authorised.{authorised, authorised_by}
 use Rattle.law_integrity.proofs.Confined.{reach_along}
@@ -92,7 +92,7 @@ alarm_was s before cpu n a at = by_turn (authorised s before cpu)
 
 -- what goes on so, of a turn of the processor, keeps the condition, with the domains that others made
 pub next_partitioned : (s : Scenario) (before : List ℕ) (S P : ℕ → Bool) (T : ℕ → Type 0) (cpu : ℕ) → IsPartitioned (run (boot s) before) (Of S) T (Of P) →
-    GoesOn (run (boot s) before) (after (run (boot s) before) cpu) (Of S) (Of P) → ((n : ℕ) → IsMade (run (boot s) before) (Of S) cpu n → ⊥) →
+    GoesOn (run (boot s) before) (after (run (boot s) before) cpu) (Of S) (Of P) → ((n : ℕ) → JoinsSet (run (boot s) before) (Of S) cpu n → ⊥) →
     IsPartitioned (after (run (boot s) before) cpu) (Of S) (more (run (boot s) before) T cpu) (Of P)
 next_partitioned s before S P T cpu c on none_made = record {
   apart = apart_as new (more k (Of S) cpu) (Of S) (more k T cpu) (record { to = λ n m. unmade n m; from = λ n m. inl m }) (apart_along s before (cpu ∷ []) (Of S) T c.apart);
@@ -183,7 +183,7 @@ own_from S k cpu ec acts_ mine none = by_next (next_to_act k cpu) refl acts_
         by_test c (S (pd_of k c.actor)) (ap (λ (n : ℕ). S (pd_of k n)) actor ∙ mine)
         (ap (λ (o : Option Candidate). option_and_then (λ c. if_own (S (pd_of k c.actor)) c) o) (sym is) ∙ none)
 
-pub none_made_by : (S : ℕ → Bool) (k : KernelState) (cpu : ℕ) → own_turn S k cpu ≡ None → (n : ℕ) → IsMade k (Of S) cpu n → ⊥
+pub none_made_by : (S : ℕ → Bool) (k : KernelState) (cpu : ℕ) → own_turn S k cpu ≡ None → (n : ℕ) → JoinsSet k (Of S) cpu n → ⊥
 none_made_by S k cpu none n made = own_from S k cpu made.maker made.acts (member_pd k (Of S) made.maker made.of) none
 
 -- what comes by itself is none of a side's without deadlines and alarms
@@ -339,7 +339,7 @@ own_goes_on timed s before S P T cpu ec sc c own works = next_partitioned s befo
       spaces = λ kind pd place s_pd. ap (λ (f : Delegations). option_map held_by (find (covers kind pd place) f.list)) delegations;
     }
 
-    none_made : (n : ℕ) → IsMade (run (boot s) before) (Of S) cpu n → ⊥
+    none_made : (n : ℕ) → JoinsSet (run (boot s) before) (Of S) cpu n → ⊥
     none_made n made =
         let at : slice_get k.objects n ≡ Some Pd = sym (ap (λ (os : List Object). slice_get os n) objects) ∙ made.made in
         let below = slice_get_within k.objects n Pd at in let number = made.number in omega (arith, below, number)

@@ -30,7 +30,7 @@ use Rattle.law_isolation.proofs.Showing.{turn_frames}
 use Rattle.law_turns.proofs.Serving.{IsActor}
 use Rattle.law_origins.specs.Giving.{Acts}
 use Rattle.law_origins.proofs.Actors.{object_stays}
-use Rattle.law_integrity.specs.Confined.{AreApart, IsLeft, IsMember, IsOwned, IsWoken, LeavesTo, Stays as Unchanged, Wakes}
+use Rattle.law_integrity.specs.Confined.{AreSetsApart, StaysOrWakes, IsMember, IsOwned, IsWoken, LeavesTo, Stays as Unchanged, Wakes}
 use Rattle.law_integrity.specs.Integrity.{Creates, Gives, GrowsByRight, IsByRight, Keeps, Takes}
 use Rattle.law_integrity.specs.Rights.{HasTurn}
 use Rattle.law_integrity.proofs.Authorised.{authorised_by}
@@ -154,7 +154,7 @@ no_deadline_there k n o sound is kind = by_deadline (deadline_of k.times n) refl
         let blocked = (sound.kept.deadlines n d at).blocked in
         absurd (let nobody : None ≡ Some (Blocked d.sm) = sym (ap (option_map (λ (x : EcState). x.state)) none) ∙ blocked in cc)
 
-spaces_left : (k new : KernelState) (S T P : ℕ → Type 0) (ec : ℕ) → IsSound k → AreApart k S T → IsGuarded k S T P → IsActor k.contexts ec → IsMember k T ec →
+spaces_left : (k new : KernelState) (S T P : ℕ → Type 0) (ec : ℕ) → IsSound k → AreSetsApart k S T → IsGuarded k S T P → IsActor k.contexts ec → IsMember k T ec →
     GrowsByRight k new ec → (kind : Kind) (pd place : ℕ) → S pd → find (covers kind pd place) new.delegations.list ≡ find (covers kind pd place) k.delegations.list
 spaces_left k new S T P ec sound apart g actor mine (Keeps objects same) kind pd place s = ap (λ (f : Delegations). find (covers kind pd place) f.list) same
 spaces_left k new S T P ec sound apart g actor mine (Creates object capability first objects is) kind pd place s =
@@ -177,7 +177,7 @@ spaces_left k new S T P ec sound apart g actor mine (Takes leaf may objects is) 
     unnot true h = refl
     unnot false h = absurd (cc)
 
-pub others_leave : (s : Scenario) (before : List ℕ) (S T P : ℕ → Type 0) (cpu ec : ℕ) → AreApart (run (boot s) before) S T → IsGuarded (run (boot s) before) S T P → Acts (run (boot s) before) cpu ec →
+pub others_leave : (s : Scenario) (before : List ℕ) (S T P : ℕ → Type 0) (cpu ec : ℕ) → AreSetsApart (run (boot s) before) S T → IsGuarded (run (boot s) before) S T P → Acts (run (boot s) before) cpu ec →
     IsMember (run (boot s) before) T ec → AreAlike (run (boot s) before) (after (run (boot s) before) cpu) S P
 others_leave s before S T P cpu ec apart g acts_ mine = record {
   objects = λ n p. stays n p;
@@ -236,7 +236,7 @@ others_leave s before S T P cpu ec apart g acts_ mine = record {
     stays : (n : ℕ) → P n → slice_get (after (run (boot s) before) cpu).objects n ≡ slice_get (run (boot s) before).objects n
     stays n p = object_stays (run (boot s) before) cpu n (slice_get_within (run (boot s) before).objects n (object n p).0 (object n p).1)
 
-    by_left : (n : ℕ) → IsMember k S n → IsLeft k T n (context_at k n) (context_at new n) → context_at new n ≡ context_at k n
+    by_left : (n : ℕ) → IsMember k S n → StaysOrWakes k T n (context_at k n) (context_at new n) → context_at new n ≡ context_at k n
     by_left n m (Unchanged same) = same
     by_left n m (Wakes woken x old to) = absurd (apart.first n woken.sm woken.blocked m (any_held woken.may))
 

@@ -31,7 +31,7 @@ use Rattle.nova_model.specs.declared.times.AlarmState.{AlarmState}
 use Rattle.nova_model.specs.declared.times.Deadline.{Deadline}
 use Rattle.law_forest.specs.Within.{LeadsTo}
 use Rattle.law_forest.proofs.Members.{IsIn, all_at, in_from_contains}
-use Rattle.law_integrity.specs.Confined.{AreApart, IsClosed, IsIdle, IsMember, IsOwned, Of}
+use Rattle.law_integrity.specs.Confined.{AreSetsApart, IsClosed, IsIdle, IsMember, IsOwned, Of}
 use Rattle.law_flow.specs.Examples.{first_domains, first_objects, first_processors, other_domains, two_homes}
 use Rattle.law_flow.specs.Flow.{IsPartitioned, IsTimeless, own_turn}
 use Rattle.law_flow.specs.Processors.{IsDivided}
@@ -278,7 +278,7 @@ module _ (k : KernelState) (shows : Shows k) where
   by_place n Fresh (inr is) = inr (inr (subst (IsMember k (Of other_domains)) (sym is) (member (Of other_domains) 12 10 1 Vcpu 65 (obj 12) refl)))
   by_place n other o = absurd o
 
-  apart : AreApart k (Of first_domains) (Of other_domains)
+  apart : AreSetsApart k (Of first_domains) (Of other_domains)
   apart = record {
     separate = record {
       first = closed_first;

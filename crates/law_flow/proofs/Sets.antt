@@ -14,7 +14,7 @@ use Rattle.law_forest.specs.Changes.{Change, Goes, Joins, Stays as Kept}
 use Rattle.law_forest.proofs.Lines.{line_none}
 use Rattle.law_forest.proofs.Members.{IsIn, all_at}
 use Rattle.law_forest.proofs.Scopes.{KeepsParents, more_keeps, next_childless, parent_found}
-use Rattle.law_integrity.specs.Confined.{AreApart, Holds, HoldsAny, IsClosed, IsIdle, IsMember, IsOwned}
+use Rattle.law_integrity.specs.Confined.{AreSetsApart, Holds, HoldsAny, IsClosed, IsIdle, IsMember, IsOwned}
 use Rattle.law_flow.proofs.Leaving.{find_less}
 
 -- LINES
@@ -87,7 +87,7 @@ idle_as k S R T one n (Blocked sm) idle =
     record { there = idle.there; first = λ h. idle.first (holds_as k R S one.from _ sm h); second = idle.second; alarms = idle.alarms; deadline = idle.deadline }
 idle_as k S R T one n other idle = absurd idle
 
-pub apart_as : (k : KernelState) (S R T : ℕ → Type 0) → AreOneSet S R → AreApart k S T → AreApart k R T
+pub apart_as : (k : KernelState) (S R T : ℕ → Type 0) → AreOneSet S R → AreSetsApart k S T → AreSetsApart k R T
 apart_as k S R T one a = record {
   separate = record {
     first = closed_as k S R one a.separate.first;

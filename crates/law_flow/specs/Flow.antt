@@ -32,7 +32,7 @@ use Rattle.nova_model.specs.declared.delegation.Derivation.{Derivation}
 use Rattle.nova_model.specs.declared.deed.Deed.{Deed}
 use Rattle.nova_model.specs.declared.log.LogByte.{LogByte}
 use Rattle.nova_model.specs.declared.times.AlarmState.{AlarmState}
-use Rattle.law_integrity.specs.Confined.{AreApart, HoldsAny, IsOwned, Of, Reach}
+use Rattle.law_integrity.specs.Confined.{AreSetsApart, HoldsAny, IsOwned, Of, Reach}
 use Rattle.law_integrity.specs.Rights.{IsAsking}
 
 -- THE SIDE'S PART
@@ -182,6 +182,6 @@ pub record IsTimeless (k : KernelState) (P : ℕ → Type 0) : Type 0 where
 
 -- The condition, of one state: the side and the others are two closed sets that share no object, and beside which all is idle; the side's part is its own, and guarded.
 pub record IsPartitioned (k : KernelState) (S T P : ℕ → Type 0) : Type 0 where
-  pub apart : AreApart k S T
+  pub apart : AreSetsApart k S T
   pub side : IsSide k S P
   pub guarded : IsGuarded k S T P

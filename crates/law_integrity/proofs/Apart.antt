@@ -13,7 +13,7 @@ use Rattle.nova_model.specs.declared.context.State.TheVariants.{Blocked}
 use Rattle.law_turns.proofs.TablesFit.{TablesFit, boot_run_fits}
 use Rattle.law_origins.specs.Giving.{Acts}
 use Rattle.law_origins.proofs.Lists.{run_append}
-use Rattle.law_integrity.specs.Confined.{AreApart, Holds, HoldsAny, IsLeft, IsMember, Stays, Wakes, WaitsApart, grown, more}
+use Rattle.law_integrity.specs.Confined.{AreSetsApart, Holds, HoldsAny, StaysOrWakes, IsMember, Stays, Wakes, WaitsApart, grown, more}
 use Rattle.law_integrity.proofs.Blocked.{Before, BlockedBy, Now, blocked_below, blocked_came, context_below}
 use Rattle.law_integrity.proofs.Confined.{separate_after}
 use Rattle.law_integrity.proofs.Leaving.{flipped, leaves_along}
@@ -29,7 +29,7 @@ target_there k S right object homed h =
     let below = slice_get_within k.objects h.capability.target o.0 o.1 in
     let leads = h.leads in omega (arith, below, leads)
 
-objects_after : (k : KernelState) (S T : ℕ → Type 0) (cpu object : ℕ) → IsAfter k S cpu → IsAfter k T cpu → AreHomed k → AreApart k S T →
+objects_after : (k : KernelState) (S T : ℕ → Type 0) (cpu object : ℕ) → IsAfter k S cpu → IsAfter k T cpu → AreHomed k → AreSetsApart k S T →
     HoldsAny (after k cpu) (more k S cpu) object → HoldsAny (after k cpu) (more k T cpu) object → ⊥
 objects_after k S T cpu object a b homed apart mine theirs = by_both (holds_made k S cpu 0 object a homed (held_none mine)) (holds_made k T cpu 0 object b homed (held_none theirs))
   where
@@ -70,7 +70,7 @@ waits_after s before S T cpu a b objects waits n sm blocked mine theirs = by_cam
         by_holds (inl h) = objects sm (any_held held) (any_held h)
         by_holds (inr later) = absurd (let below = target_there k S down_right sm (reached_homed s before) held in omega (arith, below, later))
 
-queues_after : (s : Scenario) (before : List ℕ) (S T : ℕ → Type 0) (cpu n m sm : ℕ) → AreApart (run (boot s) before) S T → (context (after (run (boot s) before) cpu) n).state ≡ Blocked sm →
+queues_after : (s : Scenario) (before : List ℕ) (S T : ℕ → Type 0) (cpu n m sm : ℕ) → AreSetsApart (run (boot s) before) S T → (context (after (run (boot s) before) cpu) n).state ≡ Blocked sm →
     (context (after (run (boot s) before) cpu) m).state ≡ Blocked sm → IsMember (after (run (boot s) before) cpu) (more (run (boot s) before) S cpu) n →
     IsMember (after (run (boot s) before) cpu) (more (run (boot s) before) T cpu) m → ⊥
 queues_after s before S T cpu n m sm apart first second mine theirs = by_both (blocked_came s before cpu n sm first) (blocked_came s before cpu m sm second)
@@ -98,7 +98,7 @@ queues_after s before S T cpu n m sm apart first second mine theirs = by_both (b
 
 -- ALONG TURNS
 
-pub apart_flipped : (k : KernelState) (S T : ℕ → Type 0) → AreApart k S T → AreApart k T S
+pub apart_flipped : (k : KernelState) (S T : ℕ → Type 0) → AreSetsApart k S T → AreSetsApart k T S
 apart_flipped k S T apart = record {
   separate = flipped k S T apart.separate;
   objects = λ object theirs mine. apart.objects object mine theirs;
@@ -107,8 +107,8 @@ apart_flipped k S T apart = record {
   queues = λ n m sm first second theirs mine. apart.queues m n sm second first mine theirs;
 }
 
-apart_after : (s : Scenario) (before : List ℕ) (S T : ℕ → Type 0) (cpu : ℕ) → AreApart (run (boot s) before) S T →
-    AreApart (after (run (boot s) before) cpu) (more (run (boot s) before) S cpu) (more (run (boot s) before) T cpu)
+apart_after : (s : Scenario) (before : List ℕ) (S T : ℕ → Type 0) (cpu : ℕ) → AreSetsApart (run (boot s) before) S T →
+    AreSetsApart (after (run (boot s) before) cpu) (more (run (boot s) before) S cpu) (more (run (boot s) before) T cpu)
 apart_after s before S T cpu apart =
     let a = first_after s before S T cpu apart.separate in
     let b = second_after s before S T cpu apart.separate in
@@ -120,18 +120,18 @@ apart_after s before S T cpu apart =
       queues = λ n m sm first second mine theirs. queues_after s before S T cpu n m sm apart first second mine theirs;
     }
 
-pub apart_along : (s : Scenario) (before turns : List ℕ) (S T : ℕ → Type 0) → AreApart (run (boot s) before) S T →
-    AreApart (run (run (boot s) before) turns) (grown (run (boot s) before) S turns) (grown (run (boot s) before) T turns)
+pub apart_along : (s : Scenario) (before turns : List ℕ) (S T : ℕ → Type 0) → AreSetsApart (run (boot s) before) S T →
+    AreSetsApart (run (run (boot s) before) turns) (grown (run (boot s) before) S turns) (grown (run (boot s) before) T turns)
 apart_along s before [] S T apart = apart
 apart_along s before (cpu ∷ turns) S T apart =
     let k = run (boot s) before in
     let next : run (boot s) (before ++ cpu ∷ []) ≡ after k cpu = run_append (boot s) before (cpu ∷ []) in
-    subst (λ (l : KernelState). AreApart (run l turns) (grown l (more k S cpu) turns) (grown l (more k T cpu) turns)) next
+    subst (λ (l : KernelState). AreSetsApart (run l turns) (grown l (more k S cpu) turns) (grown l (more k T cpu) turns)) next
     (apart_along s (before ++ cpu ∷ []) turns (more k S cpu) (more k T cpu)
-    (subst (λ (l : KernelState). AreApart l (more k S cpu) (more k T cpu)) (sym next) (apart_after s before S T cpu apart)))
+    (subst (λ (l : KernelState). AreSetsApart l (more k S cpu) (more k T cpu)) (sym next) (apart_after s before S T cpu apart)))
 
 -- a turn of T's leaves each execution context of S's as it is
-pub contexts_stay : (s : Scenario) (before turns : List ℕ) (S T : ℕ → Type 0) (cpu ec n : ℕ) → AreApart (run (boot s) before) S T → Acts (run (run (boot s) before) turns) cpu ec →
+pub contexts_stay : (s : Scenario) (before turns : List ℕ) (S T : ℕ → Type 0) (cpu ec n : ℕ) → AreSetsApart (run (boot s) before) S T → Acts (run (run (boot s) before) turns) cpu ec →
     IsMember (run (run (boot s) before) turns) (grown (run (boot s) before) T turns) ec → IsMember (run (run (boot s) before) turns) (grown (run (boot s) before) S turns) n →
     context_at (after (run (run (boot s) before) turns) cpu) n ≡ context_at (run (run (boot s) before) turns) n
 contexts_stay s before turns S T cpu ec n apart acts_ mine theirs = by_left ((leaves_along s before turns S T cpu ec apart.separate acts_ mine).contexts n theirs)
@@ -139,6 +139,6 @@ contexts_stay s before turns S T cpu ec n apart acts_ mine theirs = by_left ((le
     l : KernelState
     l = run (run (boot s) before) turns
 
-    by_left : IsLeft l (grown (run (boot s) before) T turns) n (context_at l n) (context_at (after l cpu) n) → context_at (after l cpu) n ≡ context_at l n
+    by_left : StaysOrWakes l (grown (run (boot s) before) T turns) n (context_at l n) (context_at (after l cpu) n) → context_at (after l cpu) n ≡ context_at l n
     by_left (Stays same) = same
     by_left (Wakes woken x old new) = absurd ((apart_along s before turns S T apart).first n woken.sm woken.blocked theirs (any_held woken.may))

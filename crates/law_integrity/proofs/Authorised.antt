@@ -35,7 +35,7 @@ use Rattle.law_origins.proofs.Bases.{are_selectors, reached_events}
 use Rattle.law_origins.specs.Giving.{Acts as Acting}
 use Rattle.nova_range.specs.Rights.{write_right}
 use Rattle.law_integrity.specs.Rights.{HasTurn, PageLeadsTo}
-use Rattle.law_integrity.specs.Integrity.{Acts, FrameBy, Idles, IsAuthorised, IsByRight, IsByTime, Passes}
+use Rattle.law_integrity.specs.Integrity.{ByActor, FrameBy, Idles, IsAuthorised, IsByRight, IsByTime, Passes}
 use Rattle.law_integrity.proofs.Branches.{chosen_grows, grows_by}
 use Rattle.law_integrity.proofs.Requests.{deed_asks_for}
 use Rattle.law_integrity.proofs.Waking.{budgets_by, deed_raises, payer}
@@ -129,7 +129,7 @@ turn_authorised k cpu edges forest shares selectors fits = elim (comes k cpu) [
   | Takes t e is state answer ↦ elim is [
     | Chosen c chosen its event ↦
         let now = state ∙ ap (turned k cpu) its in
-        Acts c.actor c.sc (has_turn k cpu c edges chosen) (subst (λ (s : KernelState). IsByRight k s cpu c.actor c.sc) (sym now) (turned_right k cpu c forest shares selectors fits chosen now))
+        ByActor c.actor c.sc (has_turn k cpu c edges chosen) (subst (λ (s : KernelState). IsByRight k s cpu c.actor c.sc) (sym now) (turned_right k cpu c forest shares selectors fits chosen now))
     | Comes p passes its event ↦
         Passes (due_in p) (coming k cpu p passes) (subst (λ (s : KernelState). IsByTime k s cpu (due_in p)) (sym (state ∙ ap (turned k cpu) its)) (turned_by_time k cpu p passes fits))
   ]

@@ -11,14 +11,14 @@ use Rattle.law_turns.proofs.Serving.{awaited}
 use Rattle.law_origins.specs.Giving.{Acts}
 use Rattle.law_origins.proofs.Lists.{run_append}
 use Rattle.law_integrity.specs.Confined.{AreSeparate, IsClosed, IsMember, grown}
-use Rattle.law_integrity.specs.Disclosure.{DifferInRegisters, DifferInWords, GivesItems, IsUnread, ItsOwn, ReadsWords, TakesItems}
+use Rattle.law_integrity.specs.Disclosure.{DifferInRegisters, DifferInWords, GivesItems, AreWordsUnread, ItsOwn, ReadsWords, TakesItems}
 use Rattle.law_integrity.proofs.Confined.{separate_along}
 use Rattle.law_integrity.proofs.Confining.{acting_one, acts_one, waits_edge}
 use Rattle.law_integrity.proofs.Telling as registers
 use Rattle.law_integrity.proofs.Unread as words
 
 -- whoever is served by one of a closed set's is of the set
-pub unread_in : (k : KernelState) (S : ℕ → Type 0) (cpu ec n : ℕ) → IsSound k → IsClosed k S → Acts k cpu ec → IsMember k S ec → (IsMember k S n → ⊥) → IsUnread k cpu n
+pub unread_in : (k : KernelState) (S : ℕ → Type 0) (cpu ec n : ℕ) → IsSound k → IsClosed k S → Acts k cpu ec → IsMember k S ec → (IsMember k S n → ⊥) → AreWordsUnread k cpu n
 unread_in k S cpu ec n sound closed acts_ m none other also reads = by_reads (subst (λ (e : ℕ). ReadsWords k e n) (acts_one k cpu other ec also acts_) reads)
   where
     caller_in : (came : Mark) → (context k ec).caller ≡ Some (n, came) → IsMember k S n

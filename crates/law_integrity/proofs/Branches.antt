@@ -26,10 +26,12 @@ use Rattle.law_forest.proofs.Growth.{turn_grows}
 use Rattle.law_forest.proofs.Members.{in_from_contains}
 use Rattle.law_forest.proofs.Pairs.{same_id}
 use Rattle.law_turns.specs.Giving.{IsShared}
+use Rattle.law_turns.specs.Left.{IsGivenOf}
+use Rattle.law_turns.proofs.Leaving.{part_given}
 use Rattle.law_turns.proofs.Setting.{joined_length}
 use Rattle.law_integrity.specs.Rights.{MayTake}
 use Rattle.law_integrity.specs.Integrity.{Creates, Gives, GrowsByRight, Keeps, Takes}
-use Rattle.law_integrity.proofs.Deciding.{given_rightful, may_take}
+use Rattle.law_integrity.proofs.Parts.{given_rightful, may_take}
 
 -- whose domain may have an object made, where one is made
 pub creator_of : (k : KernelState) (ec : ℕ) (d : Deed) (m : NewObject) → IsAllowed k ec d → made_by d ≡ Some m → MayCreate k (pd_of k ec)
@@ -73,22 +75,22 @@ fewer is (x ∷ xs) = by_test (is x) (fewer is xs)
     by_test true h = omega (arith, h)
     by_test false h = omega (arith, h)
 
--- where a child joins by a deed, it is the one that the deed gives
-shared_by : (k : KernelState) (ec : ℕ) (child : Derivation) (d : Deed) → deed k ec ≡ d → ((child : Derivation) (cursor : ℕ) → deed k ec ≡ deeds.Gives child cursor → IsShared k ec child) →
-    IsGivenChild k ec child → added k.delegations child ≡ branched k.delegations (branch_by k ec d) → IsShared k ec child
-shared_by k ec child (deeds.Gives other cursor) is shares given same =
-    subst (IsShared k ec) (sym (last_same k.delegations.list child other (ap (λ (f : Delegations). f.list) same))) (shares other cursor is)
-shared_by k ec child (deeds.Makes call target made) is shares given same =
+-- where a child joins by a deed, it is the one that the deed gives, and what holds of that holds of it
+of_given : (P : Derivation → Type 0) (k : KernelState) (ec : ℕ) (child : Derivation) (d : Deed) → deed k ec ≡ d → ((child : Derivation) (cursor : ℕ) → deed k ec ≡ deeds.Gives child cursor → P child) →
+    IsGivenChild k ec child → added k.delegations child ≡ branched k.delegations (branch_by k ec d) → P child
+of_given P k ec child (deeds.Gives other cursor) is holds given same =
+    subst P (sym (last_same k.delegations.list child other (ap (λ (f : Delegations). f.list) same))) (holds other cursor is)
+of_given P k ec child (deeds.Makes call target made) is holds given same =
     let one = last_same k.delegations.list child (root_capability k (pd_of k ec) target (object_of made)) (ap (λ (f : Delegations). f.list) same) in
     absurd (let both : None ≡ Some given.source.id = sym (ap (λ (x : Derivation). x.parent) one) ∙ given.parent in cc)
-shared_by k ec child (deeds.Opens target domain) is shares given same =
+of_given P k ec child (deeds.Opens target domain) is holds given same =
     let one = last_same k.delegations.list child (root_capability k (pd_of k ec) target (object_of new.Pd)) (ap (λ (f : Delegations). f.list) same) in
     absurd (let both : None ≡ Some given.source.id = sym (ap (λ (x : Derivation). x.parent) one) ∙ given.parent in cc)
-shared_by k ec child (deeds.Removes leaf) is shares given same =
+of_given P k ec child (deeds.Removes leaf) is holds given same =
     let longer = joined_length k.delegations.list child in
     let shorter = fewer (λ (x : Derivation). not (x.id == leaf.id)) k.delegations.list in
     let both = ap (λ (f : Delegations). length f.list) same in absurd (omega (arith, longer, shorter, both))
-shared_by k ec child other is shares given same =
+of_given P k ec child other is holds given same =
     let longer = joined_length k.delegations.list child in
     let both = ap (λ (f : Delegations). length f.list) same in absurd (omega (arith, longer, both))
 
@@ -97,7 +99,8 @@ pub grows_by : (k new : KernelState) (ec : ℕ) → IsForest k.delegations → (
 grows_by k new ec forest shares is (Leaves h) = Keeps h.objects h.delegations
 grows_by k new ec forest shares is (MakesObject h) = Creates h.object h.capability h.first h.objects h.delegations
 grows_by k new ec forest shares is (GivesChild h) =
-    Gives h.child h.given.source h.given.there h.given.parent (child_within k ec h.child forest h.given) (shared_by k ec h.child (deed k ec) refl shares h.given (sym h.delegations ∙ is))
+    Gives h.child h.given.source h.given.there h.given.parent (child_within k ec h.child forest h.given) (of_given (IsShared k ec) k ec h.child (deed k ec) refl shares h.given (sym h.delegations ∙ is))
+    (of_given (IsGivenOf k ec) k ec h.child (deed k ec) refl (λ child cursor. part_given k ec cursor child) h.given (sym h.delegations ∙ is))
     (given_rightful k ec h.child h.given) h.objects h.delegations
 grows_by k new ec forest shares is (TakesLeaf h) = Takes h.leaf (leaf_taken k ec h.leaf forest h.is) h.objects h.delegations
 

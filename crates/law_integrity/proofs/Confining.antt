@@ -33,9 +33,9 @@ use Rattle.law_origins.proofs.Coming.{came}
 use Rattle.law_origins.proofs.Origins.{opened_now}
 use Rattle.law_integrity.specs.Rights.{CallsAt, ExitsAt, GivesFirst, GivesTo, RepliesWith, TakesOfCaller}
 use Rattle.law_integrity.specs.Rightful.{IsRightful}
-use Rattle.law_integrity.specs.Confined.{Holds, HoldsAny, IsClosed, IsMade, IsMember, IsOwned, Reach, ReachAny, more}
+use Rattle.law_integrity.specs.Confined.{Holds, HoldsAny, IsClosed, JoinsSet, IsMember, IsOwned, Reach, ReachAny, more}
 use Rattle.law_integrity.proofs.Branches.{chosen_grows, child_within}
-use Rattle.law_integrity.proofs.Deciding.{given_rightful}
+use Rattle.law_integrity.proofs.Parts.{given_rightful}
 use Rattle.law_integrity.specs.Waits.{HasLocalEdges}
 use Rattle.law_integrity.proofs.Edges.{at_index, edge_came}
 
@@ -73,7 +73,7 @@ member_was k cpu S ec tables within m = by_of m.of
     is : slice_get k.objects ec ≡ Some (Ec m.domain m.cpu m.kind m.event)
     is = sym (object_stays k cpu ec within) ∙ m.object
 
-    by_of : S m.domain ⊎ IsMade k S cpu m.domain → IsMember k S ec
+    by_of : S m.domain ⊎ JoinsSet k S cpu m.domain → IsMember k S ec
     by_of (inl s) = record { domain = m.domain; cpu = m.cpu; kind = m.kind; event = m.event; object = is; of = s }
     by_of (inr made) =
         let there : slice_get k.objects m.domain ≡ Some Pd = at_index (Refers k.objects) k.objects ec (Ec m.domain m.cpu m.kind m.event) tables.refer is in

@@ -37,9 +37,9 @@ use Rattle.law_turns.proofs.Suited.{tables_suit}
 use Rattle.law_turns.proofs.TablesFit.{boot_run_fits}
 use Rattle.law_origins.specs.Giving.{Acts}
 use Rattle.law_origins.proofs.Lists.{run_append}
-use Rattle.law_integrity.specs.Confined.{IsLogged, AreSeparate, Holds, IsClosed, IsIdle, IsOwned, IsWoken, IsLeft, IsMember, LeavesTo, Stays as Unchanged, Wakes, grown}
+use Rattle.law_integrity.specs.Confined.{LogsByte, AreSeparate, Holds, IsClosed, IsIdle, IsOwned, IsWoken, StaysOrWakes, IsMember, LeavesTo, Stays as Unchanged, Wakes, grown}
 use Rattle.law_integrity.specs.Integrity.{LogBy, Clears, DeadlineBy, Downs, NewSemaphore, SemaphoreBy, Sets, Ups, Called, ContextBy, Controls, CopiesCall, CopiesExit, CopiesReply, Creates, GrowsByRight, Keeps, ExitSent, Gives, IdentifierBy, IsByRight, Itself, MessageBy, NewContext, NewItems, NewPortal, NewWords, GivesPart, SkipsPart, FinishesItem, Recalled, Resumed, StoresOwn, Takes, TellsItem, TransferBy, Woken}
-use Rattle.law_integrity.specs.Rights.{CallsAt, ExitsAt, GivesTo, HasTurn, IsServing, Names}
+use Rattle.law_integrity.specs.Rights.{CallsAt, ExitsAt, GivesTo, HasTurn, ServesCaller, Names}
 use Rattle.law_integrity.proofs.Authorised.{authorised_by, frames_of}
 use Rattle.law_integrity.proofs.Confining.{Child, IsAway, Newest, Old, Whence, acting_one, acts_one, both_member, calls_in, exits_in, gives_in, member_pd, owned_at, waits_edge, whence}
 use Rattle.law_integrity.proofs.Resting.{holds_of}
@@ -50,7 +50,7 @@ use Rattle.law_integrity.proofs.Confined.{reach_of, separate_along}
 -- what one that acts in a turn calls, gives to, serves, controls and is paid by is nothing of the set
 pub record IsClear (k : KernelState) (S : ℕ → Type 0) (ec : ℕ) : Type 0 where
   pub away : IsAway k S ec
-  pub serves : (caller : ℕ) (mark : Mark) → IsServing k ec caller mark → IsMember k S caller → ⊥
+  pub serves : (caller : ℕ) (mark : Mark) → ServesCaller k ec caller mark → IsMember k S caller → ⊥
   pub controls : (n call right : ℕ) → Names k ec call right n → IsMember k S n → ⊥
   pub portals : (n call right handler mtd ip : ℕ) → Names k ec call right n → slice_get k.objects n ≡ Some (Pt handler mtd ip) → IsMember k S handler → ⊥
   pub leads : (donor edges : ℕ) → after_edges edges (edge k.contexts) donor ≡ Some ec → IsMember k S donor → ⊥
@@ -64,7 +64,7 @@ member_below : (k : KernelState) (S : ℕ → Type 0) (n : ℕ) → IsMember k S
 member_below k S n m next = let below = slice_get_within k.objects n (Ec m.domain m.cpu m.kind m.event) m.object in omega (arith, below, next)
 
 other_context : (k new : KernelState) (S T : ℕ → Type 0) (ec n : ℕ) (words : List ℕ) → IsClear k S ec → IsMember k T ec → IsMember k S n →
-    (context_at new n ≡ context_at k n) ⊎ ContextBy k ec n words (context_at k n) (context_at new n) → IsLeft k T n (context_at k n) (context_at new n)
+    (context_at new n ≡ context_at k n) ⊎ ContextBy k ec n words (context_at k n) (context_at new n) → StaysOrWakes k T n (context_at k n) (context_at new n)
 other_context k new S T ec n words clear mine theirs (inl same) = Unchanged same
 other_context k new S T ec n words clear mine theirs (inr (Itself same y z old to own)) = absurd (itself_clear k S ec n clear theirs same)
 other_context k new S T ec n words clear mine theirs (inr (Called c y old parked to)) = absurd (clear.away.calls n (inl c) theirs)
@@ -149,7 +149,7 @@ other_keeps : (k new : KernelState) (T : ℕ → Type 0) (ec : ℕ) (d : Derivat
 other_keeps k new T ec d forest mine there none (Keeps objects same) = subst (λ (f : Delegations). Contains f.list d) (sym same) there
 other_keeps k new T ec d forest mine there none (Creates object capability first objects is) =
     subst (λ (f : Delegations). Contains f.list d) (sym is) (kept_in k.delegations.list capability d there)
-other_keeps k new T ec d forest mine there none (Gives child source has edge_ within shared gives objects is) =
+other_keeps k new T ec d forest mine there none (Gives child source has edge_ within shared next gives objects is) =
     subst (λ (f : Delegations). Contains f.list d) (sym is) (kept_in k.delegations.list child d there)
 other_keeps k new T ec d forest mine there none (Takes leaf may objects is) =
     subst (λ (f : Delegations). Contains f.list d) (sym is) (contains_from_in (filter (λ (x : Derivation). not (x.id == leaf.id)) k.delegations.list) d (by_id (d.id == leaf.id) refl))
@@ -166,7 +166,7 @@ other_keeps k new T ec d forest mine there none (Takes leaf may objects is) =
         absurd (none may.ancestor (subst (λ (x : Derivation). Contains (line k.delegations.list x) may.ancestor) (sym one) may.above) (subst T (sym may.held) (member_pd k T ec mine)))
 
 other_log : (k new : KernelState) (T : ℕ → Type 0) (ec : ℕ) → IsMember k T ec → (new.memory.log ≡ k.memory.log) ⊎ LogBy k ec k.memory.log new.memory.log →
-    (new.memory.log ≡ k.memory.log) ⊎ IsLogged k new T
+    (new.memory.log ≡ k.memory.log) ⊎ LogsByte k new T
 other_log k new T ec mine (inl same) = inl same
 other_log k new T ec mine (inr by) =
     inr (record { frame = by.frame; value = by.store.value % 256; reaches = reach_of k T ec (by.store.address / 4096) write_right by.frame mine by.reaches.reaches; joins = by.after })

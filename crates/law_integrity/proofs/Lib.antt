@@ -1,6 +1,10 @@
 pub mod Selected
 pub mod Refusals
 pub mod Requests
+pub mod Findings
+pub mod Rows
+pub mod Exits
+pub mod Parts
 pub mod Deciding
 pub mod Rightful
 pub mod Entries
@@ -45,3 +49,5 @@ pub mod Policy
 pub mod Decided
 pub mod Sides
 pub mod Meeting
+pub mod MeetingApart
+pub mod MeetingServed

@@ -36,8 +36,8 @@ use Rattle.law_turns.proofs.Serving.{IsActor, IsReached, actor_of, awaited, exit
 use Rattle.law_turns.specs.Links.{state_at}
 use Rattle.law_turns.proofs.Setting.{entry_itself, entry_other}
 use Rattle.law_turns.proofs.TablesFit.{TablesFit}
-use Rattle.law_integrity.specs.Rightful.{IsExitAt, IsRaise, IsRightful, IsTold}
-use Rattle.law_integrity.specs.Rights.{ExitsAt, IsServing, Names}
+use Rattle.law_integrity.specs.Rightful.{IsExitAt, RaisesExit, IsRightful, IsToldValue}
+use Rattle.law_integrity.specs.Rights.{ExitsAt, ServesCaller, Names}
 use Rattle.law_integrity.specs.Integrity.{Answered, AsksItself, ByExit, IsItself, Kept, Left, Lost, MayComeTo, RecallBy, Stepped, Unasked}
 
 -- the right by which an exit goes
@@ -53,15 +53,15 @@ same_itself k ec x = record { number = refl; processor = refl; state = inl refl;
 comes_to : (k : KernelState) (ec : ℕ) (x : EcState) (s : State) → MayComeTo k ec s → IsItself k ec x (record x { state = s })
 comes_to k ec x s may = record { number = refl; processor = refl; state = inr may; regs = Kept refl; caller = inl refl; recall = Unasked refl }
 
-answers : (k : KernelState) (ec : ℕ) (x : EcState) (status : Status) (value : Option ℕ) → IfSome value (λ v. IsTold k ec (reg (context k ec).regs 17) v) → IsItself k ec x (answered x status value)
+answers : (k : KernelState) (ec : ℕ) (x : EcState) (status : Status) (value : Option ℕ) → IfSome value (λ v. IsToldValue k ec (reg (context k ec).regs 17) v) → IsItself k ec x (answered x status value)
 answers k ec x status value told =
     record { number = refl; processor = refl; state = inr tt; regs = Answered status value told refl; caller = inl refl; recall = Unasked refl }
 
-parks : (k : KernelState) (ec caller : ℕ) (came : Mark) (x : EcState) → IsServing k ec caller came → IsItself k ec x (parked x)
+parks : (k : KernelState) (ec caller : ℕ) (came : Mark) (x : EcState) → ServesCaller k ec caller came → IsItself k ec x (parked x)
 parks k ec caller came x serves =
     record { number = refl; processor = refl; state = inr (caller, came, serves); regs = Kept refl; caller = inr (refl, refl); recall = Unasked refl }
 
-raises : (k : KernelState) (ec reason q0 q1 : ℕ) (x : EcState) → IsRaise k ec reason q0 q1 → IsItself k ec x (edited x (Raising reason q0 q1))
+raises : (k : KernelState) (ec reason q0 q1 : ℕ) (x : EcState) → RaisesExit k ec reason q0 q1 → IsItself k ec x (edited x (Raising reason q0 q1))
 raises k ec reason q0 q1 x r = record { number = refl; processor = refl; state = inr r; regs = Kept refl; caller = inl refl; recall = by_reason (reason == recall) refl x.recall }
   where
     by_reason : (t : Bool) → (reason == recall) ≡ t → (old : Bool) → RecallBy k ec old (old && not t) (Exiting reason q0 q1)
@@ -114,7 +114,7 @@ not_dead : {A : Type 0} (s : State) → is_free (Some s) ≡ false → is_dead (
 not_dead Dead awake dead = absurd (cc)
 not_dead other awake dead = absurd (cc)
 
-not_caller : (k : KernelState) (ec caller : ℕ) (came : Mark) → IsActor k.contexts ec → TablesFit k → IsServing k ec caller came → ec ≢ caller
+not_caller : (k : KernelState) (ec caller : ℕ) (came : Mark) → IsActor k.contexts ec → TablesFit k → ServesCaller k ec caller came → ec ≢ caller
 not_caller k ec caller came actor fits serves same =
     let waits : (context k caller).state ≡ Calling ec = (awaited (is_local_thread k) k.contexts ec caller came actor serves fits.served).waits in
     let own : (context k ec).state ≡ Calling ec = ap (λ (n : ℕ). (context k n).state) same ∙ waits in
@@ -161,7 +161,7 @@ ups_own k ec sm None actor fits asks = one_own k ec (Answers Success None) actor
 ups_own k ec sm (Some w) actor fits asks =
     two_own k ec w (Answers Success None) (Answers Success None) actor (not_woken k ec w sm actor (woken_blocked k sm w asks.1 fits.blocked)) (answers k ec (context k ec) Success None tt)
 
-replies_own : (k : KernelState) (ec caller : ℕ) (came : Mark) (m : List ℕ) → IsActor k.contexts ec → TablesFit k → IsServing k ec caller came →
+replies_own : (k : KernelState) (ec caller : ℕ) (came : Mark) (m : List ℕ) → IsActor k.contexts ec → TablesFit k → ServesCaller k ec caller came →
     IsOwn k ec (ec_in (all_edited k.contexts ((ec, Parks) ∷ (caller, Resumes came m) ∷ [])) ec)
 replies_own k ec caller came m actor fits serves =
     two_own k ec caller Parks (Resumes came m) actor (not_caller k ec caller came actor fits serves) (parks k ec caller came (context k ec) serves)
@@ -189,7 +189,7 @@ deed_own k ec (deeds.Sends handler ip number mtd reason q0 q1) is r asks next ac
 deed_own k ec (deeds.Refuses call status) is r asks next actor fits = one_own k ec (Answers status None) actor (answers k ec (context k ec) status None tt)
 deed_own k ec (deeds.Makes call target made) is r asks next actor fits = one_own k ec (Answers Success None) actor (answers k ec (context k ec) Success None tt)
 deed_own k ec (deeds.Recalls whose) is r asks next actor fits = recalls_own k ec whose actor r.0 _ refl
-deed_own k ec (deeds.Tells call value) is r asks next actor fits = one_own k ec (Answers Success (Some value)) actor (answers k ec (context k ec) Success (Some value) (subst (λ (c : ℕ). IsTold k ec c value) r.0 r.1))
+deed_own k ec (deeds.Tells call value) is r asks next actor fits = one_own k ec (Answers Success (Some value)) actor (answers k ec (context k ec) Success (Some value) (subst (λ (c : ℕ). IsToldValue k ec c value) r.0 r.1))
 deed_own k ec (deeds.Names pt number) is r asks next actor fits = one_own k ec (Answers Success None) actor (answers k ec (context k ec) Success None tt)
 deed_own k ec (deeds.Opens target domain) is r asks next actor fits =
     one_own k ec (Becomes (Granting (Some domain))) actor (comes_to k ec (context k ec) (Granting (Some domain)) (ap (λ (n : ℕ). Some n) next, r))

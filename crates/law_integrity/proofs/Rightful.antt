@@ -28,13 +28,15 @@ use Rattle.nova_model.specs.declared.transfer.Transfer.{Transfer}
 use Rattle.law_forest.proofs.Allowed.{IsAllowed, deed_allowed}
 use Rattle.law_turns.specs.Links.{AreServed}
 use Rattle.law_turns.specs.Windows.{TellsOfItem}
-use Rattle.law_turns.proofs.Leaving.{item_ends, part_skipped}
+use Rattle.law_turns.proofs.Leaving.{item_ends, part_given, part_skipped}
 use Rattle.law_turns.proofs.Revoking.{begins_asked, returns_done}
 use Rattle.law_turns.proofs.Windows.{items_end, words_tell}
 use Rattle.law_origins.specs.Events.{AreSelectors}
 use Rattle.law_integrity.specs.Rightful.{IsEnd, IsRightful}
-use Rattle.law_integrity.specs.Rights.{IsServing}
-use Rattle.law_integrity.proofs.Deciding.{Ended, Found, deed_found, given_rightful}
+use Rattle.law_integrity.specs.Rights.{ServesCaller}
+use Rattle.law_integrity.proofs.Deciding.{deed_found}
+use Rattle.law_integrity.proofs.Findings.{Ended, Found}
+use Rattle.law_integrity.proofs.Parts.{given_rightful}
 
 -- what came of an item is told by its words
 told_of : (k : KernelState) (ec item : ℕ) (end : ItemEnd) (words : Option ItemWords) (follows : Sequel) → deed k ec ≡ deeds.Finishes item end words follows → IfSome words (TellsOfItem k ec item end)
@@ -87,7 +89,7 @@ ended k ec item (Translated word) words follows is found = (found.0, found.1, fo
 
 -- a handler keeps whoever waits for it
 keeps_caller : (k : KernelState) (ec handler : ℕ) (came : Mark) → AreServed (is_local_thread k) k.contexts → deed k ec ≡ deeds.Aborts handler came → (context k ec).state ≡ Calling handler →
-    IsServing k handler ec came
+    ServesCaller k handler ec came
 unfolding deed
 keeps_caller k ec handler came served is waits =
     let known = (served.linked ec handler).known (state_known (context_at k ec) waits) in
@@ -110,8 +112,8 @@ keeps_caller k ec handler came served is waits =
 is_rightful : (k : KernelState) (ec : ℕ) (d : Deed) → deed k ec ≡ d → AreServed (is_local_thread k) k.contexts → IsAllowed k ec d → Found k ec d → IsRightful k ec d
 is_rightful k ec (deeds.Makes call target made) is served may found = may.creator
 is_rightful k ec (deeds.Opens target domain) is served may found = may.0.creator
-is_rightful k ec (deeds.Gives child cursor) is served may found = (may, given_rightful k ec child may)
-is_rightful k ec (deeds.Skips reason place cursor) is served may found = part_skipped k ec place cursor reason is
+is_rightful k ec (deeds.Gives child cursor) is served may found = (may, given_rightful k ec child may, part_given k ec cursor child is, found)
+is_rightful k ec (deeds.Skips reason place cursor) is served may found = (part_skipped k ec place cursor reason is, found)
 is_rightful k ec (deeds.Finishes item end words follows) is served may found = (items_end k ec item end words follows is, told_of k ec item end words follows is, ended k ec item end words follows is found)
 is_rightful k ec (deeds.Revokes range own) is served may found = (found, begins_asked k ec range own is)
 is_rightful k ec deeds.Returns is served may found = returns_done k ec is

@@ -17,10 +17,10 @@ use Rattle.law_isolation.proofs.Runs.{reached_sound}
 use Rattle.law_turns.proofs.Links.{place}
 use Rattle.law_origins.specs.Giving.{Acts}
 use Rattle.law_origins.proofs.Lists.{run_append}
-use Rattle.law_integrity.specs.Confined.{Holds, IsLeft, IsMember, IsWoken, LeavesTo, Reach, Stays, Wakes}
+use Rattle.law_integrity.specs.Confined.{Holds, StaysOrWakes, IsMember, IsWoken, LeavesTo, Reach, Stays, Wakes}
 use Rattle.law_integrity.specs.Rights.{GivesFirst, GivesTo, PageLeadsTo, RepliesWith, TakesOfCaller}
 use Rattle.law_integrity.specs.Secrecy.{with_bytes}
-use Rattle.law_integrity.specs.Trusted.{HoldsSince, IsGivenFrame, IsGivenObject, IsMadeBySide, IsTurnOf, IsWithinPolicy, Labelled, MayTakeTurns, OrTrusted, ReachesSince, labels, labels_after}
+use Rattle.law_integrity.specs.Trusted.{HoldsSince, IsGivenFrame, IsGivenObject, IsMadeBySide, IsTurnOfLabel, IsWithinPolicy, Labelled, MayTakeTurns, OrTrusted, ReachesSince, labels, labels_after}
 use Rattle.law_integrity.proofs.Confining.{Child, Newest, Old, Whence, acting_one, acts_one, child_target, member_pd, order_none, whence}
 use Rattle.law_integrity.proofs.Confined.{reach_of}
 use Rattle.law_integrity.proofs.Decided.{IsDecided, holds_decided, reach_decided}
@@ -80,7 +80,7 @@ side_stays s turns label cpu ec side n policy acts_ own some other m = (by_left 
         let may = policy.capabilities woken.may.capability woken.may.there woken.may.kind (λ none. own (sym woken.may.of ∙ none)) in
         apart (subst (λ (l : ℕ). OrTrusted label l (pd_of k n)) woken.may.of (may.waits n (woken.blocked ∙ ap (λ (sm : ℕ). Blocked sm) (sym woken.may.leads))))
 
-    by_left : IsLeft k (Labelled label (label (pd_of k ec))) n (context_at k n) (context_at (after k cpu) n) → context_at (after k cpu) n ≡ context_at k n
+    by_left : StaysOrWakes k (Labelled label (label (pd_of k ec))) n (context_at k n) (context_at (after k cpu) n) → context_at (after k cpu) n ≡ context_at k n
     by_left (Stays same) = same
     by_left (Wakes woken x old new) = absurd (unwoken woken)
 
@@ -204,11 +204,11 @@ hold_before k label cpu side right object t policy some h = by_source (provenanc
         inr (inl (ec, acts_, trusted, holds_within k cpu (λ n. n ≡ pd_of k ec) right object h.capability source t there of within h.kind h.leads h.allowed))
 
 -- one turn more, before them; and the first
-abbrev earlier : (k : KernelState) (label : ℕ → ℕ) (cpu side : ℕ) (turns : List ℕ) → IsTurnOf (after k cpu) (labels_after k label cpu) turns side → IsTurnOf k label (cpu ∷ turns) side
+abbrev earlier : (k : KernelState) (label : ℕ → ℕ) (cpu side : ℕ) (turns : List ℕ) → IsTurnOfLabel (after k cpu) (labels_after k label cpu) turns side → IsTurnOfLabel k label (cpu ∷ turns) side
 earlier k label cpu side turns m =
     record { before = cpu ∷ m.before; cpu = m.cpu; later = m.later; whole = ap (λ (l : List ℕ). cpu ∷ l) m.whole; actor = m.actor; acts = m.acts; of = m.of }
 
-abbrev first_turn : (k : KernelState) (label : ℕ → ℕ) (cpu side ec : ℕ) (turns : List ℕ) → Acts k cpu ec → label (pd_of k ec) ≡ side → IsTurnOf k label (cpu ∷ turns) side
+abbrev first_turn : (k : KernelState) (label : ℕ → ℕ) (cpu side ec : ℕ) (turns : List ℕ) → Acts k cpu ec → label (pd_of k ec) ≡ side → IsTurnOfLabel k label (cpu ∷ turns) side
 first_turn k label cpu side ec turns acts_ of = record { before = []; cpu = cpu; later = turns; whole = refl; actor = ec; acts = acts_; of = of }
 
 pub side_reaches : (s : Scenario) (before turns : List ℕ) (label : ℕ → ℕ) (side right frame : ℕ) → IsWithinPolicy (run (boot s) before) label → MayTakeTurns (run (boot s) before) label turns → side ≢ 0 →

@@ -26,7 +26,7 @@ use Rattle.law_forest.specs.Effects.{memory_with, store_by, store_words, words_s
 use Rattle.law_forest.proofs.Members.{IsIn, contains_from_in, found_in}
 use Rattle.law_forest.proofs.Transfers.{kinds_equal}
 use Rattle.law_turns.specs.Words.{IsAmongWords}
-use Rattle.law_integrity.specs.Rights.{PageLeadsTo, Stores, StoresTo}
+use Rattle.law_integrity.specs.Rights.{PageLeadsTo, HasStore, StoresTo}
 use Rattle.law_integrity.specs.Integrity.{FrameBy, LogBy}
 use Rattle.law_integrity.proofs.Entries.{get_set}
 
@@ -114,16 +114,16 @@ to_frame k ec to s goes None is = (λ frame. inl refl, by_first (s.address % 409
     by_first true first = inr (record { store = s; frame = to; reaches = goes; console = is; first = eqb-true (s.address % 4096) 0 first; after = refl })
     by_first false first = inl (nothing k.memory.log)
 
-stored : (k : KernelState) (ec : ℕ) (s : Store) → Stores k ec s → (o : Option ℕ) → frame_for (address_space k ec) write_right s.address ≡ o → IsStored k ec (stored_at k.memory s o)
+stored : (k : KernelState) (ec : ℕ) (s : Store) → HasStore k ec s → (o : Option ℕ) → frame_for (address_space k ec) write_right s.address ≡ o → IsStored k ec (stored_at k.memory s o)
 stored k ec s goes None is = same_memory k ec
 stored k ec s goes (Some frame) is =
     to_frame k ec frame s (record { stores = goes; reaches = leads_to k ec write_right s.address frame is }) (slice_get k.memory.ram frame) refl
 
 -- an instruction that stores
-pub stores_of : (k : KernelState) (ec : ℕ) (s : Store) → deed k ec ≡ deeds.Steps → store_of (instruction k ec) ≡ Some s → Stores k ec s
+pub stores_of : (k : KernelState) (ec : ℕ) (s : Store) → deed k ec ≡ deeds.Steps → store_of (instruction k ec) ≡ Some s → HasStore k ec s
 stores_of k ec s steps is = by_once (instruction k ec) refl is
   where
-    by_once : (o : Once) → instruction k ec ≡ o → store_of o ≡ Some s → Stores k ec s
+    by_once : (o : Once) → instruction k ec ≡ o → store_of o ≡ Some s → HasStore k ec s
     by_once (Raised reason q0 q1) came h = absurd (cc)
     by_once (Went regs store) came h = record { steps = steps; regs = regs; store = came ∙ ap (λ (o : Option Store). Went regs o) h }
 

@@ -23,7 +23,7 @@ use Rattle.law_forest.specs.Effects.{Edits, Falls, Parks, Passing, Resumes, Tick
 use Rattle.law_forest.specs.Turns.{Turning, acting, passing, passing_event, turned}
 use Rattle.law_turns.proofs.Setting.{get_other}
 use Rattle.law_origins.specs.Giving.{Acts}
-use Rattle.law_integrity.specs.Disclosure.{DifferInWords, GivesItems, IsUnread, IsUnreadAlong, ItsOwn, ReadsWords, TakesItems, with_words, words_set}
+use Rattle.law_integrity.specs.Disclosure.{DifferInWords, GivesItems, AreWordsUnread, AreWordsUnreadAlong, ItsOwn, ReadsWords, TakesItems, with_words, words_set}
 use Rattle.law_integrity.proofs.Beside.{ChooseSame, both_after, both_events}
 use Rattle.law_integrity.proofs.Masking.{ReadsSame, Words, choice_same, over, same_table, words_in}
 use Rattle.law_integrity.proofs.Telling.{stirs_same}
@@ -186,7 +186,7 @@ set_chooses k cpu m ws = record { times = refl; chosen = choice_same k k.context
 acts_of : (k : KernelState) (cpu : ℕ) (c : Candidate) → next_to_act k cpu ≡ Some c → Acts k cpu c.actor
 acts_of k cpu c is = ap (option_map (λ (c : Candidate). c.actor)) is
 
-pub turn_differ : (k l : KernelState) (cpu m : ℕ) → DifferInWords k l m → IsUnread k cpu m → DifferInWords (after k cpu) (after l cpu) m
+pub turn_differ : (k l : KernelState) (cpu m : ℕ) → DifferInWords k l m → AreWordsUnread k cpu m → DifferInWords (after k cpu) (after l cpu) m
 turn_differ k l cpu m differ unread =
     subst (λ (s : KernelState). DifferInWords (after k cpu) (after s cpu) m) (sym differ.rest)
     (both_after (λ (a b : KernelState). DifferInWords a b m) k (with_words k m differ.words) cpu (set_chooses k cpu m differ.words) (record { words = differ.words; rest = refl })
@@ -195,7 +195,7 @@ turn_differ k l cpu m differ unread =
 abbrev event_in : KernelState → ℕ → Option Event
 event_in k cpu = option_map (λ (s : Step). s.event) (turn k cpu)
 
-pub event_same : (k l : KernelState) (cpu m : ℕ) → DifferInWords k l m → IsUnread k cpu m →
+pub event_same : (k l : KernelState) (cpu m : ℕ) → DifferInWords k l m → AreWordsUnread k cpu m →
     option_map (λ (s : Step). s.event) (turn l cpu) ≡ option_map (λ (s : Step). s.event) (turn k cpu)
 event_same k l cpu m differ unread =
     subst (λ (s : KernelState). event_in s cpu ≡ event_in k cpu) (sym differ.rest)
@@ -205,11 +205,11 @@ event_same k l cpu m differ unread =
 
 -- TURNS ONE AFTER ANOTHER
 
-pub turns_differ : (k l : KernelState) (turns : List ℕ) (m : ℕ) → DifferInWords k l m → IsUnreadAlong k turns m → DifferInWords (run k turns) (run l turns) m
+pub turns_differ : (k l : KernelState) (turns : List ℕ) (m : ℕ) → DifferInWords k l m → AreWordsUnreadAlong k turns m → DifferInWords (run k turns) (run l turns) m
 turns_differ k l [] m differ unread = differ
 turns_differ k l (cpu ∷ turns) m differ unread = turns_differ (after k cpu) (after l cpu) turns m (turn_differ k l cpu m differ unread.0) unread.1
 
-pub trace_same : (k l : KernelState) (turns : List ℕ) (m : ℕ) → DifferInWords k l m → IsUnreadAlong k turns m → trace l turns ≡ trace k turns
+pub trace_same : (k l : KernelState) (turns : List ℕ) (m : ℕ) → DifferInWords k l m → AreWordsUnreadAlong k turns m → trace l turns ≡ trace k turns
 trace_same k l [] m differ unread = refl
 trace_same k l (cpu ∷ turns) m differ unread =
     ap₂ (λ (e : Option Event) (es : List Event). in_front e es) (event_same k l cpu m differ unread.0)

@@ -15,7 +15,7 @@ use Rattle.law_isolation.proofs.Runs.{reached_sound}
 use Rattle.law_origins.specs.Giving.{Acts}
 use Rattle.law_origins.proofs.Lists.{run_append}
 use Rattle.law_integrity.specs.Confined.{AreSeparate, IsMember, Pair, ShareNothing, Side, grown}
-use Rattle.law_integrity.specs.Disclosure.{AreSecretsOf, AreUnseen, Differ, DiffersIn, GivesItems, InFrame, InRegisters, InWords, IsSecretOf, IsUnread, IsUnseen, IsUntold, ItsOwn, ReadsWords, Secret, TakesItems, registers_set, words_set}
+use Rattle.law_integrity.specs.Disclosure.{AreSecretsOf, AreUnseen, Differ, DiffersIn, GivesItems, InFrame, InRegisters, InWords, IsSecretOf, AreWordsUnread, IsUnseen, IsUntold, ItsOwn, ReadsWords, Secret, TakesItems, registers_set, words_set}
 use Rattle.law_integrity.specs.Rights.{PageLeadsTo}
 use Rattle.law_integrity.specs.Secrecy.{IsHidden, with_bytes}
 use Rattle.law_integrity.proofs.Blind.{unread_in}
@@ -97,7 +97,7 @@ after_one (InRegisters n) k m cpu ec acts_ unseen differ =
     let untold : IsUntold k m cpu n = λ also. absurd (unseen (acts_one k cpu ec n acts_ also)) in
     (registers.turn_differ k m cpu n differ untold, registers.event_same k m cpu n differ untold)
 after_one (InWords n) k m cpu ec acts_ unseen differ =
-    let unread : IsUnread k cpu n = λ other also reads. unseen (subst (λ (e : ℕ). ReadsWords k e n) (acts_one k cpu other ec also acts_) reads) in
+    let unread : AreWordsUnread k cpu n = λ other also reads. unseen (subst (λ (e : ℕ). ReadsWords k e n) (acts_one k cpu other ec also acts_) reads) in
     (words.turn_differ k m cpu n differ unread, words.event_same k m cpu n differ unread)
 after_one (InFrame frame) k m cpu ec acts_ unseen differ = (
   (differ.0, ap (λ (x : KernelState). after x cpu) differ.1 ∙ bytes.turn_same k cpu frame differ.0 hidden),

@@ -54,7 +54,8 @@ use Rattle.nova_model.specs.declared.transfer.Transfer.{Transfer}
 use Rattle.law_integrity.specs.Disclosure.{AreSameIn, AskSame, CallSame, ExitTellsSame, TellsSame}
 use Rattle.law_integrity.specs.Rights.{Again, AtCall, IsAsking}
 use Rattle.law_integrity.specs.Rightful.{IsStep}
-use Rattle.law_integrity.proofs.Deciding.{Found, call_found}
+use Rattle.law_integrity.proofs.Findings.{Found}
+use Rattle.law_integrity.proofs.Rows.{call_found}
 use Rattle.law_integrity.proofs.Deeds.{next_same}
 use Rattle.law_integrity.proofs.Masking.{AreMasked, ReadsSame, Words, admitted_same, busy_same, exit_admitted_same, over, revoked_same, words_in}
 

@@ -98,7 +98,7 @@ abbrev pub WaitsApart : KernelState → (ℕ → Type 0) → (ℕ → Type 0) �
 WaitsApart k S T = (n sm : ℕ) → (context k n).state ≡ Blocked sm → IsMember k S n → HoldsAny k T sm → ⊥
 
 -- and no object is held by both; nobody of one waits at a semaphore that the other holds; and nobody of one waits where one of the other does, in whose queue each would decide who is woken
-pub record AreApart (k : KernelState) (S T : ℕ → Type 0) : Type 0 where
+pub record AreSetsApart (k : KernelState) (S T : ℕ → Type 0) : Type 0 where
   pub separate : AreSeparate k S T
   pub objects : (object : ℕ) → HoldsAny k S object → HoldsAny k T object → ⊥
   pub first : WaitsApart k S T
@@ -108,7 +108,7 @@ pub record AreApart (k : KernelState) (S T : ℕ → Type 0) : Type 0 where
 -- THE SET ALONG TURNS
 
 -- a domain that one of the set's makes in this turn joins the set
-pub record IsMade (k : KernelState) (S : ℕ → Type 0) (cpu n : ℕ) : Type 0 where
+pub record JoinsSet (k : KernelState) (S : ℕ → Type 0) (cpu n : ℕ) : Type 0 where
   pub maker : ℕ
   pub acts : Acts k cpu maker
   pub of : IsMember k S maker
@@ -116,7 +116,7 @@ pub record IsMade (k : KernelState) (S : ℕ → Type 0) (cpu n : ℕ) : Type 0 
   pub made : slice_get (after k cpu).objects n ≡ Some Pd
 
 abbrev pub more : KernelState → (ℕ → Type 0) → ℕ → ℕ → Type 0
-more k S cpu n = S n ⊎ IsMade k S cpu n
+more k S cpu n = S n ⊎ JoinsSet k S cpu n
 
 abbrev pub grown : KernelState → (ℕ → Type 0) → List ℕ → ℕ → Type 0
 grown k S [] = S
@@ -163,12 +163,12 @@ pub record IsWoken (k : KernelState) (T : ℕ → Type 0) (n : ℕ) : Type 0 whe
   pub blocked : (context k n).state ≡ Blocked sm
 
 -- its state and registers stay; or it was woken so, and its call is done
-pub data IsLeft (k : KernelState) (T : ℕ → Type 0) (n : ℕ) (old new : Option EcState) : Type 0 where
-  Stays : new ≡ old → IsLeft k T n old new
-  Wakes : IsWoken k T n → (x : EcState) → old ≡ Some x → new ≡ Some (answered x Success None) → IsLeft k T n old new
+pub data StaysOrWakes (k : KernelState) (T : ℕ → Type 0) (n : ℕ) (old new : Option EcState) : Type 0 where
+  Stays : new ≡ old → StaysOrWakes k T n old new
+  Wakes : IsWoken k T n → (x : EcState) → old ≡ Some x → new ≡ Some (answered x Success None) → StaysOrWakes k T n old new
 
 -- one byte joins the log, of a console that a domain of the set T reaches with write
-pub record IsLogged (k new : KernelState) (T : ℕ → Type 0) : Type 0 where
+pub record LogsByte (k new : KernelState) (T : ℕ → Type 0) : Type 0 where
   pub frame : ℕ
   pub value : ℕ
   pub reaches : Reach k T write_right frame
@@ -177,7 +177,7 @@ pub record IsLogged (k new : KernelState) (T : ℕ → Type 0) : Type 0 where
 -- A turn of one of T's leaves of S: registers and states, and deadlines, but for who is woken so; message words; places in items; identifiers of portals; budgets and ticks of scheduling contexts that are
 -- bound to S's; the semaphores to which T holds neither up nor down; and the frames that T doesn't reach with write. The log gains at most a byte of a console that T does. S gains no derivation, and loses none but such as came from a domain of T's.
 pub record LeavesTo (k new : KernelState) (T S : ℕ → Type 0) : Type 0 where
-  pub contexts : (n : ℕ) → IsMember k S n → IsLeft k T n (context_at k n) (context_at new n)
+  pub contexts : (n : ℕ) → IsMember k S n → StaysOrWakes k T n (context_at k n) (context_at new n)
   pub deadlines : (n : ℕ) → IsMember k S n → (deadline_of new.times n ≡ deadline_of k.times n) ⊎ IsWoken k T n
   pub messages : (n : ℕ) → IsMember k S n → words_at new n ≡ words_at k n
   pub transfers : (n : ℕ) → IsMember k S n → transfer_at new n ≡ transfer_at k n
@@ -185,7 +185,7 @@ pub record LeavesTo (k new : KernelState) (T S : ℕ → Type 0) : Type 0 where
   pub budgets : (sc donor cpu priority quantum : ℕ) → slice_get k.objects sc ≡ Some (Sc donor cpu priority quantum) → IsMember k S donor → budget_at new sc ≡ budget_at k sc
   pub semaphores : (sm : ℕ) → sm < length k.objects → (Holds k T up_right sm → ⊥) → (Holds k T down_right sm → ⊥) → semaphore_at new.semaphores sm ≡ semaphore_at k.semaphores sm
   pub frames : (frame : ℕ) → (Reach k T write_right frame → ⊥) → slice_get new.memory.ram frame ≡ slice_get k.memory.ram frame
-  pub log : (new.memory.log ≡ k.memory.log) ⊎ IsLogged k new T
+  pub log : (new.memory.log ≡ k.memory.log) ⊎ LogsByte k new T
   pub gains : (d : Derivation) → Contains new.delegations.list d → S d.pd → Contains k.delegations.list d
   pub keeps : (d : Derivation) → Contains k.delegations.list d → ((ancestor : Derivation) → Contains (line k.delegations.list d) ancestor → T ancestor.pd → ⊥) → Contains new.delegations.list d
 
@@ -202,7 +202,7 @@ Pair guest monitor n = (n ≡ guest) ⊎ (n ≡ monitor)
 
 -- A guest and its monitor share no domain, no object and no frame with another guest and its monitor, neither side waits for the other, and all else is idle.
 pub record ShareNothing (k : KernelState) (guest monitor other_guest other_monitor : ℕ) : Type 0 where
-  pub apart : AreApart k (Pair (pd_of k guest) (pd_of k monitor)) (Pair (pd_of k other_guest) (pd_of k other_monitor))
+  pub apart : AreSetsApart k (Pair (pd_of k guest) (pd_of k monitor)) (Pair (pd_of k other_guest) (pd_of k other_monitor))
   pub memory : (frame : ℕ) → ReachAny k (Pair (pd_of k guest) (pd_of k monitor)) frame → ReachAny k (Pair (pd_of k other_guest) (pd_of k other_monitor)) frame → ⊥
 
 -- those domains of a guest and its monitor, with all that are made of them in these turns

@@ -113,13 +113,13 @@ pub data ReadsWords (k : KernelState) (ec m : ℕ) : Type 0 where
   GivesItems : (context k ec).state ≡ Replying → (came : Mark) → (context k ec).caller ≡ Some (m, came) → ReadsWords k ec m
 
 -- in this turn nobody does
-abbrev pub IsUnread : KernelState → ℕ → ℕ → Type 0
-IsUnread k cpu m = (ec : ℕ) → Acts k cpu ec → ReadsWords k ec m → ⊥
+abbrev pub AreWordsUnread : KernelState → ℕ → ℕ → Type 0
+AreWordsUnread k cpu m = (ec : ℕ) → Acts k cpu ec → ReadsWords k ec m → ⊥
 
 -- so in each of these turns
-abbrev pub IsUnreadAlong : KernelState → List ℕ → ℕ → Type 0
-IsUnreadAlong k [] m = Unit {0}
-IsUnreadAlong k (cpu ∷ turns) m = IsUnread k cpu m × IsUnreadAlong (after k cpu) turns m
+abbrev pub AreWordsUnreadAlong : KernelState → List ℕ → ℕ → Type 0
+AreWordsUnreadAlong k [] m = Unit {0}
+AreWordsUnreadAlong k (cpu ∷ turns) m = AreWordsUnread k cpu m × AreWordsUnreadAlong (after k cpu) turns m
 
 -- SEVERAL AT ONCE
 

@@ -1,34 +1,56 @@
--- Two runs of few turns that come to states of the shapes that the conditions are written for: two sides apart, and two sides that a trusted domain serves.
-use Rattle.std.specs.Prelude.{ℕ, ◌==◌, if◌then◌else◌, List, [], ◌∷◌, ◌++◌}
+-- The scenarios `apart.nova` and `served.nova` of `examples/`, word for word: runs that come to states that the conditions are written for.
+use Rattle.std.specs.Prelude.{ℕ, ◌==◌, ◌||◌, if◌then◌else◌, List, [], ◌∷◌, ◌++◌}
 use Rattle.byteorder.specs.Endian.{little_bytes}
-use Rattle.nova_model.specs.Boot.{Scenario}
+use Rattle.nova_model.specs.Boot.{Image, Scenario}
 
 -- words as the bytes of an image
 abbrev pub bytes_of : List ℕ → List ℕ
 bytes_of [] = []
 bytes_of (word ∷ words) = little_bytes 4 word ++ bytes_of words
 
--- on one processor, with 4 pages, the root runs these words
-abbrev pub program : List ℕ → Scenario
-program words = record {
-  cpus = 1;
-  ram = 2;
-  consoles = 0;
-  root = record { pc = 0; sp = 0; priority = 1; quantum = 100 };
-  images = record { address = 0; bytes = bytes_of words } ∷ [];
+-- these words, from an address on
+abbrev pub image : ℕ → List ℕ → Image
+image address words = record { address = address; bytes = bytes_of words }
+
+-- `examples/apart.nova`: a root makes two guests, 10 and 17, and a monitor for each, 6 and 13, with two pages, a console and two portals to it, which the guest's domain holds; and dies in turn 165.
+abbrev pub apart : Scenario
+apart = record {
+  cpus = 2;
+  ram = 3;
+  consoles = 2;
+  root = record { pc = 0; sp = 0; priority = 2; quantum = 10 };
+  images =
+      image 0 (3147923 ∷ 33555731 ∷ 115 ∷ 5245075 ∷ 34604307 ∷ 33555987 ∷ 1073743635 ∷ 115 ∷ 4294963895 ∷ 131895 ∷ 403899155 ∷ 6464547 ∷ 2195 ∷ 34604307 ∷ 115 ∷ 41945619 ∷ 133815 ∷ 299534995 ∷ 67111699 ∷ 265143 ∷ 557550483 ∷ 3091 ∷ 134327 ∷ 822419 ∷ 50331887 ∷ 52431379 ∷ 150199 ∷ 299534995 ∷ 83888915 ∷ 330679 ∷ 557550483 ∷ 1051667 ∷ 150711 ∷ 822419 ∷ 8388847 ∷ 1048691 ∷ 2099347 ∷ 656659 ∷ 1427 ∷ 689683 ∷ 115 ∷ 3147923 ∷ 1705235 ∷ 656787 ∷ 787987 ∷ 1683 ∷ 1811 ∷ 115 ∷ 5245075 ∷ 722195 ∷ 1427 ∷ 1705491 ∷ 821011 ∷ 115 ∷ 7013651 ∷ 6293139 ∷ 135038739 ∷ 115 ∷ 2099347 ∷ 2753811 ∷ 755219 ∷ 115 ∷ 3147923 ∷ 3802387 ∷ 2753939 ∷ 537658899 ∷ 1683 ∷ 722707 ∷ 115 ∷ 4196499 ∷ 4850963 ∷ 1427 ∷ 3802643 ∷ 1343227539 ∷ 115 ∷ 32871 ∷ [])
+      ∷ image 1024 (4294963895 ∷ 262967 ∷ 6463523 ∷ 9015 ∷ 164823827 ∷ 509783075 ∷ 1049363 ∷ 509783587 ∷ 33591 ∷ 13828883 ∷ 509782051 ∷ 9015 ∷ 1245971 ∷ 509782563 ∷ 17207 ∷ 164823827 ∷ 509781027 ∷ 17207 ∷ 1245971 ∷ 509781539 ∷ 37687 ∷ 13828883 ∷ 509780003 ∷ 25399 ∷ 1245971 ∷ 509780515 ∷ 1050771 ∷ 115 ∷ [])
+      ∷ image 8192 (4294963895 ∷ 66359 ∷ 6463523 ∷ 135991 ∷ 30606099 ∷ 509783075 ∷ 1049363 ∷ 509783587 ∷ 1050771 ∷ 115 ∷ [])
+      ∷ image 8320 (140215 ∷ 75670275 ∷ 6520867 ∷ 29532931 ∷ 4391699 ∷ 6467107 ∷ 2097939 ∷ 6465571 ∷ 115 ∷ [])
+      ∷ image 12288 (5243667 ∷ 6521779 ∷ 4294116115 ∷ 4261616867 ∷ 275783715 ∷ 68158739 ∷ 115 ∷ 268444675 ∷ 1048691 ∷ [])
+      ∷ image 16384 (4294963895 ∷ 66359 ∷ 6463523 ∷ 152375 ∷ 30606099 ∷ 509783075 ∷ 1049363 ∷ 509783587 ∷ 1050771 ∷ 115 ∷ [])
+      ∷ image 16512 (156599 ∷ 75670275 ∷ 6520867 ∷ 29532931 ∷ 4391699 ∷ 6467107 ∷ 2097939 ∷ 6465571 ∷ 115 ∷ [])
+      ∷ image 20480 (4195091 ∷ 6521779 ∷ 4294116115 ∷ 4261616867 ∷ 275783715 ∷ 69207315 ∷ 115 ∷ 268444675 ∷ 1048691 ∷ [])
+      ∷ [];
   sources = [];
 }
 
--- The root makes two monitors, protection domains 3 and 4, gives page 1 to the one and page 2 to the other, and makes a handler in each, the local threads 5 and 6, with portals 7 and 8 to them. It makes two
--- guests, domains 9 and 10, gives each the portal of its monitor, with the right to send exits, and makes a virtual CPU in each, 11 and 12, with scheduling contexts 13 and 14; and dies, all in 63 turns.
-abbrev pub two_sides : Scenario
-two_sides = program (2099347 ∷ 33555731 ∷ 5687 ∷ 30803475 ∷ 115 ∷ 34604307 ∷ 9783 ∷ 30803475 ∷ 115 ∷ 3147923 ∷ 35652883 ∷ 33555859 ∷ 1555 ∷ 115 ∷ 36701459 ∷ 34604435 ∷ 115 ∷ 5245075 ∷ 67110163 ∷ 1427 ∷ 35653139 ∷ 115 ∷ 68158739 ∷ 36701715 ∷ 115 ∷ 2099347 ∷ 37750035 ∷ 263735 ∷ 20317715 ∷ 115 ∷ 38798611 ∷ 267831 ∷ 20317715 ∷ 115 ∷ 3147923 ∷ 39847187 ∷ 37750163 ∷ 536872467 ∷ 67110675 ∷ 115 ∷ 40895763 ∷ 38798739 ∷ 68159251 ∷ 115 ∷ 4196499 ∷ 41944339 ∷ 1427 ∷ 39847443 ∷ 268437139 ∷ 115 ∷ 42992915 ∷ 40896019 ∷ 115 ∷ 1048691 ∷ [])
+-- `examples/served.nova`: a root makes a server, 3, in its own domain, and two guests, 9 and 16, with a monitor for each, 5 and 12; of the two portals that a guest's domain holds one leads to its monitor, and the
+-- other to the server. The root's first thread dies in turn 127.
+abbrev pub served : Scenario
+served = record {
+  cpus = 1;
+  ram = 3;
+  consoles = 1;
+  root = record { pc = 0; sp = 0; priority = 2; quantum = 10 };
+  images =
+      image 0 (3147923 ∷ 33555731 ∷ 115 ∷ 41945619 ∷ 10935 ∷ 165317267 ∷ 67111699 ∷ 265143 ∷ 557550483 ∷ 11447 ∷ 822419 ∷ 1051923 ∷ 50331887 ∷ 52431379 ∷ 19127 ∷ 165317267 ∷ 83888915 ∷ 330679 ∷ 557550483 ∷ 19639 ∷ 822419 ∷ 2100499 ∷ 8388847 ∷ 1048691 ∷ 2099347 ∷ 656659 ∷ 1427 ∷ 689683 ∷ 115 ∷ 3147923 ∷ 1705235 ∷ 656787 ∷ 1555 ∷ 1683 ∷ 1811 ∷ 115 ∷ 5245075 ∷ 722195 ∷ 1427 ∷ 1705491 ∷ 821011 ∷ 115 ∷ 7013651 ∷ 33555987 ∷ 6293139 ∷ 1073743635 ∷ 115 ∷ 11536531 ∷ 7013651 ∷ 853395 ∷ 115 ∷ 2099347 ∷ 2753811 ∷ 1427 ∷ 755219 ∷ 115 ∷ 3147923 ∷ 3802387 ∷ 2753939 ∷ 536872467 ∷ 1683 ∷ 722707 ∷ 115 ∷ 4196499 ∷ 4850963 ∷ 1427 ∷ 3802643 ∷ 1343227539 ∷ 115 ∷ 32871 ∷ [])
+      ∷ image 1024 (4294963895 ∷ 75670275 ∷ 33752675 ∷ 33719 ∷ 6520867 ∷ 172067 ∷ 29532931 ∷ 4391699 ∷ 6467107 ∷ 2097939 ∷ 6465571 ∷ 1050771 ∷ 115 ∷ 6554387 ∷ 12784403 ∷ 30606099 ∷ 509783075 ∷ 4919 ∷ 1245971 ∷ 509783587 ∷ 1311763 ∷ 66359 ∷ 6463523 ∷ 4225757295 ∷ [])
+      ∷ image 8192 (4294963895 ∷ 66359 ∷ 6463523 ∷ 13111 ∷ 30606099 ∷ 509783075 ∷ 1049363 ∷ 509783587 ∷ 1050771 ∷ 115 ∷ [])
+      ∷ image 12288 (68158739 ∷ 115 ∷ 1299 ∷ 115 ∷ 4791 ∷ 15729427 ∷ 6463523 ∷ 101713171 ∷ 115 ∷ 173059 ∷ 1048691 ∷ [])
+      ∷ image 16384 (4294963895 ∷ 66359 ∷ 6463523 ∷ 21303 ∷ 30606099 ∷ 509783075 ∷ 1049363 ∷ 509783587 ∷ 1050771 ∷ 115 ∷ [])
+      ∷ image 20480 (69207315 ∷ 115 ∷ 1299 ∷ 115 ∷ 4791 ∷ 10486547 ∷ 6463523 ∷ 102761747 ∷ 115 ∷ 173059 ∷ 1048691 ∷ [])
+      ∷ [];
+  sources = [];
+}
 
--- The root makes a server, the local thread 3 of its own domain, with portal 4 to it, and then domains 5 and 6, each with a capability to the portal that has the right to send exits, and in each a thread, 7 and 8,
--- with scheduling contexts 9 and 10; and dies, all in 38 turns.
-abbrev pub two_served : Scenario
-two_served = program (3147923 ∷ 33555731 ∷ 115 ∷ 5245075 ∷ 67110163 ∷ 33555987 ∷ 115 ∷ 2099347 ∷ 34604307 ∷ 263735 ∷ 20317715 ∷ 115 ∷ 35652883 ∷ 115 ∷ 3147923 ∷ 36701459 ∷ 34604435 ∷ 268437011 ∷ 67110675 ∷ 115 ∷ 37750035 ∷ 35653011 ∷ 115 ∷ 4196499 ∷ 38798611 ∷ 1427 ∷ 36701715 ∷ 268437139 ∷ 115 ∷ 39847187 ∷ 37750291 ∷ 115 ∷ 1048691 ∷ [])
-
--- the labels of these: 5 is of one side, 6 of another, and the root's domain is trusted
+-- the labels of these: domains 4 and 8 are of side 1, 11 and 15 of side 2, and all others are trusted
 abbrev pub sides_served : ℕ → ℕ
-sides_served n = if n == 5 then 1 else if n == 6 then 2 else 0
+sides_served n = if n == 4 || n == 8 then 1 else if n == 11 || n == 15 then 2 else 0

@@ -48,14 +48,15 @@ use Rattle.nova_model.specs.declared.transfer.Sequel.{Sequel}
 use Rattle.nova_model.specs.declared.transfer.Transfer.{Transfer}
 use Rattle.law_forest.specs.Made.{IsFirstCapability, MayCreate}
 use Rattle.law_turns.specs.Giving.{IsShared}
+use Rattle.law_turns.specs.Left.{IsGivenOf}
 use Rattle.law_turns.specs.Moments.{IsDueOn}
 use Rattle.law_turns.specs.Revoking.{AsksRevoke}
 use Rattle.law_turns.specs.Scheduling.{IsPaidBy, IsUnpaid}
 use Rattle.law_turns.specs.Stirs.{stirs_of}
 use Rattle.law_turns.specs.Windows.{TellsOfItem}
 use Rattle.law_turns.specs.Words.{IsAmongWords, words_at}
-use Rattle.law_integrity.specs.Rightful.{IsLost, IsOfCall, IsOwnDeadline, IsRaise, IsRightful, IsTold}
-use Rattle.law_integrity.specs.Rights.{AsksDown, AsksUp, CallsAt, ExitsAt, GivesTo, HasTurn, IsAsking, IsNew, IsServing, MayTake, Names, Stores, StoresTo}
+use Rattle.law_integrity.specs.Rightful.{IsExitLost, IsOfCall, IsOwnDeadline, RaisesExit, IsRightful, IsToldValue}
+use Rattle.law_integrity.specs.Rights.{AsksDown, AsksUp, CallsAt, ExitsAt, GivesTo, HasTurn, IsAsking, IsNew, ServesCaller, MayTake, Names, HasStore, StoresTo}
 
 -- MEMORY
 
@@ -81,11 +82,11 @@ pub record LogBy (k : KernelState) (ec : ℕ) (old new : List LogByte) : Type 0 
 -- of the one who acts by its own store; of the handler that it calls, or to which its exit goes, which is parked; of its caller, to whom it replies and which waits for that; of itself or its caller, who is
 -- told by two words what came of the present item; or of a new thread
 pub data MessageBy (k : KernelState) (ec n : ℕ) (new : Option (List ℕ)) : Type 0 where
-  StoresOwn : n ≡ ec → (s : Store) → Stores k ec s → IsAmongWords k ec s → new ≡ Some (stored (message k n) (s.address % 4096) s.width s.value) → MessageBy k ec n new
+  StoresOwn : n ≡ ec → (s : Store) → HasStore k ec s → IsAmongWords k ec s → new ≡ Some (stored (message k n) (s.address % 4096) s.width s.value) → MessageBy k ec n new
   CopiesCall : CallsAt k ec n → (context k n).state ≡ Parked → new ≡ Some (copied (message k ec) (message k n)) → MessageBy k ec n new
   CopiesExit : (e : ExitsAt k ec n) → (context k n).state ≡ Parked → new ≡ Some (exited (record { 0 = e.mtd }) e.q0 e.q1 (context k ec).regs (message k n)) → MessageBy k ec n new
-  CopiesReply : IsServing k ec n Call → (context k n).state ≡ Calling ec → new ≡ Some (copied (message k ec) (message k n)) → MessageBy k ec n new
-  TellsItem : ((n ≡ ec) ⊎ IsServing k ec n Call) → (item : ℕ) (end : ItemEnd) (words : ItemWords) → TellsOfItem k ec item end words → words.ec ≡ n →
+  CopiesReply : ServesCaller k ec n Call → (context k n).state ≡ Calling ec → new ≡ Some (copied (message k ec) (message k n)) → MessageBy k ec n new
+  TellsItem : ((n ≡ ec) ⊎ ServesCaller k ec n Call) → (item : ℕ) (end : ItemEnd) (words : ItemWords) → TellsOfItem k ec item end words → words.ec ≡ n →
       new ≡ Some (with_item (message k n) item words.first words.second) → MessageBy k ec n new
   NewWords : IsNew k ec n → IfSome new (λ m. m ≡ no_words) → MessageBy k ec n new
 
@@ -102,7 +103,7 @@ pub record IsBorn (n : ℕ) (x : EcState) : Type 0 where
 
 -- one that acts ends: nobody takes its exit, or the handler for whose reply it waits has ended
 pub data EndsBy (k : KernelState) (ec : ℕ) : Type 0 where
-  Lost : (reason q0 : ℕ) → IsLost k ec reason q0 → EndsBy k ec
+  Lost : (reason q0 : ℕ) → IsExitLost k ec reason q0 → EndsBy k ec
   Left : (handler : ℕ) → (context k ec).state ≡ Calling handler → is_dead (state_in k.contexts handler) ≡ true → EndsBy k ec
 
 -- a state to which one that acts may come by itself: to wait for a handler, by a portal that it may call or to which its exit goes; to wait at a semaphore by a down, to which it has the right; to give
@@ -113,9 +114,9 @@ MayComeTo k ec (Helping handler) = CallsAt k ec handler
 MayComeTo k ec (Sending reason q0 q1 handler) = ExitsAt k ec handler
 MayComeTo k ec (Blocked sm) = AsksDown k ec sm
 MayComeTo k ec (Granting new) = (new ≡ Some (length k.objects)) × MayCreate k (pd_of k ec)
-MayComeTo k ec Replying = (caller : ℕ) × (mark : Mark) × IsServing k ec caller mark
-MayComeTo k ec Parked = (caller : ℕ) × (mark : Mark) × IsServing k ec caller mark
-MayComeTo k ec (Exiting reason q0 q1) = IsRaise k ec reason q0 q1
+MayComeTo k ec Replying = (caller : ℕ) × (mark : Mark) × ServesCaller k ec caller mark
+MayComeTo k ec Parked = (caller : ℕ) × (mark : Mark) × ServesCaller k ec caller mark
+MayComeTo k ec (Exiting reason q0 q1) = RaisesExit k ec reason q0 q1
 MayComeTo k ec Fresh = ⊥
 MayComeTo k ec (Revoking range own) = AsksRevoke k ec range own
 MayComeTo k ec Dead = EndsBy k ec
@@ -125,7 +126,7 @@ MayComeTo k ec other = Unit {0}
 pub data RegistersBy (k : KernelState) (ec : ℕ) (old new : Registers) : Type 0 where
   Kept : new ≡ old → RegistersBy k ec old new
   Stepped : deed k ec ≡ Steps → (store : Option Store) → instruction k ec ≡ Went new store → RegistersBy k ec old new
-  Answered : (status : Status) (value : Option ℕ) → IfSome value (λ v. IsTold k ec (reg (context k ec).regs 17) v) → new ≡ answered_registers old status value → RegistersBy k ec old new
+  Answered : (status : Status) (value : Option ℕ) → IfSome value (λ v. IsToldValue k ec (reg (context k ec).regs 17) v) → new ≡ answered_registers old status value → RegistersBy k ec old new
 
 -- its recall stays; its own exit clears it, that of the recall; or it asks for its own, with control of itself
 pub data RecallBy (k : KernelState) (ec : ℕ) (old new : Bool) (state : State) : Type 0 where
@@ -151,7 +152,7 @@ pub data ContextBy (k : KernelState) (ec n : ℕ) (words : List ℕ) (old new : 
       new ≡ Some (serving x ec Call c.ip (identifier k c.portal) (has_items (message k ec))) → ContextBy k ec n words old new
   ExitSent : (e : ExitsAt k ec n) (x : EcState) → old ≡ Some x → x.state ≡ Parked →
       new ≡ Some (serving x ec Exit e.ip (identifier k e.portal) false) → ContextBy k ec n words old new
-  Resumed : (mark : Mark) → IsServing k ec n mark → (x : EcState) → old ≡ Some x → x.state ≡ Calling ec → new ≡ Some (resumed x mark words) → ContextBy k ec n words old new
+  Resumed : (mark : Mark) → ServesCaller k ec n mark → (x : EcState) → old ≡ Some x → x.state ≡ Calling ec → new ≡ Some (resumed x mark words) → ContextBy k ec n words old new
   Recalled : Names k ec EC_CTRL control_right n → (x : EcState) → old ≡ Some x → new ≡ Some (record x { recall = true }) → ContextBy k ec n words old new
   Woken : (sm : ℕ) → AsksUp k ec sm → (rest : List ℕ) → (semaphore k.semaphores sm).waiting ≡ n ∷ rest → (x : EcState) → old ≡ Some x → x.state ≡ Blocked sm →
       new ≡ Some (answered x Success None) → ContextBy k ec n words old new
@@ -167,13 +168,13 @@ pub data TransferBy (k : KernelState) (ec n : ℕ) (new : Option Transfer) : Typ
 
 -- OBJECTS AND DELEGATIONS
 
--- they stay; a new object comes, with the first capability to it, which is its maker's; a child of what the giver holds, with no target and no right more, by the present item and within its window, to one
+-- they stay; a new object comes, with the first capability to it, which is its maker's; a child of what the giver holds and is the first left of the present item, with no target and no right more, within the item's window, to one
 -- who takes it or waits for it; or a leaf of a revoke's scope goes
 pub data GrowsByRight (k new : KernelState) (ec : ℕ) : Type 0 where
   Keeps : new.objects ≡ k.objects → new.delegations ≡ k.delegations → GrowsByRight k new ec
   Creates : (object : Object) (capability : Derivation) → IsFirstCapability k ec object capability → new.objects ≡ k.objects ++ object ∷ [] →
       new.delegations ≡ added k.delegations capability → GrowsByRight k new ec
-  Gives : (child source : Derivation) → Contains k.delegations.list source → child.parent ≡ Some source.id → IsWithin child source → IsShared k ec child →
+  Gives : (child source : Derivation) → Contains k.delegations.list source → child.parent ≡ Some source.id → IsWithin child source → IsShared k ec child → IsGivenOf k ec child →
       GivesTo k ec source.pd child.pd → new.objects ≡ k.objects → new.delegations ≡ added k.delegations child → GrowsByRight k new ec
   Takes : (leaf : Derivation) → MayTake k ec leaf → new.objects ≡ k.objects → new.delegations ≡ without k.delegations leaf.id → GrowsByRight k new ec
 
@@ -242,7 +243,7 @@ pub record IsAfterDeed (k new : KernelState) (cpu ec sc : ℕ) : Type 0 where
 pub record IsByRight (k new : KernelState) (cpu ec sc : ℕ) : Type 0 where
   pub does : IsAfterDeed k new cpu ec sc
   -- whom it serves waits for its reply
-  pub serves : (caller : ℕ) (mark : Mark) → IsServing k ec caller mark → (context k caller).state ≡ Calling ec
+  pub serves : (caller : ℕ) (mark : Mark) → ServesCaller k ec caller mark → (context k caller).state ≡ Calling ec
   pub frames : (frame : ℕ) → (slice_get new.memory.ram frame ≡ slice_get k.memory.ram frame) ⊎ FrameBy k ec frame (slice_get k.memory.ram frame) (slice_get new.memory.ram frame)
   pub log : (new.memory.log ≡ k.memory.log) ⊎ LogBy k ec k.memory.log new.memory.log
   pub messages : (n : ℕ) → (words_at new n ≡ words_at k n) ⊎ MessageBy k ec n (words_at new n)
@@ -356,5 +357,5 @@ IsComing k cpu None = (due_on k.times cpu ≡ None) × (choose k cpu ≡ None) �
 -- deadline ends a wait, or the clock alone goes on.
 pub data IsAuthorised (k new : KernelState) (cpu : ℕ) : Type 0 where
   Idles : choose k cpu ≡ None → next_moment k.times cpu ≡ None → new ≡ k → IsAuthorised k new cpu
-  Acts : (ec sc : ℕ) → HasTurn k cpu ec sc → IsByRight k new cpu ec sc → IsAuthorised k new cpu
+  ByActor : (ec sc : ℕ) → HasTurn k cpu ec sc → IsByRight k new cpu ec sc → IsAuthorised k new cpu
   Passes : (what : Option Due) → IsComing k cpu what → IsByTime k new cpu what → IsAuthorised k new cpu

@@ -54,14 +54,14 @@ pub record PageLeadsTo (k : KernelState) (domain page right frame : ℕ) : Type 
   pub allowed : allows derivation.rights right ≡ true
 
 -- its instruction goes on and has this store
-pub record Stores (k : KernelState) (ec : ℕ) (s : Store) : Type 0 where
+pub record HasStore (k : KernelState) (ec : ℕ) (s : Store) : Type 0 where
   pub steps : deed k ec ≡ Steps
   pub regs : Registers
   pub store : instruction k ec ≡ Went regs (Some s)
 
 -- and the page of the address leads to the frame, with the right to write
 pub record StoresTo (k : KernelState) (ec frame : ℕ) (s : Store) : Type 0 where
-  pub stores : Stores k ec s
+  pub stores : HasStore k ec s
   pub reaches : PageLeadsTo k (pd_of k ec) (s.address / 4096) write_right frame
 
 -- OBJECTS
@@ -107,8 +107,8 @@ pub record ExitsAt (k : KernelState) (ec handler : ℕ) : Type 0 where
   pub object : slice_get k.objects portal ≡ Some (Pt handler mtd ip)
 
 -- it serves the caller, who came by a call or an exit
-abbrev pub IsServing : KernelState → ℕ → ℕ → Mark → Type 0
-IsServing k ec caller mark = (context k ec).caller ≡ Some (caller, mark)
+abbrev pub ServesCaller : KernelState → ℕ → ℕ → Mark → Type 0
+ServesCaller k ec caller mark = (context k ec).caller ≡ Some (caller, mark)
 
 -- there was no object of this number, and its domain may have objects made in a protection domain
 pub record IsNew (k : KernelState) (ec n : ℕ) : Type 0 where
@@ -120,9 +120,9 @@ pub record IsNew (k : KernelState) (ec n : ℕ) : Type 0 where
 -- by whom derivations of one domain go to another: a handler takes them of its caller, who sent them; it gives them with its reply, for which its caller waits; or
 -- the maker of a protection domain gives a first range
 pub data GivesTo (k : KernelState) (ec giver receiver : ℕ) : Type 0 where
-  TakesOfCaller : (caller : ℕ) (mark : Mark) → (context k ec).state ≡ Granting None → IsServing k ec caller mark → pd_of k caller ≡ giver → pd_of k ec ≡ receiver →
+  TakesOfCaller : (caller : ℕ) (mark : Mark) → (context k ec).state ≡ Granting None → ServesCaller k ec caller mark → pd_of k caller ≡ giver → pd_of k ec ≡ receiver →
       GivesTo k ec giver receiver
-  RepliesWith : (caller : ℕ) (mark : Mark) → (context k ec).state ≡ Replying → IsServing k ec caller mark → pd_of k ec ≡ giver → pd_of k caller ≡ receiver →
+  RepliesWith : (caller : ℕ) (mark : Mark) → (context k ec).state ≡ Replying → ServesCaller k ec caller mark → pd_of k ec ≡ giver → pd_of k caller ≡ receiver →
       GivesTo k ec giver receiver
   GivesFirst : (context k ec).state ≡ Granting (Some receiver) → pd_of k ec ≡ giver → GivesTo k ec giver receiver
 

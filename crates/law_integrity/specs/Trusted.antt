@@ -65,7 +65,7 @@ MayTakeTurns k label [] = Unit {0}
 MayTakeTurns k label (cpu ∷ turns) = MayTakeTurn k label cpu × MayTakeTurns (after k cpu) (labels_after k label cpu) turns
 
 -- of a list of turns from k on one in which one of this label acts
-pub record IsTurnOf (k : KernelState) (label : ℕ → ℕ) (turns : List ℕ) (side : ℕ) : Type 0 where
+pub record IsTurnOfLabel (k : KernelState) (label : ℕ → ℕ) (turns : List ℕ) (side : ℕ) : Type 0 where
   pub before : List ℕ
   pub cpu : ℕ
   pub later : List ℕ
@@ -85,19 +85,19 @@ HoldsSince k label (cpu ∷ turns) side right object = Holds k (Labelled label s
 
 -- The turn of a list in which a side comes to reach the frame with the right: before it the side doesn't, and from then on it does. One that is trusted acts in it, whose own domain reaches the frame so.
 pub record IsGivenFrame (k : KernelState) (label : ℕ → ℕ) (turns : List ℕ) (side right frame : ℕ) : Type 0 where
-  pub turn : IsTurnOf k label turns 0
+  pub turn : IsTurnOfLabel k label turns 0
   pub unreached : Reach (run k turn.before) (Labelled (labels k label turn.before) side) right frame → ⊥
   pub since : ReachesSince (after (run k turn.before) turn.cpu) (labels_after (run k turn.before) (labels k label turn.before) turn.cpu) turn.later side right frame
   pub own : Reach (run k turn.before) (λ n. n ≡ pd_of (run k turn.before) turn.actor) right frame
 
 -- the turn in which it comes to hold the right to the object: one that is trusted acts, whose own domain holds it; or one of the side, which makes the object
 pub record IsGivenObject (k : KernelState) (label : ℕ → ℕ) (turns : List ℕ) (side right object : ℕ) : Type 0 where
-  pub turn : IsTurnOf k label turns 0
+  pub turn : IsTurnOfLabel k label turns 0
   pub unheld : Holds (run k turn.before) (Labelled (labels k label turn.before) side) right object → ⊥
   pub since : HoldsSince (after (run k turn.before) turn.cpu) (labels_after (run k turn.before) (labels k label turn.before) turn.cpu) turn.later side right object
   pub own : Holds (run k turn.before) (λ n. n ≡ pd_of (run k turn.before) turn.actor) right object
 
 pub record IsMadeBySide (k : KernelState) (label : ℕ → ℕ) (turns : List ℕ) (side right object : ℕ) : Type 0 where
-  pub turn : IsTurnOf k label turns side
+  pub turn : IsTurnOfLabel k label turns side
   pub next : object ≡ length (run k turn.before).objects
   pub since : HoldsSince (after (run k turn.before) turn.cpu) (labels_after (run k turn.before) (labels k label turn.before) turn.cpu) turn.later side right object

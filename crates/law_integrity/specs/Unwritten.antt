@@ -7,6 +7,6 @@ use Rattle.law_origins.specs.Giving.{Acts}
 use Rattle.law_integrity.specs.Rights.{PageLeadsTo}
 
 -- in each of these turns the domain of the one who acts reaches the frame by no page with the right to write
-abbrev pub IsUnwritten : KernelState → List ℕ → ℕ → Type 0
-IsUnwritten k [] frame = Unit {0}
-IsUnwritten k (cpu ∷ turns) frame = ((ec page : ℕ) → Acts k cpu ec → PageLeadsTo k (pd_of k ec) page write_right frame → ⊥) × IsUnwritten (after k cpu) turns frame
+abbrev pub IsUnwrittenFrame : KernelState → List ℕ → ℕ → Type 0
+IsUnwrittenFrame k [] frame = Unit {0}
+IsUnwrittenFrame k (cpu ∷ turns) frame = ((ec page : ℕ) → Acts k cpu ec → PageLeadsTo k (pd_of k ec) page write_right frame → ⊥) × IsUnwrittenFrame (after k cpu) turns frame

@@ -12,7 +12,7 @@ use Rattle.nova_model.specs.declared.times.Deadline.{Deadline}
 use Rattle.law_turns.specs.Tables.{IsOf}
 use Rattle.law_origins.specs.Giving.{Acts}
 use Rattle.law_integrity.specs.Rights.{AsksDown, CallsAt, ExitsAt}
-use Rattle.law_integrity.specs.Rightful.{IsExitAt, IsLost, IsOwnDeadline}
+use Rattle.law_integrity.specs.Rightful.{IsExitAt, IsExitLost, IsOwnDeadline}
 
 -- it waits for the reply of the handler in this state, and after each of these turns
 abbrev pub Waits : KernelState → List ℕ → ℕ → ℕ → Type 0
@@ -70,5 +70,5 @@ pub record IsSentOn (k : KernelState) (g : ℕ) : Type 0 where
 
 -- or it ends it: no handler takes it, or its handler ended
 pub data DiesOfExit (k : KernelState) (g : ℕ) : Type 0 where
-  ByLoss : (reason q0 : ℕ) → IsLost k g reason q0 → DiesOfExit k g
+  ByLoss : (reason q0 : ℕ) → IsExitLost k g reason q0 → DiesOfExit k g
   ByHandler : (handler : ℕ) → (context k g).state ≡ Calling handler → is_dead (state_in k.contexts handler) ≡ true → DiesOfExit k g

@@ -1,7 +1,6 @@
 // Laws of disclosure: what turns tell others of registers and message words.
 ghost use Rattle.std.specs.Prelude.{◌≡◌, ℕ, Bool, List, false, Some, Ok, option_map, slice_get};
 ghost use Rattle.nova_range.specs.Rights.{write_right};
-ghost use Rattle.nova_model.specs.Boot.{Scenario, boot};
 ghost use Rattle.nova_model.specs.Deeds.{instruction};
 ghost use Rattle.nova_model.specs.Exits.{exit_portal, raised_exit};
 ghost use Rattle.nova_model.specs.Inputs.{store_of};
@@ -9,10 +8,11 @@ ghost use Rattle.nova_model.specs.Portals.{handler_of};
 ghost use Rattle.nova_model.specs.Runs.{after, run, trace};
 ghost use Rattle.nova_model.specs.State.{KernelState, context, is_thread, pd_of};
 ghost use Rattle.nova_model.specs.Turn.{Step, turn};
+ghost use Rattle.law_origins.specs.Reachable.{IsReachable};
 ghost use Rattle.law_origins.specs.Giving.{Acts};
 ghost use Rattle.law_integrity.specs.Rights.{PageLeadsTo};
 ghost use Rattle.law_integrity.specs.Confined.{AreSeparate, IsMember, Of, ShareNothing, Side, grown};
-ghost use Rattle.law_integrity.specs.Disclosure.{AreSecretsOf, AreUnseen, Differ, Secret, DifferByExit, DifferByInstruction, DifferInRegisters, DifferInWords, IsAtInstruction, IsUnread, IsUnreadAlong, IsUntold, IsUntoldAlong};
+ghost use Rattle.law_integrity.specs.Disclosure.{AreSecretsOf, AreUnseen, Differ, Secret, DifferByExit, DifferByInstruction, DifferInRegisters, DifferInWords, IsAtInstruction, AreWordsUnread, AreWordsUnreadAlong, IsUntold, IsUntoldAlong};
 
 /// Take two states that differ in nothing but the registers of an execution context. A turn of the same processor in
 /// both leaves two states that differ in nothing else, and has the same event, where that execution context doesn't
@@ -58,34 +58,36 @@ pub fn registers_are_told_by_exits_calls_and_stores()
 /// that takes the items of its call, or gives it those of a reply. So over any list of such turns, and the events of
 /// these turns are the same.
 pub fn message_words_are_read_by_their_thread_and_its_handler()
-    ensures turn { (k l : KernelState) (cpu m : ℕ) → DifferInWords k l m → IsUnread k cpu m
+    ensures turn { (k l : KernelState) (cpu m : ℕ) → DifferInWords k l m → AreWordsUnread k cpu m
         → DifferInWords (after k cpu) (after l cpu) m }
-    ensures event { (k l : KernelState) (cpu m : ℕ) → DifferInWords k l m → IsUnread k cpu m
+    ensures event { (k l : KernelState) (cpu m : ℕ) → DifferInWords k l m → AreWordsUnread k cpu m
         → option_map (λ (s : Step). s.event) (turn l cpu) ≡ option_map (λ (s : Step). s.event) (turn k cpu) }
     ensures turns { (k l : KernelState) (turns : List ℕ) (m : ℕ) → DifferInWords k l m
-        → IsUnreadAlong k turns m → DifferInWords (run k turns) (run l turns) m }
+        → AreWordsUnreadAlong k turns m → DifferInWords (run k turns) (run l turns) m }
     ensures events { (k l : KernelState) (turns : List ℕ) (m : ℕ) → DifferInWords k l m
-        → IsUnreadAlong k turns m → trace l turns ≡ trace k turns }
+        → AreWordsUnreadAlong k turns m → trace l turns ≡ trace k turns }
 {}
 
 /// Take two separate sets of domains, as in `closed_sets_stay_confined`. Whatever turns follow, a turn in which one of the
 /// first set's acts looks at no registers and no message words of any execution context that isn't the set's: over two
 /// states that differ in these alone it leaves two that differ in these alone.
 pub fn closed_sets_are_blind_to_registers_and_words()
-    ensures registers { (scenario : Scenario) (before turns : List ℕ) (S T : ℕ → Bool) (cpu ec n : ℕ) (l : KernelState)
-        → AreSeparate (run (boot scenario) before) (Of S) (Of T)
-        → Acts (run (run (boot scenario) before) turns) cpu ec
-        → IsMember (run (run (boot scenario) before) turns) (grown (run (boot scenario) before) (Of S) turns) ec
-        → (IsMember (run (run (boot scenario) before) turns) (grown (run (boot scenario) before) (Of S) turns) n → ⊥)
-        → DifferInRegisters (run (run (boot scenario) before) turns) l n
-        → DifferInRegisters (after (run (run (boot scenario) before) turns) cpu) (after l cpu) n }
-    ensures words { (scenario : Scenario) (before turns : List ℕ) (S T : ℕ → Bool) (cpu ec n : ℕ) (l : KernelState)
-        → AreSeparate (run (boot scenario) before) (Of S) (Of T)
-        → Acts (run (run (boot scenario) before) turns) cpu ec
-        → IsMember (run (run (boot scenario) before) turns) (grown (run (boot scenario) before) (Of S) turns) ec
-        → (IsMember (run (run (boot scenario) before) turns) (grown (run (boot scenario) before) (Of S) turns) n → ⊥)
-        → DifferInWords (run (run (boot scenario) before) turns) l n
-        → DifferInWords (after (run (run (boot scenario) before) turns) cpu) (after l cpu) n }
+    ensures registers { (k : KernelState) (turns : List ℕ) (S T : ℕ → Bool) (cpu ec n : ℕ) (l : KernelState)
+        → IsReachable k
+        → AreSeparate k (Of S) (Of T)
+        → Acts (run k turns) cpu ec
+        → IsMember (run k turns) (grown k (Of S) turns) ec
+        → (IsMember (run k turns) (grown k (Of S) turns) n → ⊥)
+        → DifferInRegisters (run k turns) l n
+        → DifferInRegisters (after (run k turns) cpu) (after l cpu) n }
+    ensures words { (k : KernelState) (turns : List ℕ) (S T : ℕ → Bool) (cpu ec n : ℕ) (l : KernelState)
+        → IsReachable k
+        → AreSeparate k (Of S) (Of T)
+        → Acts (run k turns) cpu ec
+        → IsMember (run k turns) (grown k (Of S) turns) ec
+        → (IsMember (run k turns) (grown k (Of S) turns) n → ⊥)
+        → DifferInWords (run k turns) l n
+        → DifferInWords (after (run k turns) cpu) (after l cpu) n }
 {}
 
 /// Take any state, and another that differs in several things at once that who acts doesn't see: registers of others,
@@ -97,10 +99,11 @@ pub fn a_turn_is_the_same_over_what_it_doesnt_see()
         → Differ secrets k l → Differ secrets (after k cpu) (after l cpu) }
     ensures event { (secrets : List Secret) (k l : KernelState) (cpu ec : ℕ) → Acts k cpu ec → AreUnseen k ec secrets
         → Differ secrets k l → option_map (λ (s : Step). s.event) (turn l cpu) ≡ option_map (λ (s : Step). s.event) (turn k cpu) }
-    ensures guests { (scenario : Scenario) (before turns : List ℕ) (guest monitor other_guest other_monitor cpu ec : ℕ) (secrets : List Secret)
-        → ShareNothing (run (boot scenario) before) guest monitor other_guest other_monitor
-        → Acts (run (run (boot scenario) before) turns) cpu ec
-        → IsMember (run (run (boot scenario) before) turns) (Side (run (boot scenario) before) guest monitor turns) ec
-        → AreSecretsOf (run (run (boot scenario) before) turns) (Side (run (boot scenario) before) other_guest other_monitor turns) secrets
-        → AreUnseen (run (run (boot scenario) before) turns) ec secrets }
+    ensures guests { (k : KernelState) (turns : List ℕ) (guest monitor other_guest other_monitor cpu ec : ℕ) (secrets : List Secret)
+        → IsReachable k
+        → ShareNothing k guest monitor other_guest other_monitor
+        → Acts (run k turns) cpu ec
+        → IsMember (run k turns) (Side k guest monitor turns) ec
+        → AreSecretsOf (run k turns) (Side k other_guest other_monitor turns) secrets
+        → AreUnseen (run k turns) ec secrets }
 {}

@@ -7,13 +7,14 @@ ghost use Rattle.nova_model.specs.Runs.{after, run};
 ghost use Rattle.nova_model.specs.State.{KernelState, context};
 ghost use Rattle.nova_model.specs.Edges.{is_dead, state_in};
 ghost use Rattle.nova_model.specs.declared.context.State.TheVariants.{Calling, Granting};
+ghost use Rattle.law_origins.specs.Reachable.{IsReachable};
 ghost use Rattle.law_origins.specs.Giving.{Acts, HasMade};
 ghost use Rattle.law_integrity.specs.Integrity.{IsAuthorised, IsByRight};
 ghost use Rattle.law_integrity.specs.Rightful.{IsOfCall, IsOfExit, IsRightful};
 ghost use Rattle.law_integrity.specs.Rights.{HasTurn, IsAsking};
-ghost use Rattle.law_integrity.specs.Unwritten.{IsUnwritten};
+ghost use Rattle.law_integrity.specs.Unwritten.{IsUnwrittenFrame};
 
-/// Take any list of turns from any boot state, and any processor. Its next turn changes nothing, where nothing is
+/// Take any reachable state, and any processor. Its next turn changes nothing, where nothing is
 /// due, none is chosen and nothing is to come. Or it is the turn of one who acts, paid by a scheduling context
 /// whose turns lead there along edges. Then it does one deed, which is rightful: the state after is what comes of
 /// that deed, of the stir counts that it raises and of the charge; and each part of the state stays, or changes
@@ -23,49 +24,56 @@ ghost use Rattle.law_integrity.specs.Unwritten.{IsUnwritten};
 /// its next moment; or a deadline that is due ends the wait of the one whose it is, with TIMEOUT; or the clock
 /// goes on; and all else stays.
 pub fn turns_change_by_right()
-    ensures turn { (scenario : Scenario) (turns : List ℕ) (cpu : ℕ)
-        → IsAuthorised (run (boot scenario) turns) (after (run (boot scenario) turns) cpu) cpu }
-    ensures acting { (scenario : Scenario) (turns : List ℕ) (cpu ec : ℕ)
-        → Acts (run (boot scenario) turns) cpu ec
-        → (sc : ℕ) × HasTurn (run (boot scenario) turns) cpu ec sc
-        × IsByRight (run (boot scenario) turns) (after (run (boot scenario) turns) cpu) cpu ec sc }
+    ensures turn { (k : KernelState) (cpu : ℕ)
+        → IsReachable k
+        → IsAuthorised k (after k cpu) cpu }
+    ensures acting { (k : KernelState) (cpu ec : ℕ)
+        → IsReachable k
+        → Acts k cpu ec
+        → (sc : ℕ) × HasTurn k cpu ec sc
+        × IsByRight k (after k cpu) cpu ec sc }
 {}
 
-/// Whatever list of turns is taken from whatever boot state, what an execution context is about to do names
-/// nobody but by right. A call goes to the handler of a portal that its domain holds at the selector in x10,
-/// with the right to call. An exit goes to that of the portal that its domain holds at event base + reason,
-/// with the right to send exits, with that portal's descriptor and identifier; it ends its execution context
-/// only where no such portal's handler takes it, and nothing else becomes of one than that it is sent, waits for
-/// its handler or ends it. A reply goes to the caller that it serves. Recalls, numbers of
-/// portals, ticks, ups and downs are of what its domain holds at the selector in x10, with the right to them;
-/// an up or a down is the one that x11 asks for, an up has no overflow, a down is done where the counter is above 0
-/// and waits where it is 0, and a wait has a deadline exactly where x11 asks for one, on its own processor and so many
-/// ticks after the turn as x12 says. A call waits for a busy handler only where x11 is 0. A lookup tells 0, or the word of a derivation of
-/// its own domain. A refusal is of the call in x17, and doesn't say SUCCESS. What only a hypercall does is done by
-/// a thread whose next instruction is one, or that makes its call again. A part of an item is skipped for a reason
-/// that holds, an item ends as it is, as given only where nothing of it is left, and tells whom it is for, and a revoke is the one that the registers ask for
-/// and returns where nothing is left of its scope. One that waits for a reply acts only where its handler has
-/// ended, which keeps it as the caller that came by that mark, and one that gives a first range made that domain
-/// in a turn of its own.
+/// In each reachable state, what an execution context is about to do names nobody but by right. A call goes to the
+/// handler of a portal that its domain holds at the selector in x10, with the right to call. An exit goes to that
+/// of the portal that its domain holds at event base + reason, with the right to send exits, with that portal's
+/// descriptor and identifier; it ends its execution context only where no such portal's handler takes it, and
+/// nothing else becomes of one than that it is sent, waits for its handler or ends it. A reply goes to the caller
+/// that it serves. Recalls, numbers of portals, ticks, ups and downs are of what its domain holds at the selector
+/// in x10, with the right to them; an up or a down is the one that x11 asks for, an up has no overflow, a down is
+/// done where the counter is above 0 and waits where it is 0, and a wait has a deadline exactly where x11 asks for
+/// one, on its own processor and so many ticks after the turn as x12 says. A call waits for a busy handler only
+/// where x11 is 0. A lookup tells the word of the derivation of its own domain that has the first place of the
+/// range in x10, of its kind, or 0 where none has. A refusal is of the call in x17, and doesn't say SUCCESS. What
+/// only a hypercall does is done by a thread whose next instruction is one, or that makes its call again. A part of
+/// an item that is given or skipped is of the derivation that is the first left, and behind that the cursor comes;
+/// one that is skipped is so for a reason that holds. An item ends as it is, as given only where nothing of it is
+/// left, and tells whom it is for, and a revoke is the one that the registers ask for and returns where nothing is
+/// left of its scope. One that waits for a reply acts only where its handler has ended, which keeps it as the
+/// caller that came by that mark, and one that gives a first range made that domain in a turn of its own.
 pub fn deeds_are_rightful()
-    ensures rightful { (scenario : Scenario) (turns : List ℕ) (ec : ℕ)
-        → IsRightful (run (boot scenario) turns) ec (deed (run (boot scenario) turns) ec) }
+    ensures rightful { (k : KernelState) (ec : ℕ)
+        → IsReachable k
+        → IsRightful k ec (deed k ec) }
     ensures asks { (k : KernelState) (ec : ℕ) → IsOfCall (deed k ec) → IsAsking k ec }
     ensures exits { (k : KernelState) (ec reason q0 q1 : ℕ)
         → raised_exit (context k ec).state ≡ Some (reason, q0, q1)
         → IsOfExit reason q0 q1 (deed k ec) }
-    ensures aborts { (scenario : Scenario) (turns : List ℕ) (cpu ec handler : ℕ)
-        → Acts (run (boot scenario) turns) cpu ec
-        → (context (run (boot scenario) turns) ec).state ≡ Calling handler
-        → is_dead (state_in (run (boot scenario) turns).contexts handler) ≡ true }
+    ensures aborts { (k : KernelState) (cpu ec handler : ℕ)
+        → IsReachable k
+        → Acts k cpu ec
+        → (context k ec).state ≡ Calling handler
+        → is_dead (state_in k.contexts handler) ≡ true }
     ensures firsts { (scenario : Scenario) (turns : List ℕ) (ec domain : ℕ)
         → (context (run (boot scenario) turns) ec).state ≡ Granting (Some domain)
         → HasMade (boot scenario) turns ec domain }
 {}
 
-/// A frame stays over turns in which the domain of nobody who acts reaches it with the right to write.
+/// From a reachable state on, a frame stays over turns in which the domain of nobody who acts reaches it with the
+/// right to write.
 pub fn frames_that_nobody_may_write_stay()
-    ensures { (scenario : Scenario) (before turns : List ℕ) (frame : ℕ)
-        → IsUnwritten (run (boot scenario) before) turns frame
-        → slice_get (run (run (boot scenario) before) turns).memory.ram frame ≡ slice_get (run (boot scenario) before).memory.ram frame }
+    ensures { (k : KernelState) (turns : List ℕ) (frame : ℕ)
+        → IsReachable k
+        → IsUnwrittenFrame k turns frame
+        → slice_get (run k turns).memory.ram frame ≡ slice_get k.memory.ram frame }
 {}

@@ -1,18 +1,18 @@
 // Laws of what instructions see.
-ghost use Rattle.std.specs.Prelude.{◌≡◌, ℕ, List};
+ghost use Rattle.std.specs.Prelude.{◌≡◌, ℕ};
 ghost use Rattle.rv_model.specs.Step.{Space, one};
-ghost use Rattle.nova_model.specs.Boot.{Scenario, boot};
 ghost use Rattle.nova_model.specs.Deeds.{instruction};
-ghost use Rattle.nova_model.specs.Runs.{run};
-ghost use Rattle.nova_model.specs.State.{context};
+ghost use Rattle.nova_model.specs.State.{KernelState, context};
+ghost use Rattle.law_origins.specs.Reachable.{IsReachable};
 ghost use Rattle.law_integrity.specs.Spaces.{IsSpaceOf};
 
-/// Whatever list of turns is taken from whatever boot state, the next instruction of an execution context is
+/// In each reachable state, the next instruction of an execution context is
 /// one of its registers over a space in which fetches and loads find exactly the bytes of frames that its
 /// domain reaches, with the right to execute or to read, and a thread's own message words; and in which
 /// exactly those stores are taken that go to such words, or to a frame that is reached with the right to write.
 pub fn instructions_see_what_their_domain_reaches()
-    ensures { (scenario : Scenario) (turns : List ℕ) (ec : ℕ)
-        → (space : Space) × (instruction (run (boot scenario) turns) ec ≡ one (context (run (boot scenario) turns) ec).regs space)
-        × IsSpaceOf (run (boot scenario) turns) ec space }
+    ensures { (k : KernelState) (ec : ℕ)
+        → IsReachable k
+        → (space : Space) × (instruction k ec ≡ one (context k ec).regs space)
+        × IsSpaceOf k ec space }
 {}

@@ -9,3 +9,4 @@ pub mod Rights
 pub mod Births
 pub mod Lives
 pub mod Once
+pub mod Reachable

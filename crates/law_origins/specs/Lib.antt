@@ -3,3 +3,4 @@ pub mod Sending
 pub mod Giving
 pub mod Whose
 pub mod Lives
+pub mod Reachable

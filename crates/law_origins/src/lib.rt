@@ -18,8 +18,17 @@ ghost use Rattle.nova_range.specs.declared.rights.Rights.{Rights};
 ghost use Rattle.law_origins.specs.Events.{AreSelectors, HasEvents};
 ghost use Rattle.law_origins.specs.Giving.{Acts, HasMade, IsGiven, IsTakenByRight, HasPageTo};
 ghost use Rattle.law_origins.specs.Lives.{AreGuestsAlone};
+ghost use Rattle.law_origins.specs.Reachable.{IsReachable};
 ghost use Rattle.law_origins.specs.Sending.{HandlesLast, LastSent};
 ghost use Rattle.law_origins.specs.Whose.{HasRight, IsInputBy};
+
+/// A state is reachable where some list of turns makes it of the boot state of some scenario: so is each boot state, whatever
+/// turns make of a reachable state, and whatever turns make of a boot state.
+pub fn what_turns_reach_is_reachable()
+    ensures boot { (scenario : Scenario) → IsReachable (boot scenario) }
+    ensures turns { (k : KernelState) (turns : List ℕ) → IsReachable k → IsReachable (run k turns) }
+    ensures reached { (scenario : Scenario) (turns : List ℕ) → IsReachable (run (boot scenario) turns) }
+{}
 
 /// Whatever list of turns is taken from whatever boot state, no event base is above 2^20 - 9 and no exit
 /// that is raised and not sent has a reason above 8, so that event base + reason is a selector.

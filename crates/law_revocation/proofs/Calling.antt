@@ -23,7 +23,7 @@ use Rattle.law_turns.proofs.Revoking.{begins_asked}
 use Rattle.law_revocation.specs.Along.{HasEvent, Runs}
 use Rattle.law_revocation.specs.Called.{HasEndedAsCalled, WasCalled}
 use Rattle.law_revocation.specs.Sound.{IsKeptForest}
-use Rattle.law_revocation.specs.Whole.{Begins, HasEnded}
+use Rattle.law_revocation.specs.Whole.{RevokeBegins, HasEnded}
 use Rattle.law_revocation.proofs.Ending.{begun, none_some, reached_told}
 use Rattle.law_revocation.proofs.Kept.{boot_sound, turn_sound}
 use Rattle.law_revocation.proofs.Shrinking.{runs_now}
@@ -53,7 +53,7 @@ since k (cpu ∷ turns) ec r sound now = by_rest (since (after k cpu) turns ec r
     by_turn : Runs (after k cpu) ec r turns → (revoke_of k ec ≡ Some r) ⊎ (revoke_of k ec ≢ Some r) → Runs k ec r (cpu ∷ turns) ⊎ WasCalled k (cpu ∷ turns) ec r
     by_turn runs (inl ran) = inl (ran, runs)
     by_turn runs (inr not_yet) =
-        let begins : Begins k cpu ec r = (not_yet, runs_now (after k cpu) ec r turns runs) in
+        let begins : RevokeBegins k cpu ec r = (not_yet, runs_now (after k cpu) ec r turns runs) in
         inr (record { before = []; first = cpu; between = turns; whole = refl; begins = begins; call = begun k cpu ec r sound begins; runs = runs })
 
     by_rest : Runs (after k cpu) ec r turns ⊎ WasCalled (after k cpu) turns ec r → Runs k ec r (cpu ∷ turns) ⊎ WasCalled k (cpu ∷ turns) ec r

@@ -24,9 +24,10 @@ use Rattle.nova_model.specs.declared.event.EventKind.TheVariants.{Answer}
 use Rattle.nova_model.specs.declared.event.Turn.TheVariants.{Stepped}
 use Rattle.law_turns.specs.Revoking.{revoke_after}
 use Rattle.law_turns.proofs.Revoking.{begins_asked, returns_done}
-use Rattle.law_revocation.specs.Along.{Acts, HasEvent, Runs, acts_in, acts_once}
+use Rattle.law_origins.specs.Giving.{Acts}
+use Rattle.law_revocation.specs.Along.{HasEvent, Runs, acts_in, acts_once}
 use Rattle.law_revocation.specs.Sound.{IsKeptForest}
-use Rattle.law_revocation.specs.Whole.{Begins, RevokeEnds, HasEnded, HasReturned, IsAnswered, IsBegun, left}
+use Rattle.law_revocation.specs.Whole.{RevokeBegins, RevokeEnds, HasEnded, HasReturned, IsRevokeAnswered, BeginsAsAsked, left}
 use Rattle.law_revocation.proofs.Answering.{answer_returns}
 use Rattle.law_revocation.proofs.Kept.{reached_sound, turn_sound}
 use Rattle.law_revocation.proofs.Shrinking.{shrunk}
@@ -34,11 +35,11 @@ use Rattle.law_revocation.proofs.Turns.{GoesOn, HasPart, Another, IsOver, Itself
 
 -- IT BEGINS
 
-pub begun : (k : KernelState) (cpu ec : ℕ) (r : Revocation) → IsKeptForest k → Begins k cpu ec r → IsBegun k cpu ec r
+pub begun : (k : KernelState) (cpu ec : ℕ) (r : Revocation) → IsKeptForest k → RevokeBegins k cpu ec r → BeginsAsAsked k cpu ec r
 begun k cpu ec r sound (before, now) = by_part (part_of k cpu ec)
   where
     of_revoke : (range : Range) (own : Bool) → Acts k cpu ec → deed k ec ≡ Revokes range own →
-        IsBegun k cpu ec (record { pd = pd_of k ec; range = range; own = own })
+        BeginsAsAsked k cpu ec (record { pd = pd_of k ec; range = range; own = own })
     of_revoke range own acts does = record {
       acts = acts;
       asks = (begins_asked k ec range own does).call;
@@ -47,17 +48,17 @@ begun k cpu ec r sound (before, now) = by_part (part_of k cpu ec)
       event = turn_event k cpu ec (Revokes range own) acts does;
     }
 
-    by_deed : (d : Deed) → Acts k cpu ec → deed k ec ≡ d → revoke_after k ec d ec ≡ Some r → IsBegun k cpu ec r
+    by_deed : (d : Deed) → Acts k cpu ec → deed k ec ≡ d → revoke_after k ec d ec ≡ Some r → BeginsAsAsked k cpu ec r
     by_deed (Revokes range own) acts does is =
         let its : Revocation = record { pd = pd_of k ec; range = range; own = own } in
         let taken : revoke_after k ec (Revokes range own) ec ≡ Some its = rw (eq-eqb ec ec refl) refl in
-        subst (IsBegun k cpu ec) (same_Some its r (sym taken ∙ is)) (of_revoke range own acts does)
+        subst (BeginsAsAsked k cpu ec) (same_Some its r (sym taken ∙ is)) (of_revoke range own acts does)
     by_deed Returns acts does is =
         let none : revoke_after k ec Returns ec ≡ None = rw (eq-eqb ec ec refl) refl in
         absurd (cc)
     by_deed other acts does is = absurd (before is)
 
-    by_part : HasPart k cpu ec → IsBegun k cpu ec r
+    by_part : HasPart k cpu ec → BeginsAsAsked k cpu ec r
     by_part (Itself acts one) = by_deed (deed k ec) acts refl (sym (its_revoke k cpu ec (deed k ec) sound.kept acts refl) ∙ now)
     by_part (Another another none) = absurd (before (sym (stays_apart k cpu ec sound.kept another) ∙ now))
 
@@ -81,7 +82,7 @@ one_event k cpu a b first second = cc
 pub none_some : (r : Revocation) → None ≡ Some r → ⊥
 none_some r h = absurd (cc)
 
-pub answered : (k : KernelState) (cpu ec : ℕ) (r : Revocation) → IsKeptForest k → IsAnswered k cpu ec r → HasReturned k cpu ec r
+pub answered : (k : KernelState) (cpu ec : ℕ) (r : Revocation) → IsKeptForest k → IsRevokeAnswered k cpu ec r → HasReturned k cpu ec r
 answered k cpu ec r sound h = by_own acts (goes_on k cpu ec r sound h.runs acts)
   where
     acts : Acts k cpu ec
@@ -127,7 +128,7 @@ one_more : (k : KernelState) (ec : ℕ) (turns : List ℕ) (last : ℕ) → acts
 one_more k ec [] last = let once = at_most_once ec (next_to_act k last) in omega arith
 one_more k ec (cpu ∷ turns) last = let rest = one_more (after k cpu) ec turns last in omega (arith, rest)
 
-pub whole : (k : KernelState) (first : ℕ) (turns : List ℕ) (last ec : ℕ) (r : Revocation) → IsKeptForest k → Begins k first ec r → Runs (after k first) ec r turns →
+pub whole : (k : KernelState) (first : ℕ) (turns : List ℕ) (last ec : ℕ) (r : Revocation) → IsKeptForest k → RevokeBegins k first ec r → Runs (after k first) ec r turns →
     RevokeEnds (run (after k first) turns) last ec r → acts_in k ec (first ∷ turns ++ last ∷ []) ≤ length (left r k) + 2
 whole k first turns last ec r sound begins runs ends =
     let same = (begun k first ec r sound begins).delegations in
@@ -138,13 +139,8 @@ whole k first turns last ec r sound begins runs ends =
     omega (arith, size, fewer, once, more)
 
 -- what is left then was there at the call
-pub among_called : (k : KernelState) (first : ℕ) (turns : List ℕ) (ec : ℕ) (r : Revocation) → IsKeptForest k → Begins k first ec r → Runs (after k first) ec r turns →
+pub among_called : (k : KernelState) (first : ℕ) (turns : List ℕ) (ec : ℕ) (r : Revocation) → IsKeptForest k → RevokeBegins k first ec r → Runs (after k first) ec r turns →
     (d : Derivation) → Contains (left r (run (after k first) turns)) d → Contains (left r k) d
 among_called k first turns ec r sound begins runs d there =
     let same = (begun k first ec r sound begins).delegations in
     subst (λ (f : Delegations). Contains (scope r f.list) d) same ((shrunk (after k first) turns ec r (turn_sound k first sound) runs).among d there)
-
-pub reached_whole : (s : Scenario) (before : List ℕ) (first : ℕ) (turns : List ℕ) (last ec : ℕ) (r : Revocation) → Begins (run (boot s) before) first ec r →
-    Runs (after (run (boot s) before) first) ec r turns → RevokeEnds (run (after (run (boot s) before) first) turns) last ec r →
-    acts_in (run (boot s) before) ec (first ∷ turns ++ last ∷ []) ≤ length (left r (run (boot s) before)) + 2
-reached_whole s before first turns last ec r begins runs ends = whole (run (boot s) before) first turns last ec r (reached_sound s before) begins runs ends

@@ -6,6 +6,8 @@ use Rattle.nova_model.specs.State.{KernelState}
 use Rattle.law_forest.proofs.Boots.{boot_forest}
 use Rattle.law_forest.proofs.Changes.{change_forest, turn_change}
 use Rattle.law_turns.proofs.Donation.{keeps, reached_kept}
+use Rattle.law_origins.specs.Reachable.{IsReachable}
+use Rattle.law_origins.proofs.Reachable.{of_reachable}
 use Rattle.law_revocation.specs.Sound.{IsKeptForest}
 
 pub boot_sound : (s : Scenario) → IsKeptForest (boot s)
@@ -26,3 +28,6 @@ run_sound k (cpu ∷ turns) sound = run_sound (after k cpu) turns (turn_sound k 
 
 pub reached_sound : (s : Scenario) (turns : List ℕ) → IsKeptForest (run (boot s) turns)
 reached_sound s turns = run_sound (boot s) turns (boot_sound s)
+
+pub reachable_sound : (k : KernelState) → IsReachable k → IsKeptForest k
+reachable_sound = of_reachable IsKeptForest reached_sound

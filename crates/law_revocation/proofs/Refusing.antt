@@ -39,7 +39,7 @@ use Rattle.law_forest.proofs.Extremes.{any_from}
 use Rattle.law_forest.proofs.Members.{IsIn, contains_from_in, filtered_in, in_from_contains}
 use Rattle.law_forest.proofs.Running.{running_has}
 use Rattle.law_forest.proofs.Under.{turn_under}
-use Rattle.law_revocation.specs.Along.{Acts}
+use Rattle.law_origins.specs.Giving.{Acts}
 use Rattle.law_revocation.specs.Refused.{IsBusy, IsInTheWay, IsSkipped, ObeysRules, WouldGive, WouldMake, from_cursor, target_of}
 use Rattle.law_revocation.proofs.Turns.{turn_event, turn_same}
 

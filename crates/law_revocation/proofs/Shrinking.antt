@@ -1,13 +1,12 @@
 -- A revoke that runs only shrinks.
 use Rattle.std.proofs.Common.{◌≡◌, ℕ, ◌+◌, ◌≤◌, List, [], ◌∷◌, ap, sym, ◌∙◌, subst, refl, arith}
 use Rattle.std.specs.Prelude.{Contains, length, Option, Some, None}
-use Rattle.nova_model.specs.Boot.{Scenario, boot}
 use Rattle.nova_model.specs.Choice.{Candidate, next_to_act}
 use Rattle.nova_model.specs.Delegations.{Delegations}
 use Rattle.nova_model.specs.Forest.{IsForest}
 use Rattle.nova_model.specs.Revokes.{Revocation, taken_away}
 use Rattle.nova_model.specs.Running.{revoke_of}
-use Rattle.nova_model.specs.Runs.{after, run}
+use Rattle.nova_model.specs.Runs.{after}
 use Rattle.nova_model.specs.State.{KernelState}
 use Rattle.nova_model.specs.declared.delegation.Derivation.{Derivation}
 use Rattle.law_forest.specs.Changes.{ChangesUnder, TakesPart, leaves_in}
@@ -18,7 +17,7 @@ use Rattle.law_forest.proofs.Under.{turn_under, under_course}
 use Rattle.law_revocation.specs.Along.{Runs, acts_once}
 use Rattle.law_revocation.specs.Sound.{IsKeptForest}
 use Rattle.law_revocation.specs.Whole.{HasShrunk, left}
-use Rattle.law_revocation.proofs.Kept.{reached_sound, turn_sound}
+use Rattle.law_revocation.proofs.Kept.{turn_sound}
 use Rattle.law_revocation.proofs.Turns.{GoesOn, HasPart, HasTaken, Another, IsOver, Itself, Takes, goes_on, part_of}
 
 -- what allowed steps lead to
@@ -74,7 +73,3 @@ shrunk k (cpu ∷ turns) ec r sound (now, runs) =
     let first = one_turn k cpu ec r sound now (runs_now (after k cpu) ec r turns runs) in
     let rest = shrunk (after k cpu) turns ec r (turn_sound k cpu sound) runs in
     record { among = λ d there. first.among d (rest.among d there); fewer = omega (arith, first.fewer, rest.fewer) }
-
-pub reached_shrunk : (s : Scenario) (before turns : List ℕ) (ec : ℕ) (r : Revocation) → Runs (run (boot s) before) ec r turns →
-    HasShrunk (run (boot s) before) turns ec r
-reached_shrunk s before turns ec r runs = shrunk (run (boot s) before) turns ec r (reached_sound s before) runs

@@ -18,7 +18,7 @@ use Rattle.law_forest.proofs.Forests.{forest_add}
 use Rattle.law_forest.proofs.Lines.{member_found, parent_facts}
 use Rattle.law_forest.proofs.Members.{IsIn, contains_from_in, filtered_in, in_filtered, in_from_contains}
 use Rattle.law_forest.proofs.Scopes.{decided}
-use Rattle.law_revocation.specs.Taken.{IsClear, IsGiven, IsOnLine, IsOwn, IsParent, IsRevokersTarget, IsRevokers, IsRemoved, Above, Given, Itself, Own}
+use Rattle.law_revocation.specs.Taken.{IsClear, IsGivenOfRange, IsOnLine, IsOwn, IsParent, IsRevokersTarget, IsRevokers, IsRemoved, Above, Given, Itself, Own}
 
 -- THE REVOKER'S
 
@@ -133,7 +133,7 @@ top_taken r f forest d i h = by_case (or_cases (is_made_of r d (parent_of f.list
     by_case (inl made) = by_parent (parent_of f.list d) refl made
     by_case (inr own) = Own d (Itself d) (own_parts r d own)
 
-given_top : (r : Revocation) (f : Delegations) → IsForest f → (c : Derivation) → IsGiven r f.list c → is_top r f.list c ≡ true
+given_top : (r : Revocation) (f : Delegations) → IsForest f → (c : Derivation) → IsGivenOfRange r f.list c → is_top r f.list c ≡ true
 given_top r f forest c h =
     or_left (is_made_of r c (parent_of f.list c)) (is_own r c)
     (ap (is_made_of r c) (parent_is f forest h.source c h.is_parent) ∙ given_made r h.source c h.target h.reached h.leads)

@@ -26,7 +26,8 @@ use Rattle.law_forest.proofs.Turning.{chosen_turn, of_event}
 use Rattle.law_turns.specs.Keeping.{IsKept}
 use Rattle.law_turns.specs.Revoking.{revoke_after, revoke_in_turn}
 use Rattle.law_turns.proofs.Revoking.{turns_leave}
-use Rattle.law_revocation.specs.Along.{Acts, HasEvent, acts_once}
+use Rattle.law_origins.specs.Giving.{Acts}
+use Rattle.law_revocation.specs.Along.{HasEvent, acts_once}
 use Rattle.law_revocation.specs.Sound.{IsKeptForest}
 use Rattle.law_revocation.specs.Taken.{IsClear}
 use Rattle.law_revocation.specs.Whole.{HasReturned}

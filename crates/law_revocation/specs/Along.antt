@@ -1,5 +1,5 @@
 -- A revoke along turns: who acts in them, what their events tell, and what runs meanwhile.
-use Rattle.std.specs.Prelude.{◌≡◌, ℕ, ◌+◌, ◌==◌, if◌then◌else◌, List, [], ◌∷◌, Option, Some, None, option_map}
+use Rattle.std.specs.Prelude.{◌≡◌, ℕ, ◌+◌, ◌==◌, if◌then◌else◌, List, [], ◌∷◌, Option, Some, None}
 use Rattle.nova_model.specs.Choice.{Candidate, next_to_act}
 use Rattle.nova_model.specs.Revokes.{Revocation}
 use Rattle.nova_model.specs.Running.{revoke_of}
@@ -10,11 +10,7 @@ use Rattle.nova_model.specs.declared.event.Event.{Event}
 use Rattle.nova_model.specs.declared.event.EventKind.{EventKind}
 use Rattle.nova_model.specs.declared.event.Turn.TheVariants.{Stepped}
 
--- the execution context acts in the turn of the processor
-abbrev pub Acts : KernelState → ℕ → ℕ → Type 0
-Acts k cpu ec = option_map (λ c. c.actor) (next_to_act k cpu) ≡ Some ec
-
--- 1 where it does, and 0 where another one acts or the processor is idle
+-- 1 where it acts in the turn of the processor, and 0 where another one acts or the processor is idle
 abbrev pub acts_once : ℕ → Option Candidate → ℕ
 acts_once ec None = 0
 acts_once ec (Some c) = if c.actor == ec then 1 else 0

@@ -40,7 +40,7 @@ pub record IsRevokersTarget (r : Revocation) (a : Derivation) (target : ℕ) : T
   pub leads : target + a.base ≡ a.target + place
 
 -- a child of a derivation of the revoker's that leads to a target which the revoker reaches so
-pub record IsGiven (r : Revocation) (list : List Derivation) (c : Derivation) : Type 0 where
+pub record IsGivenOfRange (r : Revocation) (list : List Derivation) (c : Derivation) : Type 0 where
   pub source : Derivation
   pub is_parent : IsParent list source c
   pub target : ℕ
@@ -57,7 +57,7 @@ pub record IsOwn (r : Revocation) (a : Derivation) : Type 0 where
 
 -- some derivation of its line is such a child, or such a one of the revoker's own
 pub data IsRemoved (r : Revocation) (list : List Derivation) (d : Derivation) : Type 0 where
-  Given : (c : Derivation) → IsOnLine list c d → IsGiven r list c → IsRemoved r list d
+  Given : (c : Derivation) → IsOnLine list c d → IsGivenOfRange r list c → IsRemoved r list d
   Own : (a : Derivation) → IsOnLine list a d → IsOwn r a → IsRemoved r list d
 
 -- nothing of it is left: what the revoker reached by a place of the range, nobody reaches by anything that comes from there; and where the

@@ -11,7 +11,8 @@ use Rattle.nova_model.specs.Runs.{after, run}
 use Rattle.nova_model.specs.State.{KernelState, context, pd_of}
 use Rattle.nova_model.specs.declared.delegation.Derivation.{Derivation}
 use Rattle.nova_model.specs.declared.event.EventKind.TheVariants.{Answer, Begin}
-use Rattle.law_revocation.specs.Along.{Acts, HasEvent, acts_in}
+use Rattle.law_origins.specs.Giving.{Acts}
+use Rattle.law_revocation.specs.Along.{HasEvent, acts_in}
 use Rattle.law_revocation.specs.Taken.{IsClear}
 
 -- what the revoke takes away and is still there
@@ -19,19 +20,19 @@ abbrev pub left : Revocation → KernelState → List Derivation
 left r k = scope r k.delegations.list
 
 -- in the turn an execution context comes to run the revoke, and in the turn it runs it no longer
-abbrev pub Begins : KernelState → ℕ → ℕ → Revocation → Type 0
-Begins k cpu ec r = (revoke_of k ec ≢ Some r) × (revoke_of (after k cpu) ec ≡ Some r)
+abbrev pub RevokeBegins : KernelState → ℕ → ℕ → Revocation → Type 0
+RevokeBegins k cpu ec r = (revoke_of k ec ≢ Some r) × (revoke_of (after k cpu) ec ≡ Some r)
 
 abbrev pub RevokeEnds : KernelState → ℕ → ℕ → Revocation → Type 0
 RevokeEnds k cpu ec r = (revoke_of k ec ≡ Some r) × (revoke_of (after k cpu) ec ≢ Some r)
 
 -- the one who runs it is answered in the turn: SUCCESS, to its call of revoke
-pub record IsAnswered (k : KernelState) (cpu ec : ℕ) (r : Revocation) : Type 0 where
+pub record IsRevokeAnswered (k : KernelState) (cpu ec : ℕ) (r : Revocation) : Type 0 where
   pub runs : revoke_of k ec ≡ Some r
   pub event : HasEvent k cpu ec Answer REVOKE (status_code Success)
 
 -- it acts in the turn, and its registers ask for this revoke, of its domain; nothing is taken away yet; and the event tells it
-pub record IsBegun (k : KernelState) (cpu ec : ℕ) (r : Revocation) : Type 0 where
+pub record BeginsAsAsked (k : KernelState) (cpu ec : ℕ) (r : Revocation) : Type 0 where
   pub acts : Acts k cpu ec
   pub asks : call_of (context k ec).regs ≡ Ok (Revoke r.range r.own)
   pub domain : r.pd ≡ pd_of k ec

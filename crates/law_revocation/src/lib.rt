@@ -17,19 +17,21 @@ ghost use Rattle.nova_model.specs.Runs.{after, run};
 ghost use Rattle.nova_model.specs.State.{KernelState};
 ghost use Rattle.nova_model.specs.declared.delegation.Derivation.{Derivation};
 ghost use Rattle.nova_model.specs.declared.event.EventKind.TheVariants.{Answer};
-ghost use Rattle.law_revocation.specs.Along.{Acts, HasEvent, Runs, acts_in};
+ghost use Rattle.law_origins.specs.Giving.{Acts};
+ghost use Rattle.law_origins.specs.Reachable.{IsReachable};
+ghost use Rattle.law_revocation.specs.Along.{HasEvent, Runs, acts_in};
 ghost use Rattle.law_revocation.specs.Called.{HasEndedAsCalled, WasCalled};
 ghost use Rattle.law_revocation.specs.Refused.{IsBusy, IsInTheWay, IsSkipped, WouldGive, WouldMake};
 ghost use Rattle.law_revocation.specs.Sound.{IsKeptForest};
 ghost use Rattle.law_revocation.specs.Taken.{IsClear, IsRevokers, IsRemoved};
-ghost use Rattle.law_revocation.specs.Whole.{Begins, RevokeEnds, HasEnded, HasReturned, HasShrunk, IsAnswered, IsBegun, left};
+ghost use Rattle.law_revocation.specs.Whole.{RevokeBegins, RevokeEnds, HasEnded, HasReturned, HasShrunk, IsRevokeAnswered, BeginsAsAsked, left};
 
 /// What these laws ask of a state always holds: a kernel begins so, and each turn keeps it, so that it
 /// holds of whatever a kernel comes to.
 pub fn what_revokes_stand_on_is_kept()
     ensures begins { (scenario : Scenario) → IsKeptForest (boot scenario) }
     ensures turns { (k : KernelState) (cpu : ℕ) → IsKeptForest k → IsKeptForest (after k cpu) }
-    ensures reached { (scenario : Scenario) (turns : List ℕ) → IsKeptForest (run (boot scenario) turns) }
+    ensures reached { (k : KernelState) → IsReachable k → IsKeptForest k }
 {}
 
 /// A derivation is in the scope of a revoke exactly where it is there, and it or one that it comes from is
@@ -55,7 +57,7 @@ pub fn what_a_revoke_would_take_is_busy()
 /// hypercall that asks for that revoke, the revoke is of its protection domain, and the turn's event tells that it
 /// begins. Delegations stay: the scope with which the revoke begins is that of the state before the call.
 pub fn a_revoke_begins_with_its_scope()
-    ensures { (k : KernelState) (cpu ec : ℕ) (r : Revocation) → IsKeptForest k → Begins k cpu ec r → IsBegun k cpu ec r }
+    ensures { (k : KernelState) (cpu ec : ℕ) (r : Revocation) → IsKeptForest k → RevokeBegins k cpu ec r → BeginsAsAsked k cpu ec r }
 {}
 
 /// What an execution context runs after turns, where it ran no revoke before them, it called in one of
@@ -74,8 +76,7 @@ pub fn a_running_revoke_was_called()
 /// as the scope had.
 pub fn a_running_revoke_only_shrinks()
     ensures turns { (k : KernelState) (turns : List ℕ) (ec : ℕ) (r : Revocation) → IsKeptForest k → Runs k ec r turns → HasShrunk k turns ec r }
-    ensures reached { (scenario : Scenario) (before turns : List ℕ) (ec : ℕ) (r : Revocation) →
-        Runs (run (boot scenario) before) ec r turns → HasShrunk (run (boot scenario) before) turns ec r }
+    ensures reached { (k : KernelState) (turns : List ℕ) (ec : ℕ) (r : Revocation) → IsReachable k → Runs k ec r turns → HasShrunk k turns ec r }
 {}
 
 /// A turn after which an execution context no longer runs its revoke is its own: its call is answered
@@ -86,10 +87,9 @@ pub fn a_running_revoke_only_shrinks()
 /// registers asked then.
 pub fn a_returned_revoke_left_nothing()
     ensures ends { (k : KernelState) (cpu ec : ℕ) (r : Revocation) → IsKeptForest k → RevokeEnds k cpu ec r → HasReturned k cpu ec r }
-    ensures answers { (k : KernelState) (cpu ec : ℕ) (r : Revocation) → IsKeptForest k → IsAnswered k cpu ec r → HasReturned k cpu ec r }
+    ensures answers { (k : KernelState) (cpu ec : ℕ) (r : Revocation) → IsKeptForest k → IsRevokeAnswered k cpu ec r → HasReturned k cpu ec r }
     ensures events { (k : KernelState) (cpu ec : ℕ) → IsKeptForest k → HasEvent k cpu ec Answer REVOKE (status_code Success) → HasEnded k cpu ec }
-    ensures reached { (scenario : Scenario) (before : List ℕ) (cpu ec : ℕ) →
-        HasEvent (run (boot scenario) before) cpu ec Answer REVOKE (status_code Success) → HasEnded (run (boot scenario) before) cpu ec }
+    ensures reached { (k : KernelState) (cpu ec : ℕ) → IsReachable k → HasEvent k cpu ec Answer REVOKE (status_code Success) → HasEnded k cpu ec }
     ensures called { (scenario : Scenario) (before : List ℕ) (cpu ec : ℕ) →
         HasEvent (run (boot scenario) before) cpu ec Answer REVOKE (status_code Success) → HasEndedAsCalled (boot scenario) before cpu ec }
 {}
@@ -98,14 +98,12 @@ pub fn a_returned_revoke_left_nothing()
 /// turns others take between, what is in the revoke's scope was in it at its call, and it acts in at most
 /// as many turns as the scope had members at its call, and two.
 pub fn a_revoke_takes_at_most_its_scope_and_two()
-    ensures among { (k : KernelState) (first : ℕ) (turns : List ℕ) (ec : ℕ) (r : Revocation) → IsKeptForest k → Begins k first ec r →
+    ensures among { (k : KernelState) (first : ℕ) (turns : List ℕ) (ec : ℕ) (r : Revocation) → IsKeptForest k → RevokeBegins k first ec r →
         Runs (after k first) ec r turns → (d : Derivation) → Contains (left r (run (after k first) turns)) d → Contains (left r k) d }
-    ensures turns { (k : KernelState) (first : ℕ) (turns : List ℕ) (last ec : ℕ) (r : Revocation) → IsKeptForest k → Begins k first ec r →
+    ensures turns { (k : KernelState) (first : ℕ) (turns : List ℕ) (last ec : ℕ) (r : Revocation) → IsKeptForest k → RevokeBegins k first ec r →
         Runs (after k first) ec r turns → RevokeEnds (run (after k first) turns) last ec r → acts_in k ec (first ∷ turns ++ last ∷ []) ≤ length (left r k) + 2 }
-    ensures reached { (scenario : Scenario) (before : List ℕ) (first : ℕ) (turns : List ℕ) (last ec : ℕ) (r : Revocation) →
-        Begins (run (boot scenario) before) first ec r → Runs (after (run (boot scenario) before) first) ec r turns →
-        RevokeEnds (run (after (run (boot scenario) before) first) turns) last ec r →
-        acts_in (run (boot scenario) before) ec (first ∷ turns ++ last ∷ []) ≤ length (left r (run (boot scenario) before)) + 2 }
+    ensures reached { (k : KernelState) (first : ℕ) (turns : List ℕ) (last ec : ℕ) (r : Revocation) → IsReachable k → RevokeBegins k first ec r →
+        Runs (after k first) ec r turns → RevokeEnds (run (after k first) turns) last ec r → acts_in k ec (first ∷ turns ++ last ∷ []) ≤ length (left r k) + 2 }
 {}
 
 /// While an execution context runs a revoke, no turn makes a derivation that is busy for it: what joins

@@ -27,6 +27,8 @@ use Rattle.nova_top.specs.Outside.{Depots}
 use Rattle.nova_guest.specs.declared.input.Input.{Input}
 use Rattle.law_integrity.specs.Integrity.{IsAuthorised}
 use Rattle.law_origins.specs.Lives.{AreGuestsAlone}
+use Rattle.law_origins.specs.Reachable.{IsReachable}
+use Rattle.law_origins.proofs.Reachable.{reached}
 use Rattle.law_origins.specs.Whose.{HasRight, IsInputBy}
 use Rattle.law_revocation.specs.Called.{HasEndedAsCalled}
 use Rattle.nova_top.specs.Runs.{IsReturned}
@@ -45,7 +47,7 @@ pub record HasLaws (most : ℕ) : Type 0 where
   pub forests : (s : Scenario) (turns : List ℕ) → IsForest (run (boot s) turns).delegations
   pub revokes : (s : Scenario) (before : List ℕ) (cpu ec : ℕ) → IsReturned (run (boot s) before) cpu ec → HasEndedAsCalled (boot s) before cpu ec
   pub guests : (s : Scenario) (turns : List ℕ) → AreGuestsAlone (boot s) turns
-  pub rights : (s : Scenario) (turns : List ℕ) (cpu : ℕ) → IsAuthorised (run (boot s) turns) (after (run (boot s) turns) cpu) cpu
+  pub rights : (k : KernelState) (cpu : ℕ) → IsReachable k → IsAuthorised k (after k cpu) cpu
   pub inputs : (s : Scenario) (turns : List ℕ) (cpu ec g : ℕ) (i : Input) → IsInputBy s turns cpu ec g i → HasRight (boot s) turns cpu ec g i
   pub sources : HasSourceLaws
 
@@ -136,7 +138,7 @@ module _ {D : Type 0} (d : Depots D) where
       forests = λ before after whole. laws.forests (scenario_of from) before;
       revokes = λ before after cpu ec whole. laws.revokes (scenario_of from) before cpu ec;
       guests = laws.guests (scenario_of from) (rounds (boot (scenario_of from)) most);
-      rights = λ before later cpu whole. laws.rights (scenario_of from) before cpu;
+      rights = λ before later cpu whole. laws.rights (run (boot (scenario_of from)) before) cpu (reached (scenario_of from) before);
       inputs = λ before later cpu ec g i whole virtual acts is. laws.inputs (scenario_of from) before cpu ec g i (record { virtual = virtual; acts = acts; is = is });
       sources = told laws.sources from (scenario_sound came.bytes from came.valid) (rounds (boot (scenario_of from)) most) (let within = reported.within in let few = laws.few in omega (arith, within, few));
     };
@@ -168,7 +170,7 @@ module _ {D : Type 0} (d : Depots D) where
       forests = λ before after whole. laws.forests (scenario_of from) before;
       revokes = λ before after cpu ec whole. laws.revokes (scenario_of from) before cpu ec;
       guests = laws.guests (scenario_of from) (turns list.blocks);
-      rights = λ before later cpu whole. laws.rights (scenario_of from) before cpu;
+      rights = λ before later cpu whole. laws.rights (run (boot (scenario_of from)) before) cpu (reached (scenario_of from) before);
       inputs = λ before later cpu ec g i whole virtual acts is. laws.inputs (scenario_of from) before cpu ec g i (record { virtual = virtual; acts = acts; is = is });
       sources = told laws.sources from (scenario_sound came.bytes from came.valid) (turns list.blocks) (let within = reported.within in let few = laws.few in omega (arith, within, few));
     };
@@ -192,7 +194,7 @@ module _ {D : Type 0} (d : Depots D) where
       forests = λ before after whole. laws.forests (scenario_of from) before;
       revokes = λ before after cpu ec whole. laws.revokes (scenario_of from) before cpu ec;
       guests = laws.guests (scenario_of from) (turns together.blocks);
-      rights = λ before later cpu whole. laws.rights (scenario_of from) before cpu;
+      rights = λ before later cpu whole. laws.rights (run (boot (scenario_of from)) before) cpu (reached (scenario_of from) before);
       inputs = λ before later cpu ec g i whole virtual acts is. laws.inputs (scenario_of from) before cpu ec g i (record { virtual = virtual; acts = acts; is = is });
       sources = told laws.sources from (scenario_sound came.bytes from came.valid) (turns together.blocks) (let within = together.reported.within in let few = laws.few in omega (arith, within, few));
     };
@@ -221,7 +223,7 @@ module _ {D : Type 0} (d : Depots D) where
           forests = λ before after whole. laws.forests (scenario_of from) before;
           revokes = λ before after cpu ec whole. laws.revokes (scenario_of from) before cpu ec;
           guests = laws.guests (scenario_of from) (rounds k most);
-          rights = λ before later cpu whole. laws.rights (scenario_of from) before cpu;
+          rights = λ before later cpu whole. laws.rights (run (boot (scenario_of from)) before) cpu (reached (scenario_of from) before);
           inputs = λ before later cpu ec g i whole virtual acts is. laws.inputs (scenario_of from) before cpu ec g i (record { virtual = virtual; acts = acts; is = is });
           sources = told laws.sources from (scenario_sound (generated number) from valid) (rounds k most) (let within = reported.within in let few = laws.few in omega (arith, within, few));
         };

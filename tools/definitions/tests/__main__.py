@@ -15,7 +15,9 @@ sys.path.insert(0, str(TOP))
 
 from names import Law, defined, laws_of, names_in  # noqa: E402
 from rows import Link, contracts, edits_gone, left_out, links, missing  # noqa: E402
+from scenarios import FILE, differing  # noqa: E402
 from table import Credit, read, wrong  # noqa: E402
+from words import assembled  # noqa: E402
 
 # Definitions of two files, one name in both; a module and a use are none, and neither is what isn't public or is within a record.
 SPECS = {
@@ -123,6 +125,37 @@ LINKS = (
     (Link("edges_end", "crates/nova_a/src/edges.rt", ()), ["no file of edges_end: crates/nova_a/src/edges.rt"]),
 )
 
+# A scenario as a text and as a specification.
+TEXT = """cpus 1
+ram 2                           # pages
+consoles 0
+root 0 0 1 100
+
+image 0x40 asm
+again:  addi x17, x0, 3         # create_ec
+        jal x0, again
+end
+"""
+SCENARIO = """abbrev pub small : Scenario
+small = record {
+  cpus = 1;
+  ram = 2;
+  consoles = 0;
+  root = record { pc = 0; sp = 0; priority = 1; quantum = 100 };
+  images = image 64 (3147923 ∷ 4292866159 ∷ []) ∷ [];
+  sources = [];
+}
+"""
+
+# Lines and their words, by the formats of the RISC-V manual.
+LINES = (
+    (["li x6, 0x20181"], [0x00020337, 0x18130313]),
+    (["li x5, 0x12345fff"], [0x123462B7, 0xFFF28293]),
+    (["sw x6, 504(x5)", "lw x6, 72(x5)", "sb x6, 0(x7)"], [0x1E62AC23, 0x0482A303, 0x00638023]),
+    (["loop: add x7, x7, x6", "addi x6, x6, -1", "bne x6, x0, loop"], [0x006383B3, 0xFFF30313, 0xFE031CE3]),
+    (["slli x6, x6, 12", "jalr x0, 0(x1)", "ecall", "ebreak"], [0x00C31313, 0x00008067, 0x00000073, 0x00100073]),
+)
+
 # Credits, and what is wrong with each.
 CREDITS = (
     (Credit("edges_end", ("first", "last"), frozenset({"nova_a"})), []),
@@ -172,6 +205,28 @@ class Rows(unittest.TestCase):
         for credit, said in CREDITS:
             with self.subTest(credit):
                 self.assertEqual(wrong(credit, LAWS), said)
+
+
+class Scenarios(unittest.TestCase):
+    """Scenarios of specifications."""
+
+    def test_lines_have_their_words(self) -> None:
+        for lines, words in LINES:
+            with self.subTest(lines):
+                self.assertEqual(assembled(lines, 0), words)
+
+    def test_another_word_or_setting_is_found(self) -> None:
+        with tempfile.TemporaryDirectory() as folder:
+            top = Path(folder)
+            for name, text in ((FILE, SCENARIO), ("examples/small.nova", TEXT)):
+                (top / name).parent.mkdir(parents=True)
+                (top / name).write_text(text, "utf-8")
+            self.assertEqual(differing(top), [])
+            for old, new in (("3147923", "2099347"), ("ram = 2", "ram = 3"), ("image 64", "image 68"), ("priority = 1", "priority = 2")):
+                (top / FILE).write_text(SCENARIO.replace(old, new), "utf-8")
+                self.assertEqual(differing(top), [f"{FILE}: small isn't small.nova"])
+            (top / "examples/small.nova").unlink()
+            self.assertEqual(differing(top), [f"{FILE}: no small.nova for small"])
 
 
 class Theorems(unittest.TestCase):

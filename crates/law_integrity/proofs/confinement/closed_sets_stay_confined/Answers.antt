@@ -5,19 +5,19 @@ use Rattle.law_integrity.proofs.Leaving.{flipped, leaves_along}
 use Rattle.law_integrity.proofs.confinement.closed_sets_stay_confined.Goals as goal
 
 pub returns-clause-separate : goal.returns-clause-separate
-returns-clause-separate c s before turns S T = separate_along s before turns (Of S) (Of T)
+returns-clause-separate c k turns S T at = rw at.is (separate_along at.scenario at.before turns (Of S) (Of T))
 
 pub returns-clause-acts : goal.returns-clause-acts
-returns-clause-acts c s before turns S T = acts_along s before turns (Of S) (Of T)
+returns-clause-acts c k turns S T cpu ec at = rw at.is (acts_along at.scenario at.before turns (Of S) (Of T) cpu ec)
 
 pub returns-clause-reach : goal.returns-clause-reach
-returns-clause-reach c s before turns S T = reach_along s before turns (Of S) (Of T)
+returns-clause-reach c k turns S T right frame at = rw at.is (reach_along at.scenario at.before turns (Of S) (Of T) right frame)
 
 pub returns-clause-holds : goal.returns-clause-holds
-returns-clause-holds c s before turns S T = holds_along s before turns (Of S) (Of T)
+returns-clause-holds c k turns S T right object at = rw at.is (holds_along at.scenario at.before turns (Of S) (Of T) right object)
 
 pub returns-clause-leaves : goal.returns-clause-leaves
-returns-clause-leaves c s before turns S T = leaves_along s before turns (Of S) (Of T)
+returns-clause-leaves c k turns S T cpu ec at = rw at.is (leaves_along at.scenario at.before turns (Of S) (Of T) cpu ec)
 
 pub returns-clause-flipped : goal.returns-clause-flipped
 returns-clause-flipped c k S T = flipped k (Of S) (Of T)

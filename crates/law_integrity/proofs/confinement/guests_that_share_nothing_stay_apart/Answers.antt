@@ -13,36 +13,32 @@ abbrev pair : KernelState → ℕ → ℕ → ℕ → Type 0
 pair k guest monitor = Pair (pd_of k guest) (pd_of k monitor)
 
 pub returns-clause-apart : goal.returns-clause-apart
-returns-clause-apart c s before turns guest monitor other_guest other_monitor apart =
-    apart_along s before turns (pair (run (boot s) before) guest monitor) (pair (run (boot s) before) other_guest other_monitor) apart.apart
+returns-clause-apart c k turns guest monitor other_guest other_monitor at =
+    rw at.is (λ apart. apart_along at.scenario at.before turns (pair (run (boot at.scenario) at.before) guest monitor) (pair (run (boot at.scenario) at.before) other_guest other_monitor) apart.apart)
 
 pub returns-clause-acts : goal.returns-clause-acts
-returns-clause-acts c s before turns guest monitor other_guest other_monitor cpu ec apart =
-    acts_along s before turns (pair (run (boot s) before) guest monitor) (pair (run (boot s) before) other_guest other_monitor) cpu ec apart.apart.separate
+returns-clause-acts c k turns guest monitor other_guest other_monitor cpu ec at =
+    rw at.is (λ apart. acts_along at.scenario at.before turns (pair (run (boot at.scenario) at.before) guest monitor) (pair (run (boot at.scenario) at.before) other_guest other_monitor) cpu ec apart.apart.separate)
 
 pub returns-clause-reach : goal.returns-clause-reach
-returns-clause-reach c s before turns guest monitor other_guest other_monitor right frame apart =
-    reach_along s before turns (pair (run (boot s) before) guest monitor) (pair (run (boot s) before) other_guest other_monitor) right frame apart.apart.separate
+returns-clause-reach c k turns guest monitor other_guest other_monitor right frame at =
+    rw at.is (λ apart. reach_along at.scenario at.before turns (pair (run (boot at.scenario) at.before) guest monitor) (pair (run (boot at.scenario) at.before) other_guest other_monitor) right frame apart.apart.separate)
 
 pub returns-clause-leaves : goal.returns-clause-leaves
-returns-clause-leaves c s before turns guest monitor other_guest other_monitor cpu ec apart =
-    leaves_along s before turns (pair (run (boot s) before) other_guest other_monitor) (pair (run (boot s) before) guest monitor) cpu ec
-    (flipped (run (boot s) before) (pair (run (boot s) before) guest monitor) (pair (run (boot s) before) other_guest other_monitor) apart.apart.separate)
+returns-clause-leaves c k turns guest monitor other_guest other_monitor cpu ec at =
+    rw at.is (λ apart. leaves_along at.scenario at.before turns (pair (run (boot at.scenario) at.before) other_guest other_monitor) (pair (run (boot at.scenario) at.before) guest monitor) cpu ec (flipped (run (boot at.scenario) at.before) (pair (run (boot at.scenario) at.before) guest monitor) (pair (run (boot at.scenario) at.before) other_guest other_monitor) apart.apart.separate))
 
 pub returns-clause-stays : goal.returns-clause-stays
-returns-clause-stays c s before turns guest monitor other_guest other_monitor cpu ec n apart =
-    contexts_stay s before turns (pair (run (boot s) before) other_guest other_monitor) (pair (run (boot s) before) guest monitor) cpu ec n
-    (apart_flipped (run (boot s) before) (pair (run (boot s) before) guest monitor) (pair (run (boot s) before) other_guest other_monitor) apart.apart)
+returns-clause-stays c k turns guest monitor other_guest other_monitor cpu ec n at =
+    rw at.is (λ apart. contexts_stay at.scenario at.before turns (pair (run (boot at.scenario) at.before) other_guest other_monitor) (pair (run (boot at.scenario) at.before) guest monitor) cpu ec n (apart_flipped (run (boot at.scenario) at.before) (pair (run (boot at.scenario) at.before) guest monitor) (pair (run (boot at.scenario) at.before) other_guest other_monitor) apart.apart))
 
 pub returns-clause-frames : goal.returns-clause-frames
-returns-clause-frames c s before turns guest monitor other_guest other_monitor cpu ec frame apart acts_ m reaches =
-    set_stores s before turns (pair (run (boot s) before) guest monitor) (pair (run (boot s) before) other_guest other_monitor) cpu ec frame apart.apart.separate acts_ m
-    (λ mine. apart.memory frame (any_reached mine) reaches)
+returns-clause-frames c k turns guest monitor other_guest other_monitor cpu ec frame at =
+    rw at.is (λ apart acts_ m reaches. set_stores at.scenario at.before turns (pair (run (boot at.scenario) at.before) guest monitor) (pair (run (boot at.scenario) at.before) other_guest other_monitor) cpu ec frame apart.apart.separate acts_ m (λ mine. apart.memory frame (any_reached mine) reaches))
 
 pub returns-clause-blind : goal.returns-clause-blind
-returns-clause-blind c s before turns guest monitor other_guest other_monitor cpu ec frame bytes apart acts_ m reaches =
-    turn_blind s before turns (pair (run (boot s) before) guest monitor) (pair (run (boot s) before) other_guest other_monitor) cpu ec frame bytes apart.apart.separate acts_ m
-    (λ its mine. apart.memory frame (any_reached mine) reaches)
+returns-clause-blind c k turns guest monitor other_guest other_monitor cpu ec frame bytes at =
+    rw at.is (λ apart acts_ m reaches. turn_blind at.scenario at.before turns (pair (run (boot at.scenario) at.before) guest monitor) (pair (run (boot at.scenario) at.before) other_guest other_monitor) cpu ec frame bytes apart.apart.separate acts_ m (λ its mine. apart.memory frame (any_reached mine) reaches))
 
 pub returns-clause-flipped : goal.returns-clause-flipped
 returns-clause-flipped c k guest monitor other_guest other_monitor apart = record {

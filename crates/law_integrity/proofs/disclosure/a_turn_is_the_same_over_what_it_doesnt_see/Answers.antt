@@ -8,4 +8,4 @@ pub returns-clause-event : goal.returns-clause-event
 returns-clause-event c = event_unseen
 
 pub returns-clause-guests : goal.returns-clause-guests
-returns-clause-guests c = sides_unseen
+returns-clause-guests c k turns guest monitor other_guest other_monitor cpu ec secrets at = rw at.is (sides_unseen at.scenario at.before turns guest monitor other_guest other_monitor cpu ec secrets)

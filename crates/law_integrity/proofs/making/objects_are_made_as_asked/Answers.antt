@@ -1,6 +1,4 @@
-use Rattle.nova_model.specs.Boot.{boot}
-use Rattle.nova_model.specs.Runs.{run}
-use Rattle.law_isolation.proofs.Runs.{reached_sound}
+use Rattle.law_origins.proofs.Reachable.{reachable_sound}
 use Rattle.law_integrity.proofs.Births.{made_asked, opening_asked}
 use Rattle.law_integrity.proofs.Born.{asked_made, born_as, calling_made, opening_made}
 use Rattle.law_integrity.proofs.making.objects_are_made_as_asked.Goals as goal
@@ -21,4 +19,4 @@ pub returns-clause-opened : goal.returns-clause-opened
 returns-clause-opened c = opening_made
 
 pub returns-clause-born : goal.returns-clause-born
-returns-clause-born c = λ s turns cpu ec call target made acts is. born_as (run (boot s) turns) cpu ec call target made (reached_sound s turns).kept.tables acts is
+returns-clause-born c = λ k cpu ec call target made at. born_as k cpu ec call target made (reachable_sound k at).kept.tables
