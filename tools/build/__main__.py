@@ -8,8 +8,9 @@ crate that is proved, how many there are, how long that took, and how long the r
 kit is used again, by checksums: the times of files mean nothing. With --plan nothing is built: it says what would be, how long that takes, and
 the room on disk. --built says by its status, 0 or 1, whether CRATE is built of the sources that are here.
 
-Crates are proved side by side, each as soon as those below it are proved, that with the longest way to the top first. How long it takes yet
-is reckoned from costs.txt, which has each crate's seconds on four idle cores, and from how fast this machine was so far.
+Crates are proved side by side, each as soon as those below it are proved, that with the longest way to the top first, and by as many jobs as there are
+processors that no other crate takes. How long it takes yet is reckoned from costs.txt, which has each crate's seconds by one job, and from how fast this
+machine was so far.
 
 Ended by a signal, it ends what it began. A second one in the same tree waits for the first.
 """
@@ -27,10 +28,10 @@ import time
 from collections.abc import Iterator
 from pathlib import Path
 
-from built import TOP, WORKERS, State, path_of, record, schedule, state_of
+from built import TOP, WORKERS, State, ended, is_release, path_of, record, schedule, state_of
 from children import Children, Ended
 from kit import NoKit, folder, proved
-from schedule import Schedule
+from schedule import Schedule, seconds_by
 from trees import copy_of_sources, hand_on
 
 # A crate that takes no more seconds was kept, and tells nothing of how fast the machine is.
@@ -54,27 +55,34 @@ class Builder:
         self.proved = done
         self.children = Children()
         self._begun: dict[str, float] = {}
+        self._jobs: dict[str, int] = {}
         self._anew: dict[str, float] = {}
         self._trees: list[Path] = []
 
     def minutes_left(self) -> int:
         """How many minutes all that is left may take."""
         now = time.monotonic()
-        running = {crate: now - begun for crate, begun in self._begun.items()}
-        return self.plan.minutes_left(self.proved, running, self._pace(running))
+        spent = {crate: now - begun for crate, begun in self._begun.items()}
+        pace = self._pace(spent)
+        running = {crate: max(0.0, self._wanted(crate) * pace - seconds) for crate, seconds in spent.items()}
+        return self.plan.minutes_left(self.proved, running, pace)
+
+    def _wanted(self, crate: str) -> float:
+        """The seconds of a crate that is begun, or was, by its jobs and at a pace of 1."""
+        return seconds_by(self._jobs[crate], self.plan.cost[crate])
 
     def _pace(self, running: dict[str, float]) -> float:
         """How many seconds this machine takes for one of cost. What runs for longer than it should counts as well."""
-        late = {crate: spent for crate, spent in running.items() if spent > self.plan.cost[crate]}
+        late = {crate: spent for crate, spent in running.items() if spent > self._wanted(crate)}
         seen = self._anew | late
-        return sum(seen.values()) / sum(self.plan.cost[crate] for crate in seen) if seen else 1.0
+        return sum(seen.values()) / sum(map(self._wanted, seen)) if seen else 1.0
 
     def prove(self, crate: str) -> tuple[int, str]:
         """Proves a crate in a tree that nobody uses. The answer is rt's status and what it wrote."""
         tree = self._trees.pop()
         for other in [*self.plan.below[crate], crate]:
             hand_on(other, TOP, tree)
-        status, said = self.children.run(["rt", "lib"], tree / "crates" / crate)
+        status, said = self.children.run(["rt", "lib", "--jobs", str(self._jobs[crate])], tree / "crates" / crate)
         if status == 0:
             hand_on(crate, tree, TOP)
         self._trees.append(tree)
@@ -101,9 +109,9 @@ class Builder:
     def _build(self, left: list[str], pool: concurrent.futures.Executor) -> int:
         running: dict[concurrent.futures.Future[tuple[int, str]], str] = {}
         while left or running:
-            for crate in self.plan.ready(left, self.proved)[: WORKERS - len(running)]:
+            for crate, jobs in self.plan.next(left, self.proved, list(running.values())).items():
                 left.remove(crate)
-                self._begun[crate] = time.monotonic()
+                self._begun[crate], self._jobs[crate] = time.monotonic(), jobs
                 running[pool.submit(*((self.make,) if crate == self.plan.program else (self.prove, crate)))] = crate
             done = concurrent.futures.wait(running, SILENCE, concurrent.futures.FIRST_COMPLETED).done
             if not done:
@@ -187,6 +195,9 @@ def main(words: list[str]) -> int:
     options = {word for word in words[:cut] if word.startswith("-")}
     named = [word for word in words[:cut] if not word.startswith("-")]
     program = named[0] if named else "nova"
+    if is_release() and not options & {"-h", "--help"}:
+        print("build: a release has no sources, so nothing is to be built: its programs are in bin/", file=sys.stderr)
+        return 2
     if options - {"--plan", "--built"} or len(named) > 1 or not (TOP / "crates" / program / "src" / "main.rt").is_file():
         print(__doc__.strip() if options & {"-h", "--help"} else f"build: no program is named so: {' '.join(words[:cut])}", file=sys.stderr)
         return 0 if options & {"-h", "--help"} else 2
@@ -208,4 +219,4 @@ def main(words: list[str]) -> int:
 
 
 if __name__ == "__main__":
-    sys.exit(main(sys.argv[1:]))
+    sys.exit(ended("build", lambda: main(sys.argv[1:])))

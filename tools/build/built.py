@@ -19,8 +19,10 @@ from ending import Missing, ended  # noqa: E402
 from kit import TOP, identity  # noqa: E402
 from schedule import Schedule, costs, dependencies, in_order  # noqa: E402
 
-# More workers than this are no quicker: the longest chain of crates is the clock.
-WORKERS = min(3, os.cpu_count() or 1)
+# More workers than this are no quicker: the longest chain of crates is the clock, to which the other processors go as jobs. A job takes up to so many bytes.
+PROCESSORS = len(os.sched_getaffinity(0))
+WORKERS = min(3, PROCESSORS)
+MEMORY_OF_A_JOB = 3_000_000_000
 PARTS = ("src", "specs", "proofs", "c")
 # A release has this file, and its programs in this folder; it has no sources.
 MANIFEST, PROGRAMS = "MANIFEST", "bin"
@@ -39,9 +41,15 @@ class State(Enum):
     MISSING = "not built"
 
 
+def jobs() -> int:
+    """By how many jobs crates are proved on this machine: one for each processor, as far as there is memory for them."""
+    memory = os.sysconf("SC_PAGE_SIZE") * os.sysconf("SC_PHYS_PAGES")
+    return max(1, min(PROCESSORS, memory // MEMORY_OF_A_JOB))
+
+
 def schedule(name: str) -> Schedule:
     """The crates of a program."""
-    return Schedule.of(name, dependencies((TOP / "crates.txt").read_text()), costs(), WORKERS)
+    return Schedule.of(name, dependencies((TOP / "crates.txt").read_text()), costs(), WORKERS, jobs())
 
 
 def is_release() -> bool:

@@ -1,4 +1,4 @@
-"""Which crate is proved when: the longest way to the top first, and how long all of them take."""
+"""Which crate is proved when, and by how many jobs: the longest way to the top first, and how long all of them take."""
 
 from __future__ import annotations
 
@@ -10,6 +10,8 @@ from pathlib import Path
 
 # The seconds of a crate that costs.txt doesn't know.
 UNKNOWN = 30
+# The share of a crate's seconds that more jobs don't shorten: what is below is loaded, and the last function waits for.
+UNSHARED = 0.4
 
 Names = Mapping[str, list[str]]
 
@@ -25,9 +27,14 @@ def dependencies(text: str) -> dict[str, list[str]]:
 
 
 def costs() -> dict[str, int]:
-    """The seconds of each crate's proof on four idle cores."""
+    """The seconds of each crate's proof by one job, on an idle core."""
     lines = (Path(__file__).parent / "costs.txt").read_text().splitlines()
     return {crate: int(seconds) for crate, seconds in map(str.split, lines)}
+
+
+def seconds_by(jobs: int, cost: float) -> float:
+    """How long a crate of this cost takes by so many jobs."""
+    return cost * (UNSHARED + (1 - UNSHARED) / jobs)
 
 
 def in_order(crate: str, named: Names) -> list[str]:
@@ -46,18 +53,19 @@ def in_order(crate: str, named: Names) -> list[str]:
 
 @dataclass(slots=True)
 class Schedule:
-    """The crates below a program, and the program itself, which is the last: what each stands on, and its seconds at a pace of 1."""
+    """The crates below a program, and the program itself, which is the last: what each stands on, and its seconds by one job at a pace of 1."""
 
     program: str
     below: dict[str, list[str]]
     cost: dict[str, int]
     workers: int
+    jobs: int
 
     @classmethod
-    def of(cls, program: str, named: Names, cost: Mapping[str, int], workers: int) -> Schedule:
-        """The schedule of a program, by what each crate names."""
+    def of(cls, program: str, named: Names, cost: Mapping[str, int], workers: int, jobs: int) -> Schedule:
+        """The schedule of a program, by what each crate names. At most `workers` crates are proved at a time, and by about so many jobs in all."""
         below = {crate: in_order(crate, named) for crate in [*in_order(program, named), program]}
-        return cls(program, below, {crate: cost.get(crate, UNKNOWN) for crate in below}, workers)
+        return cls(program, below, {crate: cost.get(crate, UNKNOWN) for crate in below}, workers, jobs)
 
     def ways(self) -> dict[str, int]:
         """The seconds from the beginning of each crate to the end of all, on the longest chain of crates above it."""
@@ -73,20 +81,31 @@ class Schedule:
         able = [crate for crate in left if all(other in proved for other in self.below[crate])]
         return sorted(able, key=lambda crate: -ways[crate])
 
+    def next(self, left: Iterable[str], proved: Collection[str], running: Collection[str]) -> dict[str, int]:
+        """The crates that begin now, each with its jobs. That with the longest way to the top has the jobs that no other one takes, and the others have
+        one each. The program itself has one: most of its time is the compiler's."""
+        able, ways = self.ready(left, proved), self.ways()
+        begun = {crate: 1 for crate in able[: self.workers - len(running)]}
+        first = max([*running, *begun], key=lambda crate: ways[crate], default=self.program)
+        if first in begun and first != self.program:
+            others = min(self.workers, len(running) + len(able)) - 1
+            begun[first] = max(1, self.jobs - others)
+        return begun
+
     def seconds_left(self, proved: Collection[str], running: Mapping[str, float], pace: float) -> float:
         """How long the rest takes, the program's own proof and compiling included.
 
-        `running` has of each crate that is begun for how many seconds it is; `pace` is how many seconds this machine takes for one of cost.
+        `running` has of each crate that is begun how many seconds it takes yet; `pace` is how many seconds this machine takes for one of cost.
         """
         done = set(proved)
-        ends = [(max(0.0, self.cost[crate] * pace - spent), crate) for crate, spent in running.items()]
+        ends = [(seconds, crate) for crate, seconds in running.items()]
         left = [crate for crate in self.below if crate not in done and crate not in running]
         heapq.heapify(ends)
         now = 0.0
         while left or ends:
-            for crate in self.ready(left, done)[: self.workers - len(ends)]:
+            for crate, jobs in self.next(left, done, [crate for _, crate in ends]).items():
                 left.remove(crate)
-                heapq.heappush(ends, (now + self.cost[crate] * pace, crate))
+                heapq.heappush(ends, (now + seconds_by(jobs, self.cost[crate]) * pace, crate))
             now, crate = heapq.heappop(ends)
             done.add(crate)
         return now

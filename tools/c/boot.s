@@ -1,9 +1,9 @@
-# The first instructions of a run, at address 0. The root makes a domain, starts main's thread there, and gives it all memory but page 0 and
-# the guard pages below stacks: what is code and constant to read and execute, the rest to read and write; the consoles; and the sources'
-# semaphores. So what goes through a null pointer, off a stack's end or into the code faults. What the root has at a scenario's beginning is
-# there at the same selectors: 0 the domain, 1 main's thread, 2 its scheduling context, 3 to 15 the semaphores of 13 sources. The root's
-# priority must be above that of main.
+# The first instructions of a run, at address 0. The root makes a domain, starts main's thread there, and gives it all memory but page 0 and the guard
+# pages below stacks: what is code and constant to read and execute, the rest to read and write; the consoles; and the sources' semaphores. So what goes
+# through a null pointer, off a stack's end or into the code faults. What the root has at a scenario's beginning is there at the same selectors: 0 the
+# domain, 1 main's thread, 2 its scheduling context, 3 to 15 the semaphores of 13 sources. The root's priority must be above that of main.
     .option norelax
+    .include "boot_memory.s"
     .section .boot, "ax"
     .balign 4
     .globl nova_boot
@@ -52,36 +52,7 @@ startup:
     bne x8, x0, begin
     li x8, 1
     addi x6, x5, 504        # item 0, and then downward
-    li x7, 0x1000           # the code
-    la x9, code_end
-    la x28, code_rights
-    jal x1, give
-    la x28, data_rights
-data:                       # and from there on up to the next guard page, or to the end
-    la x9, stack_end
-    la x10, boot_guards
-    la x11, boot_guards_end
-guard:
-    beq x10, x11, nearest
-    lw x12, 0(x10)          # the address of the first, how far it is to the next, and how many they are
-    lw x13, 4(x10)
-    lw x14, 8(x10)
-    addi x10, x10, 12
-another:
-    beq x14, x0, guard
-    bltu x12, x7, passed
-    bgeu x12, x9, passed
-    mv x9, x12
-passed:
-    add x12, x12, x13
-    addi x14, x14, -1
-    j another
-nearest:
-    jal x1, give
-    li x12, 0x1000
-    add x7, x7, x12
-    la x9, stack_end
-    bltu x7, x9, data
+    give_program
     mv x7, x9               # a guest's memory, of which its monitor gives what it will
     la x9, console
     li x28, 7
@@ -118,36 +89,7 @@ begin:
     li x17, 1
     ecall
 
-# Items for the pages from x7 up to x9, with the rights of x28: each range as large as it can be. It leaves x9 in x7, or dies where the
-# message is full.
-give:
-    bgeu x7, x9, given
-    addi x12, x5, 48        # four items of objects follow
-    bltu x6, x12, full
-    li x12, 0x1000          # how large it is
-    slli x13, x28, 2
-    ori x13, x13, 1
-grow:
-    and x14, x7, x12
-    bne x14, x0, grown
-    add x14, x12, x12
-    add x15, x7, x14
-    bltu x9, x15, grown
-    mv x12, x14
-    addi x13, x13, 128
-    j grow
-grown:
-    add x13, x13, x7
-    sw x13, 0(x6)
-    addi x13, x7, 1         # to the same place
-    sw x13, 4(x6)
-    addi x6, x6, -8
-    add x7, x7, x12
-    j give
-given:
-    jr x1
-full:
-    ebreak
+    define_give
 
 # The page below main's stack. Those below others are added by NOVA_STACK.
     .section .nova_guards, "a"

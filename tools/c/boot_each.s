@@ -1,6 +1,6 @@
 # The first instructions of a run with a monitor on each of several processors, at address 0. Monitor k is on processor k, with a guest and a
 # console of its own, and shares nothing with the others. The root does for each what boot.s does for one: it makes a domain that holds the
-# monitor's memory but page 0, its guest's, and its console, and starts main's thread there. What the root has at a scenario's beginning is
+# monitor's memory but page 0 and the guard pages below stacks, its guest's, and its console, and starts main's thread there. What the root has at a scenario's beginning is
 # there at the same selectors: 0 the domain, 1 main's thread, 2 its scheduling context; and main's event base is 16 there, too. (A domain
 # also holds a portal at 1032 + 16 k, of which it makes no use.) The root's priority must be above that of main.
 #
@@ -8,6 +8,7 @@
 # monitor k lies at k * 2^monitor_order pages, its guest at (1 + k) * 2^guest_order pages, and its console k pages from `consoles` on. These
 # symbols, and `monitors`, are given on the linker's command line.
     .option norelax
+    .include "boot_memory.s"
     .section .boot, "ax"
     .balign 4
     .globl nova_boot
@@ -31,7 +32,7 @@ monitor:
     li x17, 5               # create_pt: two portals to it: at s2 + 8 that of a virtual CPU by which the domain is given everything,
     addi x10, s2, 8         # and at s2 + 9 that of main; their identifiers are k
     addi x12, s2, 4
-    la x14, give
+    la x14, startup
     ecall
     li x17, 11
     addi x10, s2, 8
@@ -83,25 +84,15 @@ monitor:
     ebreak
 
 # The startup of the virtual CPU of monitor k, which is in x10: its domain is given everything. It then dies of a fetch, at address 0.
-give:
+startup:
+    mv x31, x10
     li x5, 0xfffff000       # the message words
     addi x6, x5, 504        # item 0, and then downward
-    la x28, monitor_order
-    addi x28, x28, 12
-    sll x30, x10, x28       # the monitor's memory
-    li x7, 1
-    sll x28, x7, x28
-    li x7, 0x1000           # its pages 1, 2 and 3, 4 to 7, and so on, to read, write and execute
-    addi x9, x30, 0x1d
-pages:
-    add x29, x7, x9
-    sw x29, 0(x6)
-    addi x29, x7, 1
-    sw x29, 4(x6)
-    addi x6, x6, -8
-    add x7, x7, x7
-    addi x9, x9, 128
-    bne x7, x28, pages
+    la x30, monitor_order   # where the monitor's memory lies
+    addi x30, x30, 12
+    sll x30, x10, x30
+    give_program
+    mv x10, x31
     la x28, guest_order     # the guest's
     addi x29, x28, 12
     addi x7, x10, 1
@@ -140,6 +131,8 @@ pages:
     li x17, 1               # reply
     ecall
 
+    define_give moved
+
 # The startup of main's thread of monitor k: it begins at _start, and is given its scheduling context, at 1026 + 16 k, to place 2.
 begin:
     li x5, 0xfffff000
@@ -163,3 +156,7 @@ begin:
     .globl guest_processor_word
 guest_processor_word:
     .word 0
+
+# The page below main's stack. Those below others are added by NOVA_STACK.
+    .section .nova_guards, "a"
+    .word stack_guard, 0, 1

@@ -291,6 +291,41 @@ starts_itself() {
     [ -n "$(symbol "$scratch/first.o" _start)" ]
 }
 
+# A message has 62 items, of which four are no memory of the program: the ranges of boot_memory.s, counted, and what else goes by the same bound.
+check_ranges() { # an executable that begins by boot.s or boot_each.s
+    $tool-objcopy -O binary -j .guards "$1" "$scratch/guards"
+    ranges=$({
+        for name in code_end stack_end console; do
+            echo $(($(symbol "$1" $name)))
+        done
+        od -A n -v -t u4 -w12 "$scratch/guards"
+    } | awk -v several=$((monitors > 1)) '
+        function give(to) { # counts the ranges from `from` on
+            while (from < to) {
+                size = 4096
+                while (from % (2 * size) == 0 && from + 2 * size <= to) size *= 2
+                from += size
+                ranges++
+            }
+        }
+        NR <= 3 { ends[NR] = $1; next }
+        { for (i = 0; i < $3; i++) guards[$1 + i * $2] }
+        END {
+            from = 4096
+            give(ends[1])
+            for (; from < ends[2]; from += 4096) {
+                to = ends[2]
+                for (page in guards) if (page + 0 >= from && page + 0 < to) to = page + 0
+                give(to)
+            }
+            from = ends[2]
+            if (!several) give(ends[3])
+            print ranges + !several
+        }')
+    [ "$ranges" -le 58 ] ||
+        refuse "$what: its memory, with its guard pages left out, falls into $ranges ranges, and a domain is given 58 at most; have fewer stacks, or of a page each"
+}
+
 monitor_name() { # that of its first file
     eval "set -- $monitor"
     echo "$1"
@@ -314,10 +349,12 @@ build() {
             -Wl,--defsym=console=$ram_bytes -Wl,--defsym=guest_memory=$program_bytes -Wl,--defsym=guest_bytes=$program_bytes \
             -Wl,--defsym=consoles=$((4096 << ram_order)) -Wl,--defsym=monitors="$monitors" \
             -Wl,--defsym=monitor_order="$monitor_order" -Wl,--defsym=guest_order="$order" "$@"
+        check_ranges "$program"
     elif [ -z "$own_start" ]; then
         link "$program" '' "$program_bytes" "$sources" -Wl,-e,_start
     else
         link "$program" "$boot$start" "$program_bytes" "$sources" -Wl,-e,nova_boot
+        check_ranges "$program"
     fi
 }
 

@@ -10,7 +10,6 @@ The first two take [--limit N] [--elf FILE] [--names FILE] [--program FILE]; the
 from __future__ import annotations
 
 import argparse
-import os
 import signal
 import sys
 from pathlib import Path
@@ -18,7 +17,7 @@ from pathlib import Path
 sys.path += [str(Path(__file__).resolve().parents[1] / name) for name in ("build", "picture")]
 
 from backend import BYTES, MOST, BackEnd, Refused  # noqa: E402
-from built import Missing, find  # noqa: E402
+from built import Missing, ended, find  # noqa: E402
 from listing import Listing, list_turns  # noqa: E402
 from naming import Names, Unread, add_words, names_of, selectors_in  # noqa: E402
 from packets import Closed, Line  # noqa: E402
@@ -132,13 +131,7 @@ def main(words: list[str]) -> int:
     except Refused as why:
         print(f"debug: {why}", file=sys.stderr)
         return 1
-    except BrokenPipeError:
-        os.dup2(os.open(os.devnull, os.O_WRONLY), sys.stdout.fileno())
-        return 1
-    except OSError as error:
-        print(f"debug: {f'{error.filename}: ' if error.filename else ''}{error.strerror}", file=sys.stderr)
-        return 1
 
 
 if __name__ == "__main__":
-    sys.exit(main(sys.argv[1:]))
+    sys.exit(ended("debug", lambda: main(sys.argv[1:])))

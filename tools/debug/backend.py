@@ -2,12 +2,15 @@
 
 from __future__ import annotations
 
+import os
 import subprocess
+import weakref
 from collections.abc import Iterable, Iterator, Sequence
 from dataclasses import dataclass, field
 from pathlib import Path
 
 PAGE = 4096
+ENDED = "the program has ended"
 OWN_PAGE = 0xFFFFF
 WORDS = 512
 MOST = 10_000_000
@@ -98,17 +101,42 @@ def context_of(line: str) -> tuple[int, str, str, tuple[int, ...]]:
     return int(number), kind, state, tuple(registers)
 
 
+def unread(file: Path) -> str:
+    """Why a file can't be read, or nothing where it can. A pipe is left alone."""
+    if file.is_dir():
+        return f"{file} is a folder"
+    if os.access(file, os.R_OK):
+        return ""
+    return f"{file}: {'it cannot be read' if file.exists() else 'there is no such file'}"
+
+
+def why_refused(said: str, program: Path, scenario: Path, order: Path | None) -> str:
+    """Why a program takes no run, in words for the caller, by what it said."""
+    return unread(scenario) or (unread(order) if order else "") or {
+        ENDED: f"{program} ended before it answered",
+        "no scenario": f"{scenario} is no scenario; `nova check` says which line is at fault, and why",
+        "no order": f"{order} is no order of {scenario}; `nova solo` says which line is at fault, and why",
+    }.get(said, said)
+
+
 class BackEnd:
-    """A run in the state after some of its turns."""
+    """A run in the state after some of its turns. Raises Refused where a file can't be read, or the program doesn't take the run."""
 
     def __init__(self, program: Path, scenario: Path, order: Path | None, limit: int) -> None:
         command = [str(program), str(scenario), str(limit), *([str(order)] if order else [])]
         pipe = subprocess.PIPE
         self._child = subprocess.Popen(command, stdin=pipe, stdout=pipe, text=True, bufsize=-1, start_new_session=True)
+        # An interrupt from the keyboard doesn't reach it, so it is ended when nobody asks it any more.
+        weakref.finalize(self, self._child.kill)
         self.turn = 0
         self.keeps = True
         self._seen = Seen()
-        self.end = int(self.ask("at")[0].split()[3])
+        try:
+            self.end = int(self.ask("at")[0].split()[3])
+        except Refused as why:
+            raise Refused(why_refused(str(why), program, scenario, order)) from why
+        except (IndexError, ValueError) as error:
+            raise Refused(f"{program} doesn't answer as nova_debug does") from error
 
     def ask(self, *lines: str) -> list[str]:
         """The answer to the last line. Those before it are settings, whose answers tell nothing."""
@@ -118,8 +146,12 @@ class BackEnd:
         """The answers to some lines, which together fit into a pipe: the program isn't waited for between them. Where one is refused, that is
         raised when all have been read."""
         assert self._child.stdin and self._child.stdout
-        self._child.stdin.write("".join(line + "\n" for line in lines))
-        self._child.stdin.flush()
+        try:
+            self._child.stdin.write("".join(line + "\n" for line in lines))
+            self._child.stdin.flush()
+        except BrokenPipeError:
+            # It has ended, and what it said before tells why.
+            pass
         answers, refused = [], None
         for line in lines:
             try:
@@ -152,7 +184,7 @@ class BackEnd:
             if word == "idle":
                 raise Refused(f"a processor is idle in the block {rest} of the order; perhaps it is an order of another program")
             if not said:
-                raise Refused("the program has ended")
+                raise Refused(ENDED)
             answer.append(said)
 
     def _stand(self, turn: int) -> None:

@@ -21,7 +21,7 @@ from pathlib import Path
 from making import TOP, Children, NoKit, NotMade, make  # makes tools/build known
 from hints import hints
 
-from built import draft_of
+from built import draft_of, ended
 
 # How a run is ended by a check of its own.
 CHECKS = (signal.SIGILL, signal.SIGTRAP, signal.SIGABRT, signal.SIGSEGV)
@@ -106,4 +106,4 @@ def main(words: list[str]) -> int:
 
 
 if __name__ == "__main__":
-    sys.exit(main(sys.argv[1:]))
+    sys.exit(ended("draft", lambda: main(sys.argv[1:])))

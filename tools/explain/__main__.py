@@ -10,7 +10,6 @@ nova_debug tells in which domain each execution context is, so that it is known 
 from __future__ import annotations
 
 import argparse
-import os
 import sys
 from collections.abc import Iterable
 from pathlib import Path
@@ -18,7 +17,7 @@ from pathlib import Path
 sys.path.append(str(Path(__file__).resolve().parents[1] / "picture"))
 
 from account import Run, account  # noqa: E402
-from exact import Exact, Refused, there  # noqa: E402
+from exact import Exact, Refused, ended, there  # noqa: E402
 from naming import Names, Unread, add_words, check_executable, constants, named_in, selectors  # noqa: E402
 from parsing import Parser  # noqa: E402
 from places import Place, places_of  # noqa: E402
@@ -147,14 +146,11 @@ def main(arguments: list[str]) -> int:
     """Explains one report. The status is 1 where a file can't be read, or is not of its form."""
     try:
         explain(parser().parse_args(arguments))
-    except BrokenPipeError:
-        os.dup2(os.open(os.devnull, os.O_WRONLY), sys.stdout.fileno())
-        return 1
-    except (Trouble, Unread, OSError) as why:
+    except (Trouble, Unread) as why:
         print(f"explain: {why}", file=sys.stderr)
         return 1
     return 0
 
 
 if __name__ == "__main__":
-    sys.exit(main(sys.argv[1:]))
+    sys.exit(ended("explain", lambda: main(sys.argv[1:])))

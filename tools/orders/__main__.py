@@ -21,7 +21,7 @@ from typing import TypeVar
 
 from asking import MOST_TURNS, TURNS, Ask, amiss, parser
 from choice import Choice, Wanted
-from finding import find_program, find_staying
+from finding import ended, find_program, find_staying
 from longest import Scout
 from outcome import Outcome, broken, outcome_of
 from pool import Pool
@@ -263,9 +263,8 @@ def main(arguments: list[str]) -> int:
     except Fault as fault:
         print(f"orders: a report of the program: {fault}", file=sys.stderr)
         return REFUSED
-    except BrokenPipeError:
-        os.dup2(os.open(os.devnull, os.O_WRONLY), sys.stdout.fileno())
-        return REFUSED
+    except BrokenPipeError:  # nobody reads on
+        raise
     except (Trouble, OSError) as error:
         print(f"orders: {error}", file=sys.stderr)
         return REFUSED
@@ -274,4 +273,4 @@ def main(arguments: list[str]) -> int:
 
 
 if __name__ == "__main__":
-    sys.exit(main(sys.argv[1:]))
+    sys.exit(ended("orders", lambda: main(sys.argv[1:])))

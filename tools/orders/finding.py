@@ -10,7 +10,9 @@ from program import DONE, Trouble
 
 sys.path.append(str(Path(__file__).resolve().parents[1] / "build"))
 
-from built import Missing, find, there  # noqa: E402
+from built import Missing, ended, find, there  # noqa: E402
+
+__all__ = ["ended", "find_program", "find_staying"]
 
 
 def find_staying(named: Path | None, program: Path | None) -> Path | None:

@@ -23,7 +23,7 @@ from typing import IO, BinaryIO, TypeVar
 
 from clocks import Firing, find_firings, misfit, mistimed
 from drawing import page, svg
-from exact import Exact, there
+from exact import Exact, ended, there
 from exact import Refused as NotAsked
 from history import Wakes
 from naming import Names, Unread, add_words, names_of, selectors
@@ -208,18 +208,25 @@ def trace(words: argparse.Namespace) -> Iterator[str]:
 
 
 def write_trace(words: argparse.Namespace) -> None:
-    """Writes a trace, to a file that is there only when all of it is written."""
+    """Writes a trace, to a file that is there only when all of it is written. A pipe or a device is written to as it is."""
     if words.output is None:
         for text in trace(words):
             sys.stdout.write(text)
-        return
-    with tempfile.TemporaryDirectory(dir=words.output.parent) as folder:
-        fresh = Path(folder, "trace")
-        with fresh.open("wb") as raw, packed(raw, words.output.suffix == ".gz") as file:
-            texts = trace(words)
-            while piece := "".join(islice(texts, AT_ONCE)):
-                file.write(piece.encode("ascii"))
-        fresh.replace(words.output)
+    elif words.output.exists() and not words.output.is_file():
+        write_pieces(words, words.output)
+    else:
+        with tempfile.TemporaryDirectory(dir=words.output.parent) as folder:
+            fresh = Path(folder, "trace")
+            write_pieces(words, fresh)
+            fresh.replace(words.output)
+
+
+def write_pieces(words: argparse.Namespace, place: Path) -> None:
+    """Writes a trace to a place, piece by piece."""
+    with place.open("wb") as raw, packed(raw, words.output.suffix == ".gz") as file:
+        texts = trace(words)
+        while piece := "".join(islice(texts, AT_ONCE)):
+            file.write(piece.encode("ascii"))
 
 
 def packed(raw: BinaryIO, compress: bool) -> AbstractContextManager[IO[bytes]]:
@@ -239,7 +246,7 @@ def main(arguments: list[str]) -> int:
             sys.stdout.buffer.write(picture)
         else:
             words.output.write_bytes(picture)
-    except (Refused, Unread, OSError) as error:
+    except (Refused, Unread) as error:
         print(f"picture: {error}", file=sys.stderr)
         return 1
     return 0
@@ -248,4 +255,4 @@ def main(arguments: list[str]) -> int:
 if __name__ == "__main__":
     # All that is made is kept to the end, so looking for what can be freed would only take time.
     gc.disable()
-    sys.exit(main(sys.argv[1:]))
+    sys.exit(ended("picture", lambda: main(sys.argv[1:])))

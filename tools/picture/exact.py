@@ -12,12 +12,12 @@ TOP = Path(__file__).resolve().parents[2]
 sys.path += [str(TOP / "tools" / "debug"), str(TOP / "tools" / "build")]
 
 from backend import PART, BackEnd, Refused, Slice  # noqa: E402
-from built import path_of, there  # noqa: E402
+from built import ended, path_of, there  # noqa: E402
 
 # Where the repository's program is, once it is built.
 PROGRAM = path_of("nova_debug")
 
-__all__ = ["PROGRAM", "Exact", "Refused", "Slice", "there"]
+__all__ = ["PROGRAM", "Exact", "Refused", "Slice", "ended", "there"]
 
 
 def _words_of(line: str) -> list[str]:
@@ -36,7 +36,7 @@ class Exact:
             raise Refused(f"{program}: {error.strerror}") from error
         if not self._is_of(report):
             self._back.close()
-            raise Refused(f"{scenario}: its run is not that of the report")
+            raise Refused(f"{scenario}: its run is not that of the report{'' if order else '; if that has an order of its own, --order names it'}")
 
     def _is_of(self, report: Report) -> bool:
         """Whether the run is that of a report, of which some events may be left out."""

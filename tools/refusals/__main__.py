@@ -54,6 +54,8 @@ def tell(counts: dict[str, int], wrong: list[str]) -> int:
     """Writes what went wrong, and a line of counts. The status is 1 where something did, or nothing was run."""
     for one in wrong:
         print(one, file=sys.stderr)
+    if not counts:
+        print("refusals: nothing was run", file=sys.stderr)
     print(", ".join(f"{what} {count}" for what, count in sorted(counts.items())), f"; {len(wrong)} went wrong", sep="")
     return 1 if wrong or not counts else 0
 

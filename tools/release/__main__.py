@@ -24,7 +24,7 @@ from pathlib import Path
 TOP = Path(__file__).resolve().parents[2]
 sys.path.append(str(TOP / "tools" / "build"))
 
-from built import MANIFEST, PROGRAMS, Missing, State, advice, lines_of, path_of, recorded, schedule, state_of, sum_of  # noqa: E402
+from built import MANIFEST, PROGRAMS, Missing, State, advice, ended, lines_of, path_of, recorded, schedule, state_of, sum_of  # noqa: E402
 
 NAMES = ("nova", "nova_debug")
 # What is packed beside the programs, of what git knows. Tools that look after sources or make programs of them stay.
@@ -131,7 +131,7 @@ def main(arguments: list[str]) -> int:
     given = words.parse_args(arguments)
     try:
         place = release([*NAMES, *given.more], given.output, given.dirty)
-    except (Refused, Missing, KeyError, OSError) as why:
+    except (Refused, KeyError) as why:
         print(f"release: {why}", file=sys.stderr)
         return 1
     print(f"{place}: {place.stat().st_size / 1e6:.1f} MB, sha256 {hashlib.sha256(place.read_bytes()).hexdigest()}")
@@ -139,4 +139,4 @@ def main(arguments: list[str]) -> int:
 
 
 if __name__ == "__main__":
-    sys.exit(main(sys.argv[1:]))
+    sys.exit(ended("release", lambda: main(sys.argv[1:])))

@@ -64,6 +64,8 @@ def told(seen: list[tuple[Path, Replay]]) -> bool:
     most = max((one.blocks for _, one in seen), default=0)
     print(", ".join(f"{verdicts[verdict]} {verdict.value}" for verdict in Verdict), end="; ")
     print(f"{several} orders of several blocks, at most {most}; {sum(one.turns for _, one in seen)} turns")
+    if not seen:
+        print("replays: nothing was run", file=sys.stderr)
     amiss = not_by_threads((processors_of(path.read_text("ascii", "replace")), one) for path, one in seen)
     if amiss:
         print(f"not by threads: {amiss}", file=sys.stderr)

@@ -3,6 +3,7 @@
 from __future__ import annotations
 
 import re
+import signal
 import subprocess
 from collections.abc import Iterable
 from dataclasses import dataclass
@@ -51,6 +52,8 @@ def ending(words: list[str], seconds: int) -> Ending:
         done = subprocess.run(words, stdin=subprocess.DEVNULL, capture_output=True, timeout=seconds, check=False)
     except subprocess.TimeoutExpired:
         return Ending(None, b"", f"not done after {seconds} s".encode())
+    if done.returncode == -signal.SIGINT:
+        raise KeyboardInterrupt
     return Ending(done.returncode, done.stdout, done.stderr)
 
 

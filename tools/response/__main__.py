@@ -9,7 +9,7 @@ import argparse
 import sys
 from pathlib import Path
 
-from schedules import TOP, BackEnd, Event, Refused, Schedule, schedules_of
+from schedules import TOP, BackEnd, Event, Refused, Schedule, ended, schedules_of
 from waits import Terms, Wait, waits_of
 
 sys.path.append(str(TOP / "tools" / "build"))
@@ -101,6 +101,6 @@ def main(words: argparse.Namespace) -> int:
 
 if __name__ == "__main__":
     try:
-        sys.exit(main(parser().parse_args()))
+        sys.exit(ended("response", lambda: main(parser().parse_args())))
     except Refused as why:
         sys.exit(f"response: {why}")

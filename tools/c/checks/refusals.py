@@ -47,6 +47,7 @@ WRONG_WORDS = [
     (["function.c", "out.nova"], ["printf is a function of the C library; build with --libc"]),
     (["--stack", "60000", "main.c", "out.nova"], ["the memory is too small", "or a lesser --stack"]),
     (["main.c", "library.a", "out.nova"], ["library.a: its member compressed.o has compressed instructions", "compile it with"]),
+    (["stacks.c", "out.nova", "8"], ["stacks.c: its memory, with its guard pages left out, falls into 71 ranges", "have fewer stacks"]),
     (["large.c", "out.nova"], ["the memory is too small", "give build.sh a greater RAM_ORDER"]),
 ]
 
@@ -92,6 +93,7 @@ def make(tools: Tools, folder: Path) -> None:
         (folder / name).mkdir(parents=True)
     (folder / "main.c").write_text(MAIN)
     (folder / "large.c").write_text("char large[60000]; int main(void) { return large[9]; }\n")
+    (folder / "stacks.c").write_text('#include "nova.h"\nNOVA_STACKS(stacks, 60, 4096);\nint main(void) { return stacks[59][4096]; }\n')
     (folder / "header.c").write_text("#include <stdio.h>\n" + MAIN)
     (folder / "function.c").write_text('int printf(const char *, ...); int main(void) { return printf("x"); }\n')
     (folder / "notes.txt").write_text("notes\n")

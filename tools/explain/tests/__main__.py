@@ -233,7 +233,7 @@ class Asked(unittest.TestCase):
 
     def test_another_run_is_refused(self) -> None:
         told = explain(f"{{}}/lost.report --scenario EXAMPLES/race.nova --program {program}")
-        self.assertEqual((told.returncode, told.stderr), (1, f"explain: {TOP}/examples/race.nova: its run is not that of the report\n"))
+        self.assertEqual((told.returncode, told.stderr), (1, f"explain: {TOP}/examples/race.nova: its run is not that of the report; if that has an order of its own, --order names it\n"))
 
 
 def write() -> None:

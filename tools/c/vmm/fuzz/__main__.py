@@ -22,6 +22,10 @@ from pathlib import Path
 from judge import Known, Report, fault
 from programs import program
 
+sys.path.append(str(Path(__file__).resolve().parents[3] / "build"))
+
+from ending import ended  # noqa: E402
+
 HERE = Path(__file__).resolve().parent
 C = HERE.parents[1]
 TOP = C.parents[1]
@@ -103,4 +107,4 @@ def main(words: argparse.Namespace) -> int:
 
 
 if __name__ == "__main__":
-    sys.exit(main(parser().parse_args()))
+    sys.exit(ended("fuzz", lambda: main(parser().parse_args())))
