@@ -141,7 +141,7 @@ pub called_blocked : (k : KernelState) (ec cpu : ℕ) → IsKept k → (c : IsCa
 called_blocked k ec cpu kept c = kept.blocked.blocked c.alarm.alarm.sm ec (first_waits k.semaphores c.alarm.alarm.sm ec c.first)
 
 -- an alarm rings, and another stays
-rung_other : (alarms : List AlarmState) (m n : ℕ) (o : Option AlarmState) (a : AlarmState) → n ≢ m → slice_get alarms n ≡ Some a → slice_get (rung_in alarms m o) n ≡ Some a
+pub rung_other : (alarms : List AlarmState) (m n : ℕ) (o : Option AlarmState) (a : AlarmState) → n ≢ m → slice_get alarms n ≡ Some a → slice_get (rung_in alarms m o) n ≡ Some a
 rung_other alarms m n None a other at = at
 rung_other alarms m n (Some b) a other at = get_other alarms m n (rung_once b) other ∙ at
 

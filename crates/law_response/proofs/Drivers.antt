@@ -73,7 +73,7 @@ is_due_then k sc ec cpu priority quantum b r its coming outranks never = by_due 
         absurd (by_beside is ch.chosen ch.choice ch.beside)
 
 -- nobody acts where something is due
-nobody_acts : (k : KernelState) (cpu : ℕ) → is_due k cpu ≡ true → next_to_act k cpu ≡ None
+pub nobody_acts : (k : KernelState) (cpu : ℕ) → is_due k cpu ≡ true → next_to_act k cpu ≡ None
 nobody_acts k cpu due = by_due (due_on k.times cpu) refl due
   where
     by_due : (o : Option Due) → due_on k.times cpu ≡ o → is_some o ≡ true → next_to_act k cpu ≡ None
@@ -94,7 +94,7 @@ sets_home s turns by cpu c chosen sets = by_deed (deed k c.actor) refl (deed_ask
     by_deed (Blocks sm None) is asks sets = absurd cc
     by_deed other is asks sets = absurd cc
 
-sets_none : (k : KernelState) (by cpu : ℕ) → IsReached k → (by ≡ cpu → next_to_act k by ≡ None) → sets_once cpu k (next_to_act k by) ≡ false
+pub sets_none : (k : KernelState) (by cpu : ℕ) → IsReached k → (by ≡ cpu → next_to_act k by ≡ None) → sets_once cpu k (next_to_act k by) ≡ false
 sets_none k by cpu r nobody = by_choice (next_to_act k by) refl
   where
     by_test : (c : Candidate) → next_to_act k by ≡ Some c → (t : Bool) → sets_one cpu (deed k c.actor) ≡ t → t ≡ false
@@ -110,9 +110,9 @@ sets_none k by cpu r nobody = by_choice (next_to_act k by) refl
 
 -- ALL TURNS
 
-record AreDue (k : KernelState) (turns : List ℕ) (cpu : ℕ) : Type 0 where
-  due : turns_at cpu turns ≡ due_in k cpu turns
-  none : sets_in k cpu turns ≡ 0
+pub record AreDue (k : KernelState) (turns : List ℕ) (cpu : ℕ) : Type 0 where
+  pub due : turns_at cpu turns ≡ due_in k cpu turns
+  pub none : sets_in k cpu turns ≡ 0
 
 are_due : (k : KernelState) (turns : List ℕ) (sc ec cpu priority quantum : ℕ) (b : Budget) → IsReached k → IsSchedule k sc ec cpu priority quantum b → IsComing k ec cpu →
     NobodyElseCreates k ec → OutranksOthers k cpu sc priority → NeverActs k ec turns → AreDue k turns cpu

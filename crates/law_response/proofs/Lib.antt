@@ -7,6 +7,9 @@ pub mod Selves
 pub mod Sharing
 pub mod Firsts
 pub mod Revoking
+pub mod Keeping
+pub mod Places
+pub mod Items
 pub mod Late
 pub mod Called
 pub mod Coming
@@ -15,6 +18,10 @@ pub mod Creating
 pub mod Highest
 pub mod Jobs
 pub mod Rounds
+pub mod Served
 pub mod HelpingRow
 pub mod Dues
 pub mod Drivers
+pub mod Taken
+pub mod Rung
+pub mod Recalled

@@ -29,7 +29,7 @@ record Revokes (k : KernelState) (turns : List ℕ) (sc ec cpu : ℕ) : Type 0 w
   stays : StaysRunnable k cpu ec turns
   paid : paid_in k sc turns ≤ acts_in k ec turns
 
-own_once : (k : KernelState) (by sc ec cpu priority quantum : ℕ) (b : Budget) → IsSchedule k sc ec cpu priority quantum b → actor k ec ≡ ec →
+pub own_once : (k : KernelState) (by sc ec cpu priority quantum : ℕ) (b : Budget) → IsSchedule k sc ec cpu priority quantum b → actor k ec ≡ ec →
     one_if (is_paid_by sc (next_to_act k by)) ≤ acts_once ec (next_to_act k by)
 own_once k by sc ec cpu priority quantum b its itself = by_choice (next_to_act k by) refl
   where

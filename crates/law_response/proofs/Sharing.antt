@@ -82,7 +82,7 @@ after_others k by cpu priority sc = by_turn (after k by) (comes k by)
         let same = ap (others_in cpu priority sc 0) t.objects in
         let adds = adds_others k t.between c.actor cpu priority sc t.adds in omega (arith, same, adds)
 
-run_others : (k : KernelState) (turns : List ℕ) (cpu priority sc : ℕ) → others k cpu priority sc ≤ others (run k turns) cpu priority sc
+pub run_others : (k : KernelState) (turns : List ℕ) (cpu priority sc : ℕ) → others k cpu priority sc ≤ others (run k turns) cpu priority sc
 run_others k [] cpu priority sc = omega arith
 run_others k (by ∷ turns) cpu priority sc =
     let first = after_others k by cpu priority sc in let rest = run_others (after k by) turns cpu priority sc in omega (arith, first, rest)

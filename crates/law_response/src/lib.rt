@@ -2,30 +2,40 @@
 //! Each holds in every state that turns reach from a boot state, and over every list of further turns, of any processors.
 #![tactic(auto)]
 
-ghost use Rattle.std.specs.Prelude.{◌≡◌, ◌≢◌, ◌<◌, ◌≤◌, ◌+◌, ◌-◌, ◌*◌, ◌∷◌, ℕ, List, Contains, None, Some, false, length, replicate, slice_get, true};
+ghost use Rattle.std.specs.Prelude.{◌≡◌, ◌≢◌, ◌<◌, ◌≤◌, ◌+◌, ◌-◌, ◌*◌, ◌∷◌, ℕ, Bool, List, Contains, None, Ok, Some, false, length, replicate, slice_get, true};
+ghost use Rattle.nova_calls.specs.Hypercalls.{call_of};
+ghost use Rattle.nova_calls.specs.declared.call.Call.TheVariants as asks;
+ghost use Rattle.nova_utcb.specs.Messages.{has_counts};
 ghost use Rattle.nova_model.specs.Boot.{Scenario, boot};
+ghost use Rattle.nova_model.specs.Capabilities.{call_right, is_pt, named};
 ghost use Rattle.nova_model.specs.Choice.{Candidate, actor, candidates};
+ghost use Rattle.nova_model.specs.Deeds.{deed, recall};
 ghost use Rattle.nova_model.specs.Edges.{acts, after_edges, edge, state_in};
 ghost use Rattle.nova_model.specs.Revokes.{Revocation};
-ghost use Rattle.nova_model.specs.Runs.{after, run};
+ghost use Rattle.nova_model.specs.Runs.{after, rounds, run};
 ghost use Rattle.nova_model.specs.Semaphores.{semaphore};
-ghost use Rattle.nova_model.specs.State.{KernelState, deadline_of};
+ghost use Rattle.nova_model.specs.Portals.{handler_of};
+ghost use Rattle.nova_model.specs.State.{KernelState, context, deadline_of, message, pd_of};
 ghost use Rattle.nova_model.specs.Times.{clock, due_on, goes_on};
 ghost use Rattle.nova_model.specs.declared.budget.Budget.{Budget};
 ghost use Rattle.nova_model.specs.declared.context.State.{State};
-ghost use Rattle.nova_model.specs.declared.context.State.TheVariants.{Blocked};
+ghost use Rattle.nova_model.specs.declared.context.State.TheVariants.{Blocked, Helping, Parked, Ready};
+ghost use Rattle.nova_model.specs.declared.deed.Deed.TheVariants.{Raises};
 ghost use Rattle.nova_model.specs.declared.times.AlarmState.{AlarmState};
 ghost use Rattle.nova_model.specs.declared.times.Deadline.{Deadline};
 ghost use Rattle.std.specs.List.{concat};
 ghost use Rattle.law_turns.specs.Rounds.{AreRounds};
-ghost use Rattle.law_revocation.specs.Along.{Runs};
+ghost use Rattle.law_revocation.specs.Along.{Runs, acts_in};
 ghost use Rattle.law_revocation.specs.Whole.{left};
 ghost use Rattle.law_response.specs.Creating.{NobodyCreates, NobodyElseCreates, OutranksOthers};
 ghost use Rattle.nova_gsi.specs.Deadlines.{rings_left};
 ghost use Rattle.nova_gsi.specs.Firings.{moment};
 ghost use Rattle.law_response.specs.Dues.{AreDueBounded, IsPrompt};
 ghost use Rattle.law_response.specs.Helping.{callers, goes_on_helping};
+ghost use Rattle.law_response.specs.Items.{GivesAlong, turns_of_items};
 ghost use Rattle.law_response.specs.Jobs.{MeetsDemand};
+ghost use Rattle.law_response.specs.Served.{ServesInRounds};
+ghost use Rattle.law_response.specs.Taken.{HasHelped, IsTaken};
 ghost use Rattle.law_response.specs.Waits.{ActsItself, Awaits, GoesFirst, HasAwaited, HasShared, HasWaited, IsInTime, IsSchedule, MayRun, NeverActs, StaysRunnable, acts_itself, ahead, due_in, full_quantum, others, paid_in, turns_at, turns_left};
 
 /// While scheduling context `sc` stays runnable and pays for fewer turns than are left of its quantum, each turn of its processor is due,
@@ -99,6 +109,28 @@ pub fn an_alarm_rings_once_a_period()
     ensures none { (a : AlarmState) (at : ℕ) → at < moment a.alarm a.rings → rings_left at a ≡ 0 }
 {}
 
+/// From its moment on until it rings, an alarm's processor has at most as many turns as its alarms ring there by then and deadlines stood,
+/// whoever waits at the alarm's semaphore, on whatever processor, and also where nobody does. Then the first that waited waits for nobody.
+pub fn an_alarm_rings_in_time()
+    ensures { (scenario : Scenario) (before turns : List ℕ) (n : ℕ) (a : AlarmState) →
+        slice_get (run (boot scenario) before).times.alarms n ≡ Some a →
+        goes_on a ≡ true →
+        a.next ≤ clock (run (boot scenario) before).times a.alarm.cpu →
+        slice_get (run (run (boot scenario) before) turns).times.alarms n ≡ Some a →
+        IsPrompt (run (boot scenario) before) turns a.alarm.cpu }
+{}
+
+/// An execution context that is ready, and whose recall is asked for, acts after at most `ahead` turns of its processor beside those due and
+/// those of a greater priority, and then raises the exit of a recall, before any instruction.
+pub fn a_recall_comes_in_time()
+    ensures { (scenario : Scenario) (before turns : List ℕ) (sc ec cpu priority quantum : ℕ) (b : Budget) →
+        IsSchedule (run (boot scenario) before) sc ec cpu priority quantum b →
+        state_in (run (boot scenario) before).contexts ec ≡ Some Ready →
+        (context (run (boot scenario) before) ec).recall ≡ true →
+        NeverActs (run (boot scenario) before) ec turns →
+        HasAwaited (run (boot scenario) before) turns sc ec cpu priority b × (deed (run (run (boot scenario) before) turns) ec ≡ Raises recall 0 0) }
+{}
+
 /// Where each execution context is dead, or its protection domain holds no right to create, no turn makes an object, and that stays so.
 pub fn nothing_is_made_without_the_right_to_create()
     ensures objects { (scenario : Scenario) (before turns : List ℕ) →
@@ -159,6 +191,32 @@ pub fn the_highest_priority_has_every_turn()
         OutranksOthers (run (boot scenario) before) cpu sc priority →
         StaysRunnable (run (boot scenario) before) cpu ec turns →
         turns_at cpu turns ≡ due_in (run (boot scenario) before) cpu turns + paid_in (run (boot scenario) before) sc turns }
+{}
+
+/// Where nobody may create, and scheduling context `sc` outranks all others of its processor, its execution context, as long as it helps a
+/// handler, goes on to do so until it acts, and each turn of the processor is due or goes to where the handler's turns lead. So what its call
+/// waits for is due, or the handler's own work. Once the handler is parked, and nothing is due, it acts in the processor's next turn, and
+/// its call is taken, if its registers and its message still ask for one and their portal is of that handler.
+pub fn a_call_of_the_highest_priority_is_taken_in_time()
+    ensures helps { (scenario : Scenario) (before turns : List ℕ) (sc ec cpu priority quantum handler : ℕ) (b : Budget) →
+        NobodyCreates (run (boot scenario) before) →
+        IsSchedule (run (boot scenario) before) sc ec cpu priority quantum b →
+        OutranksOthers (run (boot scenario) before) cpu sc priority →
+        state_in (run (boot scenario) before).contexts ec ≡ Some (Helping handler) →
+        NeverActs (run (boot scenario) before) ec turns →
+        StaysRunnable (run (boot scenario) before) cpu ec turns →
+        HasHelped (run (boot scenario) before) turns cpu ec handler }
+    ensures taken { (scenario : Scenario) (before : List ℕ) (sc ec cpu priority quantum handler selector pt : ℕ) (b : Budget) (flag : Bool) →
+        IsSchedule (run (boot scenario) before) sc ec cpu priority quantum b →
+        OutranksOthers (run (boot scenario) before) cpu sc priority →
+        state_in (run (boot scenario) before).contexts ec ≡ Some (Helping handler) →
+        state_in (run (boot scenario) before).contexts handler ≡ Some Parked →
+        due_on (run (boot scenario) before).times cpu ≡ None →
+        call_of (context (run (boot scenario) before) ec).regs ≡ Ok (asks.Call selector flag) →
+        has_counts (message (run (boot scenario) before) ec) ≡ true →
+        named (run (boot scenario) before) (pd_of (run (boot scenario) before) ec) is_pt call_right selector ≡ Ok pt →
+        handler_of (run (boot scenario) before) pt ≡ handler →
+        IsTaken (run (boot scenario) before) cpu sc ec handler pt }
 {}
 
 /// No chain of calls, helps and exits closes to a circle: no number of edges leads from an execution context back to itself.
@@ -230,6 +288,13 @@ pub fn round_robin_serves_each_processor()
         turns_at cpu (concat rounds) ≡ length rounds }
 {}
 
+/// An order by round robin from a boot state, whose root has a quantum of at least 1, serves each execution context that waits for nobody
+/// and has the highest priority of its processor. It is passed over in at most as many rounds as have a turn that is due there, and as come
+/// to the full quanta of the others of its priority, but for the round of the last turn that may be taken.
+pub fn round_robin_serves_the_highest_priority()
+    ensures { (scenario : Scenario) (most : ℕ) → 1 ≤ scenario.root.quantum → ServesInRounds (boot scenario) most (rounds (boot scenario) most) }
+{}
+
 /// While an execution context with a scheduling context runs a revoke, it stays runnable, and pays for at most as many turns as the scope
 /// had members. So the law above bounds the turns of its processor in which the revoke may run.
 pub fn a_revoke_ends_in_time()
@@ -238,4 +303,19 @@ pub fn a_revoke_ends_in_time()
         IsSchedule (run (boot scenario) before) sc ec cpu priority quantum b →
         Runs (run (boot scenario) before) ec r turns →
         HasShared (run (boot scenario) before) turns sc ec cpu priority quantum b × (paid_in (run (boot scenario) before) sc turns ≤ length (left r (run (boot scenario) before))) }
+{}
+
+/// From a state on, an execution context that gives items takes at most as many turns for them as the items that are left have words of: a
+/// turn for each place of the range of an item that delegates, from the cursor on for the present one, and one for the end of each. One
+/// with a scheduling context stays runnable meanwhile, and pays for no more than these, so that the law of rings bounds the turns of its
+/// processor.
+pub fn items_end_in_time()
+    ensures acts { (scenario : Scenario) (before turns : List ℕ) (ec : ℕ) →
+        GivesAlong (run (boot scenario) before) ec turns →
+        acts_in (run (boot scenario) before) ec turns ≤ turns_of_items (run (boot scenario) before) ec }
+    ensures pays { (scenario : Scenario) (before turns : List ℕ) (sc ec cpu priority quantum : ℕ) (b : Budget) →
+        1 ≤ scenario.root.quantum →
+        IsSchedule (run (boot scenario) before) sc ec cpu priority quantum b →
+        GivesAlong (run (boot scenario) before) ec turns →
+        HasShared (run (boot scenario) before) turns sc ec cpu priority quantum b × (paid_in (run (boot scenario) before) sc turns ≤ turns_of_items (run (boot scenario) before) ec) }
 {}

@@ -30,6 +30,7 @@ use Rattle.law_origins.specs.Lives.{AreGuestsAlone}
 use Rattle.law_origins.specs.Reachable.{IsReachable}
 use Rattle.law_origins.proofs.Reachable.{reached}
 use Rattle.law_origins.specs.Whose.{HasRight, IsInputBy}
+use Rattle.law_response.specs.Served.{ServesInRounds}
 use Rattle.law_revocation.specs.Called.{HasEndedAsCalled}
 use Rattle.nova_top.specs.Runs.{IsReturned}
 use Rattle.nova_top.specs.Prepared.{IsOrderReadBy, IsReportOf, IsTogether, IsIdleFault, IsPrepared}
@@ -50,6 +51,10 @@ pub record HasLaws (most : ℕ) : Type 0 where
   pub rights : (k : KernelState) (cpu : ℕ) → IsReachable k → IsAuthorised k (after k cpu) cpu
   pub inputs : (s : Scenario) (turns : List ℕ) (cpu ec g : ℕ) (i : Input) → IsInputBy s turns cpu ec g i → HasRight (boot s) turns cpu ec g i
   pub sources : HasSourceLaws
+
+-- the law on round robin
+abbrev pub HasServed : Type 0
+HasServed = (s : Scenario) (most : ℕ) → 1 ≤ s.root.quantum → ServesInRounds (boot s) most (rounds (boot s) most)
 
 module _ {D : Type 0} (d : Depots D) where
   -- AN ORDER THAT WAS NOT READ, OR HAS AN IDLE TURN
@@ -121,8 +126,8 @@ module _ {D : Type 0} (d : Depots D) where
   made_rounds : (name : List ℕ) (most : ℕ) (old new : D) (from : ScenarioText) (made : Outcome) → ScenarioCame d name old from new →
       IsReportOf report (boot (scenario_of from)) (rounds (boot (scenario_of from)) most) most made →
       (made.is_complete ≡ false → length (rounds (boot (scenario_of from)) most) ≡ most) → made.order.items ≡ [] →
-      HasLaws most → IsPrepared d (Solo name None most) old new (Ok made)
-  made_rounds name most old new from made came reported spent none laws = record {
+      HasServed → HasLaws most → IsPrepared d (Solo name None most) old new (Ok made)
+  made_rounds name most old new from made came reported spent none served laws = record {
     from = from;
     between = new;
     came = came;
@@ -141,6 +146,7 @@ module _ {D : Type 0} (d : Depots D) where
       rights = λ before later cpu whole. laws.rights (run (boot (scenario_of from)) before) cpu (reached (scenario_of from) before);
       inputs = λ before later cpu ec g i whole virtual acts is. laws.inputs (scenario_of from) before cpu ec g i (record { virtual = virtual; acts = acts; is = is });
       sources = told laws.sources from (scenario_sound came.bytes from came.valid) (rounds (boot (scenario_of from)) most) (let within = reported.within in let few = laws.few in omega (arith, within, few));
+      response = λ by_rounds. served (scenario_of from) most (scenario_sound came.bytes from came.valid).some_turn;
     };
   }
 
@@ -173,6 +179,7 @@ module _ {D : Type 0} (d : Depots D) where
       rights = λ before later cpu whole. laws.rights (run (boot (scenario_of from)) before) cpu (reached (scenario_of from) before);
       inputs = λ before later cpu ec g i whole virtual acts is. laws.inputs (scenario_of from) before cpu ec g i (record { virtual = virtual; acts = acts; is = is });
       sources = told laws.sources from (scenario_sound came.bytes from came.valid) (turns list.blocks) (let within = reported.within in let few = laws.few in omega (arith, within, few));
+      response = λ by_rounds. absurd by_rounds;
     };
   }
 
@@ -197,15 +204,16 @@ module _ {D : Type 0} (d : Depots D) where
       rights = λ before later cpu whole. laws.rights (run (boot (scenario_of from)) before) cpu (reached (scenario_of from) before);
       inputs = λ before later cpu ec g i whole virtual acts is. laws.inputs (scenario_of from) before cpu ec g i (record { virtual = virtual; acts = acts; is = is });
       sources = told laws.sources from (scenario_sound came.bytes from came.valid) (turns together.blocks) (let within = together.reported.within in let few = laws.few in omega (arith, within, few));
+      response = λ by_rounds. absurd by_rounds;
     };
   }
 
   pub made_bench : (number most : ℕ) (depot : D) (from : ScenarioText) (f : Finished) (made : Outcome) → scenario (generated number) ≡ Ok from →
       IsFinished (boot (scenario_of from)) (rounds (boot (scenario_of from)) most) most f →
       IsRunOut (boot (scenario_of from)) most (rounds (boot (scenario_of from)) most) →
-      made.text.items ≡ summary number f.kernel.state f.trace.items → made.is_complete ≡ is_quiet f.kernel.state → made.order.items ≡ [] → HasLaws most →
+      made.text.items ≡ summary number f.kernel.state f.trace.items → made.is_complete ≡ is_quiet f.kernel.state → made.order.items ≡ [] → HasServed → HasLaws most →
       IsPrepared d (Bench number most) depot depot (Ok made)
-  made_bench number most depot from f made valid finished out text quiet none laws =
+  made_bench number most depot from f made valid finished out text quiet none served laws =
       let k : KernelState = boot (scenario_of from) in
       let reported = out_reported (summary number) k (rounds k most) most f made finished out text quiet in record {
         from = from;
@@ -226,6 +234,7 @@ module _ {D : Type 0} (d : Depots D) where
           rights = λ before later cpu whole. laws.rights (run (boot (scenario_of from)) before) cpu (reached (scenario_of from) before);
           inputs = λ before later cpu ec g i whole virtual acts is. laws.inputs (scenario_of from) before cpu ec g i (record { virtual = virtual; acts = acts; is = is });
           sources = told laws.sources from (scenario_sound (generated number) from valid) (rounds k most) (let within = reported.within in let few = laws.few in omega (arith, within, few));
+          response = λ by_rounds. served (scenario_of from) most (scenario_sound (generated number) from valid).some_turn;
         };
       }
 
@@ -242,10 +251,10 @@ module _ {D : Type 0} (d : Depots D) where
   pub rounds_by : (name : List ℕ) (most : ℕ) (old new : D) (from : ScenarioText) (r : Result Outcome Exit) → ScenarioCame d name old from new →
       IfOk r (λ made. IsReportOf report (boot (scenario_of from)) (rounds (boot (scenario_of from)) most) most made) →
       IfOk r (λ made. made.is_complete ≡ false → length (rounds (boot (scenario_of from)) most) ≡ most) →
-      IfOk r (λ made. made.order.items ≡ []) → IfErr r (λ e. e ≡ exit.Memory) → HasLaws most →
+      IfOk r (λ made. made.order.items ≡ []) → IfErr r (λ e. e ≡ exit.Memory) → HasServed → HasLaws most →
       IsPrepared d (Solo name None most) old new r
-  rounds_by name most old new from (Ok made) came reported spent none memory laws = made_rounds name most old new from made came reported spent none laws
-  rounds_by name most old new from (Err e) came reported spent none memory laws =
+  rounds_by name most old new from (Ok made) came reported spent none memory served laws = made_rounds name most old new from made came reported spent none served laws
+  rounds_by name most old new from (Err e) came reported spent none memory served laws =
       subst (λ (x : Exit). IsPrepared d (Solo name None most) old new (Err x)) (sym memory) tt
 
   pub order_by : (name order : List ℕ) (most : ℕ) (old between new : D) (from : ScenarioText) (list : BlockList) (r : Result Outcome Exit) →

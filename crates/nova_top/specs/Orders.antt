@@ -56,3 +56,12 @@ IsSpent (Solo scenario (Some name) most) order = Unit {0}
 IsSpent (Check scenario) order = Unit {0}
 IsSpent (Twin name most) order = Unit {0}
 IsSpent (Bench number most) order = length order ≡ most
+
+-- a command that takes turns by round robin
+abbrev pub IsByRounds : Command → Type 0
+IsByRounds (Run scenario name most) = ⊥
+IsByRounds (Solo scenario None most) = Unit {0}
+IsByRounds (Solo scenario (Some name) most) = ⊥
+IsByRounds (Check scenario) = ⊥
+IsByRounds (Twin name most) = ⊥
+IsByRounds (Bench number most) = Unit {0}

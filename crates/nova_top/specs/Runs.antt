@@ -16,6 +16,7 @@ use Rattle.nova_calls.specs.declared.numbers.TheConstants.{REVOKE}
 use Rattle.nova_range.specs.Statuses.{status_code}
 use Rattle.nova_range.specs.declared.status.Status.TheVariants.{Success}
 use Rattle.law_origins.specs.Lives.{AreGuestsAlone}
+use Rattle.law_response.specs.Served.{ServesInRounds}
 use Rattle.law_revocation.specs.Along.{HasEvent}
 use Rattle.law_revocation.specs.Called.{HasEndedAsCalled}
 use Rattle.nova_command.specs.declared.command.Command.{Command}
@@ -23,7 +24,7 @@ use Rattle.nova_command.specs.declared.command.Command.TheVariants.{Run, Solo, C
 use Rattle.nova_model.specs.declared.event.Event.{Event}
 use Rattle.nova_report.specs.Report.{report}
 use Rattle.nova_report.specs.Summary.{summary}
-use Rattle.nova_top.specs.Orders.{IsOrderOf, IsSpent, most_turns}
+use Rattle.nova_top.specs.Orders.{IsByRounds, IsOrderOf, IsSpent, most_turns}
 use Rattle.nova_top.specs.Outside.{Depots}
 use Rattle.nova_top.specs.Sourced.{AreSourcesTold}
 
@@ -47,7 +48,9 @@ said_by (Bench number most) = summary number
 -- was made at one of its turns is a guest alone from then on: its view at the end, its exits and its bytes are what the guest alone makes of its inputs.
 -- Whatever one of its turns changes, the one whose turn it is had the authority for it, or it came by itself: an alarm, a deadline or the clock. Each input of
 -- a virtual CPU comes from who has the right to it. And each source of the scenario fired not before its moments, none lost or doubled, which its lines of the
--- report tell; and counters of semaphores are balanced, of those of the boot state and of those that turns made.
+-- report tell; and counters of semaphores are balanced, of those of the boot state and of those that turns made. An order by round robin serves the highest
+-- priority of each processor: an execution context that has it and waits for nobody is passed over in at most as many rounds as have a turn that is due there,
+-- and as come to the full quanta of the others of its priority.
 pub record IsRun {D : Type 0} (d : Depots D) (command : Command) (k : KernelState) (old new : D) (complete : Bool) (bytes text : List ℕ) : Type 0 where
   pub order : List ℕ
   pub of_command : IsOrderOf d command k old new order bytes
@@ -64,6 +67,7 @@ pub record IsRun {D : Type 0} (d : Depots D) (command : Command) (k : KernelStat
   pub inputs : (before later : List ℕ) (cpu ec g : ℕ) (i : Input) → before ++ cpu ∷ later ≡ order → IsVirtual (run k before) g → Acts (run k before) cpu ec →
       input (run k before) cpu g ≡ Some i → HasRight k before cpu ec g i
   pub sources : AreSourcesTold k order
+  pub response : IsByRounds command → ServesInRounds k (most_turns command) order
 
 -- what a command of one scenario makes of the boot state: check says that the scenario is valid, and any other runs it
 abbrev pub IsOutcomeFrom : {D : Type 0} → Depots D → Command → KernelState → D → D → Bool → List ℕ → List ℕ → Type 0

@@ -77,6 +77,7 @@ fn solo<D: Depot>(alloc: Global, depot: &mut D, name: &Name, limit: u32) -> Resu
     firings_are_of_their_moments();
     counters_tell_what_ended();
     alarms_have_room();
+    law_response::round_robin_serves_the_highest_priority();
     law_integrity::turns_change_by_right();
     law_origins::inputs_are_by_right();
     let scenario = fetch_scenario(alloc, depot, name)?;
@@ -131,6 +132,7 @@ fn bench<R: Threads + Wait + Sync, D: Depot, G: Gate + Sync>(
     firings_are_of_their_moments();
     counters_tell_what_ended();
     alarms_have_room();
+    law_response::round_robin_serves_the_highest_priority();
     law_integrity::turns_change_by_right();
     law_origins::inputs_are_by_right();
     let scenario = bench_scenario(alloc, number)?;

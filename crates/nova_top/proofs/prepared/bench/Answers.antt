@@ -7,6 +7,7 @@ returns g c =
     made_bench (depots g.D.Depot.files g.D.Depot.gave g.D.Depot.fetch_failed g.D.Depot.fetch_faults g.D.Depot.took g.D.Depot.append_failed g.D.Depot.append_faults) c.args.number c.args.limit c.args.depot.now c.in_ok-scenario.scenario c.in_ok-finished.finished c.in_ok-summed_up.field-0
     c.in_ok-scenario.ensures.valid c.in_ok-finished.ensures.finished c.in_ok-finished.ensures.out
     c.in_ok-summed_up.ensures.text c.in_ok-summed_up.ensures.quiet c.in_ok-summed_up.ensures.order
+    c.round_robin_serves_the_highest_priority.ensures
     (record {
       few = c.requires.limit.1;
       forests = c.delegations_stay_a_forest.ensures;

@@ -6,6 +6,7 @@ pub returns-clause-prepared : goal.returns-clause-prepared
 returns-clause-prepared g c =
     rounds_by (depots g.D.Depot.files g.D.Depot.gave g.D.Depot.fetch_failed g.D.Depot.fetch_faults g.D.Depot.took g.D.Depot.append_failed g.D.Depot.append_faults) c.args.name.now c.args.limit c.args.depot.now c.fetch_scenario.new.depot c.in_ok-scenario.scenario c.run_rounds.result
     c.in_ok-scenario.ensures.read c.run_rounds.ensures.report c.run_rounds.ensures.spent c.run_rounds.ensures.order c.run_rounds.ensures.memory
+    c.round_robin_serves_the_highest_priority.ensures
     (record {
       few = c.requires.limit.1;
       forests = c.delegations_stay_a_forest.ensures;
