@@ -118,7 +118,7 @@ same_objects s before S P T cpu part none works = elim (comes (run (boot s) befo
 
     by_grows : (ec : ℕ) → IsMember (run (boot s) before) T ec → GrowsByRight (run (boot s) before) (after (run (boot s) before) cpu) ec → (after (run (boot s) before) cpu).objects ≡ (run (boot s) before).objects
     by_grows ec m (Keeps same delegations) = same
-    by_grows ec m (Gives child source has edge_ within shared gives same delegations) = same
+    by_grows ec m (Gives child source has edge_ within shared given gives same delegations) = same
     by_grows ec m (TakesLeaf leaf may same delegations) = same
     by_grows ec m (Creates object capability first joins delegations) = absurd (none capability.pd (subst T (sym first.pd) (member_pd k T ec m)) first.creator)
 

@@ -226,7 +226,7 @@ members_left s before S P T cpu ec c acts_ mine n pd its kind event is s_pd = by
     by_grows (Keeps objects delegations) = same objects
     by_grows (Creates object capability first objects delegations) =
         by_place object capability first objects (get_joined k.objects object n (Ec pd its kind event) (sym (ap (λ (os : List Object). slice_get os n) objects) ∙ is))
-    by_grows (Gives child source has edge_ within shared gives objects delegations) = same objects
+    by_grows (Gives child source has edge_ within shared given gives objects delegations) = same objects
     by_grows (TakesLeaf leaf may objects delegations) = same objects
 
 pub record OthersTurn (k new : KernelState) (S P : ℕ → Type 0) : Type 0 where

@@ -161,7 +161,7 @@ spaces_left k new S T P ec sound apart g actor mine (Creates object capability f
     ap (λ (f : Delegations). find (covers kind pd place) f.list) is
     ∙ find_more (covers kind pd place) k.delegations.list capability
     (of_another kind pd place capability (λ same. apart.separate.disjoint pd s (subst T (sym first.pd ∙ same) (member_pd k T ec mine))))
-spaces_left k new S T P ec sound apart g actor mine (Gives child source has edge_ within shared gives objects is) kind pd place s =
+spaces_left k new S T P ec sound apart g actor mine (Gives child source has edge_ within shared given gives objects is) kind pd place s =
     ap (λ (f : Delegations). find (covers kind pd place) f.list) is
     ∙ find_more (covers kind pd place) k.delegations.list child
     (of_another kind pd place child (λ same. apart.separate.disjoint pd s (subst T same (gives_in k T ec source.pd child.pd sound apart.separate.second actor mine gives).1)))
