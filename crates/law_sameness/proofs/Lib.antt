@@ -1,0 +1,3 @@
+pub mod Zero
+pub mod Counted
+pub mod Same

@@ -1,0 +1,53 @@
+-- When all that calls of a kernel read is the same in two states.
+use Rattle.std.specs.Prelude.{◌≡◌, ◌<◌, ℕ, Bool, true, false, [], length, slice_get, slice_index, Option, Some, None, IfSome, option_map}
+use Rattle.nova_objects.specs.declared.object.Object.{Object}
+use Rattle.nova_model.specs.Capabilities.{is_vcpu}
+use Rattle.nova_model.specs.State.{KernelState, budget_at, context, context_at, entry, transfer_at}
+use Rattle.nova_model.specs.Times.{next_moment}
+use Rattle.nova_model.specs.declared.budget.Budget.{Budget}
+use Rattle.nova_model.specs.declared.context.EcState.{EcState}
+
+-- x0 of each execution context is 0
+abbrev pub AreZero : KernelState → Type 0
+AreZero k = (ec : ℕ) → slice_index (context k ec).regs.x 0 ≡ 0
+
+abbrev pub is_guest_in : Option Object → Bool
+is_guest_in None = false
+is_guest_in (Some o) = is_vcpu o
+
+-- the stir count of the virtual CPU of a number, 0 where there is none
+abbrev pub count_in : Option ℕ → ℕ
+count_in None = 0
+count_in (Some n) = n
+
+abbrev pub stirs_at : KernelState → ℕ → ℕ
+stirs_at k n = count_in (entry (slice_get k.stirs.guests n))
+
+-- of a number: the same execution context, of a processor that is there, message words, place in items, identifier, ticks and turns that are left, semaphore, and
+-- of a virtual CPU the same stir count
+pub record IsSameAt (a b : KernelState) (n : ℕ) : Type 0 where
+  pub context : context_at a n ≡ context_at b n
+  pub processor : IfSome (context_at a n) (λ (x : EcState). x.cpu < a.cpus)
+  pub words : entry (slice_get a.messages n) ≡ entry (slice_get b.messages n)
+  pub transfer : transfer_at a n ≡ transfer_at b n
+  pub identifier : entry (slice_get a.identifiers n) ≡ entry (slice_get b.identifiers n)
+  pub ticks : option_map (λ (x : Budget). x.ticks) (budget_at a n) ≡ option_map (λ (x : Budget). x.ticks) (budget_at b n)
+  pub left : option_map (λ (x : Budget). x.left) (budget_at a n) ≡ option_map (λ (x : Budget). x.left) (budget_at b n)
+  pub semaphore : entry (slice_get a.semaphores n) ≡ entry (slice_get b.semaphores n)
+  pub stirs : is_guest_in (slice_get a.objects n) ≡ true → stirs_at a n ≡ stirs_at b n
+
+-- the same of each number, and the same turns, processors, consoles, objects, derivations, RAM and console log
+pub record AreReadAlike (a b : KernelState) : Type 0 where
+  pub turns : a.turns ≡ b.turns
+  pub cpus : a.cpus ≡ b.cpus
+  pub consoles : a.consoles ≡ b.consoles
+  pub objects : a.objects ≡ b.objects
+  pub each : (n : ℕ) → n < length a.objects → IsSameAt a b n
+  pub derivations : a.delegations.list ≡ b.delegations.list
+  pub ram : a.memory.ram ≡ b.memory.ram
+  pub log : a.memory.log ≡ b.memory.log
+
+-- nothing is to come: there are no sources, and no processor has a next moment
+pub record IsAtRest (k : KernelState) : Type 0 where
+  pub alarms : k.times.alarms ≡ []
+  pub none : (cpu : ℕ) → cpu < k.cpus → next_moment k.times cpu ≡ None

@@ -1,0 +1,194 @@
+ghost use Rattle.std.specs.Prelude.{◌≡◌, ◌<◌, ℕ, true, IfSome, length, slice_get};
+ghost use Rattle.std.specs.Bool.{OnTrue};
+ghost use Rattle.nova_model.specs.State.{context, context_at, entry, transfer_at};
+ghost use Rattle.nova_model.specs.Semaphores.{semaphore};
+ghost use Rattle.law_sameness.specs.States.{AreZero, IsSameAt, is_guest_in, stirs_at};
+ghost use Rattle.law_turns.specs.Tables.{IsOf};
+ghost use Rattle.nova_model.specs.Capabilities.{is_vcpu};
+
+use crate::contexts::same_context;
+use nova_kernel::{EcKind, Kernel, Object, Transfer, Utcb};
+use std::alloc::Global;
+
+/// Whether two kernels have the same execution context of a number, of a processor that is there, or none.
+#[tactic(auto, using(crate::proofs::Readings::zeros_at))]
+fn same_context_at(a: &Kernel, b: &Kernel, n: u32) -> bool
+    requires first { AreZero a.now.state }
+    requires second { AreZero b.now.state }
+    ensures same { OnTrue result (context_at a.now.state n ≡ context_at b.now.state n) }
+    ensures processor { OnTrue result (IfSome (context_at a.now.state n) (λ x. x.cpu < a.now.state.cpus)) }
+{
+    match a.ec(n) {
+        None => b.ec(n).is_none(),
+        Some(context) => match b.ec(n) {
+            None => false,
+            Some(other) => context.cpu < a.cpus() && same_context(context, other),
+        },
+    }
+}
+
+/// That there are 128 message words.
+fn count_words(words: &Utcb)
+    ensures { length words.now ≡ 128 }
+{
+    words.word(0);
+}
+
+/// Whether the message words of two threads are equal.
+fn same_words(a: &Utcb, b: &Utcb) -> bool
+    ensures { OnTrue result (a.now ≡ b.now) }
+{
+    count_words(a);
+    count_words(b);
+    for i in 0..128 {
+        if a.word(i) != b.word(i) {
+            return false;
+        }
+    }
+    true
+}
+
+/// Whether two kernels have the same message words at a number, or none.
+fn same_words_at(a: &Kernel, b: &Kernel, n: u32) -> bool
+    ensures { OnTrue result (entry (slice_get a.now.state.messages n) ≡ entry (slice_get b.now.state.messages n)) }
+{
+    match a.words(n) {
+        None => b.words(n).is_none(),
+        Some(words) => match b.words(n) {
+            None => false,
+            Some(others) => same_words(words, others),
+        },
+    }
+}
+
+/// Whether two execution contexts are as far with the items that they give, or give none.
+fn same_transfer(a: Option<Transfer>, b: Option<Transfer>) -> bool
+    ensures { OnTrue result (a ≡ b) }
+{
+    match a {
+        None => b.is_none(),
+        Some(transfer) => match b {
+            None => false,
+            Some(other) => {
+                transfer.item == other.item
+                    && transfer.cursor == other.cursor
+                    && transfer.children == other.children
+            }
+        },
+    }
+}
+
+/// Whether two counts are equal, or both are none.
+fn same_count(a: Option<u64>, b: Option<u64>) -> bool
+    ensures { OnTrue result (a ≡ b) }
+{
+    match a {
+        None => b.is_none(),
+        Some(count) => match b {
+            None => false,
+            Some(other) => count == other,
+        },
+    }
+}
+
+/// Whether two numbers are equal, or both are none.
+fn same_number(a: Option<u32>, b: Option<u32>) -> bool
+    ensures { OnTrue result (a ≡ b) }
+{
+    match a {
+        None => b.is_none(),
+        Some(number) => match b {
+            None => false,
+            Some(other) => number == other,
+        },
+    }
+}
+
+/// Whether two lists of numbers are equal.
+#[tactic(auto, using(crate::proofs::Places::same_when))]
+fn same_numbers(a: &[u32], b: &[u32]) -> bool
+    ensures { OnTrue result (a.now ≡ b.now) }
+{
+    a == b
+}
+
+/// Whether the same wait at the semaphores of a number, in the same order. They are not seen to where memory is refused.
+fn same_queue(alloc: Global, a: &Kernel, b: &Kernel, n: u32) -> bool
+    ensures { OnTrue result ((semaphore a.now.state.semaphores n).waiting ≡ (semaphore b.now.state.semaphores n).waiting) }
+{
+    match a.queue(alloc, n) {
+        Err(_) => false,
+        Ok(queue) => match b.queue(alloc, n) {
+            Err(_) => false,
+            Ok(other) => same_numbers(&queue, &other),
+        },
+    }
+}
+
+/// Whether two kernels have the same semaphore of a number, or none.
+#[tactic(auto, using(crate::proofs::Readings::no_semaphores, crate::proofs::Readings::same_semaphores))]
+fn same_semaphore_at(alloc: Global, a: &Kernel, b: &Kernel, n: u32) -> bool
+    ensures { OnTrue result (entry (slice_get a.now.state.semaphores n) ≡ entry (slice_get b.now.state.semaphores n)) }
+{
+    match a.semaphore(n) {
+        None => b.semaphore(n).is_none(),
+        Some((count, _)) => match b.semaphore(n) {
+            None => false,
+            Some((other, _)) => count == other && same_queue(alloc, a, b, n),
+        },
+    }
+}
+
+/// Whether the object of a number is a virtual CPU.
+fn is_guest(kernel: &Kernel, n: u32) -> bool
+    ensures test { result ≡ is_guest_in (slice_get kernel.now.state.objects n) }
+    ensures there { result ≡ true → IsOf kernel.now.state.objects is_vcpu n }
+{
+    match kernel.object(n).copied() {
+        Some(Object::Ec { kind, .. }) => matches!(kind, EcKind::Vcpu),
+        _ => false,
+    }
+}
+
+/// Whether two kernels have the same stir count of the virtual CPU of a number, where it is one.
+fn same_stirs_at(a: &Kernel, b: &Kernel, n: u32) -> bool
+    ensures { OnTrue result (is_guest_in (slice_get a.now.state.objects n) ≡ true → stirs_at a.now.state n ≡ stirs_at b.now.state n) }
+{
+    if !is_guest(a, n) {
+        return true;
+    }
+    if !is_guest(b, n) || a.cpus() == 0 || b.cpus() == 0 {
+        return false;
+    }
+    a.stir(n, 0).0 == b.stir(n, 0).0
+}
+
+/// Whether two kernels have the same at a number.
+fn same_at(alloc: Global, a: &Kernel, b: &Kernel, n: u32) -> bool
+    requires first { AreZero a.now.state }
+    requires second { AreZero b.now.state }
+    ensures { OnTrue result (IsSameAt a.now.state b.now.state n) }
+{
+    same_context_at(a, b, n)
+        && same_stirs_at(a, b, n)
+        && same_count(a.ticks(n), b.ticks(n))
+        && same_number(a.left(n), b.left(n))
+        && same_number(a.identifier(n), b.identifier(n))
+        && same_transfer(a.transfer(n), b.transfer(n))
+        && same_words_at(a, b, n)
+        && same_semaphore_at(alloc, a, b, n)
+}
+
+/// Whether two kernels have the same at each number below `count`.
+pub(crate) fn same_entries(alloc: Global, a: &Kernel, b: &Kernel, count: u32) -> bool
+    requires first { AreZero a.now.state }
+    requires second { AreZero b.now.state }
+    ensures { OnTrue result ((n : ℕ) → n < count → IsSameAt a.now.state b.now.state n) }
+{
+    for n in 0..count {
+        if !same_at(alloc, a, b, n) {
+            return false;
+        }
+    }
+    true
+}

@@ -1,0 +1,241 @@
+-- What stays where states are found behind those that were.
+use Rattle.std.proofs.Common.{◌≡◌, ℕ, zero, suc, ◌+◌, ◌<◌, ◌≤◌, List, [], ◌∷◌, ◌++◌, length, refl, ap, sym, subst, ◌∙◌, append_assoc, arith, inl, inr}
+use Rattle.std.specs.Prelude.{◌⊎◌, Option, Some, None, Bool, true, false, nat_lt, slice_index_or, Contains, All}
+use Rattle.std.proofs.lemmas.List.{append-nil, get_or-map, length-append, length-map, map-append}
+use Rattle.std.proofs.lemmas.List.Elements.{All-cons, All-contains, All-nil, All-push, Contains-append_left, Contains-get_or}
+use Rattle.nova_model.specs.State.{KernelState}
+use Rattle.nova_model.specs.Runs.{after}
+use Rattle.nova_kernel.specs.Views.{KernelView}
+use Rattle.nova_search.specs.declared.found.Found.{Found}
+use Rattle.nova_search.specs.Searches.{AreVisited, Grows, IsExpanded, IsMore, IsNext, IsReached, IsSuccessor, IsUnderWay, IsVisited, Keeps, state_at, state_of, states_of}
+use Rattle.nova_search.proofs.Ways.{begun, goes_on}
+
+-- a place is before the last one, or the last
+pub place : (i n : ℕ) → i < n + 1 → (i < n) ⊎ (i ≡ n)
+place i n less = by_test (nat_lt i n) refl
+  where
+    by_test : (t : Bool) → nat_lt i n ≡ t → (i < n) ⊎ (i ≡ n)
+    by_test true is = inl (grind (arith, is))
+    by_test false is = inr (grind (arith, is, less))
+
+pub same_grows : (xs : List KernelState) → Grows xs xs
+same_grows xs = record { more = []; whole = sym (append-nil xs) }
+
+pub same_keeps : (xs : List KernelState) → Keeps xs xs
+same_keeps xs = record { reached = λ k each. each }
+
+pub grows_on : (xs ys zs : List KernelState) → Grows xs ys → Grows ys zs → Grows xs zs
+grows_on xs ys zs g h = record {
+  more = g.more ++ h.more;
+  whole = h.whole ∙ ap (λ (l : List KernelState). l ++ h.more) g.whole ∙ append_assoc xs g.more h.more;
+}
+
+pub keeps_on : (xs ys zs : List KernelState) → Keeps xs ys → Keeps ys zs → Keeps xs zs
+keeps_on xs ys zs g h = record { reached = λ k each. h.reached k (g.reached k each) }
+
+pub still_there : (xs ys : List KernelState) (s : KernelState) → Grows xs ys → Contains xs s → Contains ys s
+still_there xs ys s g there = subst (λ (l : List KernelState). Contains l s) (sym g.whole) (Contains-append_left xs g.more s there)
+
+pub still_expanded : (n : ℕ) (xs ys : List KernelState) (s : KernelState) → Grows xs ys → IsExpanded n xs s → IsExpanded n ys s
+still_expanded n xs ys s g e = record { each = λ cpu is. still_there xs ys (after s cpu) g (e.each cpu is); turns = e.turns }
+
+at_front : (xs ys : List KernelState) (i : ℕ) (d : KernelState) → i < length xs → slice_index_or (xs ++ ys) i d ≡ slice_index_or xs i d
+at_front [] ys i d less = absurd (omega (arith, less))
+at_front (x ∷ xs) ys zero d less = refl
+at_front (x ∷ xs) ys (suc i) d less = at_front xs ys i d (omega (arith, less))
+
+pub still_at : (xs ys : List KernelState) (i : ℕ) (d : KernelState) → Grows xs ys → i < length xs → slice_index_or ys i d ≡ slice_index_or xs i d
+still_at xs ys i d g less = ap (λ (l : List KernelState). slice_index_or l i d) g.whole ∙ at_front xs g.more i d less
+
+-- a turn of an idle processor
+pub idle_visited : (xs : List KernelState) (s : KernelState) (cpu : ℕ) → Contains xs s → after s cpu ≡ s → IsVisited xs xs s cpu
+idle_visited xs s cpu there idle = record {
+  grows = same_grows xs;
+  keeps = same_keeps xs;
+  there = subst (λ (x : KernelState). Contains xs x) (sym idle) there;
+  turns = subst (λ (x : KernelState). x.turns ≤ s.turns + 1) (sym idle) (omega arith);
+}
+
+-- one that is not idle
+states_more : (old : List Found) (f : Found) → states_of (old ++ f ∷ []) ≡ states_of old ++ state_of f ∷ []
+states_more old f = map-append state_of old (f ∷ [])
+
+grows_by : (old new : List Found) (f : Found) → IsMore old f new → Grows (states_of old) (states_of new)
+grows_by old new f (inl same) = subst (λ (l : List Found). Grows (states_of old) (states_of l)) (sym same) (same_grows (states_of old))
+grows_by old new f (inr more) = record { more = state_of f ∷ []; whole = ap states_of more ∙ states_more old f }
+
+keeps_by : (old new : List Found) (f : Found) (s : KernelState) (cpu : ℕ) → IsMore old f new → cpu < s.cpus → IsSuccessor s cpu (state_of f) →
+    Contains (states_of old) s → Keeps (states_of old) (states_of new)
+keeps_by old new f s cpu (inl same) is next there = subst (λ (l : List Found). Keeps (states_of old) (states_of l)) (sym same) (same_keeps (states_of old))
+keeps_by old new f s cpu (inr more) is next there = record {
+  reached = λ k each. subst (λ (l : List KernelState). All (IsReached k) l) (sym (ap states_of more ∙ states_more old f))
+      (All-push (IsReached k) (states_of old) (state_of f) each (goes_on k s (state_of f) cpu (All-contains (IsReached k) (states_of old) s each there) is next));
+}
+
+pub next_visited : (old new : List Found) (f : Found) (s : KernelState) (cpu : ℕ) → IsMore old f new → Contains (states_of new) (state_of f) → cpu < s.cpus →
+    IsSuccessor s cpu (state_of f) → Contains (states_of old) s → IsVisited (states_of old) (states_of new) s cpu
+next_visited old new f s cpu more there is next here = record {
+  grows = grows_by old new f more;
+  keeps = keeps_by old new f s cpu more is next here;
+  there = subst (λ (x : KernelState). Contains (states_of new) x) next.state there;
+  turns = subst (λ (x : KernelState). x.turns ≤ s.turns + 1) next.state next.turns;
+}
+
+-- turns of no processor, and of one more
+pub none_visited : (xs : List KernelState) (s : KernelState) → AreVisited xs xs s 0
+none_visited xs s = record {
+  grows = same_grows xs;
+  keeps = same_keeps xs;
+  expanded = record { each = λ cpu is. absurd (omega (arith, is)); turns = λ cpu is. absurd (omega (arith, is)) };
+}
+
+one_more : (n : ℕ) (ys zs : List KernelState) (s : KernelState) → Grows ys zs → IsExpanded n ys s → IsVisited ys zs s n → IsExpanded (n + 1) zs s
+one_more n ys zs s g e v = record {
+  each = λ cpu is. each_by cpu (place cpu n is);
+  turns = λ cpu is. turns_by cpu (place cpu n is);
+}
+  where
+    each_by : (cpu : ℕ) → (cpu < n) ⊎ (cpu ≡ n) → Contains zs (after s cpu)
+    each_by cpu (inl less) = still_there ys zs (after s cpu) g (e.each cpu less)
+    each_by cpu (inr same) = subst (λ (c : ℕ). Contains zs (after s c)) (sym same) v.there
+
+    turns_by : (cpu : ℕ) → (cpu < n) ⊎ (cpu ≡ n) → (after s cpu).turns ≤ s.turns + 1
+    turns_by cpu (inl less) = e.turns cpu less
+    turns_by cpu (inr same) = subst (λ (c : ℕ). (after s c).turns ≤ s.turns + 1) (sym same) v.turns
+
+pub visited_on : (xs ys zs : List KernelState) (s : KernelState) (n : ℕ) → AreVisited xs ys s n → IsVisited ys zs s n → AreVisited xs zs s (n + 1)
+visited_on xs ys zs s n a v = record {
+  grows = grows_on xs ys zs a.grows v.grows;
+  keeps = keeps_on xs ys zs a.keeps v.keeps;
+  expanded = one_more n ys zs s v.grows a.expanded v;
+}
+
+-- the search at its beginning, and after each place
+pub underway_first : (k : KernelState) (limit : ℕ) (states : List KernelState) → states ≡ k ∷ [] → IsUnderWay k limit states 0 true
+underway_first k limit states only = subst (λ (l : List KernelState). IsUnderWay k limit l 0 true) (sym only) (record {
+  opening = (0, omega arith, refl);
+  reached = All-cons (IsReached k) k [] (begun k) (All-nil (IsReached k));
+  expanded = λ i d less. absurd (omega (arith, less));
+  whole = λ is i d less. absurd (omega (arith, less));
+})
+
+pub underway_on : (k : KernelState) (limit : ℕ) (xs ys : List KernelState) (i : ℕ) (is_whole : Bool) → IsUnderWay k limit xs i is_whole → i < length xs →
+    ((d : KernelState) → (slice_index_or xs i d).turns < limit) → ((d : KernelState) → AreVisited xs ys (slice_index_or xs i d) k.cpus) →
+    IsUnderWay k limit ys (i + 1) is_whole
+underway_on k limit xs ys i is_whole way less few visited = record {
+  opening = still_there xs ys k grows way.opening;
+  reached = (visited k).keeps.reached k way.reached;
+  expanded = λ j d is. expanded_by j d (place j i is);
+  whole = λ whole j d is. whole_by whole j d (place j i is);
+}
+  where
+    grows : Grows xs ys
+    grows = (visited k).grows
+
+    expanded_by : (j : ℕ) (d : KernelState) → (j < i) ⊎ (j ≡ i) → (slice_index_or ys j d).turns < limit → IsExpanded k.cpus ys (slice_index_or ys j d)
+    expanded_by j d (inl old) turns =
+        let same = still_at xs ys j d grows (omega (arith, old, less)) in
+        subst (λ (s : KernelState). IsExpanded k.cpus ys s) (sym same)
+        (still_expanded k.cpus xs ys (slice_index_or xs j d) grows (way.expanded j d old (subst (λ (s : KernelState). s.turns < limit) same turns)))
+    expanded_by j d (inr last) turns =
+        let same = still_at xs ys i d grows less in
+        subst (λ (n : ℕ). IsExpanded k.cpus ys (slice_index_or ys n d)) (sym last)
+        (subst (λ (s : KernelState). IsExpanded k.cpus ys s) (sym same) (visited d).expanded)
+
+    whole_by : is_whole ≡ true → (j : ℕ) (d : KernelState) → (j < i) ⊎ (j ≡ i) → (slice_index_or ys j d).turns < limit
+    whole_by whole j d (inl old) =
+        let same = still_at xs ys j d grows (omega (arith, old, less)) in
+        subst (λ (s : KernelState). s.turns < limit) (sym same) (way.whole whole j d old)
+    whole_by whole j d (inr last) =
+        let same = still_at xs ys i d grows less in
+        subst (λ (n : ℕ). (slice_index_or ys n d).turns < limit) (sym last) (subst (λ (s : KernelState). s.turns < limit) (sym same) (few d))
+
+pub underway_cut : (k : KernelState) (limit : ℕ) (xs : List KernelState) (i : ℕ) (is_whole : Bool) → IsUnderWay k limit xs i is_whole →
+    ((d : KernelState) → limit ≤ (slice_index_or xs i d).turns) → IsUnderWay k limit xs (i + 1) false
+underway_cut k limit xs i is_whole way many = record {
+  opening = way.opening;
+  reached = way.reached;
+  expanded = λ j d is turns. expanded_by j d (place j i is) turns;
+  whole = λ whole. absurd (cc);
+}
+  where
+    expanded_by : (j : ℕ) (d : KernelState) → (j < i) ⊎ (j ≡ i) → (slice_index_or xs j d).turns < limit → IsExpanded k.cpus xs (slice_index_or xs j d)
+    expanded_by j d (inl old) turns = way.expanded j d old turns
+    expanded_by j d (inr last) turns =
+        let less = subst (λ (n : ℕ). (slice_index_or xs n d).turns < limit) last turns in
+        let more = many d in
+        absurd (omega (arith, less, more))
+
+-- the state at a place, as code reads it
+pub at_place : (xs : List Found) (i : ℕ) (d : KernelState) (e : Found) → i < length xs → slice_index_or (states_of xs) i d ≡ state_of (slice_index_or xs i e)
+at_place xs i d e less = get_or-map state_of xs i e d less
+
+pub state_here : (xs : List Found) (i : ℕ) (f : Found) (d : KernelState) → i < length xs → f ≡ slice_index_or xs i f → state_at xs i d ≡ state_of f
+state_here xs i f d less is = at_place xs i d f less ∙ ap state_of (sym is)
+
+contains_here : (xs : List Found) (i : ℕ) (d : KernelState) → i < length xs → Contains (states_of xs) (state_at xs i d)
+contains_here xs i d less = Contains-get_or (states_of xs) i d (let long = length-map xs state_of in omega (arith, less, long))
+
+pub idle_here : (xs : List Found) (i cpu : ℕ) (f : Found) (next : Option KernelView) → i < length xs → f ≡ slice_index_or xs i f → IsNext (state_of f) cpu next →
+    next ≡ None → (d : KernelState) → IsVisited (states_of xs) (states_of xs) (state_at xs i d) cpu
+idle_here xs i cpu f next less is came none d =
+    let same = state_here xs i f d less is in
+    let idle : after (state_of f) cpu ≡ state_of f = subst (λ (o : Option KernelView). IsNext (state_of f) cpu o) none came in
+    idle_visited (states_of xs) (state_at xs i d) cpu (contains_here xs i d less) (ap (λ (s : KernelState). after s cpu) same ∙ idle ∙ sym same)
+
+pub next_here : (xs ys : List Found) (i cpu : ℕ) (f g : Found) (next : Option KernelView) → i < length xs → f ≡ slice_index_or xs i f → IsNext (state_of f) cpu next →
+    next ≡ Some g.kernel → cpu < (state_of f).cpus → IsMore xs g ys → Contains (states_of ys) (state_of g) → (d : KernelState) →
+    IsVisited (states_of xs) (states_of ys) (state_at xs i d) cpu
+next_here xs ys i cpu f g next less is came some there more found d =
+    let same = state_here xs i f d less is in
+    let succeeds : IsSuccessor (state_of f) cpu (state_of g) = subst (λ (o : Option KernelView). IsNext (state_of f) cpu o) some came in
+    subst (λ (s : KernelState). IsVisited (states_of xs) (states_of ys) s cpu) (sym same)
+    (next_visited xs ys g (state_of f) cpu more found there succeeds (subst (λ (s : KernelState). Contains (states_of xs) s) same (contains_here xs i d less)))
+
+-- the turns so far of the processors, at a place
+pub still_here : (xs ys : List Found) (i : ℕ) (d : KernelState) (n : ℕ) → i < length xs → ((d : KernelState) → AreVisited (states_of xs) (states_of ys) (state_at xs i d) n) →
+    state_at ys i d ≡ state_at xs i d
+still_here xs ys i d n less visited = still_at (states_of xs) (states_of ys) i d (visited d).grows (let long = length-map xs state_of in omega (arith, less, long))
+
+more_by : (xs ys : List Found) (i : ℕ) (d : KernelState) (n : ℕ) → i < length xs → ((d : KernelState) → AreVisited (states_of xs) (states_of ys) (state_at xs i d) n) →
+    i < length ys
+more_by xs ys i d n less visited =
+    let grows = (visited d).grows in
+    let long = length-map xs state_of in
+    let other = length-map ys state_of in
+    let whole = ap length grows.whole ∙ length-append (states_of xs) grows.more in
+    omega (arith, less, long, other, whole)
+
+pub more_here : (xs ys : List Found) (i n : ℕ) → i < length xs → ((d : KernelState) → AreVisited (states_of xs) (states_of ys) (state_at xs i d) n) → i < length ys
+more_here [] ys i n less visited = absurd (omega (arith, less))
+more_here (x ∷ xs) ys i n less visited = more_by (x ∷ xs) ys i (state_of x) n less visited
+
+pub visited_on_here : (xs ys zs : List Found) (i n : ℕ) → i < length xs → ((d : KernelState) → AreVisited (states_of xs) (states_of ys) (state_at xs i d) n) →
+    ((d : KernelState) → IsVisited (states_of ys) (states_of zs) (state_at ys i d) n) → (d : KernelState) → AreVisited (states_of xs) (states_of zs) (state_at xs i d) (n + 1)
+visited_on_here xs ys zs i n less visited visit d =
+    visited_on (states_of xs) (states_of ys) (states_of zs) (state_at xs i d) n (visited d)
+    (subst (λ (s : KernelState). IsVisited (states_of ys) (states_of zs) s n) (still_here xs ys i d n less visited) (visit d))
+
+-- the search at a place, as code reads it
+pub states_many : (xs : List Found) (i : ℕ) → length xs ≤ i → length (states_of xs) ≤ i
+states_many xs i most = let long = length-map xs state_of in omega (arith, most, long)
+
+pub cpus_here : (k : KernelState) (limit : ℕ) (xs : List Found) (i : ℕ) (w : Bool) → IsUnderWay k limit (states_of xs) i w → i < length xs →
+    (d : KernelState) → (state_at xs i d).cpus ≡ k.cpus
+cpus_here k limit xs i w way less d = (All-contains (IsReached k) (states_of xs) (state_at xs i d) way.reached (contains_here xs i d less)).cpus
+
+pub few_here : (xs : List Found) (i most : ℕ) (f : Found) → i < length xs → f ≡ slice_index_or xs i f → (state_of f).turns < most → (d : KernelState) → (state_at xs i d).turns < most
+few_here xs i most f less is few d = subst (λ (s : KernelState). s.turns < most) (sym (state_here xs i f d less is)) few
+
+pub many_here : (xs : List Found) (i most : ℕ) (f : Found) → i < length xs → f ≡ slice_index_or xs i f → most ≤ (state_of f).turns → (d : KernelState) → most ≤ (state_at xs i d).turns
+many_here xs i most f less is many d = subst (λ (s : KernelState). most ≤ s.turns) (sym (state_here xs i f d less is)) many
+
+pub underway_here : (k : KernelState) (limit : ℕ) (xs ys : List Found) (i : ℕ) (w : Bool) → IsUnderWay k limit (states_of xs) i w → i < length xs →
+    ((d : KernelState) → (state_at xs i d).turns < limit) → ((d : KernelState) → AreVisited (states_of xs) (states_of ys) (state_at xs i d) k.cpus) →
+    IsUnderWay k limit (states_of ys) (i + 1) w
+underway_here k limit xs ys i w way less few visited =
+    underway_on k limit (states_of xs) (states_of ys) i w way (let long = length-map xs state_of in omega (arith, less, long)) few visited
+
+pub visited_as : (xs ys : List Found) (i n m : ℕ) → n ≡ m → ((d : KernelState) → AreVisited (states_of xs) (states_of ys) (state_at xs i d) n) →
+    (d : KernelState) → AreVisited (states_of xs) (states_of ys) (state_at xs i d) m
+visited_as xs ys i n m same visited d = subst (λ (l : ℕ). AreVisited (states_of xs) (states_of ys) (state_at xs i d) l) same (visited d)

@@ -1,0 +1,7 @@
+use Rattle.std.proofs.Common.{◌≡◌}
+use Rattle.nova_search.specs.Searches.{IsUnderWay, states_of}
+use Rattle.nova_search.proofs.exploring.explore.Given as goal
+
+-- the places so far
+abbrev pub invariant-loop-place : goal.invariant-loop-place
+invariant-loop-place g l = IsUnderWay l.opening.state l.limit (states_of l.found.items) l.place l.is_whole × (l.cpus ≡ l.opening.state.cpus)

@@ -1,0 +1,7 @@
+use Rattle.std.proofs.Common.{take}
+use Rattle.nova_search.specs.Searches.{IsAlong}
+use Rattle.nova_search.proofs.following.follow.Given as goal
+
+-- the turns so far
+abbrev pub invariant-loop-cpu : goal.invariant-loop-cpu
+invariant-loop-cpu l = IsAlong l.opening.state l.kernel.state (take l.cpu-index l.order)

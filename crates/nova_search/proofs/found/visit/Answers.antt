@@ -1,0 +1,34 @@
+use Rattle.std.proofs.Common.{rules, ◌≡◌, ◌<◌, Some, None, subst, slice_index_or}
+use Rattle.nova_model.specs.State.{KernelState}
+use Rattle.nova_search.specs.declared.found.Found.{Found}
+use Rattle.nova_search.proofs.Growth.{idle_here, next_here, state_here}
+use Rattle.nova_search.proofs.found.visit.Goals as goal
+
+pub successor-requires-clause-cpu : goal.successor-requires-clause-cpu
+successor-requires-clause-cpu g c =
+    let is : c.index.result.now ≡ slice_index_or c.args.found.now.items c.args.place c.index.result.now = search rules in
+    subst (λ (s : KernelState). c.args.cpu < s.cpus) (state_here c.args.found.now.items c.args.place c.index.result.now c.index.result.now.kernel.state c.requires.place is)
+    (c.requires.cpu c.index.result.now.kernel.state)
+
+pub successor-requires-clause-turns : goal.successor-requires-clause-turns
+successor-requires-clause-turns g c =
+    let is : c.index.result.now ≡ slice_index_or c.args.found.now.items c.args.place c.index.result.now = search rules in
+    subst (λ (s : KernelState). s.turns < 2147483648) (state_here c.args.found.now.items c.args.place c.index.result.now c.index.result.now.kernel.state c.requires.place is)
+    (c.requires.turns c.index.result.now.kernel.state)
+
+pub returns-in_default : goal.returns-in_default
+returns-in_default g c =
+    let is : c.index.result.now ≡ slice_index_or c.args.found.now.items c.args.place c.index.result.now = search rules in
+    let none : c.in_ok-kernel.field-0 ≡ None = search rules in
+    idle_here c.args.found.now.items c.args.place c.args.cpu c.index.result.now c.in_ok-kernel.field-0 c.requires.place is c.in_ok-kernel.ensures none
+
+pub returns : goal.returns
+returns g c =
+    let is : c.index.result.now ≡ slice_index_or c.args.found.now.items c.args.place c.index.result.now = search rules in
+    let there : c.args.cpu < c.index.result.now.kernel.state.cpus =
+    subst (λ (s : KernelState). c.args.cpu < s.cpus) (state_here c.args.found.now.items c.args.place c.index.result.now c.index.result.now.kernel.state c.requires.place is)
+    (c.requires.cpu c.index.result.now.kernel.state) in
+    let next : Found = record { kernel = c.in-Some.kernel; from = c.args.place; cpu = c.args.cpu } in
+    let some : c.in_ok-kernel.field-0 ≡ Some c.in-Some.kernel = search rules in
+    next_here c.args.found.now.items c.enter.new.found.items c.args.place c.args.cpu c.index.result.now next c.in_ok-kernel.field-0 c.requires.place is c.in_ok-kernel.ensures some there
+    c.in_ok-enter.ensures.more c.in_ok-enter.ensures.there

@@ -1,0 +1,3 @@
+pub use Rattle.nova_model.specs.Runs
+pub mod Searches
+pub mod Reductions

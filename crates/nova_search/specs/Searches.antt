@@ -1,0 +1,104 @@
+-- Which states a kernel comes to, in whatever order its processors take their turns, and what a search of them says.
+use Rattle.std.specs.Prelude.{◌≡◌, ◌⊎◌, ℕ, ◌+◌, ◌<◌, ◌≤◌, Bool, true, List, [], ◌∷◌, ◌++◌, length, map, slice_index_or, Option, Some, None, IsSome, All, Contains}
+use Rattle.std.specs.List.{AllByRecursion}
+use Rattle.nova_model.specs.State.{KernelState}
+use Rattle.nova_model.specs.Turn.{turn}
+use Rattle.nova_model.specs.Runs.{IsFreeOfIdle, after, run}
+use Rattle.nova_kernel.specs.Views.{KernelView}
+use Rattle.nova_search.specs.declared.found.Found.{Found}
+
+-- each processor of an order is below `n`
+abbrev pub AreProcessors : ℕ → List ℕ → Type 0
+AreProcessors n order = AllByRecursion (λ (cpu : ℕ). cpu < n) order
+
+-- an order that leads from one state to another, in which no turn is idle
+pub record IsWay (k s : KernelState) (order : List ℕ) : Type 0 where
+  pub processors : AreProcessors k.cpus order
+  pub no_idle : IsFreeOfIdle k order
+  pub state : s ≡ run k order
+
+-- a state that a kernel comes to
+pub record IsReached (k s : KernelState) : Type 0 where
+  pub order : List ℕ
+  pub way : IsWay k s order
+  pub cpus : s.cpus ≡ k.cpus
+
+-- the answer of following an order: a kernel in the state after it, or none where one of its turns is idle, or of a processor that isn't there
+abbrev pub IsEnd : KernelState → List ℕ → Option KernelView → Type 0
+IsEnd k order (Some e) = IsWay k e.state order
+IsEnd k order None = Unit {0}
+
+-- an order was followed to a state
+pub record IsAlong (k s : KernelState) (order : List ℕ) : Type 0 where
+  pub way : IsWay k s order
+  pub turns : s.turns ≤ k.turns + length order
+  pub cpus : s.cpus ≡ k.cpus
+
+-- each order after which no more than `limit` turns were taken leads to one of the states
+pub record AreAllWithin (k : KernelState) (limit : ℕ) (states : List KernelState) : Type 0 where
+  pub each : (order : List ℕ) → AreProcessors k.cpus order → k.turns + length order ≤ limit → Contains states (run k order)
+
+-- each order leads to one of the states
+pub record AreAll (k : KernelState) (states : List KernelState) : Type 0 where
+  pub each : (order : List ℕ) → AreProcessors k.cpus order → Contains states (run k order)
+
+-- ON THE WAY
+
+-- the state after a turn of each processor below `n` is among the states, and has at most one turn more
+pub record IsExpanded (n : ℕ) (states : List KernelState) (s : KernelState) : Type 0 where
+  pub each : (cpu : ℕ) → cpu < n → Contains states (after s cpu)
+  pub turns : (cpu : ℕ) → cpu < n → (after s cpu).turns ≤ s.turns + 1
+
+-- a turn that is not idle leads from one state to another
+pub record IsSuccessor (s : KernelState) (cpu : ℕ) (t : KernelState) : Type 0 where
+  pub state : t ≡ after s cpu
+  pub there : IsSome (turn s cpu)
+  pub turns : t.turns ≤ s.turns + 1
+  pub cpus : t.cpus ≡ s.cpus
+
+-- the answer of trying a turn of a processor: a kernel in the state after it, or none where the processor is idle
+abbrev pub IsNext : KernelState → ℕ → Option KernelView → Type 0
+IsNext s cpu (Some k) = IsSuccessor s cpu k.state
+IsNext s cpu None = after s cpu ≡ s
+
+abbrev pub state_of : Found → KernelState
+state_of f = f.kernel.state
+
+abbrev pub states_of : List Found → List KernelState
+states_of found = map state_of found
+
+abbrev pub state_at : List Found → ℕ → KernelState → KernelState
+state_at found place d = slice_index_or (states_of found) place d
+
+-- nothing more was found, or one more
+abbrev pub IsMore : List Found → Found → List Found → Type 0
+IsMore old f new = (new ≡ old) ⊎ (new ≡ old ++ f ∷ [])
+
+-- what was found since stands behind what was found before
+pub record Grows (old new : List KernelState) : Type 0 where
+  pub more : List KernelState
+  pub whole : new ≡ old ++ more
+
+-- where all states found before are reached from a state, all that are found now are
+pub record Keeps (old new : List KernelState) : Type 0 where
+  pub reached : (k : KernelState) → All (IsReached k) old → All (IsReached k) new
+
+-- a turn of a processor was tried in a state: the state after it was found
+pub record IsVisited (old new : List KernelState) (s : KernelState) (cpu : ℕ) : Type 0 where
+  pub grows : Grows old new
+  pub keeps : Keeps old new
+  pub there : Contains new (after s cpu)
+  pub turns : (after s cpu).turns ≤ s.turns + 1
+
+-- turns of all processors below `n` were tried in a state
+pub record AreVisited (old new : List KernelState) (s : KernelState) (n : ℕ) : Type 0 where
+  pub grows : Grows old new
+  pub keeps : Keeps old new
+  pub expanded : IsExpanded n new s
+
+-- Of the states that were found those before `place` are expanded, but for those that have taken `limit` turns; and where the search is whole, none of them has.
+pub record IsUnderWay (k : KernelState) (limit : ℕ) (states : List KernelState) (place : ℕ) (is_whole : Bool) : Type 0 where
+  pub opening : Contains states k
+  pub reached : All (IsReached k) states
+  pub expanded : (i : ℕ) (d : KernelState) → i < place → (slice_index_or states i d).turns < limit → IsExpanded k.cpus states (slice_index_or states i d)
+  pub whole : is_whole ≡ true → (i : ℕ) (d : KernelState) → i < place → (slice_index_or states i d).turns < limit

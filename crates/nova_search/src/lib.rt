@@ -1,0 +1,14 @@
+//! The states that a kernel comes to, in whatever order its processors take their turns.
+#![tactic(auto)]
+
+mod exploring;
+mod following;
+mod found;
+mod laws;
+
+pub use exploring::{Explored, explore};
+pub use following::follow;
+pub use found::{Apart, Found, Sameness};
+pub use laws::{
+    quiet_ends_are_found, reduced_searches_are_complete, what_is_in_no_state_is_in_no_order,
+};
