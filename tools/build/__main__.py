@@ -2,11 +2,13 @@
 
   python3 tools/build [--plan] [CRATE] [-- WORD..]
   python3 tools/build --built [CRATE]
+  python3 tools/build --above CRATE..
 
 proves each crate that CRATE (nova, if none is named) stands on, and then makes CRATE and runs it with the words. A line tells of each
 crate that is proved, how many there are, how long that took, and how long the rest may take. What was built of the same sources by the same
 kit is used again, by checksums: the times of files mean nothing. With --plan nothing is built: it says what would be, how long that takes, and
-the room on disk. --built says by its status, 0 or 1, whether CRATE is built of the sources that are here.
+the room on disk. --built says by its status, 0 or 1, whether CRATE is built of the sources that are here. --above says what a change of each
+crate proves again: how many crates, itself among them, and the minutes of their proofs by one job. Nothing is built.
 
 Crates are proved side by side, each as soon as those below it are proved, that with the longest way to the top first, and by as many jobs as there are
 processors that no other crate takes. How long it takes yet is reckoned from costs.txt, which has each crate's seconds by one job, and from how fast this
@@ -28,10 +30,10 @@ import time
 from collections.abc import Iterator
 from pathlib import Path
 
-from built import TOP, WORKERS, State, ended, is_release, path_of, record, schedule, state_of
+from built import TOP, WORKERS, State, crates, ended, is_release, path_of, record, schedule, state_of
 from children import Children, Ended
 from kit import NoKit, folder, proved
-from schedule import Schedule, seconds_by
+from schedule import Schedule, above, costs, seconds_by
 from trees import copy_of_sources, hand_on
 
 # A crate that takes no more seconds was kept, and tells nothing of how fast the machine is.
@@ -154,6 +156,20 @@ def needs(builder: Builder) -> str:
     return f"{told}; {gigabytes:.1f} GB on disk, where {free:.1f} GB are free{' (which may not do)' if free < gigabytes else ''}"
 
 
+def say_above(changed: list[str]) -> int:
+    """Writes what a change of each of these crates proves again. The answer is a status: 2 where a crate isn't there, or none is named."""
+    named, seconds = crates(), costs()
+    unknown = [crate for crate in changed if crate not in named]
+    if unknown or not changed:
+        print(f"build: no crate is named so: {' '.join(unknown)}" if unknown else "build: --above wants the name of a crate", file=sys.stderr)
+        return 2
+    for crate in changed:
+        again = above(crate, named)
+        minutes = sum(seconds.get(other, 0) for other in again) / 60
+        print(f"{crate:<13} {len(again):>2} crates, {minutes:>2.0f} minutes")
+    return 0
+
+
 @contextlib.contextmanager
 def alone() -> Iterator[None]:
     """Waits until no other builder is at work in this tree."""
@@ -194,6 +210,8 @@ def main(words: list[str]) -> int:
     cut = words.index("--") if "--" in words else len(words)
     options = {word for word in words[:cut] if word.startswith("-")}
     named = [word for word in words[:cut] if not word.startswith("-")]
+    if options == {"--above"} and not is_release():
+        return say_above(named)
     program = named[0] if named else "nova"
     if is_release() and not options & {"-h", "--help"}:
         print("build: a release has no sources, so nothing is to be built: its programs are in bin/", file=sys.stderr)

@@ -47,9 +47,14 @@ def jobs() -> int:
     return max(1, min(PROCESSORS, memory // MEMORY_OF_A_JOB))
 
 
+def crates() -> dict[str, list[str]]:
+    """The crates of the repository, each with those of them that it names."""
+    return dependencies((TOP / "crates.txt").read_text())
+
+
 def schedule(name: str) -> Schedule:
     """The crates of a program."""
-    return Schedule.of(name, dependencies((TOP / "crates.txt").read_text()), costs(), WORKERS, jobs())
+    return Schedule.of(name, crates(), costs(), WORKERS, jobs())
 
 
 def is_release() -> bool:
@@ -64,7 +69,7 @@ def path_of(name: str) -> Path:
 
 def sources_of(name: str) -> list[Path]:
     """The files that a crate and those below it are made from."""
-    named = dependencies((TOP / "crates.txt").read_text())
+    named = crates()
     files = [TOP / "HANDLES"]
     for crate in [*in_order(name, named), name]:
         for part in PARTS:

@@ -51,6 +51,11 @@ def in_order(crate: str, named: Names) -> list[str]:
     return list(found)
 
 
+def above(crate: str, named: Names) -> list[str]:
+    """The crates that a change of this one proves again: itself, and each that stands on it."""
+    return [other for other in named if other == crate or crate in in_order(other, named)]
+
+
 @dataclass(slots=True)
 class Schedule:
     """The crates below a program, and the program itself, which is the last: what each stands on, and its seconds by one job at a pace of 1."""

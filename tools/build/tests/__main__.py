@@ -21,7 +21,7 @@ sys.path.insert(0, str(TOOL))
 from children import Children, Ended  # noqa: E402
 from endings import Endings  # noqa: E402, F401
 from hints import hints  # noqa: E402
-from schedule import Schedule, costs, dependencies, in_order, seconds_by  # noqa: E402
+from schedule import Schedule, above, costs, dependencies, in_order, seconds_by  # noqa: E402
 
 CRATES = "# Crates.\nlow:\nlong: low\nshort: low\nnova: long short clap # the program\n"
 SECONDS = {"low": 10, "long": 100, "short": 20, "nova": 30}
@@ -131,6 +131,10 @@ class Schedules(unittest.TestCase):
         self.assertEqual(plan.next(["nova"], ["low", "long", "short"], []), {"nova": 1})
         self.assertEqual(plan.seconds_left([], {}, 1), seconds_by(4, 10) + seconds_by(3, 100) + 30)
 
+    def test_a_change_proves_again_what_stands_on_the_crate(self) -> None:
+        named = dependencies(CRATES)
+        self.assertEqual([above(crate, named) for crate in ("low", "short", "nova")], [["low", "long", "short", "nova"], ["short", "nova"], ["nova"]])
+
     def test_the_costs_are_of_crates_that_are_there(self) -> None:
         named = dependencies((TOOL.parents[1] / "crates.txt").read_text())
         self.assertEqual(set(costs()) - set(named), set())
@@ -213,6 +217,14 @@ class Builds(unittest.TestCase):
                 builder.send_signal(number)
                 self.assertEqual(builder.wait(20), status)
                 self.assertEqual([pid for pid in map(int, pids.read_text().split()) if is_there(pid)], [])
+
+    def test_what_stands_above(self) -> None:
+        with tempfile.TemporaryDirectory() as folder:
+            made = Repository(folder)
+            told = made.build("--above", "long", "low")
+            self.assertEqual((told.returncode, told.stdout.splitlines()), (0, ["long           2 crates,  2 minutes", "low            4 crates,  3 minutes"]))
+            self.assertEqual([made.build("--above", *words).returncode for words in ([], ["nosuch"], ["--plan", "low"])], [2, 2, 2])
+            self.assertEqual(made.asked(), [])
 
     def test_words(self) -> None:
         with tempfile.TemporaryDirectory() as folder:
