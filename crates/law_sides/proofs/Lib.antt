@@ -1,0 +1,9 @@
+pub mod Careful
+pub mod Frames
+pub mod Isolating
+pub mod Lasting
+pub mod Lists
+pub mod Respecting
+pub mod Rest
+pub mod Untouched
+pub mod Words

@@ -1,0 +1,150 @@
+-- Where all that is trusted is at rest nobody acts that is trusted, whatever turns follow.
+use Rattle.std.proofs.Common.{◌≡◌, ◌≢◌, ◌⊎◌, ◌++◌, ℕ, List, [], ◌∷◌, sym, ap, ◌∙◌, subst, inl, inr}
+use Rattle.std.specs.Prelude.{true, is_some, slice_get, Option, Some}
+use Rattle.std.proofs.lemmas.Bool.{cases_eq}
+use Rattle.nova_objects.specs.declared.object.Object.TheVariants.{Pd}
+use Rattle.nova_model.specs.Boot.{Scenario, boot}
+use Rattle.nova_model.specs.Runs.{after, run}
+use Rattle.nova_model.specs.State.{KernelState, pd_in, pd_of}
+use Rattle.nova_model.specs.declared.context.EcState.{EcState}
+use Rattle.nova_model.specs.declared.context.State.{State}
+use Rattle.nova_model.specs.declared.context.State.TheVariants.{Dead, Parked}
+use Rattle.law_turns.specs.Tables.{HasTables}
+use Rattle.law_isolation.proofs.Runs.{reached_sound}
+use Rattle.law_origins.specs.Giving.{Acts}
+use Rattle.law_origins.proofs.Lists.{run_append}
+use Rattle.law_integrity.specs.Confined.{AreSeparate, Holds, IsIdle, IsMember, Reach, grown, more}
+use Rattle.law_integrity.specs.Trusted.{HoldsSince, IsGivenFrame, IsGivenObject, IsMadeBySide, IsWithinPolicy, Labelled, MayTakeTurns, ReachesSince, labels, labels_after}
+use Rattle.law_integrity.proofs.Confined.{acts_along, separate_after}
+use Rattle.law_integrity.proofs.Confining.{member_pd, object_kept}
+use Rattle.law_integrity.proofs.Labels.{context_ec, edge_ec, labels_made, labels_old}
+use Rattle.law_integrity.proofs.Resting.{acts_in}
+use Rattle.law_integrity.proofs.Sides.{side_holds, side_reaches, within_along}
+use Rattle.std.proofs.lemmas.Option.{slice_get_within}
+use Rattle.law_sides.specs.Resting.{IsAtRest, Sided, is_resting}
+
+-- no domain
+abbrev pub Nowhere : ℕ → Type 0
+Nowhere n = ⊥
+
+-- the sides together, beside nothing
+separate_from : (k : KernelState) (label : ℕ → ℕ) → HasTables k → IsWithinPolicy k label → IsAtRest k label → AreSeparate k (Sided label) Nowhere
+separate_from k label tables policy at_rest = record {
+  first = record {
+    there = λ n some. at_rest.domains n some;
+    capabilities = λ d has some kind. at_rest.capabilities d has kind some;
+    edges = λ waiter handler is m.
+        let its = member_pd k (Sided label) handler m in
+        let one = policy.edges waiter handler is its in
+        member waiter (edge_ec k waiter handler tables is) (λ none. its (sym one ∙ none));
+    firsts = λ ec new is m. let its = member_pd k (Sided label) ec m in let one = policy.firsts ec new is its in λ none. its (sym one ∙ none);
+  };
+  second = record {
+    there = λ n none. absurd none;
+    capabilities = λ d has none kind. absurd none;
+    edges = λ waiter handler is m. absurd m.of;
+    firsts = λ ec new is m. m.of;
+  };
+  disjoint = λ n some none. none;
+  rest = λ ec x at. elim (cases_eq (label (pd_of k ec)) 0) [
+    | inl trusted ↦ inl (idle ec x.state (at_rest.rest ec x at trusted))
+    | inr some ↦ inr (inl (member ec (context_ec k ec tables (ap (λ (o : Option EcState). is_some o) at)) some))
+  ];
+}
+  where
+    member : (n : ℕ) → IsMember k (λ m. Unit {0}) n → label (pd_of k n) ≢ 0 → IsMember k (Sided label) n
+    member n m some = record { domain = m.domain; cpu = m.cpu; kind = m.kind; event = m.event; object = m.object; of = λ none. some (ap label (ap pd_in m.object) ∙ none) }
+
+    idle : (n : ℕ) (s : State) → is_resting s ≡ true → IsIdle k (Sided label) Nowhere n s
+    idle n Parked is = tt
+    idle n Dead is = tt
+    idle n other is = absurd (cc)
+
+-- each domain of the set is there, and its label isn't 0
+abbrev pub AreSided : KernelState → (ℕ → ℕ) → (ℕ → Type 0) → Type 0
+AreSided k label S = (n : ℕ) → S n → (label n ≢ 0) × (slice_get k.objects n ≡ Some Pd)
+
+sided_after : (k : KernelState) (label : ℕ → ℕ) (S : ℕ → Type 0) (cpu : ℕ) → AreSided k label S → AreSided (after k cpu) (labels_after k label cpu) (more k S cpu)
+sided_after k label S cpu of n (inl is) =
+    let its = of n is in
+    (λ none. its.0 (sym (labels_old k label cpu n (slice_get_within k.objects n Pd its.1)) ∙ none), object_kept k cpu n Pd its.1)
+sided_after k label S cpu of n (inr made) =
+    let its = of (pd_of k made.maker) (member_pd k S made.maker made.of) in
+    (λ none. its.0 (sym (labels_made k label cpu made.maker made.acts) ∙ sym (ap (labels_after k label cpu) made.number) ∙ none), made.made)
+
+none_after : (k : KernelState) (T : ℕ → Type 0) (cpu : ℕ) → ((n : ℕ) → T n → ⊥) → (n : ℕ) → more k T cpu n → ⊥
+none_after k T cpu none n (inl is) = none n is
+none_after k T cpu none n (inr made) = none made.of.domain made.of.of
+
+takes_turns : (s : Scenario) (before turns : List ℕ) (label : ℕ → ℕ) (S T : ℕ → Type 0) → AreSeparate (run (boot s) before) S T → AreSided (run (boot s) before) label S → ((n : ℕ) → T n → ⊥) →
+    MayTakeTurns (run (boot s) before) label turns
+takes_turns s before [] label S T apart of none = tt
+takes_turns s before (cpu ∷ turns) label S T apart of none =
+    let k = run (boot s) before in
+    let next : run (boot s) (before ++ cpu ∷ []) ≡ after k cpu = run_append (boot s) before (cpu ∷ []) in (
+      λ ec acts_ trusted. absurd (by_side k ec of trusted (acts_in k S T cpu ec apart acts_)),
+      subst (λ (l : KernelState). MayTakeTurns l (labels_after k label cpu) turns) next
+          (takes_turns s (before ++ cpu ∷ []) turns (labels_after k label cpu) (more k S cpu) (more k T cpu)
+          (subst (λ (l : KernelState). AreSeparate l (more k S cpu) (more k T cpu)) (sym next) (separate_after s before S T cpu apart))
+          (subst (λ (l : KernelState). AreSided l (labels_after k label cpu) (more k S cpu)) (sym next) (sided_after k label S cpu of)) (none_after k T cpu none)),
+    )
+  where
+    by_side : (k : KernelState) (ec : ℕ) → AreSided k label S → label (pd_of k ec) ≡ 0 → IsMember k S ec ⊎ IsMember k T ec → ⊥
+    by_side k ec of_ trusted (inl m) = (of_ (pd_of k ec) (member_pd k S ec m)).0 trusted
+    by_side k ec of_ trusted (inr m) = none m.domain m.of
+
+pub sided_along : (k : KernelState) (label : ℕ → ℕ) (S : ℕ → Type 0) (turns : List ℕ) → AreSided k label S → (n : ℕ) → grown k S turns n → labels k label turns n ≢ 0
+sided_along k label S [] of n g = (of n g).0
+sided_along k label S (cpu ∷ turns) of n g = sided_along (after k cpu) (labels_after k label cpu) (more k S cpu) turns (sided_after k label S cpu of) n g
+
+none_along : (k : KernelState) (T : ℕ → Type 0) (turns : List ℕ) → ((n : ℕ) → T n → ⊥) → (n : ℕ) → grown k T turns n → ⊥
+none_along k T [] none n g = none n g
+none_along k T (cpu ∷ turns) none n g = none_along (after k cpu) (more k T cpu) turns (none_after k T cpu none) n g
+
+pub first_sided : (k : KernelState) (label : ℕ → ℕ) → IsAtRest k label → AreSided k label (Sided label)
+first_sided k label at_rest n some = (some, at_rest.domains n some)
+
+pub separate_here : (s : Scenario) (before : List ℕ) (label : ℕ → ℕ) → IsWithinPolicy (run (boot s) before) label → IsAtRest (run (boot s) before) label → AreSeparate (run (boot s) before) (Sided label) Nowhere
+separate_here s before label policy at_rest = separate_from (run (boot s) before) label (reached_sound s before).kept.tables policy at_rest
+
+pub resting_turns : (s : Scenario) (before turns : List ℕ) (label : ℕ → ℕ) → IsWithinPolicy (run (boot s) before) label → IsAtRest (run (boot s) before) label → MayTakeTurns (run (boot s) before) label turns
+resting_turns s before turns label policy at_rest =
+    takes_turns s before turns label (Sided label) Nowhere (separate_here s before label policy at_rest) (first_sided (run (boot s) before) label at_rest) (λ n none. none)
+
+pub resting_within : (s : Scenario) (before turns : List ℕ) (label : ℕ → ℕ) → IsWithinPolicy (run (boot s) before) label → IsAtRest (run (boot s) before) label →
+    IsWithinPolicy (run (run (boot s) before) turns) (labels (run (boot s) before) label turns)
+resting_within s before turns label policy at_rest = within_along s before turns label policy (resting_turns s before turns label policy at_rest)
+
+pub resting_acts : (s : Scenario) (before turns : List ℕ) (label : ℕ → ℕ) (cpu ec : ℕ) → IsWithinPolicy (run (boot s) before) label → IsAtRest (run (boot s) before) label →
+    Acts (run (run (boot s) before) turns) cpu ec → labels (run (boot s) before) label turns (pd_of (run (run (boot s) before) turns) ec) ≢ 0
+resting_acts s before turns label cpu ec policy at_rest acts_ =
+    by_side (acts_along s before turns (Sided label) Nowhere cpu ec (separate_here s before label policy at_rest) acts_)
+  where
+    k : KernelState
+    k = run (boot s) before
+
+    by_side : IsMember (run k turns) (grown k (Sided label) turns) ec ⊎ IsMember (run k turns) (grown k Nowhere turns) ec → labels k label turns (pd_of (run k turns) ec) ≢ 0
+    by_side (inl m) = sided_along k label (Sided label) turns (first_sided k label at_rest) (pd_of (run k turns) ec) (member_pd (run k turns) (grown k (Sided label) turns) ec m)
+    by_side (inr m) = absurd (none_along k Nowhere turns (λ n none. none) m.domain m.of)
+
+pub resting_reach : (s : Scenario) (before turns : List ℕ) (label : ℕ → ℕ) (side right frame : ℕ) → IsWithinPolicy (run (boot s) before) label → IsAtRest (run (boot s) before) label → side ≢ 0 →
+    Reach (run (run (boot s) before) turns) (Labelled (labels (run (boot s) before) label turns) side) right frame → ReachesSince (run (boot s) before) label turns side right frame
+resting_reach s before turns label side right frame policy at_rest some r =
+    by_way (side_reaches s before turns label side right frame policy (resting_turns s before turns label policy at_rest) some r)
+  where
+    by_way : ReachesSince (run (boot s) before) label turns side right frame ⊎ IsGivenFrame (run (boot s) before) label turns side right frame → ReachesSince (run (boot s) before) label turns side right frame
+    by_way (inl since) = since
+    by_way (inr given) = let t = given.turn in absurd (resting_acts s before t.before label t.cpu t.actor policy at_rest t.acts t.of)
+
+pub resting_holds : (s : Scenario) (before turns : List ℕ) (label : ℕ → ℕ) (side right object : ℕ) → IsWithinPolicy (run (boot s) before) label → IsAtRest (run (boot s) before) label → side ≢ 0 →
+    Holds (run (run (boot s) before) turns) (Labelled (labels (run (boot s) before) label turns) side) right object →
+    HoldsSince (run (boot s) before) label turns side right object ⊎ IsMadeBySide (run (boot s) before) label turns side right object
+resting_holds s before turns label side right object policy at_rest some h =
+    by_way (side_holds s before turns label side right object policy (resting_turns s before turns label policy at_rest) some h)
+  where
+    by_way : HoldsSince (run (boot s) before) label turns side right object
+        ⊎ (IsGivenObject (run (boot s) before) label turns side right object ⊎ IsMadeBySide (run (boot s) before) label turns side right object) →
+        HoldsSince (run (boot s) before) label turns side right object ⊎ IsMadeBySide (run (boot s) before) label turns side right object
+    by_way (inl since) = inl since
+    by_way (inr (inl given)) = let t = given.turn in absurd (resting_acts s before t.before label t.cpu t.actor policy at_rest t.acts t.of)
+    by_way (inr (inr made)) = inr made

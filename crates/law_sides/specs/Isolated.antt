@@ -1,0 +1,32 @@
+-- The isolation of sides in one state: what the policy of sides asks for, and besides no power over what is trusted, and no frame that one side may write and another reaches.
+use Rattle.std.specs.Prelude.{◌≡◌, ◌≢◌, ◌||◌, ℕ, Bool, true, false, Contains, slice_get, Option, Some, None}
+use Rattle.nova_objects.specs.declared.object.Object.{Object}
+use Rattle.nova_objects.specs.declared.object.Object.TheVariants.{Pd, Ec, Sc, Pt, Sm}
+use Rattle.nova_range.specs.Rights.{allows, write_right}
+use Rattle.nova_range.specs.declared.range.Kind.TheVariants.{Obj}
+use Rattle.nova_range.specs.declared.rights.Rights.{Rights}
+use Rattle.nova_model.specs.Capabilities.{bind_portal_right, bind_scheduling_right, control_right, create_right}
+use Rattle.nova_model.specs.State.{KernelState}
+use Rattle.nova_model.specs.declared.delegation.Derivation.{Derivation}
+use Rattle.law_integrity.specs.Confined.{IsOwned, Reach, ReachAny}
+use Rattle.law_integrity.specs.Trusted.{IsWithinPolicy, Labelled}
+
+-- these rights command the object: to make objects in a protection domain; to control an execution context, a scheduling context or a portal; or to bind a scheduling context or a portal to an
+-- execution context. To call a portal, to send exits to it, and to raise or lower a semaphore commands nothing.
+abbrev pub commands : Rights → Object → Bool
+commands rights Pd = allows rights create_right
+commands rights (Ec pd cpu kind event) = allows rights control_right || (allows rights bind_scheduling_right || allows rights bind_portal_right)
+commands rights (Sc ec cpu priority quantum) = allows rights control_right
+commands rights (Pt ec mtd ip) = allows rights control_right
+commands rights Sm = false
+
+abbrev pub commands_any : Rights → Option Object → Bool
+commands_any rights (Some object) = commands rights object
+commands_any rights None = false
+
+-- Labels are within the policy of sides; what a side commands is its own; and a frame that a side may write no other side reaches, by whatever right.
+pub record AreIsolated (k : KernelState) (label : ℕ → ℕ) : Type 0 where
+  pub policy : IsWithinPolicy k label
+  pub powers : (d : Derivation) → Contains k.delegations.list d → d.kind ≡ Obj → label d.pd ≢ 0 → commands_any d.rights (slice_get k.objects d.target) ≡ true →
+      IsOwned k (Labelled label (label d.pd)) d.target (slice_get k.objects d.target)
+  pub frames : (side other frame : ℕ) → side ≢ 0 → other ≢ 0 → Reach k (Labelled label side) write_right frame → ReachAny k (Labelled label other) frame → other ≡ side

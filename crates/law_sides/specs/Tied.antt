@@ -1,0 +1,135 @@
+-- What ties the protection domains of a state to one another: each tie is one part of the isolation of sides.
+use Rattle.std.specs.Prelude.{ℕ, ◌==◌, ◌+◌, ◌^◌, ◌++◌, ◌&&◌, ◌||◌, Bool, true, false, if◌then◌else◌, List, [], flat_map, nat_le, nat_lt, slice_get, Option, Some, None, option_to_list}
+use Rattle.std.specs.List.{enumerate_from}
+use Rattle.nova_objects.specs.declared.object.Object.{Object}
+use Rattle.nova_objects.specs.declared.object.Object.TheVariants.{Pd, Ec, Sc, Pt, Sm}
+use Rattle.nova_range.specs.Rights.{allows, write_right}
+use Rattle.nova_range.specs.declared.range.Kind.{Kind}
+use Rattle.nova_range.specs.declared.range.Kind.TheVariants.{Mem, Obj}
+use Rattle.nova_model.specs.Edges.{edge_of}
+use Rattle.nova_model.specs.State.{KernelState, context_at, pd_of}
+use Rattle.nova_model.specs.declared.context.EcState.{EcState}
+use Rattle.nova_model.specs.declared.context.State.{State}
+use Rattle.nova_model.specs.declared.context.State.TheVariants.{Blocked, Granting}
+use Rattle.nova_model.specs.declared.delegation.Derivation.{Derivation}
+use Rattle.nova_ties.specs.declared.tie.Cause.{Cause}
+use Rattle.nova_ties.specs.declared.tie.Cause.TheVariants as cause
+use Rattle.nova_ties.specs.declared.tie.Tie.{Tie}
+use Rattle.law_sides.specs.Isolated.{commands}
+
+-- to a side's own or to what is trusted; to a side's own
+abbrev pub weak : ℕ → ℕ → Cause → Tie
+weak from to why = record { from = from; to = to; strict = false; cause = why }
+
+abbrev pub strict : ℕ → ℕ → Cause → Tie
+strict from to why = record { from = from; to = to; strict = true; cause = why }
+
+-- BY CAPABILITIES
+
+-- to the domain to which it leads: to a side's own alone where its rights command the object
+abbrev pub leads : Derivation → ℕ → Object → Cause → Tie
+leads d to object why = record { from = d.pd; to = to; strict = commands d.rights object; cause = why }
+
+abbrev pub lead_of : KernelState → Derivation → Option Object → Option Tie
+lead_of k d (Some Pd) = Some (leads d d.target Pd (cause.Domain d.id))
+lead_of k d (Some (Ec pd cpu kind event)) = Some (leads d pd (Ec pd cpu kind event) (cause.Context d.id))
+lead_of k d (Some (Sc donor cpu priority quantum)) = Some (leads d (pd_of k donor) (Sc donor cpu priority quantum) (cause.Scheduling d.id))
+lead_of k d (Some (Pt handler mtd ip)) = Some (leads d (pd_of k handler) (Pt handler mtd ip) (cause.Portal d.id))
+lead_of k d other = None
+
+-- of two capabilities to one semaphore
+abbrev pub shares_by : Kind → Derivation → Derivation → Option Tie
+shares_by Mem d e = None
+shares_by Obj d e = if e.target == d.target then Some (weak d.pd e.pd (cause.Shared d.id e.id)) else None
+
+abbrev pub shares : Derivation → Derivation → Option Tie
+shares d e = shares_by e.kind d e
+
+abbrev pub shares_all : List Derivation → Derivation → Option Object → List Tie
+shares_all list d (Some Sm) = flat_map (λ (e : Derivation). option_to_list (shares d e)) list
+shares_all list d other = []
+
+-- to the domains of those that wait at what it leads to
+abbrev pub is_at : ℕ → State → Bool
+is_at sm (Blocked other) = other == sm
+is_at sm other = false
+
+abbrev pub is_blocked_at : ℕ → EcState → Bool
+is_blocked_at sm x = is_at sm x.state
+
+abbrev pub waits_at : Derivation → ℕ → ℕ → Option EcState → Option Tie
+waits_at d n pd (Some x) = if is_blocked_at d.target x then Some (weak d.pd pd (cause.Waits d.id n)) else None
+waits_at d n pd None = None
+
+abbrev pub waits_in : KernelState → Derivation → ℕ × Object → Option Tie
+waits_in k d (n, Ec pd cpu kind event) = waits_at d n pd (context_at k n)
+waits_in k d (n, other) = None
+
+abbrev pub waits_all : KernelState → Derivation → List Tie
+waits_all k d = flat_map (λ (e : ℕ × Object). option_to_list (waits_in k d e)) (enumerate_from 0 k.objects)
+
+-- of memory to write, and other memory with a frame of it
+abbrev pub leads_to : Derivation → ℕ → Bool
+leads_to d frame = nat_le d.target frame && nat_lt frame (d.target + 2 ^ d.order)
+
+abbrev pub meets : Derivation → Derivation → Bool
+meets d e = leads_to d e.target || leads_to e d.target
+
+abbrev pub overlaps_by : Kind → Derivation → Derivation → Option Tie
+overlaps_by Mem d e = if meets d e then Some (weak d.pd e.pd (cause.Frames d.id e.id)) else None
+overlaps_by Obj d e = None
+
+abbrev pub overlaps : Derivation → Derivation → Option Tie
+overlaps d e = overlaps_by e.kind d e
+
+abbrev pub overlaps_all : List Derivation → Derivation → Bool → List Tie
+overlaps_all list d true = flat_map (λ (e : Derivation). option_to_list (overlaps d e)) list
+overlaps_all list d false = []
+
+abbrev pub ties_of_kind : KernelState → List Derivation → Derivation → Kind → List Tie
+ties_of_kind k list d Mem = overlaps_all list d (allows d.rights write_right)
+ties_of_kind k list d Obj = option_to_list (lead_of k d (slice_get k.objects d.target)) ++ (shares_all list d (slice_get k.objects d.target) ++ waits_all k d)
+
+abbrev pub ties_by : KernelState → List Derivation → Derivation → List Tie
+ties_by k list d = ties_of_kind k list d d.kind
+
+-- BY EXECUTION CONTEXTS
+
+-- the domain of a handler is tied to that of who waits for it
+abbrev pub serves_by : KernelState → ℕ → ℕ → Option ℕ → Option Tie
+serves_by k n pd (Some handler) = Some (strict (pd_of k handler) pd (cause.Serves handler n))
+serves_by k n pd None = None
+
+abbrev pub serves_of : KernelState → ℕ → ℕ → State → Option Tie
+serves_of k n pd state = serves_by k n pd (edge_of state)
+
+-- the domain of one that gives a first range, to the domain that gets it
+abbrev pub gives_of : ℕ → ℕ → State → Option Tie
+gives_of n pd (Granting (Some new)) = Some (strict pd new (cause.Gives n))
+gives_of n pd other = None
+
+-- the domain of one that waits at a semaphore, to those of all that wait there
+abbrev pub beside_at : ℕ → ℕ → ℕ → ℕ → ℕ → Option EcState → Option Tie
+beside_at sm n pd m other (Some y) = if is_blocked_at sm y then Some (weak pd other (cause.Queue n m)) else None
+beside_at sm n pd m other None = None
+
+abbrev pub beside_in : KernelState → ℕ → ℕ → ℕ → ℕ × Object → Option Tie
+beside_in k sm n pd (m, Ec other cpu kind event) = beside_at sm n pd m other (context_at k m)
+beside_in k sm n pd (m, object) = None
+
+abbrev pub queue_of : KernelState → ℕ → ℕ → State → List Tie
+queue_of k n pd (Blocked sm) = flat_map (λ (e : ℕ × Object). option_to_list (beside_in k sm n pd e)) (enumerate_from 0 k.objects)
+queue_of k n pd other = []
+
+abbrev pub ties_in : KernelState → ℕ → ℕ → Option EcState → List Tie
+ties_in k n pd (Some x) = option_to_list (serves_of k n pd x.state) ++ (option_to_list (gives_of n pd x.state) ++ queue_of k n pd x.state)
+ties_in k n pd None = []
+
+abbrev pub ties_at : KernelState → ℕ × Object → List Tie
+ties_at k (n, Ec pd cpu kind event) = ties_in k n pd (context_at k n)
+ties_at k (n, other) = []
+
+-- ALL
+
+unfoldable pub ties : KernelState → List Tie
+ties k = flat_map (ties_by k k.delegations.list) k.delegations.list ++ flat_map (ties_at k) (enumerate_from 0 k.objects)

@@ -1,0 +1,4 @@
+pub use Rattle.nova_ties.specs.Ties
+pub use Rattle.law_sides.specs.Tied
+pub use Rattle.law_sides.specs.Resting
+pub mod Verdicts

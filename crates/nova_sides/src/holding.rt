@@ -1,0 +1,242 @@
+ghost use Rattle.std.specs.Prelude.{◌≡◌, ◌++◌, ◌+◌, ◌<◌, ◌^◌, ◌||◌, flat_map, nat_lt, option_to_list, slice_get, OnOk, Some, ℕ};
+ghost use Rattle.std.specs.List.{enumerate_from};
+ghost use Rattle.nova_range.specs.Rights.{allows, write_right};
+ghost use Rattle.nova_model.specs.Capabilities.{bind_portal_right, bind_scheduling_right, control_right};
+ghost use Rattle.nova_model.specs.State.{context_at};
+ghost use Rattle.law_sides.specs.Isolated.{commands};
+ghost use Rattle.law_sides.specs.Tied.{is_blocked_at, lead_of, leads, leads_to, meets, overlaps, overlaps_all, shares, shares_all, strict, ties_by, waits_at, waits_in, weak};
+
+use crate::common::{domain_of, is_blocked_at, is_object, push, weak};
+use bitflags::Flags;
+use nova_kernel::{Derivation, Kernel, Kind, Object, Rights};
+use nova_ties::{Cause, Tie};
+use std::alloc::AllocError;
+
+/// Whether rights to an execution context command it.
+fn commands_context(rights: Rights) -> bool
+    ensures { result ≡ (allows rights control_right || (allows rights bind_scheduling_right || allows rights bind_portal_right)) }
+{
+    rights.contains(Rights::CONTROL)
+        || rights.contains(Rights::BIND_SC)
+        || rights.contains(Rights::BIND_PT)
+}
+
+/// Whether rights command an object.
+fn commands(rights: Rights, object: Object) -> bool
+    ensures { result ≡ commands rights object }
+{
+    match object {
+        Object::Pd => rights.contains(Rights::CREATE),
+        Object::Ec { .. } => commands_context(rights),
+        Object::Sc { .. } | Object::Pt { .. } => rights.contains(Rights::CONTROL),
+        Object::Sm => false,
+    }
+}
+
+fn leads(d: Derivation, to: u32, object: Object, cause: Cause) -> Tie
+    ensures { result ≡ leads d to object cause }
+{
+    Tie {
+        from: d.pd,
+        to,
+        strict: commands(d.rights, object),
+        cause,
+    }
+}
+
+/// The domain to which a capability leads, by its object.
+fn lead_by(kernel: &Kernel, d: Derivation, object: Object) -> Option<Tie>
+    ensures { result ≡ lead_of kernel.now.state d (Some object) }
+{
+    match object {
+        Object::Pd => Some(leads(d, d.target, object, Cause::Domain(d.id))),
+        Object::Ec { pd, .. } => Some(leads(d, pd, object, Cause::Context(d.id))),
+        Object::Sc { ec, .. } => {
+            let donor = domain_of(kernel, ec);
+            Some(leads(d, donor, object, Cause::Scheduling(d.id)))
+        }
+        Object::Pt { ec, .. } => {
+            let handler = domain_of(kernel, ec);
+            Some(leads(d, handler, object, Cause::Portal(d.id)))
+        }
+        Object::Sm => None,
+    }
+}
+
+/// The domain to which a capability leads.
+pub(crate) fn lead_of(kernel: &Kernel, d: Derivation) -> Option<Tie>
+    ensures { result ≡ lead_of kernel.now.state d (slice_get kernel.now.state.objects d.target) }
+{
+    match kernel.object(d.target) {
+        Some(object) => lead_by(kernel, d, *object),
+        None => None,
+    }
+}
+
+/// Another capability to the same semaphore.
+fn shares(d: Derivation, e: Derivation) -> Option<Tie>
+    ensures { result ≡ shares d e }
+{
+    match e.kind {
+        Kind::Mem => None,
+        Kind::Obj => {
+            if e.target == d.target {
+                Some(weak(d.pd, e.pd, Cause::Shared(d.id, e.id)))
+            } else {
+                None
+            }
+        }
+    }
+}
+
+fn push_shared(out: &mut Vec<Tie>, d: Derivation, list: &[Derivation]) -> Result<(), AllocError>
+    ensures { OnOk result (out.new.items ≡ out.old.items ++ flat_map (λ e. option_to_list (shares d e)) list.now) }
+{
+    for e in list {
+        push(out, shares(d, *e))?;
+    }
+    Ok(())
+}
+
+/// All capabilities to the semaphore to which a capability leads, if it leads to one.
+fn push_shares(
+    out: &mut Vec<Tie>,
+    kernel: &Kernel,
+    d: Derivation,
+    list: &[Derivation],
+) -> Result<(), AllocError>
+    ensures { OnOk result (out.new.items ≡ out.old.items ++ shares_all list.now d (slice_get kernel.now.state.objects d.target)) }
+{
+    match kernel.object(d.target) {
+        Some(Object::Sm) => push_shared(out, d, list),
+        _ => Ok(()),
+    }
+}
+
+/// Whether an execution context waits at what a capability leads to.
+fn waits_at(kernel: &Kernel, d: Derivation, n: u32, pd: u32) -> Option<Tie>
+    ensures { result ≡ waits_at d n pd (context_at kernel.now.state n) }
+{
+    let context = kernel.ec(n)?;
+    if is_blocked_at(d.target, context) {
+        return Some(weak(d.pd, pd, Cause::Waits(d.id, n)));
+    }
+    None
+}
+
+fn waits_in(kernel: &Kernel, d: Derivation, n: u32, object: Object) -> Option<Tie>
+    ensures { result ≡ waits_in kernel.now.state d (n, object) }
+{
+    match object {
+        Object::Ec { pd, .. } => waits_at(kernel, d, n, pd),
+        _ => None,
+    }
+}
+
+fn push_waits(out: &mut Vec<Tie>, kernel: &Kernel, d: Derivation) -> Result<(), AllocError>
+    ensures { OnOk result (out.new.items ≡ out.old.items ++ flat_map (λ e. option_to_list (waits_in kernel.now.state d e)) (enumerate_from 0 kernel.now.state.objects)) }
+{
+    for (i, object) in kernel.objects().iter().enumerate() {
+        push(out, waits_in(kernel, d, i as u32, *object))?;
+    }
+    Ok(())
+}
+
+/// The first frame after a range of memory.
+fn end_of(target: u32, order: u8) -> u64
+    requires { order < 32 }
+    ensures { result ≡ target + 2 ^ order }
+{
+    u64::from(target) + (1 << order)
+}
+
+/// Whether a frame is below the first one after a range of memory.
+#[tactic(auto, using(crate::proofs::Ranges::far_end))]
+fn is_below(target: u32, order: u8, frame: u32) -> bool
+    ensures { result ≡ nat_lt frame (target + 2 ^ order) }
+{
+    order >= 32 || u64::from(frame) < end_of(target, order)
+}
+
+/// Whether a range of memory has a frame.
+fn leads_to(d: Derivation, frame: u32) -> bool
+    ensures { result ≡ leads_to d frame }
+{
+    d.target <= frame && is_below(d.target, d.order, frame)
+}
+
+/// Whether two ranges of memory have a frame in common.
+fn meets(d: Derivation, e: Derivation) -> bool
+    ensures { result ≡ meets d e }
+{
+    leads_to(d, e.target) || leads_to(e, d.target)
+}
+
+/// Other memory with a frame of some memory.
+fn overlaps(d: Derivation, e: Derivation) -> Option<Tie>
+    ensures { result ≡ overlaps d e }
+{
+    match e.kind {
+        Kind::Mem => {
+            if meets(d, e) {
+                Some(weak(d.pd, e.pd, Cause::Frames(d.id, e.id)))
+            } else {
+                None
+            }
+        }
+        Kind::Obj => None,
+    }
+}
+
+fn push_overlapping(
+    out: &mut Vec<Tie>,
+    d: Derivation,
+    list: &[Derivation],
+) -> Result<(), AllocError>
+    ensures { OnOk result (out.new.items ≡ out.old.items ++ flat_map (λ e. option_to_list (overlaps d e)) list.now) }
+{
+    for e in list {
+        push(out, overlaps(d, *e))?;
+    }
+    Ok(())
+}
+
+/// All memory with a frame of some memory, if that may be written.
+fn push_overlaps(out: &mut Vec<Tie>, d: Derivation, list: &[Derivation]) -> Result<(), AllocError>
+    ensures { OnOk result (out.new.items ≡ out.old.items ++ overlaps_all list.now d (allows d.rights write_right)) }
+{
+    if d.rights.contains(Rights::WRITE) {
+        push_overlapping(out, d, list)
+    } else {
+        Ok(())
+    }
+}
+
+fn push_by(
+    out: &mut Vec<Tie>,
+    kernel: &Kernel,
+    d: Derivation,
+    list: &[Derivation],
+) -> Result<(), AllocError>
+    ensures { OnOk result (out.new.items ≡ out.old.items ++ ties_by kernel.now.state list.now d) }
+{
+    if !is_object(d.kind) {
+        return push_overlaps(out, d, list);
+    }
+    push(out, lead_of(kernel, d))?;
+    push_shares(out, kernel, d, list)?;
+    push_waits(out, kernel, d)
+}
+
+pub(crate) fn push_all_by(
+    out: &mut Vec<Tie>,
+    kernel: &Kernel,
+    list: &[Derivation],
+) -> Result<(), AllocError>
+    ensures { OnOk result (out.new.items ≡ out.old.items ++ flat_map (ties_by kernel.now.state list.now) list.now) }
+{
+    for d in list {
+        push_by(out, kernel, *d, list)?;
+    }
+    Ok(())
+}

@@ -1,0 +1,15 @@
+//! What ties the protection domains of a kernel to one another, so that sides are isolated exactly where they respect it; and whether all
+//! that isn't of a side is at rest.
+#![tactic(auto)]
+
+mod common;
+mod derivations;
+mod holding;
+mod judging;
+mod resting;
+mod tied;
+mod waiting;
+
+pub use derivations::derivations_of;
+pub use judging::{Restless, Verdict, judge};
+pub use tied::ties;
