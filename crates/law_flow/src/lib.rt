@@ -16,10 +16,10 @@ ghost use Rattle.law_flow.specs.Flow.{AreAlike, AreAlikeAlong, AreAtWork, AreAtW
 ghost use Rattle.law_flow.specs.Processors.{AreAlikeAtHome, AreAtHome, AreTimed, IsDivided};
 
 /// Take two sound states in which a side's part is the same, and a turn of the same execution context of the side in
-/// both, paid by the same scheduling context, that makes no object, gives nothing and revokes nothing. It does the same
-/// in both, and leaves states in which the side's part is the same again, whatever all the rest is: other objects,
-/// delegations, registers, states, queues, budgets, memory and clocks. Where it sets a deadline, the clock of its
-/// processor is the same in both.
+/// both, paid by the same scheduling context, that asks for no create and no revoke, and sends no items. It does the
+/// same in both, and leaves states in which the side's part is the same again, whatever all the rest is: other objects,
+/// delegations, registers, states, queues, budgets, memory and clocks. Where it asks for a down with a deadline, the
+/// clock of its processor is the same in both.
 pub fn step_consistency()
     ensures decides { (k l : KernelState) (S P : ℕ → Bool) (cpu ec sc : ℕ) → IsSound k → IsSound l
         → IsSide k (Of S) (Of P) → AreAlike k l (Of S) (Of P)
@@ -51,7 +51,7 @@ pub fn local_respect()
 {}
 
 /// Take two runs, from sound states in which a side's part is the same, that have the same turns of the side, in which
-/// it is at work without deadlines, while each other turn leaves its part alone. At their ends its part is the same, and
+/// it is at work without deadlines and alarms, while each other turn leaves its part alone. At their ends its part is the same, and
 /// so was all that it did, however many turns of others came, when they came, and whatever they did.
 pub fn unwinding()
     ensures { (k l : KernelState) (turns others : List ℕ) (S P : ℕ → Bool) → IsSound k → IsSound l
@@ -63,7 +63,7 @@ pub fn unwinding()
 
 /// Noninterference, relative to the side's own turns. Take two runs, of any two scenarios, a place in each, and a side
 /// whose part is the same at both places, and that is partitioned off there from all others that may ever act. In the
-/// first run, let it be at work from there on, without deadlines. If the two runs have the same turns of the side, by
+/// first run, let it be at work from there on, without deadlines and alarms. If the two runs have the same turns of the side, by
 /// who acts and who pays, its part is the same at their ends, and all that it did is: whatever others are and do in
 /// each, and whenever their turns come.
 pub fn noninterference()
@@ -94,7 +94,7 @@ pub fn noninterference_at_home()
         → AreAlikeAtHome (run (boot a) before) (run (boot b) since) turns others S P C }
 {}
 
-/// So it is, by conditions of the two states alone, where the processors are divided between the side and the others,
+/// So it is, by conditions of the two states but for being at work, where the processors are divided between the side and the others,
 /// and the others hold no right to create: whatever they do, they never come to the side's processors.
 pub fn noninterference_on_divided_processors()
     ensures { (a b : Scenario) (before since turns others : List ℕ) (S T U P C : ℕ → Bool)
