@@ -11,14 +11,14 @@ import stat
 import sys
 from dataclasses import dataclass, field
 
-MOST_TURNS, MOST_DOMAINS = 10_000_000, 90_000
+MOST_TURNS, MOST_DOMAINS, TURNS, MOST_TEXT = 10_000_000, 90_000, 1_000_000, 4_096
 HELP = f"""\
 nova solo SCENARIO [ORDER]    runs a scenario, in rounds or in the order of turns of ORDER, and writes its report
 nova run SCENARIO ORDER       runs it with a thread of the host for each processor, and appends to ORDER the order that came of it
 nova check SCENARIO           says whether a scenario has a fault
 nova twin NAME                compares a virtual CPU of one run with one of another
 nova bench NUMBER             makes NUMBER protection domains, 1 to {MOST_DOMAINS:,}
-  --limit N                   the most turns, 1 to {MOST_TURNS:,} (1,000,000)
+  --limit N                   the most turns, 1 to {MOST_TURNS:,} ({TURNS:,})
 ./nova draft WORD..           the same at once, unproved; ./nova draft --help tells more
 
 Status: 0 done, 2 no command, 3 a file isn't read, 4 a fault of the scenario, 5 of the order, 6 a file isn't written, 7 not quiet: the limit or
@@ -143,6 +143,38 @@ def other_executable(file: str) -> str | None:
     return None
 
 
+def turns_of(order: str) -> int:
+    """How many turns an order has. What is no line of one counts for nothing."""
+    with open(order, "rb") as opened:
+        counts = (number_of(line.split()[-1].decode("ascii", "replace")) for line in opened if line.strip())
+        return sum(count or 0 for count in counts)
+
+
+def of_side(words: list[str], limit: int) -> str | None:
+    """What is amiss with a line of a text of `twin`: its scenario, order and virtual CPU."""
+    if len(words) != 3 or "" in words:
+        return "a line is SCENARIO ORDER NUMBER, with one space between"
+    scenario, order, _ = words
+    if why := unread(scenario) or unread(order):
+        return why
+    turns = turns_of(order) if os.path.isfile(order) else 0
+    return f"{order} has {turns:,} turns, and the limit is {limit:,}; --limit N gives up to {MOST_TURNS:,}" if turns > limit else None
+
+
+def of_twin(file: str, limit: int) -> str | None:
+    """What is amiss with a text of `twin`, as far as it is seen without a run. A pipe is left alone."""
+    if not os.path.isfile(file):
+        return None
+    with open(file, encoding="ascii", errors="replace", newline="\n") as opened:
+        *lines, rest = opened.read(MOST_TEXT + 1).split("\n")
+    if rest:
+        return f"{file}: its last line has no line feed, or it has more than {MOST_TEXT:,} bytes"
+    if len(lines) != 2:
+        return f"{file} has {len(lines)} line{'' if len(lines) == 1 else 's'}, and a text of twin has 2"
+    said = ((number, of_side(line.split(" "), limit)) for number, line in enumerate(lines, 1))
+    return next((f"{file}, line {number}: {why}" for number, why in said if why), None)
+
+
 def unwritten(file: str) -> str | None:
     """Why nothing can be appended to a file."""
     folder = os.path.dirname(file) or "."
@@ -170,6 +202,8 @@ def hints(given: list[str]) -> list[str]:
     said = [*map(unread, read), *map(unwritten, files[len(read) :])]
     if not any(said) and command in ("run", "solo", "check"):
         said.append(other_executable(files[0]))
+    if not any(said) and command == "twin":
+        said.append(of_twin(files[0], number_of((words.limits or [""])[0] or "") or TURNS))
     return [line for line in said if line]
 
 

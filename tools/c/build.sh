@@ -181,6 +181,8 @@ check() {
         refuse "$order: memory has at most 2^14 pages, and a guest half of them; give a lesser order"
     command -v $tool-gcc >/dev/null || [ "$compiler" = clang ] ||
         refuse "$tool-gcc isn't installed; apt-get install gcc-riscv64-unknown-elf binutils-riscv64-unknown-elf"
+    command -v $tool-objcopy >/dev/null || refuse "$tool-objcopy isn't installed; apt-get install binutils-riscv64-unknown-elf"
+    command -v python3 >/dev/null || refuse "python3 isn't installed; apt-get install python3"
     [ $libc = no ] || [ -d $picolibc/include ] || refuse "picolibc isn't installed; apt-get install picolibc-riscv64-unknown-elf"
 }
 

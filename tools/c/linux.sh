@@ -7,15 +7,15 @@ set -eu
 name=linux.sh
 . "$(dirname "$0")/linux/fetch.sh"
 
-usage() {
-    cat >&2 <<'END'
+list() { # which words there are
+    cat <<'END'
 usage: linux.sh [--two] [--no-patches] [--cache FOLDER] [SCENARIO.nova]
   --two            two Linuxes of 4 MiB on two processors, each with a monitor and a console
   --no-patches     no instruction of Linux is overwritten while it runs
   --cache FOLDER   where its source and what is built of it are kept: NOVA_LINUX_CACHE, or ~/.cache/nova-linux, where it isn't given
   SCENARIO.nova    what is written: linux.nova, or linux_two.nova with --two, where it isn't given
+JOBS=N linux.sh .. builds with N processes; with one for each processor where JOBS isn't set.
 END
-    exit 2
 }
 
 two=no patches='' scenario='' cache=${NOVA_LINUX_CACHE:-${XDG_CACHE_HOME:-${HOME:-/tmp}/.cache}/nova-linux}
@@ -23,13 +23,14 @@ while [ $# -gt 0 ]; do
     case $1 in
     --two) two=yes ;;
     --no-patches) patches=--no-patches ;;
+    --help | -h) list && exit 0 ;;
     --cache)
-        [ $# -ge 2 ] || usage
+        folder "$@"
         cache=$2
         shift
         ;;
     *.nova) scenario=$1 ;;
-    *) usage ;;
+    *) wrong "$1: there is no such option, and a scenario's name ends in .nova" ;;
     esac
     shift
 done
@@ -38,13 +39,27 @@ if [ $two = yes ]; then scenario=${scenario:-linux_two.nova}; else scenario=${sc
 
 package=linux-source-6.12
 tool=riscv64-unknown-elf
-needs $tool-gcc:gcc-$tool $tool-objcopy:binutils-$tool dtc:device-tree-compiler python3:python3
-mkdir -p "$cache"
-cache=$(cd "$cache" && pwd)
+source=$cache/$package image=$cache/Image
+
+# What was built of files that are the same now isn't built again.
+ours() {
+    (cd "$c/linux" && cat linux.config init.c init.ld flat.py | cksum)
+}
+
+# Everything that is needed is asked for before anything is fetched.
+wanted="$tool-gcc:gcc-$tool $tool-objcopy:binutils-$tool dtc:device-tree-compiler python3:python3"
+built=no fetched=no
+[ "$(ours)" != "$(cat "$image.sum" 2>/dev/null)" ] || built=yes
+[ ! -d "$source" ] || fetched=yes
+[ $built = yes ] || wanted="$wanted riscv64-linux-gnu-gcc:gcc-riscv64-linux-gnu riscv64-linux-gnu-ld:binutils-riscv64-linux-gnu make:make gcc:gcc \
+    flex:flex bison:bison bc:bc"
+[ $built$fetched != nono ] || wanted="$wanted apt-get:apt dpkg-deb:dpkg xz:xz-utils tar:tar"
+needs $wanted
+make_cache "$cache"
 source=$cache/$package image=$cache/Image
 
 fetch() {
-    needs apt-get:apt dpkg-deb:dpkg xz:xz-utils tar:tar
+    room 2000
     say "fetches $package of Debian 12, 153 MB, which become 1.7 GB in $cache; a minute or two"
     lists deb debian-security bookworm-security
     (cd "$cache" && rm -f ${package}_*.deb && archive download $package)
@@ -53,11 +68,6 @@ fetch() {
     dpkg-deb --fsys-tarfile "$cache"/${package}_*.deb | tar -xO ./usr/src/$package.tar.xz | xz -dc | tar -x -C "$cache/unpacked"
     mv "$cache/unpacked/$package" "$source"
     rm -rf "$cache/unpacked" "$cache"/${package}_*.deb
-}
-
-# What was built of files that are the same now isn't built again.
-ours() {
-    (cd "$c/linux" && cat linux.config init.c init.ld flat.py | cksum)
 }
 
 # Our first program, as Linux takes it without an MMU, and the list of what its first file system has.
@@ -76,8 +86,7 @@ kernel() { # words of make
 }
 
 build() {
-    needs riscv64-linux-gnu-gcc:gcc-riscv64-linux-gnu riscv64-linux-gnu-ld:binutils-riscv64-linux-gnu make:make gcc:gcc flex:flex bison:bison bc:bc
-    say "builds it in $cache/linux; six minutes or so of a processor (JOBS=N has N of them)"
+    say "builds it in $cache/linux; six minutes or so of a processor, longer where it is busy (JOBS=N has N processes)"
     first_program
     sed "s|@initramfs@|$cache/initramfs|" "$c/linux/linux.config" >"$cache/linux.config"
     kernel allnoconfig
@@ -86,17 +95,14 @@ build() {
     ours >"$image.sum"
 }
 
-tree() { # a name, and how it differs from virt.dts
-    sed "$2" "$c/linux/virt.dts" | dtc -q -O dtb -o "$cache/$1.dtb" || fail "virt.dts: dtc refuses it"
-}
-
-if [ "$(ours)" != "$(cat "$image.sum" 2>/dev/null)" ]; then
-    [ -d "$source" ] || fetch
+if [ $built = no ]; then
+    [ $fetched = yes ] || fetch
     build
 fi
 # All that Linux says, and 8 MiB; or a little, no threads, and 4 MiB, so that two come to their ends within 10,000,000 turns.
-tree virt ''
-tree quiet 's|bootargs = .*|bootargs = "quiet console=ttyS0 -- 0"; };|; s/0x80000000 0x800000>/0x80000000 0x400000>/'
+tree "$c/linux/virt.dts" "$cache/virt.dtb"
+tree "$c/linux/virt.dts" "$cache/quiet.dtb" \
+    's|bootargs = .*|bootargs = "quiet console=ttyS0 -- 0"; };|; s/0x80000000 0x800000>/0x80000000 0x400000>/'
 zone=-DPATCH_ZONE=0x1f0000 # as virt.dts has it
 if [ $two = yes ]; then
     "$c/vmm/guest.sh" --two --tree "$cache/quiet.dtb" $patches $zone "$image" "$scenario" 10

@@ -95,7 +95,8 @@ def window_of(turns: int, words: argparse.Namespace) -> Window:
     first = 1 if words.first is None else words.first
     last = turns if words.last is None else min(words.last, turns)
     if (words.first is not None or words.last is not None) and not 1 <= first <= last:
-        raise Refused(f"there are no turns from {first} to {last}")
+        has = f"has turns 1 to {turns}" if turns else "took no turn"
+        raise Refused(f"there are no turns from {first} to {last}: the run {has}")
     return Window(first, last)
 
 

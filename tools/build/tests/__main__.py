@@ -288,6 +288,25 @@ class Hints(unittest.TestCase):
                 with self.subTest(words):
                     self.assertEqual(hints(words), said)
 
+    def test_a_text_of_twin(self) -> None:
+        with tempfile.TemporaryDirectory() as folder:
+            text, scenario, order = Path(folder, "a.twin"), Path(folder, "a.nova"), Path(folder, "a.order")
+            scenario.touch()
+            order.write_text("0 1000000\n")
+            side = f"{scenario} {order} 8\n"
+            for lines, limit, why in (
+                (2 * side, [], ""),
+                (side, [], " has 1 line, and a text of twin has 2"),
+                (3 * side, [], " has 3 lines, and a text of twin has 2"),
+                ("", [], " has 0 lines, and a text of twin has 2"),
+                (side + side[:-1], [], ": its last line has no line feed, or it has more than 4,096 bytes"),
+                (side + f"{scenario} 8\n", [], ", line 2: a line is SCENARIO ORDER NUMBER, with one space between"),
+                (side + f"{scenario} {folder}/b 8\n", [], f", line 2: {folder}/b: No such file or directory"),
+                (2 * side, ["--limit", "999999"], f", line 1: {order} has 1,000,000 turns, and the limit is 999,999; --limit N gives up to 10,000,000"),
+            ):
+                text.write_text(lines)
+                with self.subTest(why):
+                    self.assertEqual(hints(["twin", str(text), *limit]), [f"{text}{why}"] if why else [])
 
     def test_an_executable_for_another_machine(self) -> None:
         with tempfile.TemporaryDirectory() as folder:

@@ -107,10 +107,11 @@ def make(tools: Tools, folder: Path) -> None:
     compile_with(tools, folder, "-march=rv32ic", "-e", "main", "-o", "compressed.elf", "main.c")
 
 
-def wrong(folder: Path, command: list[str], parts: list[str]) -> str:
-    """What is wrong with how a command refuses: its status, its line, or what it wrote."""
+def wrong(folder: Path, command: list[str], parts: list[str], given: str = "/dev/null") -> str:
+    """What is wrong with how a command refuses, given a file as its standard input: its status, its line, or what it wrote."""
     before = sorted(folder.rglob("*"))
-    done = subprocess.run(command, cwd=folder, capture_output=True, text=True, check=False)
+    with (folder / given).open("rb") as read:
+        done = subprocess.run(command, cwd=folder, stdin=read, capture_output=True, text=True, check=False)
     if done.returncode == 0 or done.stdout:
         return "isn't refused"
     missing = [part for part in parts if part not in done.stderr]

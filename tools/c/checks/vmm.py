@@ -39,6 +39,44 @@ WRONG_WORDS = [
     (["--guest", "--monitors", "7", "--monitor-order", "2", "main.c", "out.nova", "12"], ["7: all memory has at most", "give fewer monitors"]),
 ]
 
+# The words for guest.sh, in the same folder with what make_guests adds, and what its line has to have.
+WRONG_GUESTS = [
+    (["default.elf", "out.nova"], ["default.elf: is linked for 0x10000 ", "link it with -T tools/c/vmm/guest.ld"]),
+    (["far.elf", "out.nova"], ["far.elf: is linked for 0x80200000 and begins at 0x80200000", "-T tools/c/vmm/guest.ld"]),
+    (["late.elf", "out.nova"], ["late.elf: is linked for 0x80000000 and begins at 0x800000", "-T tools/c/vmm/guest.ld"]),
+    (["large.elf", "out.nova", "5"], ["large.elf: takes 300", "with ORDER 5 there are 131072; give a greater ORDER"]),
+    (["large", "out.nova", "5"], ["large: takes 131073 bytes, and with ORDER 5 there are 131072; give a greater ORDER"]),
+    (["--tree", "tree.dtb", "whole", "out.nova", "5"], ["whole: takes 131072 bytes", "of which a page is for the tree"]),
+    (["empty", "out.nova"], ["empty: is empty; name an executable"]),
+    (["missing", "out.nova"], ["missing: there is no such file; name an executable"]),
+    (["folder", "out.nova"], ["folder: is a directory; name an executable"]),
+    (["compressed.elf", "out.nova"], ["compressed.elf: has compressed instructions"]),
+    (["whole", "out.nova", "ten"], ["ten: whole is the kernel already, and ORDER is a number"]),
+    (["whole", "out.nova", "4"], ["ORDER: 4 is not from 5 to 13"]),
+    (["--two", "whole", "out.nova", "5"], ["ORDER: with --two, 5 is not from 6 to 12"]),
+    (["whole", "out.nova", "5", "6"], ["6: 5 is the order of the memory already"]),
+    (["whole", "out.nova", "other.nova"], ["other.nova: out.nova is the scenario already"]),
+    (["whole"], ["no scenario is named"]),
+    (["--quick", "whole", "out.nova"], ["--quick: there is no such option; guest.sh --help lists the words"]),
+    (["whole", "out.nova", "--tree"], ["--tree: a file has to follow it"]),
+    (["--tree", "missing.dtb", "whole", "out.nova"], ["missing.dtb: there is no such file; name a device tree"]),
+    (["--tree", "notes.txt", "whole", "out.nova"], ["notes.txt: is no device tree", "dtc -q -O dtb"]),
+    (["--tree", "large.dtb", "whole", "out.nova"], ["large.dtb: has 4097 bytes, and a tree 4,096 at most"]),
+    (["--input", "missing", "whole", "out.nova"], ["missing: there is no such file; name what the guest is to read"]),
+]
+
+# The words for other programs of tools/c, what is their standard input, and what their line has to have.
+WRONG_OTHERS = [
+    ("console", ["7"], "examples/hart.report", ["the report has no console 7; its last one is 0"]),
+    ("console", [], "examples/hart.nova", ["standard input is no report"]),
+    ("console", [], "/dev/null", ["standard input is empty"]),
+    ("exits", ["notes.txt"], "/dev/null", ["notes.txt: has no line `ec N vcpu`"]),
+    ("exits", ["examples/hart.report", "99"], "/dev/null", ["has no virtual CPU 99; it has 8, "]),
+    ("linux.sh", ["--cache", "--two"], "/dev/null", ["--cache: a folder has to follow it"]),
+    ("linux.sh", ["--quick"], "/dev/null", ["--quick: there is no such option"]),
+    ("uboot.sh", ["--input", "folder"], "/dev/null", ["folder: can't be read; name a file of what is typed"]),
+]
+
 
 def said(report: str, number: int = 0) -> str:
     """What a guest said, without what its monitor did, by the console of a number."""
@@ -106,6 +144,38 @@ def wrong_exits(tools: Tools) -> str:
     return "" if wanted in done.stdout else f"exits doesn't write {wanted!r}, but {done.stdout[-80:]!r}"
 
 
+def make_guests(tools: Tools, folder: Path) -> None:
+    """Kernels and device trees that are refused."""
+    (folder / "kernel.c").write_text('__attribute__((section(".first"))) void _start(void) {} void late(void) {}\n')
+    (folder / "bss.c").write_text('char large[300000]; __attribute__((section(".first"))) void _start(void) { large[9] = 1; }\n')
+    (folder / "far.ld").write_text((tools.c / "vmm/guest.ld").read_text().replace("0x80000000", "0x80200000"))
+    near = ["-march=rv32i", "-T", str(tools.c / "vmm/guest.ld")]
+    refusals.compile_with(tools, folder, "-march=rv32i", "-o", "default.elf", "kernel.c")
+    refusals.compile_with(tools, folder, "-march=rv32i", "-T", "far.ld", "-o", "far.elf", "kernel.c")
+    refusals.compile_with(tools, folder, *near, "-e", "late", "-o", "late.elf", "kernel.c")
+    refusals.compile_with(tools, folder, *near, "-o", "large.elf", "bss.c")
+    (folder / "empty").touch()
+    (folder / "whole").write_bytes(bytes(131072))
+    (folder / "large").write_bytes(bytes(131073))
+    (folder / "tree.dtb").write_bytes(b"\xd0\x0d\xfe\xed" + bytes(60))
+    (folder / "large.dtb").write_bytes(b"\xd0\x0d\xfe\xed" + bytes(4093))
+    (folder / "examples").symlink_to(tools.top / "examples")
+
+
+def look_at_refusals(outcome: Outcome, tools: Tools) -> None:
+    """Looks at what is refused of images, kernels and reports."""
+    folder = tools.scratch / "images"
+    refusals.make(tools, folder)
+    for words, parts in WRONG_WORDS:
+        outcome.count(f"refused images: build.sh {' '.join(words)}", refusals.wrong(folder, [str(tools.c / "build.sh"), *words], parts))
+    make_guests(tools, folder)
+    for words, parts in WRONG_GUESTS:
+        outcome.count(f"refused images: guest.sh {' '.join(words)}", refusals.wrong(folder, [str(tools.c / "vmm/guest.sh"), *words], parts))
+    for name, words, given, parts in WRONG_OTHERS:
+        wrong = refusals.wrong(folder, [str(tools.c / name), *words], parts, given)
+        outcome.count(f"refused images: {name} {' '.join(words)} <{given}", wrong)
+
+
 def look_at_hart(outcome: Outcome, tools: Tools) -> None:
     """Looks at hart."""
     outcome.count("exits of hart", wrong_exits(tools))
@@ -134,7 +204,4 @@ def look(outcome: Outcome, tools: Tools) -> None:
         outcome.count("fuzz, 24 programs", called([*fuzz, "--program", tools.nova, "--seed", "checks", "--count", "24"]))
         outcome.count("the tests of fuzz", called([sys.executable, tools.c / "vmm/fuzz/tests", "--program", tools.nova]))
     if outcome.wants("refused images"):
-        folder = tools.scratch / "images"
-        refusals.make(tools, folder)
-        for words, parts in WRONG_WORDS:
-            outcome.count(f"refused images: build.sh {' '.join(words)}", refusals.wrong(folder, [str(tools.c / "build.sh"), *words], parts))
+        look_at_refusals(outcome, tools)

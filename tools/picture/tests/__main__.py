@@ -249,8 +249,8 @@ class Pictures(unittest.TestCase):
     def test_other_refusals(self) -> None:
         for words, line in (
             (["run", "missing"], "picture: missing: No such file or directory\n"),
-            (["run", f"{HERE}/calls.report", "--from", "33"], "picture: there are no turns from 33 to 32\n"),
-            (["delegations", f"{HERE}/calls.report", "--to", "0"], "picture: there are no turns from 1 to 0\n"),
+            (["run", f"{HERE}/calls.report", "--from", "33"], "picture: there are no turns from 33 to 32: the run has turns 1 to 32\n"),
+            (["delegations", f"{HERE}/calls.report", "--to", "0"], "picture: there are no turns from 1 to 0: the run has turns 1 to 32\n"),
             (["run", f"{HERE}/calls.report", "--scenario", "missing"], "picture: missing: No such file or directory\n"),
             (
                 ["run", f"{HERE}/calls.report", "--scenario", f"{HERE}/time.nova"],
