@@ -5,9 +5,9 @@ use Rattle.std.proofs.lemmas.List.{append-nil, get_or-map, length-append, length
 use Rattle.std.proofs.lemmas.List.Elements.{All-cons, All-contains, All-nil, All-push, Contains-append_left, Contains-get_or}
 use Rattle.nova_model.specs.State.{KernelState}
 use Rattle.nova_model.specs.Runs.{after}
-use Rattle.nova_kernel.specs.Views.{KernelView}
+use Rattle.nova_compare.specs.Steps.{IsNext, IsSuccessor}
 use Rattle.nova_search.specs.declared.found.Found.{Found}
-use Rattle.nova_search.specs.Searches.{AreVisited, Grows, IsExpanded, IsMore, IsNext, IsReached, IsSuccessor, IsUnderWay, IsVisited, Keeps, state_at, state_of, states_of}
+use Rattle.nova_search.specs.Searches.{AreVisited, Grows, IsExpanded, IsMore, IsReached, IsUnderWay, IsVisited, Keeps, state_at, state_of, states_of}
 use Rattle.nova_search.proofs.Ways.{begun, goes_on}
 
 -- a place is before the last one, or the last
@@ -176,19 +176,19 @@ state_here xs i f d less is = at_place xs i d f less ∙ ap state_of (sym is)
 contains_here : (xs : List Found) (i : ℕ) (d : KernelState) → i < length xs → Contains (states_of xs) (state_at xs i d)
 contains_here xs i d less = Contains-get_or (states_of xs) i d (let long = length-map xs state_of in omega (arith, less, long))
 
-pub idle_here : (xs : List Found) (i cpu : ℕ) (f : Found) (next : Option KernelView) → i < length xs → f ≡ slice_index_or xs i f → IsNext (state_of f) cpu next →
+pub idle_here : (xs : List Found) (i cpu : ℕ) (f : Found) (next : Option KernelState) → i < length xs → f ≡ slice_index_or xs i f → IsNext (state_of f) cpu next →
     next ≡ None → (d : KernelState) → IsVisited (states_of xs) (states_of xs) (state_at xs i d) cpu
 idle_here xs i cpu f next less is came none d =
     let same = state_here xs i f d less is in
-    let idle : after (state_of f) cpu ≡ state_of f = subst (λ (o : Option KernelView). IsNext (state_of f) cpu o) none came in
+    let idle : after (state_of f) cpu ≡ state_of f = subst (λ (o : Option KernelState). IsNext (state_of f) cpu o) none came in
     idle_visited (states_of xs) (state_at xs i d) cpu (contains_here xs i d less) (ap (λ (s : KernelState). after s cpu) same ∙ idle ∙ sym same)
 
-pub next_here : (xs ys : List Found) (i cpu : ℕ) (f g : Found) (next : Option KernelView) → i < length xs → f ≡ slice_index_or xs i f → IsNext (state_of f) cpu next →
-    next ≡ Some g.kernel → cpu < (state_of f).cpus → IsMore xs g ys → Contains (states_of ys) (state_of g) → (d : KernelState) →
+pub next_here : (xs ys : List Found) (i cpu : ℕ) (f g : Found) (next : Option KernelState) → i < length xs → f ≡ slice_index_or xs i f → IsNext (state_of f) cpu next →
+    next ≡ Some g.vertex → cpu < (state_of f).cpus → IsMore xs g ys → Contains (states_of ys) (state_of g) → (d : KernelState) →
     IsVisited (states_of xs) (states_of ys) (state_at xs i d) cpu
 next_here xs ys i cpu f g next less is came some there more found d =
     let same = state_here xs i f d less is in
-    let succeeds : IsSuccessor (state_of f) cpu (state_of g) = subst (λ (o : Option KernelView). IsNext (state_of f) cpu o) some came in
+    let succeeds : IsSuccessor (state_of f) cpu (state_of g) = subst (λ (o : Option KernelState). IsNext (state_of f) cpu o) some came in
     subst (λ (s : KernelState). IsVisited (states_of xs) (states_of ys) s cpu) (sym same)
     (next_visited xs ys g (state_of f) cpu more found there succeeds (subst (λ (s : KernelState). Contains (states_of xs) s) same (contains_here xs i d less)))
 

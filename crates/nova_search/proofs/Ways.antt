@@ -4,7 +4,8 @@ use Rattle.std.specs.Prelude.{IsSome, slice_index_or}
 use Rattle.nova_model.specs.State.{KernelState}
 use Rattle.nova_model.specs.Turn.{turn}
 use Rattle.nova_model.specs.Runs.{IsFreeOfIdle, after, run}
-use Rattle.nova_search.specs.Searches.{AreProcessors, IsAlong, IsReached, IsSuccessor, IsWay}
+use Rattle.nova_compare.specs.Steps.{IsSuccessor}
+use Rattle.nova_search.specs.Searches.{AreProcessors, IsAlong, IsReached, IsWay}
 
 run_more : (k : KernelState) (order : List ℕ) (cpu : ℕ) → run k (order ++ cpu ∷ []) ≡ after (run k order) cpu
 run_more k [] cpu = refl

@@ -1,10 +1,8 @@
 -- Which states a kernel comes to, in whatever order its processors take their turns, and what a search of them says.
-use Rattle.std.specs.Prelude.{◌≡◌, ◌⊎◌, ℕ, ◌+◌, ◌<◌, ◌≤◌, Bool, true, List, [], ◌∷◌, ◌++◌, length, map, slice_index_or, Option, Some, None, IsSome, All, Contains}
+use Rattle.std.specs.Prelude.{◌≡◌, ◌⊎◌, ℕ, ◌+◌, ◌<◌, ◌≤◌, Bool, true, List, [], ◌∷◌, ◌++◌, length, map, slice_index_or, Option, Some, None, All, Contains}
 use Rattle.std.specs.List.{AllByRecursion}
 use Rattle.nova_model.specs.State.{KernelState}
-use Rattle.nova_model.specs.Turn.{turn}
 use Rattle.nova_model.specs.Runs.{IsFreeOfIdle, after, run}
-use Rattle.nova_kernel.specs.Views.{KernelView}
 use Rattle.nova_search.specs.declared.found.Found.{Found}
 
 -- each processor of an order is below `n`
@@ -24,8 +22,8 @@ pub record IsReached (k s : KernelState) : Type 0 where
   pub cpus : s.cpus ≡ k.cpus
 
 -- the answer of following an order: a kernel in the state after it, or none where one of its turns is idle, or of a processor that isn't there
-abbrev pub IsEnd : KernelState → List ℕ → Option KernelView → Type 0
-IsEnd k order (Some e) = IsWay k e.state order
+abbrev pub IsEnd : KernelState → List ℕ → Option KernelState → Type 0
+IsEnd k order (Some e) = IsWay k e order
 IsEnd k order None = Unit {0}
 
 -- an order was followed to a state
@@ -49,20 +47,8 @@ pub record IsExpanded (n : ℕ) (states : List KernelState) (s : KernelState) : 
   pub each : (cpu : ℕ) → cpu < n → Contains states (after s cpu)
   pub turns : (cpu : ℕ) → cpu < n → (after s cpu).turns ≤ s.turns + 1
 
--- a turn that is not idle leads from one state to another
-pub record IsSuccessor (s : KernelState) (cpu : ℕ) (t : KernelState) : Type 0 where
-  pub state : t ≡ after s cpu
-  pub there : IsSome (turn s cpu)
-  pub turns : t.turns ≤ s.turns + 1
-  pub cpus : t.cpus ≡ s.cpus
-
--- the answer of trying a turn of a processor: a kernel in the state after it, or none where the processor is idle
-abbrev pub IsNext : KernelState → ℕ → Option KernelView → Type 0
-IsNext s cpu (Some k) = IsSuccessor s cpu k.state
-IsNext s cpu None = after s cpu ≡ s
-
 abbrev pub state_of : Found → KernelState
-state_of f = f.kernel.state
+state_of f = f.vertex
 
 abbrev pub states_of : List Found → List KernelState
 states_of found = map state_of found

@@ -1,8 +1,8 @@
 ghost use Rattle.std.specs.Prelude.{◌≡◌, ◌^◌, ◌≤◌, true, All, IfOk};
 ghost use Rattle.nova_search.specs.Searches.{AreAll, AreAllWithin, IsReached, states_of};
 
-use crate::found::{Found, Sameness, expand};
-use nova_kernel::Kernel;
+use crate::found::{Found, expand};
+use nova_compare::Vertex;
 use std::alloc::{AllocError, Global};
 
 /// The states that a search found. The search is over where each of them was expanded but those that had taken as many turns as the
@@ -15,26 +15,25 @@ pub struct Explored {
 }
 
 /// The states that `opening` comes to, in whatever order its processors take turns: those after at most `limit` turns, counted from
-/// its boot, of which at most `most` are expanded. Two kernels that `same` sees in one state are one. The limit is at most 2^31.
-pub fn explore<S: Sameness>(
+/// its boot, of which at most `most` are expanded. Two that are seen to be in one state are one. The limit is at most 2^31.
+pub fn explore(
     alloc: Global,
-    opening: &Kernel,
+    opening: &Vertex,
     limit: u64,
     most: usize,
-    same: &S,
 ) -> Result<Explored, AllocError>
     requires { limit ≤ 2 ^ 31 }
     // Each state that was found is one that an order leads to.
-    ensures reached { IfOk result (λ s. All (IsReached opening.now.state) (states_of s.found.items)) }
+    ensures reached { IfOk result (λ s. All (IsReached opening.now) (states_of s.found.items)) }
     // Each order within the limit leads to a state that was found.
-    ensures within { IfOk result (λ s. s.is_over ≡ true → AreAllWithin opening.now.state limit (states_of s.found.items)) }
+    ensures within { IfOk result (λ s. s.is_over ≡ true → AreAllWithin opening.now limit (states_of s.found.items)) }
     // Where none was cut, each order does.
-    ensures all { IfOk result (λ s. s.is_over ≡ true → s.is_whole ≡ true → AreAll opening.now.state (states_of s.found.items)) }
+    ensures all { IfOk result (λ s. s.is_over ≡ true → s.is_whole ≡ true → AreAll opening.now (states_of s.found.items)) }
 {
     let mut found = Vec::new(alloc);
-    let kernel = opening.copy()?;
+    let vertex = opening.copy()?;
     found.push(Found {
-        kernel,
+        vertex,
         from: 0,
         cpu: 0,
     })?;
@@ -48,8 +47,8 @@ pub fn explore<S: Sameness>(
                 is_whole,
             });
         }
-        if found[place].kernel.turns() < limit {
-            expand(&mut found, place, cpus, same)?;
+        if found[place].vertex.turns() < limit {
+            expand(&mut found, place, cpus)?;
         } else {
             is_whole = false;
         }

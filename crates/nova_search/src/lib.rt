@@ -8,7 +8,7 @@ mod laws;
 
 pub use exploring::{Explored, explore};
 pub use following::follow;
-pub use found::{Apart, Found, Sameness};
+pub use found::Found;
 pub use laws::{
     quiet_ends_are_found, reduced_searches_are_complete, what_is_in_no_state_is_in_no_order,
 };

@@ -4,4 +4,4 @@ use Rattle.nova_search.proofs.exploring.explore.Given as goal
 
 -- the places so far
 abbrev pub invariant-loop-place : goal.invariant-loop-place
-invariant-loop-place g l = IsUnderWay l.opening.state l.limit (states_of l.found.items) l.place l.is_whole × (l.cpus ≡ l.opening.state.cpus)
+invariant-loop-place l = IsUnderWay l.opening l.limit (states_of l.found.items) l.place l.is_whole × (l.cpus ≡ l.opening.cpus)

@@ -4,4 +4,4 @@ use Rattle.nova_search.proofs.following.follow.Given as goal
 
 -- the turns so far
 abbrev pub invariant-loop-cpu : goal.invariant-loop-cpu
-invariant-loop-cpu l = IsAlong l.opening.state l.kernel.state (take l.cpu-index l.order)
+invariant-loop-cpu l = IsAlong l.opening l.vertex (take l.cpu-index l.order)

@@ -4,4 +4,4 @@ use Rattle.nova_search.proofs.found.expand.Given as goal
 
 -- the turns of the processors so far
 abbrev pub invariant-loop-cpu : goal.invariant-loop-cpu
-invariant-loop-cpu g l = (d : KernelState) → AreVisited (states_of l.fn.found.items) (states_of l.found.items) (state_at l.fn.found.items l.place d) l.cpu
+invariant-loop-cpu l = (d : KernelState) → AreVisited (states_of l.fn.found.items) (states_of l.found.items) (state_at l.fn.found.items l.place d) l.cpu

@@ -4,31 +4,31 @@ use Rattle.nova_search.specs.declared.found.Found.{Found}
 use Rattle.nova_search.proofs.Growth.{idle_here, next_here, state_here}
 use Rattle.nova_search.proofs.found.visit.Goals as goal
 
-pub successor-requires-clause-cpu : goal.successor-requires-clause-cpu
-successor-requires-clause-cpu g c =
+pub next-requires-clause-cpu : goal.next-requires-clause-cpu
+next-requires-clause-cpu c =
     let is : c.index.result.now ≡ slice_index_or c.args.found.now.items c.args.place c.index.result.now = search rules in
-    subst (λ (s : KernelState). c.args.cpu < s.cpus) (state_here c.args.found.now.items c.args.place c.index.result.now c.index.result.now.kernel.state c.requires.place is)
-    (c.requires.cpu c.index.result.now.kernel.state)
+    subst (λ (s : KernelState). c.args.cpu < s.cpus) (state_here c.args.found.now.items c.args.place c.index.result.now c.index.result.now.vertex c.requires.place is)
+    (c.requires.cpu c.index.result.now.vertex)
 
-pub successor-requires-clause-turns : goal.successor-requires-clause-turns
-successor-requires-clause-turns g c =
+pub next-requires-clause-turns : goal.next-requires-clause-turns
+next-requires-clause-turns c =
     let is : c.index.result.now ≡ slice_index_or c.args.found.now.items c.args.place c.index.result.now = search rules in
-    subst (λ (s : KernelState). s.turns < 2147483648) (state_here c.args.found.now.items c.args.place c.index.result.now c.index.result.now.kernel.state c.requires.place is)
-    (c.requires.turns c.index.result.now.kernel.state)
+    subst (λ (s : KernelState). s.turns < 2147483648) (state_here c.args.found.now.items c.args.place c.index.result.now c.index.result.now.vertex c.requires.place is)
+    (c.requires.turns c.index.result.now.vertex)
 
 pub returns-in_default : goal.returns-in_default
-returns-in_default g c =
+returns-in_default c =
     let is : c.index.result.now ≡ slice_index_or c.args.found.now.items c.args.place c.index.result.now = search rules in
-    let none : c.in_ok-kernel.field-0 ≡ None = search rules in
-    idle_here c.args.found.now.items c.args.place c.args.cpu c.index.result.now c.in_ok-kernel.field-0 c.requires.place is c.in_ok-kernel.ensures none
+    let none : c.in_ok-vertex.field-0 ≡ None = search rules in
+    idle_here c.args.found.now.items c.args.place c.args.cpu c.index.result.now c.in_ok-vertex.field-0 c.requires.place is c.in_ok-vertex.ensures none
 
 pub returns : goal.returns
-returns g c =
+returns c =
     let is : c.index.result.now ≡ slice_index_or c.args.found.now.items c.args.place c.index.result.now = search rules in
-    let there : c.args.cpu < c.index.result.now.kernel.state.cpus =
-    subst (λ (s : KernelState). c.args.cpu < s.cpus) (state_here c.args.found.now.items c.args.place c.index.result.now c.index.result.now.kernel.state c.requires.place is)
-    (c.requires.cpu c.index.result.now.kernel.state) in
-    let next : Found = record { kernel = c.in-Some.kernel; from = c.args.place; cpu = c.args.cpu } in
-    let some : c.in_ok-kernel.field-0 ≡ Some c.in-Some.kernel = search rules in
-    next_here c.args.found.now.items c.enter.new.found.items c.args.place c.args.cpu c.index.result.now next c.in_ok-kernel.field-0 c.requires.place is c.in_ok-kernel.ensures some there
+    let there : c.args.cpu < c.index.result.now.vertex.cpus =
+    subst (λ (s : KernelState). c.args.cpu < s.cpus) (state_here c.args.found.now.items c.args.place c.index.result.now c.index.result.now.vertex c.requires.place is)
+    (c.requires.cpu c.index.result.now.vertex) in
+    let next : Found = record { vertex = c.in-Some.vertex; from = c.args.place; cpu = c.args.cpu } in
+    let some : c.in_ok-vertex.field-0 ≡ Some c.in-Some.vertex = search rules in
+    next_here c.args.found.now.items c.enter.new.found.items c.args.place c.args.cpu c.index.result.now next c.in_ok-vertex.field-0 c.requires.place is c.in_ok-vertex.ensures some there
     c.in_ok-enter.ensures.more c.in_ok-enter.ensures.there
