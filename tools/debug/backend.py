@@ -114,6 +114,7 @@ def why_refused(said: str, program: Path, scenario: Path, order: Path | None) ->
     """Why a program takes no run, in words for the caller, by what it said."""
     return unread(scenario) or (unread(order) if order else "") or {
         ENDED: f"{program} ended before it answered",
+        "no limit": "a run is limited to 1 to 10,000,000 turns",
         "no scenario": f"{scenario} is no scenario; `nova check` says which line is at fault, and why",
         "no order": f"{order} is no order of {scenario}; `nova solo` says which line is at fault, and why",
     }.get(said, said)

@@ -15,8 +15,8 @@ class Staying:
     """Several of them, of one scenario. One is started when all others are asked something."""
 
     def __init__(self, path: Path, scenario: Path, at_a_time: int) -> None:
-        # The run that they make for themselves isn't wanted.
-        self._command = [str(path), str(scenario), "0"]
+        # The run that they make for themselves isn't wanted: it is as short as may be.
+        self._command = [str(path), str(scenario), "1"]
         self._free: LifoQueue[subprocess.Popen[bytes] | None] = LifoQueue()
         for _ in range(at_a_time):
             self._free.put(None)

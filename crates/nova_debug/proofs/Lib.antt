@@ -1,1 +1,4 @@
+pub mod Asked
+pub mod Conversed
 pub mod Made
+pub mod Replied

@@ -3,7 +3,7 @@ use Rattle.std.specs.Prelude.{◌≡◌, ℕ, Bool, true, false, List, [], ◌�
 use Rattle.nova_model.specs.Delegations.{reach}
 use Rattle.nova_model.specs.State.{KernelState}
 use Rattle.nova_guest.specs.declared.page.Page.{Page}
-use Rattle.nova_recording.specs.Recordings.{IsAt, RecordingView, at_turn}
+use Rattle.nova_recording.specs.Recordings.{IsAt, IsSameRun, RecordingView, at_turn}
 use Rattle.nova_recording.specs.Wants.{IsFirst, IsLast}
 use Rattle.nova_recording.specs.declared.wants.Search.{Search}
 use Rattle.nova_recording.specs.declared.wants.Want.{Want}
@@ -92,23 +92,30 @@ watches_after (Stores frame first last) watches = watches ++ bytes_of frame firs
 watches_after Clear watches = []
 watches_after other watches = watches
 
--- one is at a turn of the run, in the state after the first so many entries of its order
-pub record IsHere (r : RecordingView) (told : ℕ) : Type 0 where
-  pub turn : told ≡ r.turn
-  pub state : IsAt r.opening r.events r.turn r.state
+-- one is at a turn of the same run, in the state after the first so many entries of its order
+pub record IsHere (old new : RecordingView) (told : ℕ) : Type 0 where
+  pub same : IsSameRun old new
+  pub turn : told ≡ new.turn
+  pub state : IsAt new.opening new.events new.turn new.state
 
 -- a command was done
 pub record IsDone (command : Command) (old new : Session) (turn : ℕ) (before after : List ℕ) : Type 0 where
   pub answered : IsAnswered command old.search old.recording new.recording before after
   pub wants : new.search.wants.items ≡ wants_after command old.search.wants.items
   pub watches : new.search.watches.items ≡ watches_after command old.search.watches.items
-  pub here : IsHere new.recording turn
+  pub here : IsHere old.recording new.recording turn
+
+-- memory was refused: what is looked for stays
+pub record IsRefused (old new : Session) (turn : ℕ) : Type 0 where
+  pub wants : new.search.wants.items ≡ old.search.wants.items
+  pub watches : new.search.watches.items ≡ old.search.watches.items
+  pub here : IsHere old.recording new.recording turn
 
 -- What is replied to a line, by what it asks: where it is no command, all stays.
 abbrev pub IsReplied : Option Command → Reply → Session → Session → List ℕ → List ℕ → Type 0
 IsReplied None No old new before after = (new ≡ old) × (after ≡ before)
 IsReplied (Some command) (Done turn) old new before after = IsDone command old new turn before after
-IsReplied (Some command) (Refused turn) old new before after = IsHere new.recording turn
+IsReplied (Some command) (Refused turn) old new before after = IsRefused old new turn
 IsReplied asked reply old new before after = ⊥
 
 -- the lines of a reply, of which what is told comes first

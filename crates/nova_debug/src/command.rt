@@ -1,3 +1,8 @@
+ghost use Rattle.std.specs.Prelude.{◌≡◌, [], ◌∷◌};
+ghost use Rattle.nova_text.specs.Token.{texts_of, tokens_left};
+ghost use Rattle.nova_debug.specs.Commands.{command, command_of};
+
+use crate::verb::Verb;
 use nova_telling::Reading;
 use nova_text::{Line, parse_number};
 
@@ -26,74 +31,88 @@ pub enum Command {
     Stores(u32, u32, u32),
     /// Looks for nothing more.
     Clear,
-    /// Keeps states on the way, in at most so many bytes.
+    /// Keeps states on the way, in at most a number of bytes.
     Keep(u32),
 }
 
-fn alone(verb: &[u8]) -> Option<Command> {
+/// The command of a verb with no number.
+fn alone(verb: Verb) -> Option<Command>
+    ensures { result ≡ command verb [] }
+{
     match verb {
-        b"at" => Some(Command::Tell(Reading::Place)),
-        b"next" => Some(Command::Tell(Reading::Instruction)),
-        b"contexts" => Some(Command::Tell(Reading::Contexts)),
-        b"semaphores" => Some(Command::Tell(Reading::Semaphores)),
-        b"consoles" => Some(Command::Tell(Reading::Consoles)),
-        b"delegations" => Some(Command::Tell(Reading::Delegations)),
-        b"objects" => Some(Command::Tell(Reading::Objects)),
-        b"clear" => Some(Command::Clear),
+        Verb::At => Some(Command::Tell(Reading::Place)),
+        Verb::Next => Some(Command::Tell(Reading::Instruction)),
+        Verb::Contexts => Some(Command::Tell(Reading::Contexts)),
+        Verb::Semaphores => Some(Command::Tell(Reading::Semaphores)),
+        Verb::Consoles => Some(Command::Tell(Reading::Consoles)),
+        Verb::Delegations => Some(Command::Tell(Reading::Delegations)),
+        Verb::Objects => Some(Command::Tell(Reading::Objects)),
+        Verb::Clear => Some(Command::Clear),
         _ => None,
     }
 }
 
-fn with_number(verb: &[u8], number: u32) -> Option<Command> {
+/// The command of a verb with a number.
+fn with_number(verb: Verb, number: u32) -> Option<Command>
+    ensures { result ≡ command verb (number ∷ []) }
+{
     match verb {
-        b"words" => Some(Command::Tell(Reading::Words(number))),
-        b"frame" => Some(Command::Tell(Reading::Frame(number))),
-        b"queue" => Some(Command::Tell(Reading::Queue(number))),
-        b"code" => Some(Command::Code(number)),
-        b"go" => Some(Command::Go(number)),
-        b"run" => Some(Command::Run(number)),
-        b"last" => Some(Command::Last(number)),
-        b"by" => Some(Command::By(number)),
-        b"keep" => Some(Command::Keep(number)),
+        Verb::Words => Some(Command::Tell(Reading::Words(number))),
+        Verb::Frame => Some(Command::Tell(Reading::Frame(number))),
+        Verb::Queue => Some(Command::Tell(Reading::Queue(number))),
+        Verb::Code => Some(Command::Code(number)),
+        Verb::Go => Some(Command::Go(number)),
+        Verb::Run => Some(Command::Run(number)),
+        Verb::Last => Some(Command::Last(number)),
+        Verb::By => Some(Command::By(number)),
+        Verb::Keep => Some(Command::Keep(number)),
         _ => None,
     }
 }
 
-fn with_numbers(verb: &[u8], first: u32, second: u32) -> Option<Command> {
+/// The command of a verb with two numbers.
+fn with_numbers(verb: Verb, first: u32, second: u32) -> Option<Command>
+    ensures { result ≡ command verb (first ∷ second ∷ []) }
+{
     match verb {
-        b"events" => Some(Command::Tell(Reading::Events(first, second))),
-        b"slices" => Some(Command::Tell(Reading::Slices(first, second))),
-        b"page" => Some(Command::Page(first, second)),
-        b"break" => Some(Command::Break(first, second)),
+        Verb::Events => Some(Command::Tell(Reading::Events(first, second))),
+        Verb::Slices => Some(Command::Tell(Reading::Slices(first, second))),
+        Verb::Page => Some(Command::Page(first, second)),
+        Verb::Break => Some(Command::Break(first, second)),
         _ => None,
     }
 }
 
-fn with_three(verb: &[u8], frame: u32, first: u32, last: u32) -> Option<Command> {
+/// The command of a verb with three numbers.
+fn with_three(verb: Verb, frame: u32, first: u32, last: u32) -> Option<Command>
+    ensures { result ≡ command verb (frame ∷ first ∷ last ∷ []) }
+{
     match verb {
-        b"loads" => Some(Command::Loads(frame, first, last)),
-        b"stores" => Some(Command::Stores(frame, first, last)),
+        Verb::Loads => Some(Command::Loads(frame, first, last)),
+        Verb::Stores => Some(Command::Stores(frame, first, last)),
         _ => None,
     }
 }
 
-/// What a line asks; none where it is no command.
-pub fn command_of(line: &mut Line) -> Option<Command> {
-    let verb = line.next_token()?;
+/// The command that the words of a line ask: none where they are no command.
+pub fn command_of(line: &mut Line) -> Option<Command>
+    ensures { result ≡ command_of (texts_of (tokens_left line.old)) }
+{
+    let verb = Verb::named(line.next_token()?.text)?;
     let Some(first) = line.next_token() else {
-        return alone(verb.text);
+        return alone(verb);
     };
     let first = parse_number(first.text).ok()?;
     let Some(second) = line.next_token() else {
-        return with_number(verb.text, first);
+        return with_number(verb, first);
     };
     let second = parse_number(second.text).ok()?;
     let Some(third) = line.next_token() else {
-        return with_numbers(verb.text, first, second);
+        return with_numbers(verb, first, second);
     };
     let third = parse_number(third.text).ok()?;
     match line.next_token() {
         Some(_) => None,
-        None => with_three(verb.text, first, second, third),
+        None => with_three(verb, first, second, third),
     }
 }

@@ -1,4 +1,4 @@
-ghost use Rattle.std.specs.Prelude.{◌≡◌, ◌++◌, ◌∷◌, [], not, OnOk, string_bytes};
+ghost use Rattle.std.specs.Prelude.{◌≡◌, ◌++◌, ◌∷◌, [], not, OnErr, OnOk, string_bytes};
 ghost use Rattle.nova_debug.specs.Answers.{HasPassed, HasRun, IsAnswered, IsReplied, bytes_of, last_line, page_at, stop_line, turn_of, wants_after, watches_after};
 ghost use Rattle.nova_recording.specs.Recordings.{IsSameRun, at_turn};
 ghost use Rattle.nova_telling.specs.Told.{page_line};
@@ -27,10 +27,12 @@ pub enum Reply {
     Refused(usize),
 }
 
-/// Looks for what a command asks one to look for, beside what is looked for, or for nothing.
+/// Looks for what a command asks one to look for, beside what is looked for, or for nothing. Where memory is refused, what is looked for stays.
 fn look_for(search: &mut Search, command: Command) -> Result<(), AllocError>
     ensures wants { OnOk result (search.new.wants.items ≡ wants_after command search.old.wants.items) }
     ensures watches { OnOk result (search.new.watches.items ≡ watches_after command search.old.watches.items) }
+    ensures same_wants { OnErr result (search.new.wants.items ≡ search.old.wants.items) }
+    ensures same_watches { OnErr result (search.new.watches.items ≡ search.old.watches.items) }
 {
     match command {
         Command::Break(pd, address) => want(search, Want::At { pd, address }),
@@ -50,6 +52,7 @@ fn look_for(search: &mut Search, command: Command) -> Result<(), AllocError>
 fn want(search: &mut Search, want: Want) -> Result<(), AllocError>
     ensures wants { OnOk result (search.new.wants.items ≡ search.old.wants.items ++ want ∷ []) }
     ensures watches { search.new.watches ≡ search.old.watches }
+    ensures refused { OnErr result (search.new.wants.items ≡ search.old.wants.items) }
 {
     search.wants.push(want)?;
     Ok(())
@@ -59,6 +62,7 @@ fn want(search: &mut Search, want: Want) -> Result<(), AllocError>
 fn watch(search: &mut Search, watch: Watch) -> Result<(), AllocError>
     ensures watches { OnOk result (search.new.watches.items ≡ search.old.watches.items ++ watch ∷ []) }
     ensures wants { search.new.wants ≡ search.old.wants }
+    ensures refused { OnErr result (search.new.watches.items ≡ search.old.watches.items) }
 {
     search.watches.push(watch)?;
     Ok(())
@@ -168,7 +172,8 @@ impl Session {
         }
     }
 
-    /// Does what a line asks, and answers it. Where memory runs out, one is in the state of a turn of the same run.
+    /// Does what a line asks, and answers it. Where memory runs out, one is in the state of a turn of the same run, and what is looked for
+    /// stays.
     pub fn serve(
         &mut self,
         alloc: Global,
@@ -178,6 +183,8 @@ impl Session {
         ensures answered { OnOk result (IsAnswered command self.old.search self.old.recording self.new.recording (string_bytes out.old) (string_bytes out.new)) }
         ensures wants { OnOk result (self.new.search.wants.items ≡ wants_after command self.old.search.wants.items) }
         ensures watches { OnOk result (self.new.search.watches.items ≡ watches_after command self.old.search.watches.items) }
+        ensures same_wants { OnErr result (self.new.search.wants.items ≡ self.old.search.wants.items) }
+        ensures same_watches { OnErr result (self.new.search.watches.items ≡ self.old.search.watches.items) }
         ensures same { IsSameRun self.old.recording self.new.recording }
     {
         self.follow(alloc, out, command)?;

@@ -132,7 +132,7 @@ class Told(unittest.TestCase):
     def test_lines_that_are_no_commands(self) -> None:
         back = BackEnd(given.program, TOP / "examples/race.nova", TOP / "examples/race.order", LIMIT)
         back.go(7)
-        wrong = "", "xyz", "go", "go x", "go 1 2", "break 1", "order", "order 0", "order 0 0", "order 9 1", "stores 1 2", "go 4294967296"
+        wrong = "", "xyz", "go", "go x", "go 1 2", "break 1", "order 0", "order 0 0", "order 9 1", "stores 1 2", "go 4294967296"
         for line in wrong:
             with self.assertRaises(Refused):
                 back.ask(line)
@@ -211,6 +211,7 @@ class Listings(unittest.TestCase):
             (["--from", "-1"], 2, "debug trace: --from -1: is no turn; --help lists the words"),
             (["--limit", "0"], 2, "debug trace: argument --limit: 0 is not 1 or more; --help lists the words"),
             (["--from", "54"], 1, "debug: --from 54: the run has 54 turns"),
+            (["--limit", "10000001"], 1, "debug: a run is limited to 1 to 10,000,000 turns"),
         ):
             with self.subTest(words):
                 told = self.listed(*words)
