@@ -260,7 +260,7 @@ class Commands(unittest.TestCase):
                     began = time.monotonic()
                     written, said = child.communicate()
                 self.assertEqual(child.returncode, 130)
-                self.assertLess(time.monotonic() - began, 5)
+                self.assertLess(time.monotonic() - began, 30)
                 self.assertTrue(said.endswith("orders: interrupted\n"), said)
                 self.assertNotIn("Error", said)
                 self.assertIn(", not all, with at most 5 changes of processor", written)
