@@ -203,9 +203,10 @@ impl Finished {
             Ok(true) => {}
             Ok(false) | Err(_) => return 0,
         }
-        if !self.trace.ends_with_step() {
-            return 1;
+        match self.trace.entries().last() {
+            Some(last) if matches!(last.event.kind, EventKind::Step) => self.ride_on(cpu, most - 1)
+                + 1,
+            _ => 1,
         }
-        self.ride_on(cpu, most - 1) + 1
     }
 }

@@ -94,15 +94,6 @@ impl Trace {
         self.len
     }
 
-    /// Whether the last event is a plain step.
-    #[inline(always)]
-    pub fn ends_with_step(&self) -> bool {
-        match self.entries.last() {
-            Some(last) => matches!(last.event.kind, EventKind::Step),
-            None => false,
-        }
-    }
-
     /// The events in order: each entry's so many times.
     pub fn entries(&self) -> &[Repeated]
         ensures events { events_of result.now ≡ self.now.items }

@@ -1,4 +1,4 @@
-ghost use Rattle.std.specs.Prelude.{◌≡◌, ◌<◌, ◌^◌, true, false, Some, None, IfSome};
+ghost use Rattle.std.specs.Prelude.{◌≡◌, ◌<◌, ◌^◌, true, false, Some, None, IfSome, All};
 ghost use Rattle.rv_model.specs.Table.{instr_from};
 ghost use Rattle.rv_model.specs.Codes.{instr_of};
 ghost use Rattle.rv_core.specs.Rows.{HasRegisters};
@@ -7,7 +7,7 @@ use crate::decoder;
 use rv_model::{Mnemonic, Operands};
 
 /// How many words are remembered.
-const PLACES: usize = 256;
+const PLACES: usize = 1024;
 
 /// A word with the name and the operands of the instruction that it is.
 #[derive(Clone, Copy)]
@@ -71,7 +71,7 @@ pub struct Readings {
 fn place_of(word: u32) -> usize
     ensures { result < PLACES }
 {
-    (word.wrapping_mul(0x9e37_79b1) >> 24) as usize
+    (word.wrapping_mul(0x9e37_79b1) >> 22) as usize
 }
 
 /// The reading of `addi x0, x0, 0`.
@@ -91,8 +91,10 @@ fn nothing() -> Reading
 }
 
 impl Readings {
-    /// Nothing is remembered yet.
-    pub fn new() -> Readings {
+    /// The readings in which each place has that of `addi x0, x0, 0`.
+    pub fn new() -> Readings
+        ensures places { All (λ r. r.word ≡ 0x13) result.places }
+    {
         Readings {
             places: [nothing(); PLACES],
         }
