@@ -1,19 +1,20 @@
 """Compares what docs/ARCHITECTURE.md says of files with the crates.
 
-python3 tools/changes [--tables] [FOLDER]
+python3 tools/changes [--tables | --write] [FOLDER]
 
-Fails where a file has a row for most hypercalls, deeds, kinds of events or states and the page doesn't list it; where the page lists one
-that has not; where a proof that cites the rows of hypercalls isn't named in their section; and where it names a file, or a function in
-brackets behind one, that isn't there. `--tables` writes the tables as the page is to have them.
+Fails where the row of a crate isn't the first sentence that the crate says of itself, or a crate has none; where a file has a row for most
+hypercalls, deeds, kinds of events or states and the page doesn't list it; where the page lists one that has not; where a proof that cites the
+rows of hypercalls isn't named in their section; and where it names a file, or a function in brackets behind one, that isn't there. `--tables`
+shows the tables of files as the page is to have them; `--write` writes these, and those of the crates, into the page.
 """
 
 from __future__ import annotations
 
 import argparse
 import sys
-from itertools import groupby
 from pathlib import Path
 
+from crates import file_rows, stale_crates, with_crates, with_files
 from page import gone, listed, named, section
 from tables import CITED, ENUMERATIONS, Enumeration, citing, tables
 
@@ -28,7 +29,8 @@ PAGE = "docs/ARCHITECTURE.md"
 def parser() -> argparse.ArgumentParser:
     """The words that the program takes."""
     words = argparse.ArgumentParser(prog="changes", description="Compares what the page on architecture says of files with the crates.")
-    words.add_argument("--tables", action="store_true", help="write the tables of the page")
+    words.add_argument("--tables", action="store_true", help="show the tables of files")
+    words.add_argument("--write", action="store_true", help="write all tables into the page")
     words.add_argument("top", nargs="?", type=Path, default=TOP, metavar="FOLDER", help="the repository (this one)")
     return words
 
@@ -47,19 +49,23 @@ def unnamed(text: str, top: Path, heading: str, name: str, module: str) -> list[
     return [f'"{heading}" doesn\'t name {file}, which cites {name}' for file in citing(top, name, module) if file not in said]
 
 
-def written(files: list[str]) -> str:
-    """The rows of a table of files, a crate each."""
-    crates = groupby((file.partition("/")[::2] for file in files), key=lambda pair: pair[0])
-    return "\n".join(f"| `{crate}` | {', '.join(f'`{file}`' for _, file in pairs)} |" for crate, pairs in crates)
+def written(text: str, top: Path) -> str:
+    """The page with all its tables written anew."""
+    for of in ENUMERATIONS:
+        text = with_files(text, of.heading, tables(top, of))
+    return with_crates(text, top)
 
 
 def main(words: argparse.Namespace) -> int:
     """Writes the faults and a line of counts, or the tables; the status is 1 where there is a fault."""
     if words.tables:
-        print("\n\n".join(f"{of.heading}\n{written(tables(words.top, of))}" for of in ENUMERATIONS))
+        print("\n\n".join(f"{of.heading}\n{file_rows(tables(words.top, of))}" for of in ENUMERATIONS))
         return 0
     text = (words.top / PAGE).read_text("utf-8")
-    faults = [fault for of in ENUMERATIONS for fault in stale(text, words.top, of)] + gone(text, words.top)
+    if words.write:
+        (words.top / PAGE).write_text(written(text, words.top), "utf-8")
+        return 0
+    faults = stale_crates(text, words.top) + [fault for of in ENUMERATIONS for fault in stale(text, words.top, of)] + gone(text, words.top)
     faults += [fault for cited in CITED for fault in unnamed(text, words.top, *cited)]
     for fault in faults:
         print(f"{PAGE}: {fault}", file=sys.stderr)

@@ -1,12 +1,13 @@
-"""Compares docs/PINS.md with the definitions of the model and the laws of the crates, docs/THEOREMS.md with the crates' contracts, and
-scenarios of specifications with the texts of examples/.
+"""Compares docs/PINS.md with the definitions of the model and the laws of the crates, docs/THEOREMS.md with the crates' contracts,
+docs/DEFINITIONS.md with the files of definitions, and scenarios of specifications with the texts of examples/.
 
-python3 tools/definitions [FOLDER]
+python3 tools/definitions [--write] [FOLDER]
 
 Fails where a definition of the model is missing from the table of docs/PINS.md, where the table has a name that no definition has, where it
 credits a law or a clause that isn't there, or a law of another crate; and where a row of docs/THEOREMS.md links to a function that isn't in
-the file, or names a clause that the function's contract hasn't, or an edit that no crate has, or where no row has a law; and where a
-scenario of a specification isn't word for word the text of its name.
+the file, or names a clause that the function's contract hasn't, or an edit that no crate has, or where no row has a law; where a row of
+docs/DEFINITIONS.md isn't what its file says, or a file has none; and where a scenario of a specification isn't word for word the text of its
+name. `--write` writes the rows of docs/DEFINITIONS.md anew.
 """
 
 from __future__ import annotations
@@ -15,6 +16,7 @@ import argparse
 import sys
 from pathlib import Path
 
+from index import stale, written
 from names import defined, laws_of
 from rows import edits_gone, left_out, links, missing
 from scenarios import differing
@@ -25,11 +27,13 @@ sys.path.append(str(Path(__file__).resolve().parents[1] / "build"))
 from ending import ended  # noqa: E402
 
 TOP = Path(__file__).resolve().parents[2]
+INDEX = "docs/DEFINITIONS.md"
 
 
 def parser() -> argparse.ArgumentParser:
     """The words that the program takes."""
     words = argparse.ArgumentParser(prog="definitions", description="Compares pages on what is proved with definitions and contracts.")
+    words.add_argument("--write", action="store_true", help=f"write the rows of {INDEX} anew")
     words.add_argument("top", nargs="?", type=Path, default=TOP, metavar="FOLDER", help="the repository (this one)")
     return words
 
@@ -52,14 +56,18 @@ def credited_wrong(rows: list[Row], top: Path) -> list[str]:
 
 
 def main(words: argparse.Namespace) -> int:
-    """Writes the faults and a line of counts; the status is 1 where there is a fault."""
+    """Writes the faults and a line of counts, or the rows of a page; the status is 1 where there is a fault."""
+    index = words.top / INDEX
+    if words.write:
+        index.write_text(written(index.read_text("utf-8"), words.top), "utf-8")
+        return 0
     rows = read((words.top / "docs/PINS.md").read_text("utf-8"))
     theorems = (words.top / "docs/THEOREMS.md").read_text("utf-8")
     told = links(theorems)
     faults = named_wrong(rows, words.top) + credited_wrong(rows, words.top)
     not_there = [fault for link in told for fault in missing(link, words.top)]
     faults += [f"docs/THEOREMS.md: {fault}" for fault in not_there + left_out(told, laws_of(words.top)) + edits_gone(theorems, words.top)]
-    faults += differing(words.top)
+    faults += [f"{INDEX}: {fault}" for fault in stale(index.read_text("utf-8"), words.top)] + differing(words.top)
     for fault in faults:
         print(fault, file=sys.stderr)
     named = {name for row in rows for name in row.definitions}

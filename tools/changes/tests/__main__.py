@@ -13,6 +13,7 @@ from pathlib import Path
 TOP = Path(__file__).resolve().parents[1]
 sys.path.insert(0, str(TOP))
 
+from crates import stale_crates, with_crates, with_files  # noqa: E402
 from page import gone, listed, named, section  # noqa: E402
 from tables import Enumeration, citing, sources, tables, variants  # noqa: E402
 
@@ -78,6 +79,80 @@ GONE = (
     ("`src/call.rt` and `Lines.antt` (`line`)", ["no file: Lines.antt"]),
     ("`nova_b/out/kept.rt`", ["no file: nova_b/out/kept.rt"]),
 )
+
+# Crates by layer, and the page with a table for each, before and after it is written.
+CRATES = {
+    "crates.txt": "# The first.\nnova_a: nova_b\nnova_b:\n\n# The last.\nnova_d may=Wait:\n",
+    "nova_a/src/lib.rt": "//! Asks. More.\n",
+    "nova_b/src/lib.rt": "//! Rows,\n//! by number.\n//!\n//! More.\n",
+    "nova_d/src/main.rt": "//! `d`: ends.\n",
+}
+OLD = """# Architecture
+
+### By layer
+
+Each says:
+
+| The first | what it is |
+|---|---|
+| `nova_b` | Rows, by number. |
+| `nova_a` | Answers. |
+
+## Another
+"""
+NEW = """# Architecture
+
+### By layer
+
+Each says:
+
+| The first | what it is |
+|---|---|
+| `nova_a` | Asks. |
+| `nova_b` | Rows, by number. |
+
+| The last | what it is |
+|---|---|
+| `nova_d` | `d`: ends. |
+
+## Another
+"""
+
+
+class Crates(unittest.TestCase):
+    """The tables that are written."""
+
+    def setUp(self) -> None:
+        folder = tempfile.TemporaryDirectory()
+        self.addCleanup(folder.cleanup)
+        self.top = Path(folder.name)
+        for name, text in CRATES.items():
+            path = self.top / (name if name == "crates.txt" else f"crates/{name}")
+            path.parent.mkdir(parents=True, exist_ok=True)
+            path.write_text(text, "utf-8")
+
+    def test_rows_are_what_crates_say(self) -> None:
+        self.assertEqual(with_crates(OLD, self.top), NEW)
+        self.assertEqual(with_crates(NEW, self.top), NEW)
+        self.assertEqual(stale_crates(NEW, self.top), [])
+
+    def test_a_row_that_is_not_what_its_crate_says_is_found(self) -> None:
+        lacks, none = '"By layer" lacks this row: ', '"By layer" has a row of no crate: '
+        head = "| The last | what it is |"
+        said = [lacks + "| `nova_a` | Asks. |", lacks + head, lacks + "| `nova_d` | `d`: ends. |", none + "| `nova_a` | Answers. |"]
+        self.assertEqual(stale_crates(OLD, self.top), said)
+        turned = NEW.replace("| `nova_a` | Asks. |\n| `nova_b` | Rows, by number. |", "| `nova_b` | Rows, by number. |\n| `nova_a` | Asks. |")
+        self.assertEqual(stale_crates(turned, self.top), ['"By layer" has its rows in another order than crates.txt'])
+
+    def test_a_crate_that_says_nothing_is_found(self) -> None:
+        (self.top / "crates/nova_d/src/main.rt").write_text("fn main() {}\n", "utf-8")
+        self.assertEqual(stale_crates(with_crates(NEW, self.top), self.top), ["nova_d says nothing at its head"])
+
+    def test_a_table_of_files_is_written_in_its_section_alone(self) -> None:
+        written = with_files(PAGE, "A call", ["nova_a/src/row.rt", "nova_c/src/b.rt", "nova_c/src/c.rt"])
+        self.assertEqual(listed(written, "A call"), ["nova_a/src/row.rt", "nova_c/src/b.rt", "nova_c/src/c.rt"])
+        self.assertEqual(with_files(written, "A call", FOUND), PAGE)
+        self.assertEqual(with_files(PAGE, "A deed", FOUND), PAGE)
 
 
 class Changes(unittest.TestCase):

@@ -13,6 +13,8 @@ from pathlib import Path
 TOP = Path(__file__).resolve().parents[1]
 sys.path.insert(0, str(TOP))
 
+from heads import crate_summary, layers, summary  # noqa: E402
+from index import stale, written  # noqa: E402
 from names import Law, defined, laws_of, names_in  # noqa: E402
 from rows import Link, contracts, edits_gone, left_out, links, missing  # noqa: E402
 from scenarios import FILE, differing  # noqa: E402
@@ -164,6 +166,101 @@ CREDITS = (
     (Credit("edge_ends", (), frozenset()), ["no law: edge_ends"]),
     (Credit("turns_end", (), frozenset({"nova_b"})), ["no law of nova_b: turns_end"]),
 )
+
+# What a file begins with, and the first sentence of it.
+HEADS = (
+    ("-- One turn.\nabbrev pub turn : ℕ\n", "One turn."),
+    ("-- One turn of `a.nova`, with\n-- 1.5 | 2 ways. And more.\n--\n-- Not this.\n", r"One turn of `a.nova`, with 1.5 \| 2 ways."),
+    (
+        "-- Exits: (NOVA)\n-- go. Then more. (NOVA specification, exits; reasons are\n-- our own.)\n",
+        "Exits: (NOVA) go. (NOVA specification, exits; reasons are our own.)",
+    ),
+    ("-- no sentence\nuse Rattle.x.{y}\n", "no sentence"),
+    ("use Rattle.x.{y}\n-- Behind an import.\n", ""),
+    ("", ""),
+)
+CRATES = {
+    "crates.txt": "# The first.\nnova_b may=Wait: nova_c\nnova_c:\n\n# Without definitions.\nnova_d:\n",
+    "crates/nova_b/specs/Lib.antt": "pub mod Turn\n",
+    "crates/nova_b/specs/Turn.antt": "-- One turn. More.\n",
+    "crates/nova_b/specs/Bare.antt": "use Rattle.x.{y}\n",
+    "crates/nova_b/src/lib.rt": "//! Turns,\n//! one by one. More.\n//!\n//! Still more.\n",
+    "crates/nova_d/src/main.rt": "//! Ends.\n",
+}
+INDEX = """# Definitions
+
+## Files
+
+Each says:
+
+### Of another name
+
+| file | what it defines |
+|---|---|
+| `nova_b/specs/Bare.antt` † | By hand. |
+| `nova_b/specs/Gone.antt` | It was. |
+| `nova_b/specs/Turn.antt` | Two turns. |
+
+## Behind
+
+Stays.
+"""
+NEW_INDEX = """# Definitions
+
+## Files
+
+Each says:
+
+### The first
+
+| file | what it defines |
+|---|---|
+| `nova_b/specs/Bare.antt` † | By hand. |
+| `nova_b/specs/Turn.antt` | One turn. |
+
+## Behind
+
+Stays.
+"""
+
+
+class Heads(unittest.TestCase):
+    """What files say of themselves, and the page that has it."""
+
+    def setUp(self) -> None:
+        folder = tempfile.TemporaryDirectory()
+        self.addCleanup(folder.cleanup)
+        self.top = Path(folder.name)
+        for name, text in CRATES.items():
+            path = self.top / name
+            path.parent.mkdir(parents=True, exist_ok=True)
+            path.write_text(text, "utf-8")
+
+    def test_a_summary_is_the_first_sentence_at_the_head(self) -> None:
+        for text, said in HEADS:
+            with self.subTest(text):
+                self.assertEqual(summary(text, "--"), said)
+
+    def test_crates_have_their_layers_and_say_what_they_are(self) -> None:
+        self.assertEqual([layer.crates for layer in layers(self.top)], [("nova_b", "nova_c"), ("nova_d",)])
+        self.assertEqual([crate_summary(self.top, f"nova_{name}") for name in "bcd"], ["Turns, one by one.", "", "Ends."])
+
+    def test_rows_are_written_anew_but_those_by_hand(self) -> None:
+        self.assertEqual(written(INDEX, self.top), NEW_INDEX)
+        self.assertEqual(written(NEW_INDEX, self.top), NEW_INDEX)
+        self.assertEqual(stale(NEW_INDEX, self.top), [])
+
+    def test_a_row_that_is_not_what_its_file_says_is_found(self) -> None:
+        gone = "no file of definitions: nova_b/specs/Gone.antt"
+        other = "the row of nova_b/specs/Turn.antt isn't what the file says: One turn."
+        self.assertEqual(stale(INDEX, self.top), [other, gone])
+        self.assertEqual(stale("# Empty\n\n## Files\n", self.top), ["no row of nova_b/specs/Bare.antt", "no row of nova_b/specs/Turn.antt"])
+
+    def test_a_row_by_hand_is_of_a_file_that_says_nothing(self) -> None:
+        marked = NEW_INDEX.replace("Turn.antt`", "Turn.antt` †")
+        self.assertEqual(stale(marked, self.top), ["the row of nova_b/specs/Turn.antt is written by hand, and the file says: One turn."])
+        unmarked = NEW_INDEX.replace(" †", "")
+        self.assertEqual(stale(unmarked, self.top), ["the row of nova_b/specs/Bare.antt isn't what the file says: nothing"])
 
 
 class Names(unittest.TestCase):

@@ -1,0 +1,70 @@
+"""The tables of docs/ARCHITECTURE.md that are written by this tool: the crates of each layer, and the files that have a table of an enumeration."""
+
+from __future__ import annotations
+
+import re
+import sys
+from itertools import groupby
+from pathlib import Path
+
+from page import HEADER
+
+sys.path.append(str(Path(__file__).resolve().parents[1] / "definitions"))
+
+from heads import crate_summary, layers  # noqa: E402
+
+# The section with a table for each layer, whose first column is the layer.
+HEADING = "By layer"
+
+
+def crate_tables(top: Path) -> str:
+    """A table for each layer of crates.txt: its crates, and what each says of itself."""
+    texts = []
+    for layer in layers(top):
+        rows = "\n".join(f"| `{crate}` | {crate_summary(top, crate)} |" for crate in layer.crates)
+        texts.append(f"| {layer.name} | what it is |\n|---|---|\n{rows}\n")
+    return "\n".join(texts)
+
+
+def file_rows(files: list[str]) -> str:
+    """The rows of a table of files, a crate each."""
+    crates = groupby((file.partition("/")[::2] for file in files), key=lambda pair: pair[0])
+    return "\n".join(f"| `{crate}` | {', '.join(f'`{file}`' for _, file in pairs)} |" for crate, pairs in crates)
+
+
+def span(text: str, heading: str) -> tuple[int, int]:
+    """Where a section of the third level begins, behind its heading, and where it ends; both are the end of a page without it."""
+    found = re.search(rf"^### {re.escape(heading)}\n", text, re.MULTILINE)
+    if not found:
+        return len(text), len(text)
+    after = re.compile(r"^#{1,3} ", re.MULTILINE).search(text, found.end())
+    return found.end(), after.start() if after else len(text)
+
+
+def with_crates(text: str, top: Path) -> str:
+    """The page with the tables of the crates: what stands before the first of them stays."""
+    begin, end = span(text, HEADING)
+    before = text[begin:end].partition("\n|")[0].rstrip("\n")
+    return text[:begin] + before + "\n\n" + crate_tables(top) + "\n" + text[end:]
+
+
+def with_files(text: str, heading: str, files: list[str]) -> str:
+    """The page with these files in the table of a section; one without a table stays as it is."""
+    begin, end = span(text, heading)
+    before, mark, rest = text[begin:end].partition(HEADER)
+    if not mark:
+        return text
+    head, rule, behind = rest.partition("|---|---|\n")
+    after = re.sub(r"\A(?:\|.*\n)*", "", behind)
+    return text[:begin] + before + mark + head + rule + file_rows(files) + "\n" + after + text[end:]
+
+
+def stale_crates(text: str, top: Path) -> list[str]:
+    """The rows of crates that are missing, or that aren't what the crate says, a line each."""
+    begin, end = span(text, HEADING)
+    there = [line for line in text[begin:end].splitlines() if line.startswith("|")]
+    wanted = [line for line in crate_tables(top).splitlines() if line.startswith("|")]
+    faults = [f"{crate} says nothing at its head" for layer in layers(top) for crate in layer.crates if not crate_summary(top, crate)]
+    faults += [f'"{HEADING}" lacks this row: {line}' for line in wanted if line not in there]
+    faults += [f'"{HEADING}" has a row of no crate: {line}' for line in there if line not in wanted]
+    return faults or ([] if there == wanted else [f'"{HEADING}" has its rows in another order than crates.txt'])
