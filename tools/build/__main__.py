@@ -11,7 +11,7 @@ the room on disk. --built says by its status, 0 or 1, whether CRATE is built of 
 crate proves again: how many crates, itself among them, and the minutes of their proofs by one job. Nothing is built.
 
 Crates are proved side by side, each as soon as those below it are proved, that with the longest way to the top first, and by as many jobs as there are
-processors that no other crate takes. How long it takes yet is reckoned from costs.txt, which has each crate's seconds by one job, and from how fast this
+processors. How long it takes yet is reckoned from costs.txt, which has each crate's seconds by one job, and from how fast this
 machine was so far.
 
 Ended by a signal, it ends what it began. A second one in the same tree waits for the first.

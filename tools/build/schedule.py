@@ -68,7 +68,7 @@ class Schedule:
 
     @classmethod
     def of(cls, program: str, named: Names, cost: Mapping[str, int], workers: int, jobs: int) -> Schedule:
-        """The schedule of a program, by what each crate names. At most `workers` crates are proved at a time, and by about so many jobs in all."""
+        """The schedule of a program, by what each crate names. At most `workers` crates are proved at a time, and one of them by `jobs` jobs."""
         below = {crate: in_order(crate, named) for crate in [*in_order(program, named), program]}
         return cls(program, below, {crate: cost.get(crate, UNKNOWN) for crate in below}, workers, jobs)
 
@@ -87,14 +87,13 @@ class Schedule:
         return sorted(able, key=lambda crate: -ways[crate])
 
     def next(self, left: Iterable[str], proved: Collection[str], running: Collection[str]) -> dict[str, int]:
-        """The crates that begin now, each with its jobs. That with the longest way to the top has the jobs that no other one takes, and the others have
-        one each. The program itself has one: most of its time is the compiler's."""
+        """The crates that begin now, each with its jobs. That with the longest way to the top has all of them, since others that are short end long
+        before it does, and the others have one each. The program itself has one: most of its time is the compiler's."""
         able, ways = self.ready(left, proved), self.ways()
         begun = {crate: 1 for crate in able[: self.workers - len(running)]}
         first = max([*running, *begun], key=lambda crate: ways[crate], default=self.program)
         if first in begun and first != self.program:
-            others = min(self.workers, len(running) + len(able)) - 1
-            begun[first] = max(1, self.jobs - others)
+            begun[first] = self.jobs
         return begun
 
     def seconds_left(self, proved: Collection[str], running: Mapping[str, float], pace: float) -> float:

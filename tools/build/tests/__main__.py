@@ -122,14 +122,14 @@ class Schedules(unittest.TestCase):
         alone = Schedule.of("nova", dependencies(CRATES), SECONDS, 1, 1)
         self.assertEqual(alone.seconds_left([], {}, 1), 160)
 
-    def test_jobs_that_no_crate_takes_go_to_the_longest_way(self) -> None:
+    def test_the_longest_way_has_all_jobs(self) -> None:
         plan = Schedule.of("nova", dependencies(CRATES), SECONDS, 2, 4)
         self.assertEqual(plan.next(plan.below, [], []), {"low": 4})
-        self.assertEqual(plan.next(["long", "short", "nova"], ["low"], []), {"long": 3, "short": 1})
+        self.assertEqual(plan.next(["long", "short", "nova"], ["low"], []), {"long": 4, "short": 1})
         self.assertEqual(plan.next(["short", "nova"], ["low"], ["long"]), {"short": 1})
         self.assertEqual(plan.next(["short", "nova"], ["low", "long"], []), {"short": 4})
         self.assertEqual(plan.next(["nova"], ["low", "long", "short"], []), {"nova": 1})
-        self.assertEqual(plan.seconds_left([], {}, 1), seconds_by(4, 10) + seconds_by(3, 100) + 30)
+        self.assertEqual(plan.seconds_left([], {}, 1), seconds_by(4, 10) + seconds_by(4, 100) + 30)
 
     def test_a_change_proves_again_what_stands_on_the_crate(self) -> None:
         named = dependencies(CRATES)
