@@ -1,5 +1,7 @@
 -- The ticket lock of `nova_lock`: its two words, where each thread is in its use of the lock, and a move for each call that the code makes on a word. Words are numbers without a bound
--- here. `draw` makes the call at Outside, `wait` those at Looks and Parks, and `pass` those at Holds, Stored and Wakes.
+-- here. `draw` makes the call at Outside, `wait` those at Looks and Parks, `pass` that at Holds, and `heed` those at Stored and Wakes. That a thread that stored loads `ticket` next, and then
+-- wakes all exactly where it finds another number than that of the ticket that it has served, the code's proof enforces: Stored is the phase Passed of its view, which only that load ends. That
+-- the other moves are the code's calls, in this order, is read.
 use Rattle.std.specs.Prelude.{◌≡◌, ◌≢◌, ◌<◌, ◌⊎◌, ℕ, ◌+◌, ◌==◌, if◌then◌else◌, List, [], ◌∷◌, Option, Some, None}
 
 -- Outside: it doesn't use the lock. Looks t: it drew ticket t, and loads `serving` next. Parks t found: it loaded another ticket than its own, and parks next. Sleeps t found: it parked

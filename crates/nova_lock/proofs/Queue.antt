@@ -6,7 +6,7 @@ use mathlib.Core.List.{IsPrefix}
 use lib.ListN.{get_elem?}
 use Rattle.nova_lock.specs.declared.view.View.{View}
 use Rattle.nova_lock.specs.declared.view.Phase.{Phase}
-use Rattle.nova_lock.specs.declared.view.Phase.TheVariants.{Idle, Waiting, Called, Spent}
+use Rattle.nova_lock.specs.declared.view.Phase.TheVariants.{Idle, Waiting, Called, Passed, Spent}
 use Rattle.nova_lock.specs.History.{Adds, entries, IsFrontOf}
 use Rattle.nova_lock.specs.Ticketed.{queued, weight}
 
@@ -41,6 +41,7 @@ weight-one : (p : Phase) → weight p ≤ 1
 weight-one Idle = omega arith
 weight-one Waiting = omega arith
 weight-one Called = omega arith
+weight-one Passed = omega arith
 weight-one Spent = omega arith
 
 module _ {T : Type 0} where

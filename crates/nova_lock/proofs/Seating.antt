@@ -14,10 +14,10 @@ use Rattle.nova_lock.proofs.Queue.{queued-set, queued-snoc, at_less, snoc_at, co
 use Rattle.nova_lock.proofs.Steps.{each-set, pairs-set, one-phase, kept-set}
 
 abbrev pub new_view : {T : Type 0} → ℕ → Rattle.std.specs.Prelude.Option T → View T
-new_view n o = record { phase = Idle; number = n; ticket = 0; found = []; front = []; opened = o; made = 0; kept = [] }
+new_view n o = record { phase = Idle; number = n; ticket = 0; found = []; front = []; drawn = 0; opened = o; made = 0; kept = [] }
 
 abbrev pub spent_view : {T : Type 0} → View T
-spent_view = record { phase = Spent; number = 0; ticket = 0; found = []; front = []; opened = None; made = 0; kept = [] }
+spent_view = record { phase = Spent; number = 0; ticket = 0; found = []; front = []; drawn = 0; opened = None; made = 0; kept = [] }
 
 module _ {T O : Type 0} (opens : T → O) (history : T → List ℕ) (uses : T → ℕ) where
   abbrev St : Type 0

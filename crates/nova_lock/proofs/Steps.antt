@@ -7,9 +7,9 @@ use Rattle.atomic_table.specs.Table.{State, Me, Act, step, keeps, takes, gives, 
 use Rattle.atomic_table.proofs.Lists.{at_set, set_else, set_here, set_again, one_turn}
 use Rattle.nova_lock.specs.declared.view.View.{View}
 use Rattle.nova_lock.specs.declared.view.Phase.{Phase}
-use Rattle.nova_lock.specs.declared.view.Phase.TheVariants.{Idle, Waiting, Called, Spent}
+use Rattle.nova_lock.specs.declared.view.Phase.TheVariants.{Idle, Waiting, Called, Passed, Spent}
 use Rattle.nova_lock.specs.History.{Adds, IsFrontOf}
-use Rattle.nova_lock.specs.Ticketed.{is_queued, weight, Lines, IsInPlace, IsFirst, Apart, IsSound, Draws, Took, Looks, Passes, Gives}
+use Rattle.nova_lock.specs.Ticketed.{is_queued, weight, Lines, IsInPlace, IsFirst, Apart, IsSound, Draws, Took, Looks, Passes, Gives, Heeds}
 use Rattle.nova_lock.proofs.Queue.{queued-set, queued-few, fronts-added, fronts-self, entries-added, at_less}
 
 Some-injective : {A : Type 0} {x y : A} → Some x ≡ Some y → x ≡ y
@@ -61,12 +61,14 @@ module _ {T : Type 0} where
   lines-range t s now homes u Idle l e = absurd (cc e)
   lines-range t s now homes u Waiting l e = l
   lines-range t s now homes u Called l e = (omega (arith, l.0), omega (arith, l.0, l.1))
+  lines-range t s now homes u Passed l e = absurd (cc e)
   lines-range t s now homes u Spent l e = absurd (cc e)
 
   lines-draw : (t s : ℕ) (now : List ℕ) (homes : List (Option T)) (u : View T) (p : Phase) → Lines t s now homes u p → Lines (t + 1) s now homes u p
   lines-draw t s now homes u Idle l = tt
   lines-draw t s now homes u Waiting l = (l.0, omega (arith, l.1))
   lines-draw t s now homes u Called l = (l.0, omega (arith, l.1), l.2, l.3)
+  lines-draw t s now homes u Passed l = tt
   lines-draw t s now homes u Spent l = tt
 
 module _ {T O : Type 0} (opening : T → O) (history : T → List ℕ) (uses : T → ℕ) where
@@ -123,12 +125,14 @@ module _ {T O : Type 0} (opening : T → O) (history : T → List ℕ) (uses : T
   lines-take t s now homes homes' u Idle ne l = tt
   lines-take t s now homes homes' u Waiting ne l = l
   lines-take t s now homes homes' u Called ne l = absurd (ne refl)
+  lines-take t s now homes homes' u Passed ne l = tt
   lines-take t s now homes homes' u Spent ne l = tt
 
   lines-pass : (t s : ℕ) (now now' : List ℕ) (homes homes' : List (Option T)) (u : View T) (p : Phase) → p ≢ Called → (is_queued p ≡ true → u.ticket ≢ s) → Lines t s now homes u p → Lines t (s + 1) now' homes' u p
   lines-pass t s now now' homes homes' u Idle ne other l = tt
   lines-pass t s now now' homes homes' u Waiting ne other l = let o = other refl in (omega (arith, o, l.0), l.1)
   lines-pass t s now now' homes homes' u Called ne other l = absurd (ne refl)
+  lines-pass t s now now' homes homes' u Passed ne other l = tt
   lines-pass t s now now' homes homes' u Spent ne other l = tt
 
   taken : (k : T) (s : St) (r : H k s) (id : ℕ) (v : View T) (x : T) (n : ℕ) (c : List (ℕ × T)) → get_elem? s.views id ≡ some v → v.phase ≡ Waiting → v.ticket ≡ r.serving → get_or s.words 1 0 ≡ n
@@ -217,9 +221,9 @@ module _ {T O : Type 0} (opening : T → O) (history : T → List ℕ) (uses : T
   looks k slots id me waits empty s r _ at _ = looked k s r id me at waits empty (get_or s.words 1 0 == me.0.ticket % 2 ^ 64) refl
 
   passed : (k : T) (s : St) (r : H k s) (id : ℕ) (v : View T) (x : T) → get_elem? s.views id ≡ some v → Gives opening history uses (v, (0, x) ∷ []) x
-      → H k (stepped s 1 ((get_or s.words 1 0 + 1) % 2 ^ 64) id ((0, x) ∷ []) (record v { phase = Idle; front = history x }) gives)
+      → H k (stepped s 1 ((get_or s.words 1 0 + 1) % 2 ^ 64) id ((0, x) ∷ []) (record v { phase = Passed; front = history x }) gives)
   passed k s r id v x at g =
-      let w : View T = record v { phase = Idle; front = history x } in
+      let w : View T = record v { phase = Passed; front = history x } in
       let alive : v.phase ≢ Spent = λ e. absurd (cc (g.phase, e)) in
       let alive' : w.phase ≢ Spent = λ e. absurd (cc e) in
       let mine = r.in_place id v at in
@@ -257,13 +261,42 @@ module _ {T O : Type 0} (opening : T → O) (history : T → List ℕ) (uses : T
       let P : List (ℕ × T) → Type 0 = λ c. Gives opening history uses (me.0, c) x → (w : View T) × (a : Act T) × Valid s.homes c a × H k (stepped s 1 ((get_or s.words 1 0 + 1) % 2 ^ 64) id c w a)
       × Passes opening history uses (step slots 1 1 0 none) (me.0, c) (get_or s.words 1 0) (w, Rattle.atomic_table.specs.Table.carried_after c a) in
       subst P (sym g.hand) (λ g'. (
-        record me.0 { phase = Idle; front = history x },
+        record me.0 { phase = Passed; front = history x },
         gives,
         tt,
         passed k s r id me.0 x at g',
         (
           ap (λ (ws : List ℕ). get_or ws 1 0) r.words
               ∙ ap (λ (n : ℕ). n % 2 ^ 64) (sym (subst (λ (p : Phase). Lines r.ticket r.serving r.now s.homes me.0 p) g.phase (r.in_place id me.0 at).line).0),
-          λ y e. ap (λ (l : List (ℕ × T)). (record me.0 { phase = Idle; front = history ((get_or l 0 (0, x)).1) }, [])) e,
+          λ y e. ap (λ (l : List (ℕ × T)). (record me.0 { phase = Passed; front = history ((get_or l 0 (0, x)).1) }, [])) e,
         ),
       )) g
+
+  heeded : (k : T) (s : St) (r : H k s) (id : ℕ) (v : View T) (n : ℕ) (c : List (ℕ × T)) → get_elem? s.views id ≡ some v → v.phase ≡ Passed → get_or s.words 0 0 ≡ n
+      → H k (stepped s 0 n id c (record v { phase = Idle; drawn = n }) keeps)
+  heeded k s r id v n c at owes word =
+      let w : View T = record v { phase = Idle; drawn = n } in
+      let alive : v.phase ≢ Spent = λ e. absurd (cc (owes, e)) in
+      let alive' : w.phase ≢ Spent = λ e. absurd (cc e) in
+      let mine = r.in_place id v at in
+      let sum = queued-set s.views id v w at in
+      let light : weight v.phase ≡ 0 = ap weight owes in
+      let count = r.count in
+      record {
+        ticket = r.ticket;
+        serving = r.serving;
+        now = r.now;
+        words = ap (λ (m : ℕ). set s.words 0 m) (sym word) ∙ (ap (λ (ws : List ℕ). set ws 0 (get_or ws 0 0)) r.words);
+        count = omega arith;
+        few = omega (arith, length-set s.views id w, r.few);
+        in_place = each-set (IsInPlace r.ticket r.serving r.now s.homes k) s.views id w
+            (record { opened = λ _. mine.opened alive; line = tt; numbered = λ _. mine.numbered alive; fronts = λ _. mine.fronts alive })
+            (λ i u ne e. r.in_place i u e);
+        apart = pairs-set s.views id w (λ j u ne e a b. absurd (cc a)) r.apart;
+        placed = ⊎_elim inl (λ t. inr (t.0, t.1, set_else s.views id t.0 w (λ e. absurd (cc (one-phase s.views t.0 id t.1 v t.2 at e, owes, t.3))) ∙ t.2, t.3)) r.placed;
+        first = first-set s.views r.now r.now id v w at alive alive' refl refl (λ n f ne h. h) r.first;
+        unmade = λ i le. r.unmade i (omega (arith, le, length-set s.views id w));
+      }
+
+  pub heeds : (k : T) (slots id : ℕ) (me : Me T (View T)) → me.0.phase ≡ Passed → Allows (H k) slots id me 0 (λ n. n) (Heeds (step slots 0 0 0 none) me)
+  heeds k slots id me owes s r _ at _ = (record me.0 { phase = Idle; drawn = get_or s.words 0 0 }, keeps, tt, heeded k s r id me.0 (get_or s.words 0 0) me.1 at owes refl, (refl, owes, refl))

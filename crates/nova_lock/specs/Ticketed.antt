@@ -5,7 +5,7 @@ use lib.ListN.{get_elem?}
 use Rattle.atomic_table.specs.Table.{State, Me, Step}
 use Rattle.nova_lock.specs.declared.view.View.{View}
 use Rattle.nova_lock.specs.declared.view.Phase.{Phase}
-use Rattle.nova_lock.specs.declared.view.Phase.TheVariants.{Idle, Waiting, Called, Spent}
+use Rattle.nova_lock.specs.declared.view.Phase.TheVariants.{Idle, Waiting, Called, Passed, Spent}
 use Rattle.nova_lock.specs.History.{Adds, entries, IsFrontOf}
 
 -- a seat in line: it drew a ticket, and did not give the value back
@@ -13,6 +13,7 @@ abbrev pub is_queued : Phase → Bool
 is_queued Idle = false
 is_queued Waiting = true
 is_queued Called = true
+is_queued Passed = false
 is_queued Spent = false
 
 -- how many of those in line it is
@@ -20,6 +21,7 @@ abbrev pub weight : Phase → ℕ
 weight Idle = 0
 weight Waiting = 1
 weight Called = 1
+weight Passed = 0
 weight Spent = 0
 
 module _ {T : Type 0} where
@@ -37,6 +39,7 @@ module _ {T : Type 0} where
   Lines ticket serving now homes v Idle = Unit {0}
   Lines ticket serving now homes v Waiting = (serving ≤ v.ticket) × (v.ticket < ticket)
   Lines ticket serving now homes v Called = (v.ticket ≡ serving) × (serving < ticket) × (v.found ≡ now) × (homes ≡ none ∷ [])
+  Lines ticket serving now homes v Passed = Unit {0}
   Lines ticket serving now homes v Spent = Unit {0}
 
   -- the seat i, unless it was taken in: its number is i, it knows the value that the lock was made of, and its front is one of the present
@@ -52,6 +55,10 @@ module _ {T : Type 0} where
     pub made : v.made ≡ length views
     pub alive : v.phase ≢ Spent
     pub kept : (n : ℕ) (f : List ℕ) → Contains v.kept (n, f) → IsFrontOf n f now × ((w : View T) × (get_elem? views n ≡ some w) × (w.phase ≡ Spent))
+
+  -- a seat that passed looked at the word `ticket`, knows what it found there, and owes nothing more
+  abbrev pub Heeds : Step T → Me T (View T) → ℕ → Me T (View T) → Type 0
+  Heeds st me found next = (st.word ≡ 0) × (me.0.phase ≡ Passed) × (next ≡ (record me.0 { phase = Idle; drawn = found }, me.1))
 
   module _ {O : Type 0} (opening : T → O) (history : T → List ℕ) (uses : T → ℕ) where
     -- the value at home, or the seat that has it
@@ -96,9 +103,9 @@ module _ {T : Type 0} where
     abbrev pub Looks : Step T → Me T (View T) → ℕ → Me T (View T) → Type 0
     Looks st me found next = MatchBool (found == me.0.ticket % 2 ^ 64) (Took me next) (next ≡ me)
 
-    -- the value came home, and its history is the new front
+    -- the value came home, its history is the new front, and the seat owes a look
     abbrev pub GaveBack : Me T (View T) → Me T (View T) → Type 0
-    GaveBack me next = (x : T) → me.1 ≡ (0, x) ∷ [] → next ≡ (record me.0 { phase = Idle; front = history x }, [])
+    GaveBack me next = (x : T) → me.1 ≡ (0, x) ∷ [] → next ≡ (record me.0 { phase = Passed; front = history x }, [])
 
     -- so it did, where the seat's ticket was served
     abbrev pub Passes : Step T → Me T (View T) → ℕ → Me T (View T) → Type 0

@@ -1,30 +1,27 @@
 use crate::called::Historied;
 use crate::lock::HistoryLock;
 
-/// What the lock calls once it stored whom it serves. To the lock, which knows no bell, nothing but its call says that it was rung.
+/// What the lock calls for those who sleep. To the lock, which knows no bell, nothing but its call says that it was rung.
 pub(crate) trait Bell {
-    ghost use Rattle.std.specs.Prelude.{ℕ};
+    ghost use Rattle.std.specs.Prelude.{◌≢◌, ℕ};
 
     /// That it was rung for a ticket. A bell need not say what that means.
     ghost rung: { Self → ℕ → Type 0 } = { λ _ _. Unit {0} };
 
-    /// Has whoever sleeps until this ticket is served look again.
-    fn ring(&self, served: u64)
+    /// Has whoever sleeps until the ticket `served` is served look again. The next ticket to be drawn is `drawn`, modulo 2^64: another one.
+    fn ring(&self, served: u64, drawn: u64)
+        requires { drawn ≢ served }
         ensures { rung self.now served };
 }
 
-/// The bell of a lock: it wakes all, where somebody drew a ticket beyond the one that is served.
+/// The bell of a lock: it wakes all that sleep.
 #[derive(Drop)]
 pub(crate) struct Waker<'a, T: Historied> {
     pub(crate) lock: &'a HistoryLock<T>,
 }
 
 impl<'a, T: Historied> Bell for Waker<'a, T> {
-    fn ring(&self, served: u64) {
-        // `serving` is stored before `ticket` is loaded, and all these steps have one order (SeqCst): who drew a ticket after the load reads the
-        // new `serving` before it parks. Who drew one before it is seen here, since `ticket` then is not what is served now, and is woken.
-        if self.lock.drawn() != served {
-            self.lock.wake();
-        }
+    fn ring(&self, _served: u64, _drawn: u64) {
+        self.lock.wake();
     }
 }

@@ -1,15 +1,15 @@
-ghost use Rattle.std.specs.Prelude.{◌≡◌, ◌%◌, ◌^◌, ◌≤◌, ◌<◌, ◌+◌, List, ℕ, [], ◌∷◌, IfOk, IfErr, Some, vec_capacity, slice_index_or, vec_len, All, Contains, map, drop};
+ghost use Rattle.std.specs.Prelude.{◌≡◌, ◌≢◌, ◌%◌, ◌^◌, ◌≤◌, ◌<◌, ◌+◌, List, ℕ, [], ◌∷◌, IfOk, IfErr, Some, vec_capacity, slice_index_or, vec_len, All, Contains, map, drop};
 ghost use mathlib.Core.List.{IsPrefix};
 ghost use mathlib.Core.Option.{none};
 ghost use Rattle.atomic_table.specs.Table.{step};
 ghost use Rattle.nova_lock.specs.Seats.{AreSeats, Ends, IsSeat, IsSeatOf, SeatView, note};
 ghost use Rattle.nova_lock.specs.History.{Adds, entries, IsFrontOf};
 ghost use Rattle.nova_lock.specs.Ticketed.{Gives, GaveBack, Took, Draws, Acted};
-ghost use Rattle.nova_lock.specs.declared.view.Phase.TheVariants.{Idle, Waiting};
+ghost use Rattle.nova_lock.specs.declared.view.Phase.TheVariants.{Idle, Passed, Waiting};
 
 use crate::bell::{Bell, Waker};
 use crate::called::{Historied, LockCall};
-use crate::plays::{Draw, Leave, Look, Pass, Sit, Ticketed};
+use crate::plays::{Draw, Heed, Leave, Look, Pass, Sit, Ticketed};
 use crate::view::View;
 use atomic_table::{Refused, Table};
 use std::alloc::{AllocError, AllocFailed, Global};
@@ -200,26 +200,37 @@ impl<T: Historied> HistoryLock<T> {
         call.act(value)
     }
 
-    /// How many tickets were drawn, modulo 2^64. It tells nothing to proofs.
-    pub(crate) fn drawn(&self) -> u64 {
-        self.table.shared.peek(0)
-    }
-
     /// Wakes all that sleep.
     pub(crate) fn wake(&self) {
         self.table.shared.wake_all(1);
     }
 
-    /// Gives the value back, has the next ticket served, and rings for whoever sleeps until it is.
-    fn pass<B: Bell>(&self, bell: &B, seat: &mut Place<T>)
+    /// Gives the value back, and has the next ticket served, which it answers modulo 2^64. The seat then owes a look at `ticket`.
+    fn pass(&self, seat: &mut Place<T>) -> u64
         requires own { seat.old.table_id ≡ self.now.id }
         requires gives { (x : T) × Gives T.opening T.history T.uses seat.old.me x }
         ensures same { seat.new.table_id ≡ seat.old.table_id }
         ensures passed { GaveBack T.opening T.history T.uses seat.old.me seat.new.me }
-        ensures woken { B.rung bell.now ((seat.old.me.0.ticket + 1) % 2 ^ 64) }
+        ensures served { result ≡ (seat.old.me.0.ticket + 1) % 2 ^ 64 }
     {
         let passed = self.table.shared.fetch_add::<Pass>(seat, 1, 1);
-        bell.ring(passed.wrapping_add(1));
+        passed.wrapping_add(1)
+    }
+
+    /// Looks how many tickets were drawn, and where that is another number than that of the ticket which the seat has served, rings for it.
+    fn heed<B: Bell>(&self, bell: &B, seat: &mut Place<T>, served: u64)
+        requires own { seat.old.table_id ≡ self.now.id }
+        requires owed { (seat.old.me.0.phase ≡ Passed) × (served ≡ (seat.old.me.0.ticket + 1) % 2 ^ 64) }
+        ensures same { seat.new.table_id ≡ seat.old.table_id }
+        ensures heeded { seat.new.me ≡ (record seat.old.me.0 { phase = Idle; drawn = seat.new.me.0.drawn }, seat.old.me.1) }
+        ensures woken { seat.new.me.0.drawn ≢ (seat.old.me.0.ticket + 1) % 2 ^ 64 → B.rung bell.now ((seat.old.me.0.ticket + 1) % 2 ^ 64) }
+    {
+        // `serving` was stored before this load of `ticket`, and all these steps have one order (SeqCst): who draws a ticket after the load
+        // reads the new `serving` before it parks. Who drew one before it is seen here, since `ticket` then is not what is served now.
+        let drawn = self.table.shared.load::<Heed>(seat, 0);
+        if drawn != served {
+            bell.ring(served, drawn);
+        }
     }
 
     /// Does a call on the value once all seats that asked before have had theirs. The history that it finds begins with the seat's front,
@@ -238,7 +249,8 @@ impl<T: Historied> HistoryLock<T> {
         let ticket = self.draw(&mut seat.seat);
         self.wait(rt, &mut seat.seat, ticket);
         let out = self.act(&mut seat.seat, call);
-        self.pass(&Waker { lock: self }, &mut seat.seat);
+        let served = self.pass(&mut seat.seat);
+        self.heed(&Waker { lock: self }, &mut seat.seat, served);
         out
     }
 

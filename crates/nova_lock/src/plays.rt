@@ -1,5 +1,5 @@
 ghost use Rattle.std.specs.Prelude.{◌+◌, [], ◌∷◌, Some, None};
-ghost use Rattle.nova_lock.specs.Ticketed.{IsSound, Draws, Looks, Passes};
+ghost use Rattle.nova_lock.specs.Ticketed.{IsSound, Draws, Looks, Passes, Heeds};
 ghost use Rattle.nova_lock.specs.declared.view.Phase.TheVariants.{Idle, Spent};
 
 use crate::called::Historied;
@@ -13,7 +13,7 @@ pub struct Ticketed;
 impl<T: Historied> TableRule<T, View<T>, Snapshot<T>> for Ticketed {
     ghost holds = { λ k s. IsSound T.opening T.history T.uses k.value s };
 
-    ghost first = { λ k. record { phase = Idle; number = 0; ticket = 0; found = []; front = []; opened = Some k.value; made = 1; kept = [] } };
+    ghost first = { λ k. record { phase = Idle; number = 0; ticket = 0; found = []; front = []; drawn = 0; opened = Some k.value; made = 1; kept = [] } };
 }
 
 /// A step that draws a ticket: the first word, `ticket`, goes up by one.
@@ -30,11 +30,18 @@ impl<T: Historied> Play<T, View<T>> for Look {
     ghost then = { Looks T.opening T.history T.uses };
 }
 
-/// A step that gives the value back: `serving` goes up by one.
+/// A step that gives the value back: `serving` goes up by one. The seat then owes a look at `ticket`.
 pub struct Pass;
 
 impl<T: Historied> Play<T, View<T>> for Pass {
     ghost then = { Passes T.opening T.history T.uses };
+}
+
+/// A step that looks at `ticket`. A seat that gave the value back owes it, and no other step ends that.
+pub struct Heed;
+
+impl<T: Historied> Play<T, View<T>> for Heed {
+    ghost then = { Heeds };
 }
 
 /// A split of a view: seat 0 makes a further seat.
@@ -43,7 +50,7 @@ pub struct Sit;
 impl<T> Split<View<T>> for Sit {
     ghost left = { λ v. record v { made = v.made + 1 } };
 
-    ghost right = { λ v. record { phase = Idle; number = v.made; ticket = 0; found = []; front = []; opened = v.opened; made = 0; kept = [] } };
+    ghost right = { λ v. record { phase = Idle; number = v.made; ticket = 0; found = []; front = []; drawn = 0; opened = v.opened; made = 0; kept = [] } };
 }
 
 /// A join of two views: seat 0 takes in another seat.
@@ -52,5 +59,5 @@ pub struct Leave;
 impl<T> Join<View<T>> for Leave {
     ghost both = { λ v w. record v { kept = (w.number, w.front) ∷ v.kept } };
 
-    ghost spent = { record { phase = Spent; number = 0; ticket = 0; found = []; front = []; opened = None; made = 0; kept = [] } };
+    ghost spent = { record { phase = Spent; number = 0; ticket = 0; found = []; front = []; drawn = 0; opened = None; made = 0; kept = [] } };
 }

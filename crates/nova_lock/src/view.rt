@@ -12,6 +12,9 @@ pub enum Phase {
     /// Its ticket is served, and it has the value in hand.
     Called,
 
+    /// It gave the value back, and owes a look at how many tickets were drawn.
+    Passed,
+
     /// Seat 0 took it in.
     Spent,
 }
@@ -31,6 +34,9 @@ pub struct View<T> {
 
     /// The history as its last use left it.
     pub front: LinkedList<u64>,
+
+    /// How many tickets it saw drawn when it looked last, modulo 2^64.
+    pub drawn: u64,
 
     /// The value that the lock was made of.
     pub opened: Option<T>,
