@@ -31,7 +31,7 @@ root_leads order consoles o c = record {
 }
 
 -- bytes laid into RAM leave the number of its frames
-length-written_in : (m : Memory) (o : Option (List ℕ)) (frame offset width value : ℕ) → length (written_in m o frame offset width value).ram ≡ length m.ram
+pub length-written_in : (m : Memory) (o : Option (List ℕ)) (frame offset width value : ℕ) → length (written_in m o frame offset width value).ram ≡ length m.ram
 length-written_in m (Some bytes) frame offset width value = length-set m.ram frame _
 length-written_in m None frame offset width value = refl
 

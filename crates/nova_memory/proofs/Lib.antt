@@ -5,3 +5,4 @@ pub mod Views
 pub mod Seen
 pub mod Recents
 pub mod Parted
+pub mod Remembered

@@ -6,3 +6,4 @@ pub mod Previews
 pub mod Reach
 pub mod Sights
 pub mod Recents
+pub mod Recalled

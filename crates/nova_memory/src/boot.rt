@@ -7,6 +7,7 @@ ghost use Rattle.nova_memory.specs.Reach.{page_range, selector_range};
 
 use crate::messages::Messages;
 use crate::reach::Reach;
+use crate::recalled::Recalled;
 use crate::recent::Recents;
 use crate::sights::Sights;
 use bitflags::Flags;
@@ -148,6 +149,7 @@ impl Reach {
             written: None,
             recents: Recents::new(0),
             others: Recents::new(0),
+            recalled: Recalled::none(),
         })
     }
 }

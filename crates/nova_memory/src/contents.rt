@@ -14,6 +14,7 @@ impl Reach {
         requires { address + length bytes.now ≤ 4096 * length self.old.memory.ram }
         ensures { self.new ≡ record self.old { memory = laid self.old.memory address bytes.now } }
     {
+        self.recalled.forget();
         self.frames.put(address, bytes);
     }
 
@@ -32,6 +33,7 @@ impl Reach {
         requires size { length bytes.now ≡ 4096 }
         ensures { self.new ≡ record self.old { memory = record self.old.memory { ram = slice_set self.old.memory.ram frame bytes.now } } }
     {
+        self.recalled.forget();
         self.frames.write_frame(frame, bytes);
     }
 

@@ -79,6 +79,7 @@ impl Reach {
         self.sights.forget();
         self.recents.forget();
         self.others.forget();
+        self.recalled.forget();
         self.nodes.root(pd, place, rights, object);
     }
 
@@ -173,6 +174,7 @@ impl Reach {
         self.sights.forget();
         self.recents.forget();
         self.others.forget();
+        self.recalled.forget();
         part(&mut self.nodes, job, revokes)
     }
 

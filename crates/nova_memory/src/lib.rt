@@ -10,10 +10,12 @@ pub mod messages;
 pub mod preview;
 pub mod reach;
 mod reading;
+mod recalled;
 mod recent;
 mod revoking;
 mod seeing;
 pub mod sights;
+mod stepping;
 pub mod viewers;
 
 pub use messages::Messages;

@@ -11,6 +11,7 @@ ghost use Rattle.nova_memory.specs.Reach.{ReachState, loaded, reached, stored, t
 
 use crate::delegations::covers;
 use crate::messages::Messages;
+use crate::recalled::Recalled;
 use crate::recent::{Recent, Recents, frame_of};
 use crate::sights::Sights;
 use bitflags::Flags;
@@ -47,6 +48,8 @@ pub struct Reach {
     pub(crate) recents: Recents,
     /// Pages and a capability of the protection domain that was left last.
     pub(crate) others: Recents,
+    /// What was read at addresses.
+    pub(crate) recalled: Recalled,
 }
 
 impl Model for Reach {
@@ -55,6 +58,7 @@ impl Model for Reach {
     ghost use Rattle.nova_memory.specs.Reach.{ReachState, IsFound, LeadToFrames};
     ghost use Rattle.nova_memory.specs.Sights.{AreSeen};
     ghost use Rattle.nova_memory.specs.Recents.{AreRecent};
+    ghost use Rattle.nova_memory.specs.Recalled.{AreRecalled};
 
     ghost Value = { ReachState };
 
@@ -70,7 +74,7 @@ impl Model for Reach {
       room = r.frames.room;
     } };
 
-    ghost invariant = { λ r. LeadToFrames (length r.frames.memory.ram + r.frames.consoles) r.nodes.delegations.list × (IfSome r.last (IsFound Mem r.nodes.delegations.list) × (AreSeen r.nodes.delegations.list r.sights × (AreRecent r.nodes.delegations.list r.recents × AreRecent r.nodes.delegations.list r.others))) };
+    ghost invariant = { λ r. LeadToFrames (length r.frames.memory.ram + r.frames.consoles) r.nodes.delegations.list × (IfSome r.last (IsFound Mem r.nodes.delegations.list) × (AreSeen r.nodes.delegations.list r.sights × (AreRecent r.nodes.delegations.list r.recents × (AreRecent r.nodes.delegations.list r.others × AreRecalled r.nodes.delegations.list r.frames.memory r.recalled)))) };
 }
 
 /// What a page leads to through a derivation that covers it.
@@ -150,6 +154,7 @@ impl Reach {
             written: self.written,
             recents: Recents::new(self.recents.pd),
             others: Recents::new(self.recents.pd),
+            recalled: Recalled::none(),
         })
     }
 
@@ -242,7 +247,7 @@ impl Reach {
 
     /// The frame to fetch from.
     #[inline(always)]
-    fn frame_to_fetch(&mut self, address: u32) -> Option<u32>
+    pub(crate) fn frame_to_fetch(&mut self, address: u32) -> Option<u32>
         ensures frame { result ≡ frame_for (reached self.old) execute_right address }
         ensures there { IfSome result (λ frame. frame < length self.old.memory.ram + self.old.consoles) }
         ensures kept { self.new ≡ self.old }
@@ -382,8 +387,7 @@ impl Bus for Reach {
         let Some(frame) = self.frame_to_store(addr) else {
             return self.store_own(addr, width, value);
         };
-        self.frames.store(frame, addr % 4096, width, value);
-        self.written = Some(frame);
+        self.store_in(frame, addr, width, value);
         true
     }
 }

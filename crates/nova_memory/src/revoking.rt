@@ -19,6 +19,7 @@ impl Reach {
         self.sights.forget();
         self.recents.forget();
         self.others.forget();
+        self.recalled.forget();
         part(&mut self.nodes, revoke)
     }
 }

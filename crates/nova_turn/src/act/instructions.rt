@@ -47,7 +47,7 @@ impl Parts {
         ensures log { self.old.reach.room ≤ self.new.reach.room + 1 }
         ensures raised { (reason q0 q1 : ℕ) → result ≡ Outcome.Raise reason q0 q1 → self.new.reach.room ≡ self.old.reach.room }
     {
-        self.contexts.step_beside(regs, &mut self.reach)
+        self.reach.step(regs)
     }
 
     /// Counts the store of an instruction for each other virtual CPU that could see it; then nothing is stored again. Most instructions

@@ -27,6 +27,6 @@ invariant_of-self c =
           (record { few = c.self.invariant.0.few; each = all_more (LeadsToFrames (length r.frames.memory.ram + r.frames.consoles)) f.list x c.self.invariant.0.each (λ is. cc) }),
       (
         subst (λ (g : Delegations). IfSome r.last (IsFound Mem g.list)) (sym c.root.ensures.added) (last_more f.list x r.last c.self.invariant.1.0),
-        (blank_seen c.root.new.self.delegations.list c.forget.new.self c.forget.ensures, (c.forget-2.ensures.none c.root.new.self.delegations.list, c.forget-3.ensures.none c.root.new.self.delegations.list)),
+        (blank_seen c.root.new.self.delegations.list c.forget.new.self c.forget.ensures, (c.forget-2.ensures.none c.root.new.self.delegations.list, (c.forget-3.ensures.none c.root.new.self.delegations.list, c.forget-4.ensures r.nodes.delegations.list c.root.new.self.delegations.list r.frames.memory r.frames.memory c.self.invariant.1.1.1.1.1))),
       ),
     )

@@ -22,7 +22,7 @@ invariant_of-result c =
         (
           subst (λ (s : List (Option Viewers)). AreSeen c.in_ok-nodes.nodes.delegations.list s) (sym c.in_ok-sights.ensures)
               (subst (λ (f : Delegations). AreSeen f.list r.sights) (sym same) c.self.invariant.1.1.0),
-          (c.new.ensures.none c.in_ok-nodes.nodes.delegations.list, c.new-2.ensures.none c.in_ok-nodes.nodes.delegations.list),
+          (c.new.ensures.none c.in_ok-nodes.nodes.delegations.list, (c.new-2.ensures.none c.in_ok-nodes.nodes.delegations.list, c.none.ensures c.in_ok-nodes.nodes.delegations.list frames.memory)),
         ),
       ),
     )

@@ -21,7 +21,7 @@ invariant_of-self c =
           (given_leads frames busy r.nodes.delegations c.args.job.now forest c.requires.job.source c.requires.job.dest c.self.invariant.0),
       (
         last_kept _ c.part.result r.nodes.delegations c.part.new.nodes.delegations _ r.last c.part.ensures.delegations c.part.ensures.memory c.self.invariant.1.0 last,
-        (blank_seen c.part.new.nodes.delegations.list c.forget.new.self c.forget.ensures, (c.forget-2.ensures.none c.part.new.nodes.delegations.list, c.forget-3.ensures.none c.part.new.nodes.delegations.list)),
+        (blank_seen c.part.new.nodes.delegations.list c.forget.new.self c.forget.ensures, (c.forget-2.ensures.none c.part.new.nodes.delegations.list, (c.forget-3.ensures.none c.part.new.nodes.delegations.list, c.forget-4.ensures r.nodes.delegations.list c.part.new.nodes.delegations.list r.frames.memory r.frames.memory c.self.invariant.1.1.1.1.1))),
       ),
     )
 

@@ -5,6 +5,7 @@ use Rattle.nova_range.specs.declared.range.Kind.TheVariants.{Mem}
 use Rattle.nova_model.specs.Delegations.{covers}
 use Rattle.nova_memory.specs.Reach.{LeadToFrames, ReachState}
 use Rattle.nova_memory.specs.Sights.{AreSeen}
+use Rattle.nova_memory.specs.Recalled.{AreRecalled}
 use Rattle.nova_memory.specs.Recents.{AreRecent}
 use Rattle.nova_nodes.specs.NodesStates.{NodesState}
 use Rattle.nova_memory.proofs.Placed.{at_found, page_found}
@@ -20,7 +21,7 @@ invariant_of-self c =
             c.at-self-inside.ensures.placed,
         (
           subst (λ (n : NodesState). AreSeen n.delegations.list r.sights) (sym same) c.self.invariant.1.1.0,
-          subst (λ (n : NodesState). AreRecent n.delegations.list r.recents × AreRecent n.delegations.list r.others) (sym same) c.self.invariant.1.1.1,
+          subst (λ (n : NodesState). AreRecent n.delegations.list r.recents × (AreRecent n.delegations.list r.others × AreRecalled n.delegations.list r.frames.memory r.recalled)) (sym same) c.self.invariant.1.1.1,
         ),
       ),
     )

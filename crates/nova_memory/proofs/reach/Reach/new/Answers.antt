@@ -11,6 +11,6 @@ invariant_of-result c = (
       (new_leads c.in_ok-frames.frames c.args.ram c.args.consoles c.args.log_room c.requires.ram c.requires.consoles c.in_ok-frames.ensures),
   (
     tt,
-    (blank_seen c.in_ok-nodes.nodes.delegations.list c.in_ok-sights.sights c.in_ok-sights.ensures, (c.new-3.ensures.none c.in_ok-nodes.nodes.delegations.list, c.new-4.ensures.none c.in_ok-nodes.nodes.delegations.list)),
+    (blank_seen c.in_ok-nodes.nodes.delegations.list c.in_ok-sights.sights c.in_ok-sights.ensures, (c.new-3.ensures.none c.in_ok-nodes.nodes.delegations.list, (c.new-4.ensures.none c.in_ok-nodes.nodes.delegations.list, c.none.ensures c.in_ok-nodes.nodes.delegations.list c.in_ok-frames.frames.memory))),
   ),
 )

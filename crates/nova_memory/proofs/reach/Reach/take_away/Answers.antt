@@ -10,6 +10,6 @@ invariant_of-self c =
           c.self.invariant.0,
       (
         tt,
-        (blank_seen c.part.new.nodes.delegations.list c.forget.new.self c.forget.ensures, (c.forget-2.ensures.none c.part.new.nodes.delegations.list, c.forget-3.ensures.none c.part.new.nodes.delegations.list)),
+        (blank_seen c.part.new.nodes.delegations.list c.forget.new.self c.forget.ensures, (c.forget-2.ensures.none c.part.new.nodes.delegations.list, (c.forget-3.ensures.none c.part.new.nodes.delegations.list, c.forget-4.ensures r.nodes.delegations.list c.part.new.nodes.delegations.list r.frames.memory r.frames.memory c.self.invariant.1.1.1.1.1))),
       ),
     )
