@@ -94,11 +94,11 @@ coming_calls k ec cpu handler kept (Here acts) calls =
     let same : acts.state ≡ Calling handler = same_Some acts.state (Calling handler) (sym acts.is ∙ calls) in
     let both : true ≡ false = sym acts.acts ∙ ap acts_itself same in cc
 
-record StaysComing (k : KernelState) (turns : List ℕ) (sc ec cpu : ℕ) : Type 0 where
-  stays : StaysRunnable k cpu ec turns
-  none : paid_in k sc turns ≡ 0
+pub record StaysComing (k : KernelState) (turns : List ℕ) (sc ec cpu : ℕ) : Type 0 where
+  pub stays : StaysRunnable k cpu ec turns
+  pub none : paid_in k sc turns ≡ 0
 
-stays_coming : (k : KernelState) (turns : List ℕ) (sc ec cpu priority quantum : ℕ) (b : Budget) → IsReached k → IsSchedule k sc ec cpu priority quantum b → IsComing k ec cpu →
+pub stays_coming : (k : KernelState) (turns : List ℕ) (sc ec cpu priority quantum : ℕ) (b : Budget) → IsReached k → IsSchedule k sc ec cpu priority quantum b → IsComing k ec cpu →
     NeverActs k ec turns → StaysComing k turns sc ec cpu
 stays_coming k [] sc ec cpu priority quantum b r its coming never = record { stays = tt; none = refl }
 stays_coming k (by ∷ turns) sc ec cpu priority quantum b r its coming (first, never) =

@@ -181,7 +181,7 @@ clocks_rise : (k : KernelState) (turns : List ℕ) (cpu : ℕ) → clock k.times
 clocks_rise k [] cpu = omega arith
 clocks_rise k (by ∷ turns) cpu = let first = clock_rises k by cpu in let rest = clocks_rise (after k by) turns cpu in omega (arith, first, rest)
 
-dues : (k : KernelState) (turns : List ℕ) (cpu at : ℕ) → IsReached k → clock (run k turns).times cpu ≤ at →
+pub dues : (k : KernelState) (turns : List ℕ) (cpu at : ℕ) → IsReached k → clock (run k turns).times cpu ≤ at →
     due_in k cpu turns + to_come (run k turns) cpu at ≤ to_come k cpu at + sets_in k cpu turns
 dues k [] cpu at r later = omega arith
 dues k (by ∷ turns) cpu at r later =

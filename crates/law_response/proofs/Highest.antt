@@ -58,7 +58,7 @@ sum_none : (here : Bool) → Sum here true false
 sum_none true = refl
 sum_none false = refl
 
-turn_goes : (k : KernelState) (by sc ec cpu priority quantum : ℕ) (b : Budget) → IsReached k → IsSchedule k sc ec cpu priority quantum b → OutranksOthers k cpu sc priority →
+pub turn_goes : (k : KernelState) (by sc ec cpu priority quantum : ℕ) (b : Budget) → IsReached k → IsSchedule k sc ec cpu priority quantum b → OutranksOthers k cpu sc priority →
     (by ≡ cpu → is_due k by ≡ false → MayRun k ec) → Sum (by == cpu) (is_due k by) (is_paid_by sc (next_to_act k by))
 turn_goes k by sc ec cpu priority quantum b r its outranks may = by_due (due_on k.times by) refl
   where

@@ -68,7 +68,7 @@ ends_within s before turns sc ec cpu priority quantum own response b demand its 
         omega (arith, fewer, paid, enough, most, count, length)
 
 -- A job of more than what is left of a quantum: its peers come between, at most once for each renewal.
-renewed_within : (renewals rounds full paid own : ℕ) → renewals * full < paid + full → paid < own → own ≤ rounds * full + 1 → renewals ≤ rounds
+pub renewed_within : (renewals rounds full paid own : ℕ) → renewals * full < paid + full → paid < own → own ≤ rounds * full + 1 → renewals ≤ rounds
 renewed_within renewals rounds full paid own often fewer most = elim (cases_lt rounds renewals) [
   | inl more ↦
       absurd (let least = mul-le (rounds + 1) full renewals full (omega (arith, more)) (omega arith) in

@@ -25,3 +25,5 @@ pub mod Drivers
 pub mod Taken
 pub mod Rung
 pub mod Recalled
+pub mod Prefixes
+pub mod Reactions

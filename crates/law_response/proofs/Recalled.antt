@@ -28,7 +28,7 @@ use Rattle.law_turns.proofs.Passing.{Ended, Same, passing_each, passing_ending}
 use Rattle.law_response.specs.Waits.{HasAwaited, IsSchedule, NeverActs}
 use Rattle.law_response.proofs.Items.{of_reached}
 use Rattle.law_response.proofs.Responding.{reached_is_kept}
-use Rattle.law_response.proofs.Selves.{acts_in_time, itself_after}
+use Rattle.law_response.proofs.Selves.{acts_in_time, itself_after, stays_itself}
 use Rattle.law_response.proofs.Waiting.{IsReached, reached_after}
 
 abbrev IsRecalled : Option EcState → Type 0
@@ -103,10 +103,15 @@ recalled_run k [] ec r at asked never = asked
 recalled_run k (by ∷ turns) ec r at asked (first, never) =
     recalled_run (after k by) turns ec (reached_after k by r) (itself_after k by ec Ready (reached_is_kept k r) at refl first) (recalled_after k by ec r at asked first) never
 
+pub recalled_deed : (k : KernelState) (turns : List ℕ) (ec : ℕ) → IsReached k → state_in k.contexts ec ≡ Some Ready → IsRecalled (context_at k ec) → NeverActs k ec turns →
+    deed (run k turns) ec ≡ Raises recall 0 0
+recalled_deed k turns ec r at asked never =
+    recalled (run k turns) ec (context_state (run k turns).contexts ec Ready (stays_itself k turns ec Ready r at refl never).still) (recalled_run k turns ec r at asked never)
+
 pub recalled_in_time : (s : Scenario) (before turns : List ℕ) (sc ec cpu priority quantum : ℕ) (b : Budget) → IsSchedule (run (boot s) before) sc ec cpu priority quantum b →
     state_in (run (boot s) before).contexts ec ≡ Some Ready → (context (run (boot s) before) ec).recall ≡ true → NeverActs (run (boot s) before) ec turns →
     HasAwaited (run (boot s) before) turns sc ec cpu priority b × (deed (run (run (boot s) before) turns) ec ≡ Raises recall 0 0)
 recalled_in_time s before turns sc ec cpu priority quantum b its at asked never =
     let k = run (boot s) before in
     let so = acts_in_time s before turns sc ec cpu priority quantum b Ready its at refl never in
-    (so.0, recalled (run k turns) ec (context_state (run k turns).contexts ec Ready so.1) (recalled_run k turns ec (record { scenario = s; turns = before; is = refl }) at asked never))
+    (so.0, recalled_deed k turns ec (record { scenario = s; turns = before; is = refl }) at asked never)

@@ -120,7 +120,7 @@ pub record StaysItself (k : KernelState) (turns : List ℕ) (ec : ℕ) (s : Stat
   pub awaits : Awaits k ec turns
   pub still : state_in (run k turns).contexts ec ≡ Some s
 
-stays_itself : (k : KernelState) (turns : List ℕ) (ec : ℕ) (s : State) → IsReached k → state_in k.contexts ec ≡ Some s → acts_itself s ≡ true → NeverActs k ec turns → StaysItself k turns ec s
+pub stays_itself : (k : KernelState) (turns : List ℕ) (ec : ℕ) (s : State) → IsReached k → state_in k.contexts ec ≡ Some s → acts_itself s ≡ true → NeverActs k ec turns → StaysItself k turns ec s
 stays_itself k [] ec s r at its never = record { awaits = tt; still = at }
 stays_itself k (by ∷ turns) ec s r at its (first, never) =
     let kept = reached_is_kept k r in

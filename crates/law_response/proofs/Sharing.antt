@@ -115,7 +115,7 @@ part_most cpu priority stamp sc n (Sc ec its_cpu its_priority quantum) b most ow
     by_test true false same true is = most ec its_cpu its_priority quantum refl
     by_test true false same false is = omega arith
 
-before_others : (k : KernelState) (sc ec cpu priority quantum : ℕ) (b : Budget) (r : IsReached k) → 1 ≤ r.scenario.root.quantum → IsSchedule k sc ec cpu priority quantum b →
+pub before_others : (k : KernelState) (sc ec cpu priority quantum : ℕ) (b : Budget) (r : IsReached k) → 1 ≤ r.scenario.root.quantum → IsSchedule k sc ec cpu priority quantum b →
     ahead k cpu priority b.stamp ≤ others k cpu priority sc
 before_others k sc ec cpu priority quantum b r least its =
     ahead_others cpu priority sc b.stamp 0 k.objects k.budgets fits

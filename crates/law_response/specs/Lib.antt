@@ -6,3 +6,4 @@ pub mod Helping
 pub mod Served
 pub mod Items
 pub mod Taken
+pub mod Reactions

@@ -2,7 +2,7 @@
 //! Each holds in every state that turns reach from a boot state, and over every list of further turns, of any processors.
 #![tactic(auto)]
 
-ghost use Rattle.std.specs.Prelude.{◌≡◌, ◌≢◌, ◌<◌, ◌≤◌, ◌+◌, ◌-◌, ◌*◌, ◌∷◌, ℕ, Bool, List, Contains, None, Ok, Some, false, length, replicate, slice_get, true};
+ghost use Rattle.std.specs.Prelude.{◌≡◌, ◌≢◌, ◌<◌, ◌≤◌, ◌+◌, ◌-◌, ◌*◌, ◌∷◌, ◌++◌, ℕ, Bool, List, Contains, None, Ok, Some, false, length, replicate, slice_get, true};
 ghost use Rattle.nova_calls.specs.Hypercalls.{call_of};
 ghost use Rattle.nova_calls.specs.declared.call.Call.TheVariants as asks;
 ghost use Rattle.nova_utcb.specs.Messages.{has_counts};
@@ -30,10 +30,11 @@ ghost use Rattle.law_revocation.specs.Whole.{left};
 ghost use Rattle.law_response.specs.Creating.{NobodyCreates, NobodyElseCreates, OutranksOthers};
 ghost use Rattle.nova_gsi.specs.Deadlines.{rings_left};
 ghost use Rattle.nova_gsi.specs.Firings.{moment};
-ghost use Rattle.law_response.specs.Dues.{AreDueBounded, IsPrompt};
+ghost use Rattle.law_response.specs.Dues.{AreDueBounded, IsPrompt, deadlines_on};
 ghost use Rattle.law_response.specs.Helping.{callers, goes_on_helping};
 ghost use Rattle.law_response.specs.Items.{GivesAlong, turns_of_items};
 ghost use Rattle.law_response.specs.Jobs.{MeetsDemand};
+ghost use Rattle.law_response.specs.Reactions.{IsAtMoment, IsReaction, rings_within};
 ghost use Rattle.law_response.specs.Served.{ServesInRounds};
 ghost use Rattle.law_response.specs.Taken.{HasHelped, IsTaken};
 ghost use Rattle.law_response.specs.Waits.{ActsItself, Awaits, GoesFirst, HasAwaited, HasShared, HasWaited, IsInTime, IsSchedule, MayRun, NeverActs, StaysRunnable, acts_itself, ahead, due_in, full_quantum, others, paid_in, turns_at, turns_left};
@@ -247,6 +248,34 @@ pub fn a_job_ends_within_its_response_time()
         demand response + (ahead (run (boot scenario) before) cpu priority b.stamp + (own + rounds * others (run (boot scenario) before) cpu priority sc)) ≤ response →
         paid_in (run (boot scenario) before) sc turns < own →
         turns_at cpu turns < response }
+{}
+
+/// From the moment of a source, for which a driver waits that outranks all others of its processor, the processor has fewer than `response`
+/// turns until a guest there, which the driver recalls, acts, and then raises the exit of the recall (`exit`). Enough turns are: those that
+/// rings, deadlines that stand and deadlines begun take, the driver's own and those of a greater priority than the guest's (`work`), the full
+/// quanta of the guest's equals, and 1. It has fewer, too, until the guest has paid for `own` turns, as for the exit, its handler, and the
+/// guest's next instruction, if it may run until then (`job`); its equals then come again for each of `rounds` renewals of its quantum.
+pub fn a_moment_reaches_a_guest_in_time()
+    ensures exit { (scenario : Scenario) (before waits works rest : List ℕ) (cpu driver_sc driver guest_sc guest priority quantum work begun response : ℕ) →
+        1 ≤ scenario.root.quantum →
+        IsAtMoment (run (boot scenario) before) cpu driver_sc driver guest_sc guest priority quantum →
+        IsReaction (run (boot scenario) before) waits works rest cpu driver_sc driver priority work begun →
+        state_in (run (run (boot scenario) before) (waits ++ works)).contexts guest ≡ Some Ready →
+        (context (run (run (boot scenario) before) (waits ++ works)) guest).recall ≡ true →
+        NeverActs (run (run (boot scenario) before) (waits ++ works)) guest rest →
+        rings_within (run (boot scenario) before) cpu response + (deadlines_on (run (boot scenario) before) cpu
+        + (begun + (work + (others (run (boot scenario) before) cpu priority guest_sc + 1)))) ≤ response →
+        (turns_at cpu ((waits ++ works) ++ rest) < response) × (deed (run (run (boot scenario) before) ((waits ++ works) ++ rest)) guest ≡ Raises recall 0 0) }
+    ensures job { (scenario : Scenario) (before waits works rest : List ℕ) (cpu driver_sc driver guest_sc guest priority quantum work begun own rounds response : ℕ) →
+        1 ≤ scenario.root.quantum →
+        IsAtMoment (run (boot scenario) before) cpu driver_sc driver guest_sc guest priority quantum →
+        IsReaction (run (boot scenario) before) waits works rest cpu driver_sc driver priority work begun →
+        StaysRunnable (run (run (boot scenario) before) (waits ++ works)) cpu guest rest →
+        own ≤ rounds * full_quantum quantum + 1 →
+        rings_within (run (boot scenario) before) cpu response + (deadlines_on (run (boot scenario) before) cpu
+        + (begun + (work + (own + (others (run (boot scenario) before) cpu priority guest_sc + rounds * others (run (boot scenario) before) cpu priority guest_sc))))) ≤ response →
+        paid_in (run (run (boot scenario) before) (waits ++ works)) guest_sc rest < own →
+        turns_at cpu ((waits ++ works) ++ rest) < response }
 {}
 
 /// A call may never be taken between equals, by an example: a handler has no queue, and in each of the caller's turns it is at work for
