@@ -15,7 +15,7 @@ from pathlib import Path
 sys.path.insert(0, str(Path(__file__).resolve().parent))
 from leaks import LEAKS  # noqa: E402
 from parts import difference, free_part, part  # noqa: E402
-from premises import broken  # noqa: E402
+from premises import at_work, broken  # noqa: E402
 from scenarios import SOURCES, Attacker, Free, SetUp, Worker  # noqa: E402
 
 Blocks = list[list[int]]  # a processor and how many turns it has, in order
@@ -83,6 +83,7 @@ def compared(program: Program, name: str, scenarios: list[str], places: list[Blo
     apart = difference(parts[0][0], parts[1][0])
     if apart:
         raise SystemExit(f"{name}: the sides differ where they are to be compared: {apart}")
+    premises |= at_work(parts[0][1][0])
     return premises, difference(parts[0][1], parts[1][1]), len(parts[0][1][0])
 
 

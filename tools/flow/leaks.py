@@ -7,11 +7,34 @@ from __future__ import annotations
 
 from dataclasses import dataclass
 
-from scenarios import ALL, ALL_PAGES, COMMON, CONTEXT, LENT_PAGE, OWN, SHARED, SOURCES, STARTUP_AT, Fixed, SetUp, call, li, message, word
+from scenarios import (
+    ALL,
+    ALL_PAGES,
+    COMMON,
+    CONSOLE,
+    CONTEXT,
+    HANDLER,
+    LENT_PAGE,
+    OWN,
+    PORTAL,
+    SERVER,
+    SHARED,
+    SOURCES,
+    STARTUP_AT,
+    Fixed,
+    SetUp,
+    call,
+    li,
+    message,
+    word,
+)
 
 COUNTS = ["addi x9, x9, 1"]
 RESTS = ["addi x0, x0, 0"]
 SPINS = [li(9, 170), "spin: addi x9, x9, -1", "bne x9, x0, spin"]  # longer than until the place where the runs are compared
+
+
+ONE_MORE = call(6, 203, 0, 0) + ["ebreak"]  # the root makes a semaphore, when the side is there
 
 
 def at(page: int, line: str) -> list[str]:
@@ -47,6 +70,7 @@ class Leak:
     others: tuple[list[str], list[str]] = (RESTS, RESTS)
     once: tuple[list[str], list[str]] = ([], [])
     root: tuple[list[str], list[str]] = (["ebreak"], ["ebreak"])
+    elsewhere: tuple[list[str], list[str]] = (["ebreak"], ["ebreak"])  # of the root, on the other side's processor
     first: int = 1  # the processor on which a side is made first
     handlers: tuple[type[Fixed], type[Fixed]] = (Fixed, Fixed)
 
@@ -55,7 +79,7 @@ class Leak:
         set_up = SetUp(walled=True, leak=name, sources=tuple(f"source {cpu} {400 + 40 * cpu} 30 1000000" for cpu in range(SOURCES)))
         told = [] if self.side is COUNTS else Fixed(0, []).told()
         first, second = self.handlers
-        return [set_up.text([first(0, self.side + told), second(1, self.others[n], SPINS + self.once[n])], self.root[n]) for n in (0, 1)]
+        return [set_up.text([first(0, self.side + told), second(1, self.others[n], SPINS + self.once[n])], self.root[n], self.elsewhere[n]) for n in (0, 1)]
 
 
 LEAKS = {
@@ -115,5 +139,23 @@ LEAKS = {
         "an alarm of another processor rings at the side's semaphore: a down tells how many turns came there",
         frozenset({"HasHome.rings"}),
         call(12, SHARED, 1),
+    ),
+    "answers": Leak(
+        "a server of both, with a handler for each, answers the side how often the other side called",
+        frozenset({"IsClosed.capabilities", "IsSide.holds"}),
+        SPINS + ["again:", "lui x5, 0xfffff", "sw x0, 0(x5)"] + call(0, SERVER, 0) + ["lw x10, 16(x5)", li(7, CONSOLE[0] * 4096), "sb x10, 0(x7)", "j again"],
+        others=(RESTS, ["lui x5, 0xfffff", "sw x0, 0(x5)"] + call(0, SERVER, 0)),
+    ),
+    "gives": Leak(
+        "the side gives a capability: the event has the number of the range, which tells how many there are",
+        frozenset({"IsAtWork.state"}),
+        SPINS + message([(word("obj", HANDLER, 0, 1), 100 << 12 | 1)]) + call(0, PORTAL, 0),
+        elsewhere=(["ebreak"], ONE_MORE),
+    ),
+    "creates": Leak(
+        "the side creates a semaphore, whose number tells how many objects there are",
+        frozenset({"IsAtWork.calls"}),
+        SPINS + call(6, 100, OWN, 0),
+        elsewhere=(["ebreak"], ONE_MORE),
     ),
 }

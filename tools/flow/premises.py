@@ -99,6 +99,22 @@ def of_processors(state: State) -> set[str]:
     return found
 
 
+GIVEN = {"made", "gone"}  # events of items and revokes
+CREATES = {"2", "3", "4", "5", "6", "7"}  # the creates and revoke
+
+
+def at_work(events: list[list[str]]) -> set[str]:
+    """Whether these events of the side's processor are of a side that asks for no create and no revoke, and sends no items."""
+    found = set()
+    for event in events:
+        kind, a = event[2], event[3]
+        if kind in GIVEN:
+            found.add("IsAtWork.state")
+        if kind == "answer" and a in CREATES:
+            found.add("IsAtWork.calls")
+    return found
+
+
 def broken(report: str) -> set[str]:
     """The premises that don't hold."""
     state = State(report)

@@ -15,9 +15,14 @@ COMMON = [0x10A, 0x12A]  # a page that both sides have where a leak says so
 LENT_PAGE = 0x160  # where the root has a page that a side gave it
 FAR = 9_000_000  # a moment that no run reaches: each processor has a source, so that it is never idle
 SOURCES = 3
-OWN, HANDLER, PORTAL, SHARED, LENT, CONTEXT, STARTUP_AT = 1, 2, 3, 4, 6, 7, 16  # selectors of a side's domain
+OWN, HANDLER, PORTAL, SHARED, LENT, CONTEXT, SERVER, STARTUP_AT = 1, 2, 3, 4, 6, 7, 8, 16  # selectors of a side's domain
 ALL, ALL_PAGES = (20 << 7) | (31 << 2) | 3, (20 << 7) | (7 << 2) | 1
 STARTUP = ["lui x5, 0xfffff", "sw x10, 28(x5)", "addi x6, x0, 2", "sw x6, 16(x5)", "sw x0, 0(x5)", "addi x17, x0, 1", "ecall"]
+
+
+# a server's handlers: one answers what a word in the server's memory is, and the other counts calls there
+ANSWERS = ["lui x5, 0xfffff", "lui x7, 9", "lw x6, 0(x7)", "sw x6, 16(x5)", "addi x6, x0, 1", "sw x6, 0(x5)", "addi x17, x0, 1", "ecall"]
+COUNTS_CALLS = ["lui x5, 0xfffff", "lui x7, 9", "lw x6, 0(x7)", "addi x6, x6, 1", "sw x6, 0(x7)", "sw x0, 0(x5)", "addi x17, x0, 1", "ecall"]
 
 
 def word(kind: str, base: int, order: int, rights: int) -> int:
@@ -231,7 +236,7 @@ class SetUp:
     def items(self, side: int) -> list[tuple[int, int]]:
         s = 400 + 20 * side
         items = [(word("obj", s + 1, 0, 1 if self.walled else 7), HANDLER), (word("obj", s + 4, 0, 7), PORTAL), (word("obj", s + 3, 0, 4), STARTUP_AT)]
-        if not self.walled or self.leak == "create" and side == 1:
+        if not self.walled or self.leak == "create" and side == 1 or self.leak == "creates" and side == 0:
             items.append((word("obj", s, 0, 1), OWN))
         if self.walled:
             items += [(word("obj", self.semaphore(side), 0, 3), SHARED), (word("obj", s + 6, 0, 1), CONTEXT)]
@@ -239,6 +244,8 @@ class SetUp:
             items = items[:-1] + ([(word("obj", 426, 0, 1), CONTEXT)] if side == 0 else [])
         if self.leak == "stranger" and side == 1:
             items.append((word("obj", s + 8, 0, 4), STARTUP_AT + 1))
+        if self.leak == "answers":
+            items.append((word("obj", 211 + 2 * side, 0, 2), SERVER))
         return items
 
     def maker(self, side: int, last: list[str]) -> list[str]:
@@ -259,8 +266,8 @@ class SetUp:
             lines += message([(word("mem", LENT_PAGE, 0, 1), COMMON[0] << 12 | 1)]) + call(0, s + 2, 0)
         return lines + last
 
-    def text(self, sides: list[Side], last: list[str] | None = None) -> str:
-        """The scenario; `last` is what the maker on side 0's processor does in the end."""
+    def text(self, sides: list[Side], last: list[str] | None = None, other: list[str] | None = None) -> str:
+        """The scenario; `last` and `other` are what the makers on the processors of sides 0 and 1 do in the end."""
         view = [(word("mem", 16, 3, 7), 0), (word("mem", 64, 0, 3), 8), (word("mem", 32, 3, 7), 0x20), (word("mem", 65, 0, 3), 0x28)]
         if self.leak == "frame":
             view += [(word("mem", 48, 0, 3), 0x0A), (word("mem", 48, 0, 3), 0x2A)]
@@ -268,6 +275,9 @@ class SetUp:
             view.append((word("mem", 48, 0, 1), 0x2A))
         root = call(3, 200, 0, 0) + call(5, 201, 0, 200, 0, 0x4000)
         root += ["lui x5, 0xfffff", li(6, word("mem", 0x100, 6, 7)), "sw x6, 8(x5)", "sw x0, 0(x5)"] + call(0, 201, 0) + call(6, 202, 0, 0)
+        if self.leak == "answers":  # the root's domain serves both sides, by a handler on the processor of each
+            for side in (0, 1):
+                root += call(3, 210 + 2 * side, 0, 1 + side, 0, 0) + call(5, 211 + 2 * side, 0, 210 + 2 * side, 0, 0x8000 + 0x100 * side)
         for side in (0, 1):  # a thread of the root's on each side's processor, which makes the side there
             s, cpu = 300 + 10 * side, 1 + side
             root += call(3, s, 0, cpu, 0, 0) + call(5, 320 + 16 * side, 0, s, 0, 0x5000) + call(11, 320 + 16 * side, 0x6000 + 0x1000 * side)
@@ -279,6 +289,7 @@ class SetUp:
             + image(0x4000, message([(w, place << 12 | 1) for w, place in view]) + ["addi x17, x0, 1", "ecall"])
             + image(0x5000, STARTUP)
             + image(0x6000, self.maker(0, last or ["ebreak"]))
-            + image(0x7000, self.maker(1, ["ebreak"]))
+            + image(0x7000, self.maker(1, other or ["ebreak"]))
+            + (image(0x8000, ANSWERS) + image(0x8100, COUNTS_CALLS) if self.leak == "answers" else "")
             + "".join(side.images() for side in sides)
         )

@@ -46,7 +46,7 @@ use Rattle.law_turns.specs.Asked.{IsCalling}
 use Rattle.law_integrity.specs.Rights.{Again, AtCall}
 use Rattle.law_integrity.proofs.Confining.{waits_edge}
 use Rattle.law_flow.specs.Flow.{HasSameClock, IsAtWork, IsCallAtWork, is_at_work}
-use Rattle.law_flow.proofs.Seeing.{Both, admitted_same, base_same, context_same, exit_admitted_same, handler_mine, handler_same, identifier_same, instruction_same, ip_same, local_same, message_same, mtd_same, named_mine, named_same, pd_same, processor_same, semaphore_same, thread_same, told_held, told_of}
+use Rattle.law_flow.proofs.Seeing.{Both, admitted_same, base_same, caller_same, context_same, exit_admitted_same, handler_mine, handler_same, identifier_same, instruction_same, ip_same, local_same, message_same, mtd_same, named_mine, named_same, pd_same, processor_same, semaphore_same, thread_same, told_held, told_of}
 
 -- CALLS
 
@@ -54,16 +54,16 @@ next_by : {A B : Type 0} (o : Result A Status) (f g : A → Result B Status) →
 next_by (Err status) f g same = refl
 next_by (Ok x) f g same = same x refl
 
-called_same : (k l : KernelState) (S P : ℕ → Type 0) → Both k l S P → (ec pt : ℕ) → P ec → P pt → (a : Admit) → called l ec pt a ≡ called k ec pt a
-called_same k l S P b ec pt p q (Refused status) = refl
-called_same k l S P b ec pt p q Help = ap (λ (h : ℕ). Ok (deeds.Helps h)) (handler_same k l S P b pt q)
-called_same k l S P b ec pt p q Send =
+called_same : (k l : KernelState) (S P : ℕ → Type 0) → Both k l S P → (ec pt : ℕ) → P ec → S (pd_of k ec) → P pt → (a : Admit) → called l ec pt a ≡ called k ec pt a
+called_same k l S P b ec pt p s q (Refused status) = refl
+called_same k l S P b ec pt p s q Help = ap (λ (h : ℕ). Ok (deeds.Helps h)) (handler_same k l S P b pt q)
+called_same k l S P b ec pt p s q Send =
     ap₂ (λ (h ip : ℕ). Ok (deeds.Calls h ip (identifier l pt) (has_items (message l ec)))) (handler_same k l S P b pt q) (ip_same k l S P b pt q)
-    ∙ ap₂ (λ (n : ℕ) (m : List ℕ). Ok (deeds.Calls (handler_of k pt) (ip_of k pt) n (has_items m))) (identifier_same k l S P b pt q) (message_same k l S P b ec p)
+    ∙ ap₂ (λ (n : ℕ) (m : List ℕ). Ok (deeds.Calls (handler_of k pt) (ip_of k pt) n (has_items m))) (identifier_same k l S P b pt q) (message_same k l S P b ec p s)
 
-replied_same : (k l : KernelState) (S P : ℕ → Type 0) → Both k l S P → (ec : ℕ) → P ec → (o : Option (ℕ × Mark)) → replied l ec o ≡ replied k ec o
-replied_same k l S P b ec p None = refl
-replied_same k l S P b ec p (Some (caller, mark)) = ap (λ (m : List ℕ). Ok (deeds.Replies caller mark (has_items m))) (message_same k l S P b ec p)
+replied_same : (k l : KernelState) (S P : ℕ → Type 0) → Both k l S P → (ec : ℕ) → P ec → S (pd_of k ec) → (o : Option (ℕ × Mark)) → replied l ec o ≡ replied k ec o
+replied_same k l S P b ec p s None = refl
+replied_same k l S P b ec p s (Some (caller, mark)) = ap (λ (m : List ℕ). Ok (deeds.Replies caller mark (has_items m))) (message_same k l S P b ec p s)
 
 ticks_same : (o p : Option Budget) → option_map (λ (b : Budget). b.ticks) o ≡ option_map (λ (b : Budget). b.ticks) p → ticks_in o ≡ ticks_in p
 ticks_same None None h = refl
@@ -78,18 +78,18 @@ row_same : (k l : KernelState) (S P : ℕ → Type 0) → Both k l S P → (ec :
     row l ec (pd_of k ec) c ≡ row k ec (pd_of k ec) c
 row_same k l S P b ec p s (asks.Call portal flag) works =
     ap₂ (λ (m : List ℕ) (o : Result ℕ Status). unless (not (has_counts m)) BadPar (and_then o (λ pt. called l ec pt (admitted l.contexts ec (handler_of l pt) flag))))
-    (message_same k l S P b ec p) (named_same k l S P b (pd_of k ec) is_pt call_right portal s)
+    (message_same k l S P b ec p s) (named_same k l S P b (pd_of k ec) is_pt call_right portal s)
     ∙ ap (unless (not (has_counts (message k ec))) BadPar) (next_by (named k (pd_of k ec) is_pt call_right portal) _ _ (λ pt is.
     let q = named_mine k l S P b (pd_of k ec) is_pt call_right portal pt s is in
     let h = handler_mine k l S P b (pd_of k ec) call_right portal pt s is in
     ap (λ (n : ℕ). called l ec pt (admitted l.contexts ec n flag)) (handler_same k l S P b pt q)
     ∙ ap (called l ec pt) (admitted_same k l S P b ec (handler_of k pt) flag p h)
-    ∙ called_same k l S P b ec pt p q (admitted k.contexts ec (handler_of k pt) flag)))
+    ∙ called_same k l S P b ec pt p s q (admitted k.contexts ec (handler_of k pt) flag)))
 row_same k l S P b ec p s asks.Reply works =
     ap₂ (λ (t : Bool) (m : List ℕ). unless (not t) BadPar (unless (not (has_counts m)) BadPar (replied l ec (context l ec).caller)))
-    (local_same k l S P b ec p) (message_same k l S P b ec p)
+    (local_same k l S P b ec p) (message_same k l S P b ec p s)
     ∙ ap (λ (r : Result Deed Status). unless (not (is_local_thread k ec)) BadPar (unless (not (has_counts (message k ec))) BadPar r))
-    (ap (λ (x : EcState). replied l ec x.caller) (context_same k l S P b ec p) ∙ replied_same k l S P b ec p (context k ec).caller)
+    (ap (λ (x : EcState). replied l ec x.caller) (context_same k l S P b ec p s) ∙ replied_same k l S P b ec p s (context k ec).caller)
 row_same k l S P b ec p s (asks.Lookup range) works =
     ap (λ (o : Option (Range × Rights)). Ok (deeds.Tells LOOKUP (word_of o)))
     (told_held (find (covers range.kind (pd_of k ec) range.base) l.delegations.list)
@@ -132,7 +132,7 @@ row_same k l S P b ec p s (asks.Revoke range own) works = absurd works
 hypercall_same : (k l : KernelState) (S P : ℕ → Type 0) → Both k l S P → (ec : ℕ) → P ec → S (pd_of k ec) → IsCallAtWork (HasSameClock k l ec) (call_of (context k ec).regs) →
     hypercall l ec (pd_of l ec) (context l ec).regs ≡ hypercall k ec (pd_of k ec) (context k ec).regs
 hypercall_same k l S P b ec p s works =
-    ap₂ (λ (pd : ℕ) (x : EcState). hypercall l ec pd x.regs) (pd_same k l S P b ec p) (context_same k l S P b ec p)
+    ap₂ (λ (pd : ℕ) (x : EcState). hypercall l ec pd x.regs) (pd_same k l S P b ec p) (context_same k l S P b ec p s)
     ∙ ap (or_refuses (reg (context k ec).regs 17)) (by_call (call_of (context k ec).regs) works)
   where
     by_call : (o : Result Call Status) → IsCallAtWork (HasSameClock k l ec) o → and_then o (row l ec (pd_of k ec)) ≡ and_then o (row k ec (pd_of k ec))
@@ -183,7 +183,7 @@ calling k ec reason q0 q1 state none at h =
 in_same : (k l : KernelState) (S P : ℕ → Type 0) → Both k l S P → (ec : ℕ) → P ec → S (pd_of k ec) → IsAtWork (HasSameClock k l ec) k ec → (t : State) → (context k ec).state ≡ t → is_at_work t ≡ true →
     deed_in l ec t ≡ deed_in k ec t
 in_same k l S P b ec p s works Ready is calm =
-    ap (λ (x : EcState). ready l ec x.recall) (context_same k l S P b ec p) ∙ by_recall (context k ec).recall refl
+    ap (λ (x : EcState). ready l ec x.recall) (context_same k l S P b ec p s) ∙ by_recall (context k ec).recall refl
   where
     by_signal : (context k ec).recall ≡ false → (reason q0 q1 : ℕ) → instruction k ec ≡ Raised reason q0 q1 → (t : Bool) → ((reason == environment_call) && is_thread k ec) ≡ t →
         signalled l ec reason q0 q1 t ≡ signalled k ec reason q0 q1 t
@@ -202,7 +202,7 @@ in_same k l S P b ec p s works Ready is calm =
 in_same k l S P b ec p s works (Exiting reason q0 q1) is calm = exits_same k l S P b ec reason q0 q1 p s
 in_same k l S P b ec p s works (Sending reason q0 q1 handler) is calm = exits_same k l S P b ec reason q0 q1 p s
 in_same k l S P b ec p s works (Calling handler) is calm =
-    ap (λ (x : EcState). deeds.Aborts handler (mark_in x.caller)) (context_same k l S P b handler (b.side.edges ec handler p (waits_edge k ec handler is)))
+    ap (λ (o : Option (ℕ × Mark)). deeds.Aborts handler (mark_in o)) (caller_same k l S P b handler (b.side.edges ec handler p (waits_edge k ec handler is)))
 in_same k l S P b ec p s works (Helping handler) is calm = hypercall_same k l S P b ec p s (works.calls (Again handler is))
 in_same k l S P b ec p s works (Granting new) is calm = absurd (cc)
 in_same k l S P b ec p s works Replying is calm = absurd (cc)
@@ -212,7 +212,7 @@ in_same k l S P b ec p s works other is calm = refl
 pub deed_same : (k l : KernelState) (S P : ℕ → Type 0) → Both k l S P → (ec : ℕ) → P ec → S (pd_of k ec) → IsAtWork (HasSameClock k l ec) k ec → deed l ec ≡ deed k ec
 unfolding deed
 deed_same k l S P b ec p s works =
-    ap (λ (x : EcState). deed_in l ec x.state) (context_same k l S P b ec p) ∙ in_same k l S P b ec p s works (context k ec).state refl works.state
+    ap (λ (x : EcState). deed_in l ec x.state) (context_same k l S P b ec p s) ∙ in_same k l S P b ec p s works (context k ec).state refl works.state
 
 -- TO WHOM IT IS DONE
 

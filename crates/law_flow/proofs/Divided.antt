@@ -39,7 +39,8 @@ use Rattle.law_flow.specs.Flow.{AreAtWork, IsPartitioned, IsAtWork, own_turn}
 use Rattle.law_flow.specs.Processors.{AreAtHome, IsAtHome, IsDivided, IsStill, is_still}
 use Rattle.law_flow.proofs.Away.{away_next, home_next}
 use Rattle.law_flow.proofs.Deciding.{deed_own}
-use Rattle.law_flow.proofs.Doing.{made_none, unjoined}
+use Rattle.law_flow.proofs.Doing.{made_none}
+use Rattle.law_flow.proofs.Tables.{unjoined}
 use Rattle.law_flow.proofs.Guarding.{alarm_was, own_from}
 use Rattle.law_flow.proofs.Turns.{alike_itself, own_is, own_there, own_turned}
 

@@ -1,6 +1,6 @@
 -- What one of a side does is done to the side's part alike, in two states in which it is the same.
-use Rattle.std.proofs.Common.{◌≡◌, ℕ, ◌+◌, ◌-◌, ◌%◌, ◌/◌, ◌==◌, zero, suc, List, [], ◌∷◌, ◌++◌, length, refl, sym, ap, ap₂, ◌∙◌, subst, inl, inr}
-use Rattle.std.specs.Prelude.{Bool, true, false, ◌≢◌, IsSome, slice_get, slice_set, option_map, Option, Some, None, if◌then◌else◌}
+use Rattle.std.proofs.Common.{◌≡◌, ℕ, ◌+◌, ◌-◌, ◌%◌, ◌/◌, ◌==◌, List, [], ◌∷◌, ◌++◌, length, refl, sym, ap, ap₂, ◌∙◌, subst, inl, inr}
+use Rattle.std.specs.Prelude.{Bool, true, false, ◌≢◌, IsSome, is_some, slice_get, option_map, Option, Some, None, if◌then◌else◌}
 use Rattle.std.specs.List.{find}
 use Rattle.byteorder.specs.Endian.{little_bytes}
 use Rattle.rv_model.specs.Step.{Once, Store}
@@ -15,8 +15,7 @@ use Rattle.nova_model.specs.Deeds.{address_space, instruction}
 use Rattle.nova_model.specs.Delegations.{covers, reach}
 use Rattle.nova_model.specs.Inputs.{store_of}
 use Rattle.nova_model.specs.Memory.{Memory, written, written_in}
-use Rattle.nova_model.specs.Semaphores.{Semaphores, changed, changed_by, semaphore_at}
-use Rattle.nova_model.specs.State.{Contexts, KernelState, Semaphore, context_in, ec_of, entry, pd_of}
+use Rattle.nova_model.specs.State.{Contexts, KernelState, context, ec_in, entry, message, pd_in, pd_of}
 use Rattle.nova_model.specs.Turn.{budget_after, is_spent}
 use Rattle.nova_model.specs.declared.budget.Budget.{Budget}
 use Rattle.nova_model.specs.declared.context.EcState.{EcState}
@@ -25,82 +24,19 @@ use Rattle.nova_model.specs.declared.deed.Deed.{Deed}
 use Rattle.nova_model.specs.declared.deed.Deed.TheVariants as deeds
 use Rattle.nova_model.specs.declared.log.LogByte.{LogByte}
 use Rattle.nova_model.specs.declared.new_object.NewObject.{NewObject}
-use Rattle.nova_model.specs.declared.times.Deadline.{Deadline}
-use Rattle.law_forest.specs.Effects.{Answers, Branch, Edits, Parks, Resumes, all_edited, branch_by, branched, deadline_by, deadlines_with, edit_at, edited, edits_by, effect, identifier_by, joined, made_by, memory_with, no_deadline, put, recalls_by, semaphore_by, semaphores_with, steps_by, store_by, store_words, transfer_by, words_by}
+use Rattle.law_forest.specs.Effects.{Answers, Branch, Edits, Parks, Resumes, all_edited, branch_by, branched, deadline_by, deadlines_with, edit_at, edits_by, effect, identifier_by, joined, made_by, memory_with, no_deadline, put, recalls_by, semaphore_by, semaphores_with, steps_by, store_by, store_words, transfer_by, words_by}
 use Rattle.law_forest.specs.Turns.{Turning, budgets_paid, turned}
 use Rattle.law_turns.proofs.Links.{place}
-use Rattle.law_turns.proofs.Setting.{entry_itself, entry_other, get_other, set_length}
-use Rattle.law_flow.specs.Flow.{AreAlike, held_by, ticks_at}
-use Rattle.law_flow.proofs.Seeing.{Both, across, address_same, context_same, instruction_same, message_same, page_of}
+use Rattle.law_turns.proofs.Setting.{entry_itself, entry_other, set_length}
+use Rattle.law_flow.specs.Flow.{AreAlike, fronts, held_by, ticks_at}
+use Rattle.law_flow.proofs.Seeing.{Both, across, address_same, context_same, instruction_same, message_same, page_of, there_so}
+use Rattle.nova_objects.specs.declared.object.Object.{Object}
 use Rattle.law_flow.proofs.Deciding.{IsOwn}
-
--- TABLES
-
--- two tables have the same at these numbers
-abbrev pub AreSame : {T : Type 0} → (ℕ → Type 0) → List T → List T → Type 0
-AreSame P xs ys = (n : ℕ) → P n → slice_get ys n ≡ slice_get xs n
-
-set_itself : {T : Type 0} (xs : List T) (n : ℕ) (x : T) → slice_get (slice_set xs n x) n ≡ option_map (λ (y : T). x) (slice_get xs n)
-set_itself [] n x = refl
-set_itself (y ∷ xs) zero x = refl
-set_itself (y ∷ xs) (suc n) x = set_itself xs n x
-
-pub set_same : {T : Type 0} (P : ℕ → Type 0) (xs ys : List T) (n : ℕ) (x y : T) → AreSame P xs ys → (P n → y ≡ x) → AreSame P (slice_set xs n x) (slice_set ys n y)
-set_same {T} P xs ys n x y same values m p = elim (place m n) [
-  | inl is ↦
-      let q : P n = subst P is p in
-      ap (slice_get (slice_set ys n y)) is ∙ set_itself ys n y ∙ ap₂ (λ (v : T) (o : Option T). option_map (λ (z : T). v) o) (values q) (same n q)
-      ∙ sym (ap (slice_get (slice_set xs n x)) is ∙ set_itself xs n x)
-  | inr other ↦ get_other ys n m y other ∙ same m p ∙ sym (get_other xs n m x other)
-]
-
-put_same : {T : Type 0} (P : ℕ → Type 0) (xs ys : List (Option T)) (o : Option (ℕ × T)) → AreSame P xs ys → AreSame P (put xs o) (put ys o)
-put_same P xs ys None same = same
-put_same P xs ys (Some (n, v)) same = set_same P xs ys n (Some v) (Some v) same (λ q. refl)
-
--- the same tables by other names
-named_so : {T : Type 0} (P : ℕ → Type 0) (xs ys zs ws : List T) → zs ≡ xs → ws ≡ ys → AreSame P xs ys → AreSame P zs ws
-named_so {T} P xs ys zs ws first second same n p = ap (λ (l : List T). slice_get l n) second ∙ same n p ∙ sym (ap (λ (l : List T). slice_get l n) first)
-
-pub unjoined : {T M : Type 0} (xs : List T) (born : M → T) (made : Option M) → made ≡ None → joined xs (option_map born made) ≡ xs
-unjoined {T} {M} xs born made none = ap (λ (o : Option M). joined xs (option_map born o)) none
-
-pub edits_alike : (P : ℕ → Type 0) (cs ds : Contexts) (es : Edits) → AreSame P cs ds → AreSame P (all_edited cs es) (all_edited ds es)
-edits_alike P cs ds [] same = same
-edits_alike P cs ds ((n, e) ∷ es) same =
-    edits_alike P (edit_at cs n e) (edit_at ds n e) es
-    (set_same P cs ds n (Some (edited (ec_of cs n) e)) (Some (edited (ec_of ds n) e)) same
-    (λ q. ap (λ (o : Option (Option EcState)). Some (edited (context_in (entry o)) e)) (same n q)))
-
-changed_other : (change : Semaphore → Semaphore) (all : Semaphores) (sm n : ℕ) → n ≢ sm → slice_get (changed change all sm) n ≡ slice_get all n
-changed_other change all sm n other = by_entry (semaphore_at all sm)
-  where
-    by_entry : (o : Option Semaphore) → slice_get (changed_by change all sm o) n ≡ slice_get all n
-    by_entry None = refl
-    by_entry (Some s) = get_other all sm n (Some (change s)) other
-
-pub change_same : (P : ℕ → Type 0) (xs ys : Semaphores) (o : Option (ℕ × (Semaphore → Semaphore))) → AreSame P xs ys → AreSame P (semaphores_with xs o) (semaphores_with ys o)
-change_same P xs ys None same = same
-change_same P xs ys (Some (sm, change)) same = λ n p. elim (place n sm) [
-  | inl is ↦ here (subst P is p) n p
-  | inr other ↦ changed_other change ys sm n other ∙ same n p ∙ sym (changed_other change xs sm n other)
-]
-  where
-    by_entry : (o : Option Semaphore) → AreSame P (changed_by change xs sm o) (changed_by change ys sm o)
-    by_entry None = same
-    by_entry (Some s) = set_same P xs ys sm (Some (change s)) (Some (change s)) same (λ q. refl)
-
-    here : P sm → AreSame P (changed change xs sm) (changed change ys sm)
-    here q = λ n p.
-        ap (λ (o : Option Semaphore). slice_get (changed_by change ys sm o) n) (ap (λ (o : Option (Option Semaphore)). entry o) (same sm q)) ∙ by_entry (semaphore_at xs sm) n p
-
-pub deadlines_same : (P : ℕ → Type 0) (xs ys : List (Option Deadline)) (o : Option (ℕ × Option Deadline)) → AreSame P xs ys → AreSame P (deadlines_with xs o) (deadlines_with ys o)
-deadlines_same P xs ys None same = same
-deadlines_same P xs ys (Some (n, d)) same = set_same P xs ys n d d same (λ q. refl)
+use Rattle.law_flow.proofs.Tables.{AreSame, change_same, deadlines_same, edits_alike, fronts_alike, named_so, put_same, set_same, unjoined}
 
 -- WHO PAYS
 
-abbrev ticks_in : List (Option Budget) → ℕ → Option ℕ
+abbrev pub ticks_in : List (Option Budget) → ℕ → Option ℕ
 ticks_in bs n = option_map (λ (b : Budget). b.ticks) (entry (slice_get bs n))
 
 more_ticks : (o : Option Budget) → option_map (λ (b : Budget). b.ticks + 1) o ≡ option_map (λ (t : ℕ). t + 1) (option_map (λ (b : Budget). b.ticks) o)
@@ -120,11 +56,11 @@ paid_itself bs sc quantum stamp = by_entry (entry (slice_get bs sc)) refl
         ap (option_map (λ (b : Budget). b.ticks)) (entry_itself bs sc (budget_after (is_spent b) quantum stamp b) (subst IsSome (sym is) refl))
         ∙ ap (λ (t : ℕ). Some t) (by_test b (is_spent b))
 
-paid_other : (bs : List (Option Budget)) (sc quantum stamp n : ℕ) (o : Option Budget) → n ≢ sc → ticks_in (budgets_paid bs sc quantum stamp o) n ≡ ticks_in bs n
+pub paid_other : (bs : List (Option Budget)) (sc quantum stamp n : ℕ) (o : Option Budget) → n ≢ sc → ticks_in (budgets_paid bs sc quantum stamp o) n ≡ ticks_in bs n
 paid_other bs sc quantum stamp n None other = refl
 paid_other bs sc quantum stamp n (Some b) other = ap (option_map (λ (b : Budget). b.ticks)) (entry_other bs sc n (budget_after (is_spent b) quantum stamp b) other)
 
-paid_same : (P : ℕ → Type 0) (bs cs : List (Option Budget)) (sc quantum stamp its stamps : ℕ) → ((n : ℕ) → P n → ticks_in cs n ≡ ticks_in bs n) → (n : ℕ) → P n →
+pub paid_same : (P : ℕ → Type 0) (bs cs : List (Option Budget)) (sc quantum stamp its stamps : ℕ) → ((n : ℕ) → P n → ticks_in cs n ≡ ticks_in bs n) → (n : ℕ) → P n →
     ticks_in (budgets_paid cs sc its stamps (entry (slice_get cs sc))) n ≡ ticks_in (budgets_paid bs sc quantum stamp (entry (slice_get bs sc))) n
 paid_same P bs cs sc quantum stamp its stamps same n p = elim (place n sc) [
   | inl is ↦
@@ -210,32 +146,58 @@ memory_same k l S P b ec p s other = unstored (Seen k S) k.memory l.memory (fram
 
 -- WHAT A DEED DOES
 
+-- of these registers, message words and places in items are the same: execution contexts of the side's own domains
+abbrev pub Shown : KernelState → (ℕ → Type 0) → (ℕ → Type 0) → ℕ → Type 0
+Shown k S P n = P n × S (pd_of k n)
+
+pub shown_contexts : (k l : KernelState) (S P : ℕ → Type 0) → Both k l S P → AreSame (Shown k S P) k.contexts l.contexts
+shown_contexts k l S P b n q = b.alike.contexts n q.0 q.1
+
+pub shown_messages : (k l : KernelState) (S P : ℕ → Type 0) → Both k l S P → AreSame (Shown k S P) k.messages l.messages
+shown_messages k l S P b n q = b.alike.messages n q.0 q.1
+
+recalls_so : (whose : ℕ) (o p : Option EcState) → is_some o ≡ is_some p → recalls_by whose o ≡ recalls_by whose p
+recalls_so whose None None h = refl
+recalls_so whose None (Some y) h = absurd (cc)
+recalls_so whose (Some x) None h = absurd (cc)
+recalls_so whose (Some x) (Some y) h = refl
+
 edits_same : (timed : Type 0) (k l : KernelState) (S P : ℕ → Type 0) → Both k l S P → (ec : ℕ) → P ec → S (pd_of k ec) → (d : Deed) → IsOwn timed P d → edits_by l ec d ≡ edits_by k ec d
 edits_same timed k l S P b ec p s deeds.Steps own = ap (steps_by ec) (instruction_same k l S P b ec p s)
 edits_same timed k l S P b ec p s (deeds.Recalls whose) own =
-    ap (λ (o : Option (Option EcState)). (ec, Answers Success None) ∷ recalls_by whose (entry o))
-    (edits_alike P k.contexts l.contexts ((ec, Answers Success None) ∷ []) b.alike.contexts whose own)
+    ap (λ (es : Edits). (ec, Answers Success None) ∷ es)
+    (recalls_so whose (ec_in (edit_at l.contexts ec (Answers Success None)) whose) (ec_in (edit_at k.contexts ec (Answers Success None)) whose)
+    (there_so (edit_at k.contexts ec (Answers Success None)) (edit_at l.contexts ec (Answers Success None)) whose
+    (fronts_alike P k.contexts l.contexts ((ec, Answers Success None) ∷ []) b.alike.fronts whose own)))
 edits_same timed k l S P b ec p s (deeds.Replies caller came true) own = refl
-edits_same timed k l S P b ec p s (deeds.Replies caller came false) own = ap (λ (m : List ℕ). (ec, Parks) ∷ (caller, Resumes came m) ∷ []) (message_same k l S P b ec p)
+edits_same timed k l S P b ec p s (deeds.Replies caller came false) own = ap (λ (m : List ℕ). (ec, Parks) ∷ (caller, Resumes came m) ∷ []) (message_same k l S P b ec p s)
 edits_same timed k l S P b ec p s (deeds.Finishes item end words after) own = absurd own
 edits_same timed k l S P b ec p s other own = refl
 
-words_same : (timed : Type 0) (k l : KernelState) (S P : ℕ → Type 0) → Both k l S P → (ec : ℕ) → P ec → S (pd_of k ec) → (d : Deed) → IsOwn timed P d → words_by l ec d ≡ words_by k ec d
-words_same timed k l S P b ec p s deeds.Steps own =
-    ap₂ (λ (a : AddressSpace) (o : Once). store_words a ec (store_of o)) (address_same k l S P b ec p s) (instruction_same k l S P b ec p s) ∙ by_store (store_of (instruction k ec))
+words_alike : (timed : Type 0) (k l : KernelState) (S P : ℕ → Type 0) → Both k l S P → (ec : ℕ) → P ec → S (pd_of k ec) → (d : Deed) → IsOwn timed P d →
+    AreSame (Shown k S P) (put k.messages (words_by k ec d)) (put l.messages (words_by l ec d))
+words_alike timed k l S P b ec p s deeds.Steps own =
+    named_so (Shown k S P) (put k.messages (words_by k ec deeds.Steps)) (put l.messages (words_by k ec deeds.Steps)) _ _ refl (ap (put l.messages) same)
+    (put_same (Shown k S P) k.messages l.messages (words_by k ec deeds.Steps) (shown_messages k l S P b))
   where
     by_store : (o : Option Store) → store_words (across k l ec) ec o ≡ store_words (address_space k ec) ec o
     by_store None = refl
     by_store (Some t) = refl
-words_same timed k l S P b ec p s (deeds.Calls handler ip number items) own =
-    ap₂ (λ (m n : List ℕ). Some (handler, copied m n)) (message_same k l S P b ec p) (message_same k l S P b handler own)
-words_same timed k l S P b ec p s (deeds.Sends handler ip number mtd reason q0 q1) own =
-    ap₂ (λ (x : EcState) (n : List ℕ). Some (handler, exited mtd q0 q1 x.regs n)) (context_same k l S P b ec p) (message_same k l S P b handler own)
-words_same timed k l S P b ec p s (deeds.Replies caller mark.Call items) own =
-    ap₂ (λ (m n : List ℕ). Some (caller, copied m n)) (message_same k l S P b ec p) (message_same k l S P b caller own)
-words_same timed k l S P b ec p s (deeds.Replies caller mark.Exit items) own = refl
-words_same timed k l S P b ec p s (deeds.Finishes item end words after) own = absurd own
-words_same timed k l S P b ec p s other own = refl
+
+    same : words_by l ec deeds.Steps ≡ words_by k ec deeds.Steps
+    same = ap₂ (λ (a : AddressSpace) (o : Once). store_words a ec (store_of o)) (address_same k l S P b ec p s) (instruction_same k l S P b ec p s) ∙ by_store (store_of (instruction k ec))
+words_alike timed k l S P b ec p s (deeds.Calls handler ip number items) own =
+    set_same (Shown k S P) k.messages l.messages handler (Some (copied (message k ec) (message k handler))) (Some (copied (message l ec) (message l handler))) (shown_messages k l S P b)
+    (λ q. ap₂ (λ (m n : List ℕ). Some (copied m n)) (message_same k l S P b ec p s) (message_same k l S P b handler q.0 q.1))
+words_alike timed k l S P b ec p s (deeds.Sends handler ip number mtd reason q0 q1) own =
+    set_same (Shown k S P) k.messages l.messages handler (Some (exited mtd q0 q1 (context k ec).regs (message k handler))) (Some (exited mtd q0 q1 (context l ec).regs (message l handler)))
+    (shown_messages k l S P b) (λ q. ap₂ (λ (x : EcState) (n : List ℕ). Some (exited mtd q0 q1 x.regs n)) (context_same k l S P b ec p s) (message_same k l S P b handler q.0 q.1))
+words_alike timed k l S P b ec p s (deeds.Replies caller mark.Call items) own =
+    set_same (Shown k S P) k.messages l.messages caller (Some (copied (message k ec) (message k caller))) (Some (copied (message l ec) (message l caller))) (shown_messages k l S P b)
+    (λ q. ap₂ (λ (m n : List ℕ). Some (copied m n)) (message_same k l S P b ec p s) (message_same k l S P b caller q.0 q.1))
+words_alike timed k l S P b ec p s (deeds.Replies caller mark.Exit items) own = shown_messages k l S P b
+words_alike timed k l S P b ec p s (deeds.Finishes item end words after) own = absurd own
+words_alike timed k l S P b ec p s other own = shown_messages k l S P b
 
 -- it makes nothing, gives nothing and takes nothing
 record IsQuiet (k : KernelState) (ec : ℕ) (d : Deed) : Type 0 where
@@ -269,18 +231,22 @@ pub turned_alike : (timed : Type 0) (k l : KernelState) (S P : ℕ → Type 0) �
     AreAlike (turned k cpu (by_deed k ec sc d stirs)) (turned l other (by_deed l ec sc d others)) S P
 turned_alike timed k l S P b cpu other ec sc p s d own stirs others = record {
   objects = named_so P k.objects l.objects _ _ (unjoined k.objects object_of (made_by d) ours.made) (unjoined l.objects object_of (made_by d) ours.made) b.alike.objects;
-  contexts = named_so P (all_edited k.contexts (edits_by k ec d)) (all_edited l.contexts (edits_by k ec d)) _ _
+  fronts = λ n q. named_so P (fronts (all_edited k.contexts (edits_by k ec d))) (fronts (all_edited l.contexts (edits_by k ec d))) _ _
+      (ap (λ (cs : Contexts). fronts cs) (unjoined (all_edited k.contexts (edits_by k ec d)) (context_of (length k.objects)) (made_by d) ours.made))
+      (ap (λ (cs : Contexts). fronts cs) (unjoined (all_edited l.contexts (edits_by l ec d)) (context_of (length l.objects)) (made_by d) ours.made ∙ ap (all_edited l.contexts) (edits_same timed k l S P b ec p s d own)))
+      (fronts_alike P k.contexts l.contexts (edits_by k ec d) b.alike.fronts) n q;
+  contexts = λ n q its. named_so (Shown k S P) (all_edited k.contexts (edits_by k ec d)) (all_edited l.contexts (edits_by k ec d)) _ _
       (unjoined (all_edited k.contexts (edits_by k ec d)) (context_of (length k.objects)) (made_by d) ours.made)
       (unjoined (all_edited l.contexts (edits_by l ec d)) (context_of (length l.objects)) (made_by d) ours.made ∙ ap (all_edited l.contexts) (edits_same timed k l S P b ec p s d own))
-      (edits_alike P k.contexts l.contexts (edits_by k ec d) b.alike.contexts);
-  messages = named_so P (put k.messages (words_by k ec d)) (put l.messages (words_by k ec d)) _ _
+      (edits_alike (Shown k S P) k.contexts l.contexts (edits_by k ec d) (shown_contexts k l S P b)) n (q, domain n its);
+  messages = λ n q its. named_so (Shown k S P) (put k.messages (words_by k ec d)) (put l.messages (words_by l ec d)) _ _
       (unjoined (put k.messages (words_by k ec d)) (λ (m : NewObject). words_of (object_of m)) (made_by d) ours.made)
-      (unjoined (put l.messages (words_by l ec d)) (λ (m : NewObject). words_of (object_of m)) (made_by d) ours.made ∙ ap (put l.messages) (words_same timed k l S P b ec p s d own))
-      (put_same P k.messages l.messages (words_by k ec d) b.alike.messages);
-  transfers = named_so P k.transfers l.transfers _ _
+      (unjoined (put l.messages (words_by l ec d)) (λ (m : NewObject). words_of (object_of m)) (made_by d) ours.made)
+      (words_alike timed k l S P b ec p s d own) n (q, domain n its);
+  transfers = λ n q its. named_so (Shown k S P) k.transfers l.transfers _ _
       (unjoined (put k.transfers (transfer_by k ec d)) (λ (m : NewObject). transfer_of (object_of m)) (made_by d) ours.made ∙ ap (put k.transfers) ours.transfer)
       (unjoined (put l.transfers (transfer_by l ec d)) (λ (m : NewObject). transfer_of (object_of m)) (made_by d) ours.made ∙ ap (put l.transfers) theirs.transfer)
-      b.alike.transfers;
+      (λ m r. b.alike.transfers m r.0 r.1) n (q, domain n its);
   identifiers = named_so P (put k.identifiers (identifier_by d)) (put l.identifiers (identifier_by d)) _ _
       (unjoined (put k.identifiers (identifier_by d)) identifier_of (made_by d) ours.made) (unjoined (put l.identifiers (identifier_by d)) identifier_of (made_by d) ours.made)
       (put_same P k.identifiers l.identifiers (identifier_by d) b.alike.identifiers);
@@ -306,6 +272,9 @@ turned_alike timed k l S P b cpu other ec sc p s d own stirs others = record {
 
     theirs : IsQuiet l ec d
     theirs = quiet timed l P ec d own
+
+    domain : (n : ℕ) → S (pd_of (turned k cpu (by_deed k ec sc d stirs)) n) → S (pd_of k n)
+    domain n its = subst (λ (os : List Object). S (pd_in (slice_get os n))) (unjoined k.objects object_of (made_by d) ours.made) its
 
     memory : StoreSame (Seen k S) k.memory l.memory (memory_with k.memory (store_by k ec d)) (memory_with l.memory (store_by l ec d))
     memory = memory_same k l S P b ec p s d

@@ -52,7 +52,8 @@ use Rattle.law_integrity.proofs.Passing.{coming, due_in, turned_by_time}
 use Rattle.law_integrity.proofs.Resting.{IsMadeNow, acts_in, holds_made, second_after}
 use Rattle.law_flow.specs.Flow.{AreAlike, AreLeftAlone, AreAtWorkTimeless, held_at, held_by, IsLeftAlone, IsPartitioned, IsSide, IsTimeless, IsAtWork, if_own, own_turn}
 use Rattle.law_flow.proofs.Deciding.{IsOwn, deed_own}
-use Rattle.law_flow.proofs.Doing.{branch_none, by_deed, made_none, unjoined}
+use Rattle.law_flow.proofs.Doing.{branch_none, by_deed, made_none}
+use Rattle.law_flow.proofs.Tables.{unjoined}
 use Rattle.law_flow.proofs.Keeping.{turned_side}
 use Rattle.law_flow.proofs.Leaving.{others_leave, some_there}
 use Rattle.law_flow.proofs.Others.{IsForeign, side_left, time_leaves, timeless_foreign}

@@ -48,11 +48,12 @@ use Rattle.law_integrity.specs.Confined.{IsOwned, Of}
 use Rattle.law_integrity.specs.Rights.{Again, AtCall, HasTurn, IsAsking}
 use Rattle.law_integrity.proofs.Authorised.{has_turn}
 use Rattle.law_integrity.proofs.Beside.{idle_stays}
-use Rattle.law_flow.specs.Flow.{AreAlike, HasSameClock, gain_for, is_at_work, IsPartitioned, IsAtWork, IsCallAtWork, if_own, own_deed, own_turn}
+use Rattle.law_flow.specs.Flow.{AreAlike, HasSameClock, fronts, gain_for, is_at_work, IsPartitioned, IsAtWork, IsCallAtWork, if_own, own_deed, own_turn}
 use Rattle.law_flow.specs.Processors.{AreTimed, IsAtHome}
 use Rattle.law_flow.proofs.Seeing.{Both, context_same, instruction_same, semaphore_same, thread_same}
 use Rattle.law_flow.proofs.Deciding.{deed_own}
-use Rattle.law_flow.proofs.Doing.{by_deed, change_same, deadlines_same, edits_alike}
+use Rattle.law_flow.proofs.Doing.{Shown, by_deed, shown_contexts}
+use Rattle.law_flow.proofs.Tables.{change_same, deadlines_same, edits_alike, fronts_alike}
 use Rattle.law_flow.proofs.Timing.{clock_same, deadline_mine, due_same, entries_same}
 use Rattle.law_flow.proofs.Choosing.{ChosenSame, Rank, chosen_same, stamped}
 use Rattle.law_flow.proofs.Paying.{clocks_ticked, own_timed}
@@ -70,8 +71,11 @@ record PassSame (k l : KernelState) (cpu : ℕ) (p : Passing) : Type 0 where
 passed_alike : (k l : KernelState) (S P : ℕ → Type 0) → Both k l S P → (cpu : ℕ) (p : Passing) → PassSame k l cpu p → AreAlike (turned k cpu (passing k p)) (turned l cpu (passing l p)) S P
 passed_alike k l S P b cpu p same = record {
   objects = b.alike.objects;
-  contexts = λ n q.
-      ap (λ (e : Option (ℕ × Status)). slice_get (all_edited l.contexts (ends_by e)) n) same.ends ∙ edits_alike P k.contexts l.contexts (ends_by (passing_ends k p)) b.alike.contexts n q;
+  fronts = λ n q.
+      ap (λ (e : Option (ℕ × Status)). slice_get (fronts (all_edited l.contexts (ends_by e))) n) same.ends ∙ fronts_alike P k.contexts l.contexts (ends_by (passing_ends k p)) b.alike.fronts n q;
+  contexts = λ n q s.
+      ap (λ (e : Option (ℕ × Status)). slice_get (all_edited l.contexts (ends_by e)) n) same.ends
+      ∙ edits_alike (Shown k S P) k.contexts l.contexts (ends_by (passing_ends k p)) (shown_contexts k l S P b) n (q, s);
   messages = b.alike.messages;
   transfers = b.alike.transfers;
   identifiers = b.alike.identifiers;
@@ -167,15 +171,15 @@ pub record HomeTurn (k l : KernelState) (S P C : ℕ → Bool) (cpu : ℕ) : Typ
 -- the same turn is one at work in the second too
 pub works_too : (timed : Type 0) (k l : KernelState) (S P : ℕ → Type 0) → Both k l S P → (ec : ℕ) → P ec → S (pd_of k ec) → IsAtWork timed k ec → IsAtWork timed l ec
 works_too timed k l S P b ec p s works = record {
-  state = ap (λ (x : EcState). is_at_work x.state) (context_same k l S P b ec p) ∙ works.state;
-  calls = λ asks_. subst (λ (x : EcState). IsCallAtWork timed (call_of x.regs)) (sym (context_same k l S P b ec p)) (works.calls (by_asks asks_));
+  state = ap (λ (x : EcState). is_at_work x.state) (context_same k l S P b ec p s) ∙ works.state;
+  calls = λ asks_. subst (λ (x : EcState). IsCallAtWork timed (call_of x.regs)) (sym (context_same k l S P b ec p s)) (works.calls (by_asks asks_));
 }
   where
     by_asks : IsAsking l ec → IsAsking k ec
-    by_asks (Again handler is) = Again handler (sym (ap (λ (x : EcState). x.state) (context_same k l S P b ec p)) ∙ is)
+    by_asks (Again handler is) = Again handler (sym (ap (λ (x : EcState). x.state) (context_same k l S P b ec p s)) ∙ is)
     by_asks (AtCall c) = AtCall (record {
-      state = sym (ap (λ (x : EcState). x.state) (context_same k l S P b ec p)) ∙ c.state;
-      recall = sym (ap (λ (x : EcState). x.recall) (context_same k l S P b ec p)) ∙ c.recall;
+      state = sym (ap (λ (x : EcState). x.state) (context_same k l S P b ec p s)) ∙ c.state;
+      recall = sym (ap (λ (x : EcState). x.recall) (context_same k l S P b ec p s)) ∙ c.recall;
       thread = sym (thread_same k l S P b ec p) ∙ c.thread;
       q0 = c.q0;
       q1 = c.q1;

@@ -26,25 +26,26 @@ use Rattle.law_turns.proofs.Setting.{set_at}
 use Rattle.law_integrity.proofs.Entries.{change_each}
 use Rattle.law_flow.specs.Flow.{IsSide}
 use Rattle.law_flow.proofs.Deciding.{IsOwn}
-use Rattle.law_flow.proofs.Doing.{by_deed, made_none, branch_none, unjoined}
+use Rattle.law_flow.proofs.Doing.{by_deed, made_none, branch_none}
+use Rattle.law_flow.proofs.Tables.{unjoined}
 
 -- EXECUTION CONTEXTS
 
 -- whom one waits for, and whom it serves, is of the side
-record IsWell (P : ℕ → Type 0) (o : Option EcState) : Type 0 where
-  waits : (h : ℕ) → option_and_then edge_of (option_map (λ (x : EcState). x.state) o) ≡ Some h → P h
-  serves : (c : ℕ) (m : Mark) → option_and_then (λ (x : EcState). x.caller) o ≡ Some (c, m) → P c
-  blocks : (sm : ℕ) → option_map (λ (x : EcState). x.state) o ≡ Some (Blocked sm) → P sm
+pub record IsWell (P : ℕ → Type 0) (o : Option EcState) : Type 0 where
+  pub waits : (h : ℕ) → option_and_then edge_of (option_map (λ (x : EcState). x.state) o) ≡ Some h → P h
+  pub serves : (c : ℕ) (m : Mark) → option_and_then (λ (x : EcState). x.caller) o ≡ Some (c, m) → P c
+  pub blocks : (sm : ℕ) → option_map (λ (x : EcState). x.state) o ≡ Some (Blocked sm) → P sm
 
-abbrev AreWell : (ℕ → Type 0) → Contexts → Type 0
+abbrev pub AreWell : (ℕ → Type 0) → Contexts → Type 0
 AreWell P cs = (n : ℕ) → P n → IsWell P (ec_in cs n)
 
-abbrev EditOwn : (ℕ → Type 0) → Edit → Type 0
+abbrev pub EditOwn : (ℕ → Type 0) → Edit → Type 0
 EditOwn P (Becomes t) = ((h : ℕ) → edge_of t ≡ Some h → P h) × ((sm : ℕ) → t ≡ Blocked sm → P sm)
 EditOwn P (Serves caller came ip number items) = P caller
 EditOwn P other = Unit {0}
 
-abbrev AllOwn : (ℕ → Type 0) → Edits → Type 0
+abbrev pub AllOwn : (ℕ → Type 0) → Edits → Type 0
 AllOwn P [] = Unit {0}
 AllOwn P ((n, e) ∷ es) = EditOwn P e × AllOwn P es
 
@@ -71,7 +72,7 @@ edited_well P x (Resumes mark.Exit m) well own = record { waits = λ h is. absur
 edited_well P x Recalled well own = record { waits = well.waits; serves = well.serves; blocks = well.blocks }
 edited_well P x (Moves regs) well own = record { waits = well.waits; serves = well.serves; blocks = well.blocks }
 
-all_well : (P : ℕ → Type 0) (cs : Contexts) (es : Edits) → AreWell P cs → AllOwn P es → AreWell P (all_edited cs es)
+pub all_well : (P : ℕ → Type 0) (cs : Contexts) (es : Edits) → AreWell P cs → AllOwn P es → AreWell P (all_edited cs es)
 all_well P cs [] well own = well
 all_well P cs ((n, e) ∷ es) well own =
     all_well P (edit_at cs n e) es (λ m p. set_at (IsWell P) cs n m (edited (ec_of cs n) e) (well m p)
@@ -121,10 +122,10 @@ edits_own timed k P ec p deeds.Returns own = absurd own
 
 -- SEMAPHORES
 
-abbrev QueueOwn : (ℕ → Type 0) → Option Semaphore → Type 0
+abbrev pub QueueOwn : (ℕ → Type 0) → Option Semaphore → Type 0
 QueueOwn P o = (n : ℕ) → has (semaphore_in o).waiting n ≡ true → P n
 
-raised_own : (P : ℕ → Type 0) (count : ℕ) (queue : List ℕ) → ((n : ℕ) → has queue n ≡ true → P n) → (n : ℕ) → has (raised_with count queue).waiting n ≡ true → P n
+pub raised_own : (P : ℕ → Type 0) (count : ℕ) (queue : List ℕ) → ((n : ℕ) → has queue n ≡ true → P n) → (n : ℕ) → has (raised_with count queue).waiting n ≡ true → P n
 raised_own P count [] own n is = own n is
 raised_own P count (w ∷ queue) own n is = own n (later (has queue n) (n == w) is)
   where

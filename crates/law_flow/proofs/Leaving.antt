@@ -38,6 +38,7 @@ use Rattle.law_integrity.proofs.Confining.{acting_one, any_held, gives_in, membe
 use Rattle.law_integrity.proofs.Entries.{same_length}
 use Rattle.law_integrity.proofs.Leaving.{leaves_other}
 use Rattle.law_flow.specs.Flow.{AreAlike, IsGuarded, held_by}
+use Rattle.law_flow.proofs.Seeing.{fronts_same}
 
 -- TABLES
 
@@ -112,7 +113,7 @@ find_less {T} p q (y ∷ xs) h = by_keep (q y) refl (find_less p q xs (λ x ther
     by_keep false is rest = skips (p y) refl is rest
 
 -- one of another domain covers no place there
-of_another : (kind : Kind) (pd place : ℕ) (d : Derivation) → (d.pd ≡ pd → ⊥) → covers kind pd place d ≡ false
+pub of_another : (kind : Kind) (pd place : ℕ) (d : Derivation) → (d.pd ≡ pd → ⊥) → covers kind pd place d ≡ false
 of_another kind pd place d other = by_test (covers kind pd place d) refl
   where
     by_test : (t : Bool) → covers kind pd place d ≡ t → t ≡ false
@@ -181,11 +182,12 @@ pub others_leave : (s : Scenario) (before : List ℕ) (S T P : ℕ → Type 0) (
     IsMember (run (boot s) before) T ec → AreAlike (run (boot s) before) (after (run (boot s) before) cpu) S P
 others_leave s before S T P cpu ec apart g acts_ mine = record {
   objects = λ n p. stays n p;
-  contexts = λ n p. contexts n p (object n p).0 (object n p).1;
-  messages = λ n p.
+  fronts = λ n p. fronts_same k.contexts new.contexts n (contexts n p (object n p).0 (object n p).1);
+  contexts = λ n p its. contexts n p (object n p).0 (object n p).1;
+  messages = λ n p its.
       table_same has_words k.messages new.messages k.objects new.objects n (object n p).0 tables.messages later.messages (object n p).1 (stays n p ∙ (object n p).1)
       (λ kind. left.messages n (context_of_side k S T P g n (object n p).0 p (object n p).1 (words_are_contexts (object n p).0 kind)));
-  transfers = λ n p.
+  transfers = λ n p its.
       table_same is_ec k.transfers new.transfers k.objects new.objects n (object n p).0 tables.transfers later.transfers (object n p).1 (stays n p ∙ (object n p).1)
       (λ kind. left.transfers n (context_of_side k S T P g n (object n p).0 p (object n p).1 kind));
   identifiers = λ n p.

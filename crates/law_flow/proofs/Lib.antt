@@ -1,5 +1,6 @@
 pub mod Seeing
 pub mod Deciding
+pub mod Tables
 pub mod Doing
 pub mod Keeping
 pub mod Turns

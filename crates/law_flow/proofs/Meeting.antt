@@ -103,6 +103,10 @@ shown : Shows (run (boot two_homes) (replicate 65 0))
 unfolding one instr_of call_of choice deed input_of next_entry charged turn
 shown = record { objects_are = refl; ranges_are = refl; states_are = refl; callers_are = refl; semaphores_are = refl; deadlines_are = refl; alarms_are = refl }
 
+-- a virtual CPU of the first side's
+pub has_guest : slice_get (run (boot two_homes) (replicate 65 0)).objects 11 ≡ Some (Ec 9 0 Vcpu 64)
+has_guest = ap (λ (os : List Object). slice_get os 11) shown.objects_are
+
 pub has_turn_next : own_turn first_domains (run (boot two_homes) (replicate 65 0)) 0 ≡ Some (11, 13)
 unfolding one instr_of call_of choice deed input_of next_entry next_to_act charged turn
 has_turn_next = refl

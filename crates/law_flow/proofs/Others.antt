@@ -22,12 +22,13 @@ use Rattle.nova_model.specs.declared.times.Due.TheVariants as due
 use Rattle.law_isolation.specs.Sound.{IsSound}
 use Rattle.law_integrity.specs.Integrity.{ClearedAwake, ClearedLate, ContextByTime, DeadlineByTime, IsByTime, IsComing, LeftByLate, Rung, RungAwake, SemaphoreByTime, TimedOut}
 use Rattle.law_integrity.proofs.Entries.{same_length}
-use Rattle.law_flow.specs.Flow.{AreAlike, IsSide, IsTimeless, held_by}
+use Rattle.law_flow.specs.Flow.{AreAlike, Front, IsSide, IsTimeless, held_by}
 use Rattle.law_flow.proofs.Leaving.{raw, some_there}
+use Rattle.law_flow.proofs.Seeing.{by_front, caller_so, fronts_same}
 
 -- WHAT COMES BY ITSELF
 
-state_of_entry : (k : KernelState) (n sm : ℕ) (x : EcState) → context_at k n ≡ Some x → x.state ≡ Blocked sm → state_in k.contexts n ≡ Some (Blocked sm)
+pub state_of_entry : (k : KernelState) (n sm : ℕ) (x : EcState) → context_at k n ≡ Some x → x.state ≡ Blocked sm → state_in k.contexts n ≡ Some (Blocked sm)
 state_of_entry k n sm x old blocked = ap (option_map (λ (x : EcState). x.state)) old ∙ ap (λ t. Some t) blocked
 
 -- what is due is no alarm at a semaphore of the side's, and no deadline of it
@@ -47,7 +48,7 @@ rung_none : {A : Type 0} (k : KernelState) (S P : ℕ → Type 0) (what : Option
 rung_none k S P what side foreign n alarm a p is at blocked = absurd (foreign.alarms alarm a is at (side.blocked n a.alarm.sm p blocked))
 
 -- the first of a queue waits there
-first_waits : (k : KernelState) (sm n : ℕ) (rest : List ℕ) → IsSound k → (semaphore_in (semaphore_at k.semaphores sm)).waiting ≡ n ∷ rest → state_in k.contexts n ≡ Some (Blocked sm)
+pub first_waits : (k : KernelState) (sm n : ℕ) (rest : List ℕ) → IsSound k → (semaphore_in (semaphore_at k.semaphores sm)).waiting ≡ n ∷ rest → state_in k.contexts n ≡ Some (Blocked sm)
 first_waits k sm n rest sound first =
     let itself : (eqb n n || has rest n) ≡ true = grind (arith) in
     sound.kept.blocked.blocked sm n (ap (λ (ecs : List ℕ). has ecs n) first ∙ itself)
@@ -56,9 +57,10 @@ pub time_leaves : (k new : KernelState) (S P : ℕ → Type 0) (cpu : ℕ) (what
     IsByTime k new cpu what → AreAlike k new S P
 time_leaves k new S P cpu what sound again side there foreign t = record {
   objects = λ n p. ap (λ (os : List Object). slice_get os n) t.objects;
-  contexts = λ n p. raw k.contexts new.contexts n (at_context n p) (still_context n p) (by_context n p (t.contexts n));
-  messages = λ n p. ap (λ (ms : List (Option (List ℕ))). slice_get ms n) t.messages;
-  transfers = λ n p. ap (λ ms. slice_get ms n) t.transfers;
+  fronts = λ n p. fronts_same k.contexts new.contexts n (raw k.contexts new.contexts n (at_context n p) (still_context n p) (by_context n p (t.contexts n)));
+  contexts = λ n p its. raw k.contexts new.contexts n (at_context n p) (still_context n p) (by_context n p (t.contexts n));
+  messages = λ n p its. ap (λ (ms : List (Option (List ℕ))). slice_get ms n) t.messages;
+  transfers = λ n p its. ap (λ ms. slice_get ms n) t.transfers;
   identifiers = λ n p. ap (λ (ms : List (Option ℕ)). slice_get ms n) t.identifiers;
   semaphores = λ n p. raw k.semaphores new.semaphores n (at_semaphore n p) (still_semaphore n p) (by_semaphore n p (t.semaphores n));
   ticks = λ n p. ap (λ (bs : List (Option Budget)). option_map (λ (b : Budget). b.ticks) (entry (slice_get bs n))) t.budgets.budgets;
@@ -117,9 +119,12 @@ pub side_left : (k new : KernelState) (S P : ℕ → Type 0) → AreAlike k new 
 side_left k new S P a side gains members = record {
   holds = λ d there s kind. side.holds d (gains d there s) s kind;
   handlers = λ n handler mtd ip p is. side.handlers n handler mtd ip p (sym (a.objects n p) ∙ is);
-  edges = λ n h p is. side.edges n h p (sym (ap (λ (o : Option (Option EcState)). option_and_then edge_of (option_map (λ (x : EcState). x.state) (entry o))) (a.contexts n p)) ∙ is);
-  callers = λ n c m p is. side.callers n c m p (sym (ap (λ (o : Option (Option EcState)). option_and_then (λ (x : EcState). x.caller) (entry o)) (a.contexts n p)) ∙ is);
+  edges = λ n h p is. side.edges n h p (sym (ap (option_and_then edge_of) (states n p)) ∙ is);
+  callers = λ n c m p is. side.callers n c m p (sym (caller_so k.contexts new.contexts n (a.fronts n p)) ∙ is);
   queues = λ sm n p is. side.queues sm n p (sym (ap (λ (o : Option (Option Semaphore)). has (semaphore_in (entry o)).waiting n) (a.semaphores sm p)) ∙ is);
-  blocked = λ n sm p is. side.blocked n sm p (sym (ap (λ (o : Option (Option EcState)). option_map (λ (x : EcState). x.state) (entry o)) (a.contexts n p)) ∙ is);
+  blocked = λ n sm p is. side.blocked n sm p (sym (states n p) ∙ is);
   members = members;
 }
+  where
+    states : (n : ℕ) → P n → state_in new.contexts n ≡ state_in k.contexts n
+    states n p = by_front (λ (f : Front). f.state) k.contexts new.contexts n (a.fronts n p)

@@ -18,7 +18,8 @@ use Rattle.law_turns.proofs.Links.{place}
 use Rattle.law_turns.proofs.Setting.{entry_itself, entry_other}
 use Rattle.law_flow.specs.Processors.{AreTimed, left_at, stamp_at, stamp_in}
 use Rattle.law_flow.proofs.Deciding.{IsOwn}
-use Rattle.law_flow.proofs.Doing.{by_deed, made_none, set_same, unjoined}
+use Rattle.law_flow.proofs.Doing.{by_deed, made_none}
+use Rattle.law_flow.proofs.Tables.{set_same, unjoined}
 use Rattle.law_flow.proofs.Timing.{clock_same}
 use Rattle.law_flow.proofs.Choosing.{some_same}
 use Rattle.nova_model.specs.declared.times.AlarmState.{AlarmState}

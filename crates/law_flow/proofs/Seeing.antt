@@ -20,7 +20,7 @@ use Rattle.nova_model.specs.Calls.{admitted, exit_admitted, is_parked, is_same_c
 use Rattle.nova_model.specs.Capabilities.{allowed, is_pt, named, or_bad_cap}
 use Rattle.nova_model.specs.Deeds.{address_space, instruction}
 use Rattle.nova_model.specs.Delegations.{covers, has_place, is_same_kind, page_in, range_of, reach}
-use Rattle.nova_model.specs.Edges.{AreEdges, after_edges, circle, cpu_in, edge, edge_of, is_dead, state_in}
+use Rattle.nova_model.specs.Edges.{AreEdges, after_edges, caller_in, circle, cpu_in, edge, edge_of, is_dead, state_in}
 use Rattle.nova_model.specs.Portals.{handler_in, handler_of, identifier, ip_in, ip_of, mtd_in, number_in}
 use Rattle.nova_model.specs.Semaphores.{semaphore, semaphore_in}
 use Rattle.nova_model.specs.State.{Contexts, KernelState, Semaphore, context, context_in, ec_in, entry, event_base, event_base_in, is_local_in, is_local_thread, is_thread, is_thread_in, message, message_in, own_words, pd_in, pd_of, processor_in, processor_of}
@@ -29,13 +29,15 @@ use Rattle.nova_model.specs.declared.admit.Admit.TheVariants.{Refused, Help, Sen
 use Rattle.nova_model.specs.declared.admit.ExitAdmit.{ExitAdmit}
 use Rattle.nova_model.specs.declared.admit.ExitAdmit.TheVariants as exit
 use Rattle.nova_model.specs.declared.context.EcState.{EcState}
+use Rattle.nova_model.specs.declared.context.Mark.{Mark}
 use Rattle.nova_model.specs.declared.context.State.{State}
 use Rattle.nova_model.specs.declared.delegation.Derivation.{Derivation}
 use Rattle.nova_ec.proofs.Ends.{circles_are_ways}
 use Rattle.law_forest.proofs.Members.{contains_from_in, found_in}
 use Rattle.law_forest.proofs.Transfers.{kinds_equal}
+use Rattle.law_turns.proofs.Tags.{get_map}
 use Rattle.law_integrity.proofs.Selected.{named_by}
-use Rattle.law_flow.specs.Flow.{AreAlike, Held, IsSide, held_by}
+use Rattle.law_flow.specs.Flow.{AreAlike, Front, Held, IsSide, front_of, fronts, held_by}
 
 -- both states, whose edges are sound
 pub record Both (k l : KernelState) (S P : ℕ → Type 0) : Type 0 where
@@ -46,17 +48,60 @@ pub record Both (k l : KernelState) (S P : ℕ → Type 0) : Type 0 where
 
 -- EXECUTION CONTEXTS AND OBJECTS
 
-pub context_same : (k l : KernelState) (S P : ℕ → Type 0) → Both k l S P → (n : ℕ) → P n → context l n ≡ context k n
-context_same k l S P b n p = ap (λ (o : Option (Option EcState)). context_in (entry o)) (b.alike.contexts n p)
+pub context_same : (k l : KernelState) (S P : ℕ → Type 0) → Both k l S P → (n : ℕ) → P n → S (pd_of k n) → context l n ≡ context k n
+context_same k l S P b n p s = ap (λ (o : Option (Option EcState)). context_in (entry o)) (b.alike.contexts n p s)
 
-pub there_same : (k l : KernelState) (S P : ℕ → Type 0) → Both k l S P → (n : ℕ) → P n → ec_in l.contexts n ≡ ec_in k.contexts n
-there_same k l S P b n p = ap (λ (o : Option (Option EcState)). entry o) (b.alike.contexts n p)
+-- what is told of an execution context by its front
+pub front_in : (cs : Contexts) (n : ℕ) → entry (slice_get (fronts cs) n) ≡ option_map front_of (ec_in cs n)
+front_in cs n = ap (λ (o : Option (Option Front)). entry o) (get_map (option_map front_of) cs n) ∙ by_entry (slice_get cs n)
+  where
+    by_entry : (o : Option (Option EcState)) → entry (option_map (option_map front_of) o) ≡ option_map front_of (entry o)
+    by_entry None = refl
+    by_entry (Some x) = refl
+
+pub fronts_same : (cs ds : Contexts) (n : ℕ) → slice_get ds n ≡ slice_get cs n → slice_get (fronts ds) n ≡ slice_get (fronts cs) n
+fronts_same cs ds n same = get_map (option_map front_of) ds n ∙ ap (option_map (option_map front_of)) same ∙ sym (get_map (option_map front_of) cs n)
+
+told_so : {A : Type 0} (f : Front → A) (o : Option EcState) → option_map (λ (x : EcState). f (front_of x)) o ≡ option_map f (option_map front_of o)
+told_so f None = refl
+told_so f (Some x) = refl
+
+pub by_front : {A : Type 0} (f : Front → A) (cs ds : Contexts) (n : ℕ) → slice_get (fronts ds) n ≡ slice_get (fronts cs) n →
+    option_map (λ (x : EcState). f (front_of x)) (ec_in ds n) ≡ option_map (λ (x : EcState). f (front_of x)) (ec_in cs n)
+by_front f cs ds n same =
+    told_so f (ec_in ds n) ∙ ap (option_map f) (sym (front_in ds n) ∙ ap (λ (o : Option (Option Front)). entry o) same ∙ front_in cs n) ∙ sym (told_so f (ec_in cs n))
+
+some_so : (o p : Option EcState) → option_map front_of o ≡ option_map front_of p → is_some o ≡ is_some p
+some_so None None h = refl
+some_so None (Some y) h = absurd (cc)
+some_so (Some x) None h = absurd (cc)
+some_so (Some x) (Some y) h = refl
+
+pub there_so : (cs ds : Contexts) (n : ℕ) → slice_get (fronts ds) n ≡ slice_get (fronts cs) n → is_some (ec_in ds n) ≡ is_some (ec_in cs n)
+there_so cs ds n same = some_so (ec_in ds n) (ec_in cs n) (sym (front_in ds n) ∙ ap (λ (o : Option (Option Front)). entry o) same ∙ front_in cs n)
+
+there_same : (k l : KernelState) (S P : ℕ → Type 0) → Both k l S P → (n : ℕ) → P n → is_some (ec_in l.contexts n) ≡ is_some (ec_in k.contexts n)
+there_same k l S P b n p = there_so k.contexts l.contexts n (b.alike.fronts n p)
 
 pub state_same : (k l : KernelState) (S P : ℕ → Type 0) → Both k l S P → (n : ℕ) → P n → state_in l.contexts n ≡ state_in k.contexts n
-state_same k l S P b n p = ap (option_map (λ (x : EcState). x.state)) (there_same k l S P b n p)
+state_same k l S P b n p = by_front (λ (f : Front). f.state) k.contexts l.contexts n (b.alike.fronts n p)
+
+pub caller_so : (cs ds : Contexts) (n : ℕ) → slice_get (fronts ds) n ≡ slice_get (fronts cs) n → caller_in ds n ≡ caller_in cs n
+caller_so cs ds n same = from_front (ec_in ds n) ∙ ap (option_and_then (λ (o : Option (ℕ × Mark)). o)) (by_front (λ (f : Front). f.caller) cs ds n same) ∙ sym (from_front (ec_in cs n))
+  where
+    from_front : (o : Option EcState) → option_and_then (λ (x : EcState). x.caller) o ≡ option_and_then (λ (c : Option (ℕ × Mark)). c) (option_map (λ (x : EcState). (front_of x).caller) o)
+    from_front None = refl
+    from_front (Some x) = refl
+
+pub caller_same : (k l : KernelState) (S P : ℕ → Type 0) → Both k l S P → (n : ℕ) → P n → (context l n).caller ≡ (context k n).caller
+caller_same k l S P b n p = from_entry (ec_in l.contexts n) ∙ caller_so k.contexts l.contexts n (b.alike.fronts n p) ∙ sym (from_entry (ec_in k.contexts n))
+  where
+    from_entry : (o : Option EcState) → (context_in o).caller ≡ option_and_then (λ (x : EcState). x.caller) o
+    from_entry None = refl
+    from_entry (Some x) = refl
 
 cpu_same : (k l : KernelState) (S P : ℕ → Type 0) → Both k l S P → (n : ℕ) → P n → cpu_in l.contexts n ≡ cpu_in k.contexts n
-cpu_same k l S P b n p = ap (option_map (λ (x : EcState). x.cpu)) (there_same k l S P b n p)
+cpu_same k l S P b n p = by_front (λ (f : Front). f.cpu) k.contexts l.contexts n (b.alike.fronts n p)
 
 pub edge_same : (k l : KernelState) (S P : ℕ → Type 0) → Both k l S P → (n : ℕ) → P n → edge l.contexts n ≡ edge k.contexts n
 edge_same k l S P b n p = ap (option_and_then edge_of) (state_same k l S P b n p)
@@ -76,8 +121,8 @@ thread_same k l S P b n p = ap is_thread_in (b.alike.objects n p)
 pub local_same : (k l : KernelState) (S P : ℕ → Type 0) → Both k l S P → (n : ℕ) → P n → is_local_thread l n ≡ is_local_thread k n
 local_same k l S P b n p = ap is_local_in (b.alike.objects n p)
 
-pub message_same : (k l : KernelState) (S P : ℕ → Type 0) → Both k l S P → (n : ℕ) → P n → message l n ≡ message k n
-message_same k l S P b n p = ap (λ (o : Option (Option (List ℕ))). message_in (entry o)) (b.alike.messages n p)
+pub message_same : (k l : KernelState) (S P : ℕ → Type 0) → Both k l S P → (n : ℕ) → P n → S (pd_of k n) → message l n ≡ message k n
+message_same k l S P b n p s = ap (λ (o : Option (Option (List ℕ))). message_in (entry o)) (b.alike.messages n p s)
 
 pub semaphore_same : (k l : KernelState) (S P : ℕ → Type 0) → Both k l S P → (n : ℕ) → P n → semaphore l.semaphores n ≡ semaphore k.semaphores n
 semaphore_same k l S P b n p = ap (λ (o : Option (Option Semaphore)). semaphore_in (entry o)) (b.alike.semaphores n p)
@@ -100,7 +145,7 @@ same_test false false f g = refl
 
 circle_same : (k l : KernelState) (S P : ℕ → Type 0) → Both k l S P → (h e : ℕ) → P h → IsSome (ec_in k.contexts h) → circle l.contexts h e ≡ circle k.contexts h e
 circle_same k l S P b h e p there =
-    let also : IsSome (ec_in l.contexts h) = subst IsSome (sym (there_same k l S P b h p)) there in
+    let also : IsSome (ec_in l.contexts h) = there_same k l S P b h p ∙ there in
     let ours = circles_are_ways k.contexts h e b.first there in
     let theirs = circles_are_ways l.contexts h e b.second also in
     same_test (circle l.contexts h e) (circle k.contexts h e)
@@ -253,8 +298,8 @@ identifier_same k l S P b pt p = ap (λ (o : Option (Option ℕ)). number_in (en
 
 -- WHAT AN INSTRUCTION SEES
 
-pub own_same : (k l : KernelState) (S P : ℕ → Type 0) → Both k l S P → (ec : ℕ) → P ec → own_words l ec ≡ own_words k ec
-own_same k l S P b ec p = ap₂ (λ (t : Bool) (m : List ℕ). if t then Some m else None) (thread_same k l S P b ec p) (message_same k l S P b ec p)
+pub own_same : (k l : KernelState) (S P : ℕ → Type 0) → Both k l S P → (ec : ℕ) → P ec → S (pd_of k ec) → own_words l ec ≡ own_words k ec
+own_same k l S P b ec p s = ap₂ (λ (t : Bool) (m : List ℕ). if t then Some m else None) (thread_same k l S P b ec p) (message_same k l S P b ec p s)
 
 -- the pages and words of the first state over the frames of the second
 abbrev pub across : KernelState → KernelState → ℕ → AddressSpace
@@ -262,7 +307,7 @@ across k l ec = record { page = (address_space k ec).page; bytes = slice_get l.m
 
 pub address_same : (k l : KernelState) (S P : ℕ → Type 0) → Both k l S P → (ec : ℕ) → P ec → S (pd_of k ec) → address_space l ec ≡ across k l ec
 address_same k l S P b ec p s =
-    ap₂ (λ (pd : ℕ) (own : Option (List ℕ)). space_through l.delegations.list l.memory pd own) (pd_same k l S P b ec p) (own_same k l S P b ec p)
+    ap₂ (λ (pd : ℕ) (own : Option (List ℕ)). space_through l.delegations.list l.memory pd own) (pd_same k l S P b ec p) (own_same k l S P b ec p s)
     ∙ ap (λ (page : ℕ → Option Page). record (across k l ec) { page = page })
     (fun_ext (λ n. ap (λ (o : Option Page). if is_some (own_words k ec) && (n == own_page) then None else o) (reach_same k l S P b.alike (pd_of k ec) n s)))
 
@@ -314,4 +359,4 @@ space_same k l S P b ec p s =
     by_words address width None = found_same k l S P b ec s read_right address width
 
 pub instruction_same : (k l : KernelState) (S P : ℕ → Type 0) → Both k l S P → (ec : ℕ) → P ec → S (pd_of k ec) → instruction l ec ≡ instruction k ec
-instruction_same k l S P b ec p s = ap₂ (λ (x : EcState) (a : Space). one x.regs a) (context_same k l S P b ec p) (space_same k l S P b ec p s)
+instruction_same k l S P b ec p s = ap₂ (λ (x : EcState) (a : Space). one x.regs a) (context_same k l S P b ec p s) (space_same k l S P b ec p s)

@@ -40,9 +40,10 @@ use Rattle.law_flow.proofs.Keeping.{turned_side}
 pub alike_flipped : (k l : KernelState) (S P : ℕ → Type 0) → AreAlike k l S P → AreAlike l k S P
 alike_flipped k l S P a = record {
   objects = λ n p. sym (a.objects n p);
-  contexts = λ n p. sym (a.contexts n p);
-  messages = λ n p. sym (a.messages n p);
-  transfers = λ n p. sym (a.transfers n p);
+  fronts = λ n p. sym (a.fronts n p);
+  contexts = λ n p s. sym (a.contexts n p (own n p s));
+  messages = λ n p s. sym (a.messages n p (own n p s));
+  transfers = λ n p s. sym (a.transfers n p (own n p s));
   identifiers = λ n p. sym (a.identifiers n p);
   semaphores = λ n p. sym (a.semaphores n p);
   ticks = λ n p. sym (a.ticks n p);
@@ -51,13 +52,17 @@ alike_flipped k l S P a = record {
   frames = λ pd page to s leads. sym (a.frames pd page to s (sym (reach_same k l S P a pd page s) ∙ leads));
   size = sym a.size;
 }
+  where
+    own : (n : ℕ) → P n → S (pd_of l n) → S (pd_of k n)
+    own n p s = subst (λ (o : Option Object). S (pd_in o)) (a.objects n p) s
 
 pub alike_itself : (k : KernelState) (S P : ℕ → Bool) → AreAlike k k (Of S) (Of P)
 alike_itself k S P = record {
   objects = λ n p. refl;
-  contexts = λ n p. refl;
-  messages = λ n p. refl;
-  transfers = λ n p. refl;
+  fronts = λ n p. refl;
+  contexts = λ n p s. refl;
+  messages = λ n p s. refl;
+  transfers = λ n p s. refl;
   identifiers = λ n p. refl;
   semaphores = λ n p. refl;
   ticks = λ n p. refl;
@@ -70,9 +75,10 @@ alike_itself k S P = record {
 pub alike_through : (k l m : KernelState) (S P : ℕ → Type 0) → AreAlike k l S P → AreAlike l m S P → AreAlike k m S P
 alike_through k l m S P a b = record {
   objects = λ n p. b.objects n p ∙ a.objects n p;
-  contexts = λ n p. b.contexts n p ∙ a.contexts n p;
-  messages = λ n p. b.messages n p ∙ a.messages n p;
-  transfers = λ n p. b.transfers n p ∙ a.transfers n p;
+  fronts = λ n p. b.fronts n p ∙ a.fronts n p;
+  contexts = λ n p s. b.contexts n p (own n p s) ∙ a.contexts n p s;
+  messages = λ n p s. b.messages n p (own n p s) ∙ a.messages n p s;
+  transfers = λ n p s. b.transfers n p (own n p s) ∙ a.transfers n p s;
   identifiers = λ n p. b.identifiers n p ∙ a.identifiers n p;
   semaphores = λ n p. b.semaphores n p ∙ a.semaphores n p;
   ticks = λ n p. b.ticks n p ∙ a.ticks n p;
@@ -81,6 +87,9 @@ alike_through k l m S P a b = record {
   frames = λ pd page to s leads. b.frames pd page to s (reach_same k l S P a pd page s ∙ leads) ∙ a.frames pd page to s leads;
   size = b.size ∙ a.size;
 }
+  where
+    own : (n : ℕ) → P n → S (pd_of k n) → S (pd_of l n)
+    own n p s = subst (λ (o : Option Object). S (pd_in o)) (sym (a.objects n p)) s
 
 -- ONE OF THE SIDE'S TURNS
 

@@ -1,6 +1,6 @@
 -- Noninterference of a side: which part of a state is the side's, two states in which that part is the same, whatever the rest is, and what keeps others out of it.
--- `S` says which protection domains are the side's, by number, and `P` which objects are; `T` says which domains are the others'. What they hold and reach, and when they are apart, is as in integrity.
-use Rattle.std.specs.Prelude.{◌≡◌, ℕ, Contains, Bool, IsSome, true, false, List, [], ◌∷◌, ◌++◌, drop, length, slice_get, Option, Some, None, option_and_then, option_map, Result, Ok}
+-- `S` says which protection domains are the side's, by number, and `P` which objects its part has; `T` says which domains are the others'. What they hold and reach, and when they are apart, is as in integrity.
+use Rattle.std.specs.Prelude.{◌≡◌, ℕ, Contains, Bool, IsSome, true, false, List, [], ◌∷◌, ◌++◌, drop, length, map, slice_get, Option, Some, None, option_and_then, option_map, Result, Ok}
 use Rattle.std.specs.List.{find}
 use Rattle.nova_calls.specs.Hypercalls.{call_of}
 use Rattle.nova_calls.specs.declared.call.Call.{Call}
@@ -22,9 +22,10 @@ use Rattle.nova_model.specs.Edges.{caller_in, edge, state_in}
 use Rattle.nova_model.specs.Lines.{line}
 use Rattle.nova_model.specs.Runs.{after, run}
 use Rattle.nova_model.specs.Semaphores.{waits}
-use Rattle.nova_model.specs.State.{KernelState, budget_at, context, deadline_of, pd_of, processor_of}
+use Rattle.nova_model.specs.State.{Contexts, KernelState, budget_at, context, deadline_of, pd_of, processor_of}
 use Rattle.nova_model.specs.Times.{clock}
 use Rattle.nova_model.specs.declared.budget.Budget.{Budget}
+use Rattle.nova_model.specs.declared.context.EcState.{EcState}
 use Rattle.nova_model.specs.declared.context.Mark.{Mark}
 use Rattle.nova_model.specs.declared.context.State.{State}
 use Rattle.nova_model.specs.declared.context.State.TheVariants.{Blocked, Granting, Replying, Revoking}
@@ -37,7 +38,7 @@ use Rattle.law_integrity.specs.Rights.{IsAsking}
 
 -- THE SIDE'S PART
 
--- What the side's domains hold, its portals lead to, its execution contexts wait for, serve and wait at, who waits at its semaphores, and the execution contexts of its domains are all of the side.
+-- What the side's domains hold, its portals lead to, its execution contexts wait for, serve and wait at, who waits at its semaphores, and the execution contexts of its domains are all of its part. So are handlers of other domains that serve it.
 pub record IsSide (k : KernelState) (S P : ℕ → Type 0) : Type 0 where
   pub holds : (d : Derivation) → Contains k.delegations.list d → S d.pd → d.kind ≡ Obj → P d.target
   pub handlers : (n handler mtd ip : ℕ) → P n → slice_get k.objects n ≡ Some (Pt handler mtd ip) → P handler
@@ -64,13 +65,27 @@ held_at k kind pd place = option_map held_by (find (covers kind pd place) k.dele
 abbrev pub ticks_at : KernelState → ℕ → Option ℕ
 ticks_at k sc = option_map (λ (b : Budget). b.ticks) (budget_at k sc)
 
--- In two states the side's part is the same: its objects, under the same numbers, with registers, states, callers and recalls, message words, places in items, identifiers of portals, semaphores
--- with their queues, ticks and deadlines; what its domains hold at each place; and the bytes of each frame to which a page of one of them leads. Of the rest only the number of RAM frames is.
+-- what all who may call an execution context meet of it: its processor, its state, and whom it serves; not its registers
+pub record Front : Type 0 where
+  pub cpu : ℕ
+  pub state : State
+  pub caller : Option (ℕ × Mark)
+
+abbrev pub front_of : EcState → Front
+front_of x = record { cpu = x.cpu; state = x.state; caller = x.caller }
+
+abbrev pub fronts : Contexts → List (Option Front)
+fronts contexts = map (option_map front_of) contexts
+
+-- In two states the side's part is the same: its objects, under the same numbers, with identifiers of portals, semaphores with their queues, ticks and deadlines; of the execution contexts of its
+-- domains registers, states, callers and recalls, message words and places in items, and of those of other domains, which serve it, the fronts alone; what its domains hold at each place; and the bytes
+-- of each frame to which a page of one of them leads. Of the rest only the number of RAM frames is.
 pub record AreAlike (k l : KernelState) (S P : ℕ → Type 0) : Type 0 where
   pub objects : (n : ℕ) → P n → slice_get l.objects n ≡ slice_get k.objects n
-  pub contexts : (n : ℕ) → P n → slice_get l.contexts n ≡ slice_get k.contexts n
-  pub messages : (n : ℕ) → P n → slice_get l.messages n ≡ slice_get k.messages n
-  pub transfers : (n : ℕ) → P n → slice_get l.transfers n ≡ slice_get k.transfers n
+  pub fronts : (n : ℕ) → P n → slice_get (fronts l.contexts) n ≡ slice_get (fronts k.contexts) n
+  pub contexts : (n : ℕ) → P n → S (pd_of k n) → slice_get l.contexts n ≡ slice_get k.contexts n
+  pub messages : (n : ℕ) → P n → S (pd_of k n) → slice_get l.messages n ≡ slice_get k.messages n
+  pub transfers : (n : ℕ) → P n → S (pd_of k n) → slice_get l.transfers n ≡ slice_get k.transfers n
   pub identifiers : (n : ℕ) → P n → slice_get l.identifiers n ≡ slice_get k.identifiers n
   pub semaphores : (n : ℕ) → P n → slice_get l.semaphores n ≡ slice_get k.semaphores n
   pub ticks : (n : ℕ) → P n → ticks_at l n ≡ ticks_at k n

@@ -18,7 +18,7 @@ sys.path.insert(0, str(TOOL))
 
 from leaks import LEAKS  # noqa: E402
 from parts import difference, free_part, part  # noqa: E402
-from premises import broken  # noqa: E402
+from premises import at_work, broken  # noqa: E402
 from scenarios import Fixed, SetUp, word  # noqa: E402
 
 PROGRAM = TOP / "crates" / "nova" / "out" / "nova"
@@ -93,6 +93,12 @@ class Premises(unittest.TestCase):
         ours, theirs = (next(words for words in caps if int(words[3]) == domain) for domain in domains)
         child = " ".join([*ours[:2], theirs[1], *ours[3:]])
         self.assertEqual(broken(report.replace(" ".join(ours), child)), {"IsGuarded.lines"})
+
+    def test_a_side_that_creates_gives_or_revokes_isnt_at_work(self) -> None:
+        works = [["1", "22", "answer", "12", "0"], ["1", "0", "irq", "1", "0"], ["1", "22", "begin", "0", "18"]]
+        self.assertEqual(at_work(works), set())
+        self.assertEqual(at_work([*works, ["1", "22", "answer", "6", "8"]]), {"IsAtWork.calls"})
+        self.assertEqual(at_work([*works, ["1", "18", "made", "52", "33"], ["1", "22", "gone", "52", "7"]]), {"IsAtWork.state"})
 
 
 class Runs(unittest.TestCase):

@@ -1,0 +1,9 @@
+pub mod Words
+pub mod Entering
+pub mod Giving
+pub mod Computing
+pub mod Strangers
+pub mod Admitting
+pub mod Along
+pub mod Meeting
+pub mod Between
