@@ -9,6 +9,7 @@ import difflib
 import os
 import stat
 import sys
+from collections.abc import Iterator
 from dataclasses import dataclass, field
 
 MOST_TURNS, MOST_DOMAINS, TURNS, MOST_TEXT = 10_000_000, 90_000, 1_000_000, 4_096
@@ -19,12 +20,28 @@ nova check SCENARIO           says whether a scenario has a fault
 nova twin NAME                compares a virtual CPU of one run with one of another
 nova bench NUMBER             makes NUMBER protection domains, 1 to {MOST_DOMAINS:,}
   --limit N                   the most turns, 1 to {MOST_TURNS:,} ({TURNS:,})
+./nova-policy SCENARIO ..     which protection domains are isolated from which; ./nova-policy --help tells more
 ./nova draft WORD..           the same at once, unproved; ./nova draft --help tells more
 
 Status: 0 done, 2 no command, 3 a file isn't read, 4 a fault of the scenario, 5 of the order, 6 a file isn't written, 7 not quiet: the limit or
 the end of the order came first, 8 out of memory, 10 a fault of a twin text. docs/FORMATS.md explains the word of each fault, docs/TOOLS.md each
 command. What a report says, in sentences: python3 tools/explain REPORT
 """
+POLICY_HELP = f"""\
+./nova-policy SCENARIO        which protection domains are isolated from which, at the end of a run
+  --at TURN                   after turn TURN, 0 to {MOST_TURNS:,} ({TURNS:,}, or the end of the run)
+  --order ORDER               of the run in the order of turns of ORDER, in place of rounds
+  --policy POLICY             with the sides of POLICY; without, the root's domain, 0, is trusted, and the finest sides of the others are told
+./nova draft policy WORD..    the same at once, unproved
+
+A line of POLICY is `trusted DOMAIN ..` or `side NAME DOMAIN ..`. A domain is the number of its object: --policy /dev/null tells all there are.
+
+Status: 0 apart, 1 served, 9 breach, 10 stuck, 11 single. Without an answer: 2 no request, 3 a file isn't read, 4 a fault of the scenario, 5 of the
+order, 6 the answer isn't written, 7 a fault of the policy, 8 out of memory. docs/SECURITY.md says what the answers mean, docs/FORMATS.md explains
+their lines and the word of each fault. An answer is drawn by: python3 tools/picture sides ANSWER
+"""
+# The options of a request, with the word behind each.
+POLICY_OPTIONS = {"--at": "TURN", "--order": "ORDER", "--policy": "POLICY"}
 # The names of each command, and what the last one is for.
 FORMS = {
     "run": ("SCENARIO", "ORDER"),
@@ -207,12 +224,65 @@ def hints(given: list[str]) -> list[str]:
     return [line for line in said if line]
 
 
+@dataclass(slots=True)
+class Request:
+    """The words of a request to nova_policy: its scenario, its options, and why it is none."""
+
+    names: list[str] = field(default_factory=list)
+    options: dict[str, str] = field(default_factory=dict)
+    why: str | None = None
+
+    @classmethod
+    def of(cls, words: list[str]) -> Request:
+        """Sorts words, up to the first that is amiss. Behind `--` all are names."""
+        found, left = cls(), iter(words)
+        for word in left:
+            if word == "--":
+                found.names += left
+            elif word.startswith("-") and word != "-":
+                found.take(word, left)
+            else:
+                found.names.append(word)
+            if found.why:
+                return found
+        if len(found.names) != 1:
+            found.why = f"there is a word too many: {found.names[1]!r}" if found.names else "no scenario is named"
+        return found
+
+    def take(self, word: str, left: Iterator[str]) -> None:
+        """Takes an option, with the word behind it or behind its `=`."""
+        option, is_whole, text = word.partition("=")
+        value = text if is_whole else next(left, None)
+        if option not in POLICY_OPTIONS:
+            self.why = f"there is no option {option} (a file with such a name stands behind --)"
+        elif option in self.options:
+            self.why = f"{option} is given twice"
+        elif value is None:
+            self.why = f"{option} wants {POLICY_OPTIONS[option]} behind it"
+        elif option == "--at" and (turn := number_of(value)) is None:
+            self.why = f"--at: {value!r} is no number"
+        elif option == "--at" and turn > MOST_TURNS:
+            self.why = f"--at: {turn:,} is more than {MOST_TURNS:,}"
+        else:
+            self.options[option] = value
+
+
+def policy_hints(given: list[str]) -> list[str]:
+    """What is to be said of the words of a request to nova_policy."""
+    request = Request.of(given)
+    if request.why:
+        return [f"these words are no request: {request.why}. ./nova-policy --help lists them"]
+    files = [*request.names, *(request.options[option] for option in ("--order", "--policy") if option in request.options)]
+    return [why for why in map(unread, files) if why]
+
+
 def main(given: list[str]) -> int:
     """Says what there is to say, a line each."""
-    if given == ["--help"]:
-        print(HELP, end="")
+    is_policy = given[:1] == ["policy"]
+    if given[is_policy:] == ["--help"]:
+        print(POLICY_HELP if is_policy else HELP, end="")
         return 0
-    for line in hints(given):
+    for line in policy_hints(given[1:]) if is_policy else hints(given):
         print(f"nova: {line}".encode(errors="replace").decode())
     return 0
 

@@ -2,6 +2,7 @@
 
 from __future__ import annotations
 
+import shutil
 import subprocess
 from dataclasses import dataclass
 from pathlib import Path
@@ -19,15 +20,26 @@ class Ending:
 
 
 class Machine:
-    """The program that is tried, and a folder to try it in."""
+    """The program that is tried, and a folder to try it in. Others are there too, by the names of their commands, where they are built."""
 
-    def __init__(self, program: Path, top: Path, folder: Path) -> None:
+    def __init__(self, program: Path, top: Path, folder: Path, others: dict[str, Path] | None = None) -> None:
         self.folder = folder
         self.top = top
         for name in ("docs", "examples", "tools"):
             (folder / name).symlink_to(top / name)
-        (folder / "nova").write_text(f'#!/bin/sh\nexec "{program.resolve()}" "$@"\n')
-        (folder / "nova").chmod(0o755)
+        self._call("nova", program)
+        for name, file in (others or {}).items():
+            if file.is_file():
+                self._call(name, file)
+
+    def _call(self, name: str, program: Path) -> None:
+        """Has a program be called by a name in the folder."""
+        (self.folder / name).write_text(f'#!/bin/sh\nexec "{program.resolve()}" "$@"\n')
+        (self.folder / name).chmod(0o755)
+
+    def has(self, name: str) -> bool:
+        """Whether a command is there."""
+        return shutil.which(name) is not None or (self.folder / name).is_file()
 
     def _run(self, words: list[str]) -> Ending:
         ended = subprocess.run(words, cwd=self.folder, capture_output=True, encoding="utf-8", timeout=SECONDS, check=False)

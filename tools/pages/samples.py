@@ -2,7 +2,6 @@
 
 from __future__ import annotations
 
-import shutil
 from dataclasses import dataclass, field
 
 from machine import Machine
@@ -37,10 +36,10 @@ def answer_to(page: Page, index: int) -> str | None:
     return same[0].text if same else None
 
 
-def is_wanting(block: Block) -> bool:
-    """A command that it needs isn't installed."""
+def is_wanting(block: Block, machine: Machine) -> bool:
+    """A command that it needs isn't installed, or isn't built."""
     needed = block.value("needs")
-    return needed is not None and any(shutil.which(name) is None for name in needed.split(","))
+    return needed is not None and not all(map(machine.has, needed.split(",")))
 
 
 def is_part(lines: list[str], of: list[str]) -> bool:
@@ -111,7 +110,7 @@ def try_block(page: Page, index: int, scenario: Block | None, machine: Machine, 
         image = f"{SETTINGS}image 0 asm\n{block.text}end\n"
         tried.note(page, block.line, differing(machine.nova("check", image).out, "ok\n"))
     elif block.language == "sh" and "try" in block.words:
-        if is_wanting(block):
+        if is_wanting(block, machine):
             tried.left += 1
         else:
             tried.note(page, block.line, told(block, wanted, machine))

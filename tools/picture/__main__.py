@@ -1,8 +1,9 @@
-"""Draws pictures of a run from its report.
+"""Draws pictures of a run from its report, and of the sides of a state from what nova_policy tells of them.
 
 python3 tools/picture run REPORT [--order FILE] [--scenario FILE] [--from TURN] [--to TURN] [--all] [--fold N] [--page] [--output FILE]
 python3 tools/picture delegations REPORT [--from TURN] [--to TURN] [--all] [--fold N] [--page] [--output FILE]
 python3 tools/picture trace REPORT [--order FILE] [--scenario FILE] [--from TURN] [--to TURN] [--output FILE.json.gz]
+python3 tools/picture sides [ANSWER] [--policy FILE] [--title TEXT] [--dot] [--output FILE]
 
 With a scenario, run and trace ask nova_debug what the report doesn't tell, where that is built; [--program FILE] names another one. All take
 [--names FILE] and [--elf FILE], for names of objects.
@@ -32,6 +33,8 @@ from parsing import Parser
 from report import Fault, Report, read_report
 from run_picture import draw_run
 from scenario import read_settings
+from sides import Told, named_in, read_sides
+from sides_picture import dot, draw_sides
 from skim import LARGE, Events, find_events, shorten, turns_of
 from timeline import Window
 from trace_events import text_of, trace_events
@@ -43,6 +46,8 @@ GREATEST, SURE = 5_000_000, 20_000
 TURNS, RANGES = 12, 40
 # How many trace events are written at a time.
 AT_ONCE = 10_000
+# The most lines of an answer that are drawn, and not left to Graphviz.
+LINES = 2_000
 
 
 Read = TypeVar("Read")
@@ -76,6 +81,13 @@ def parser() -> argparse.ArgumentParser:
         picture.add_argument("--output", type=Path, metavar="FILE", help="where to write (standard output)")
         picture.add_argument("--elf", type=Path, action="append", default=[], metavar="FILE", help="an executable whose constants name selectors")
         add_words(picture)
+    sides = pictures.add_parser("sides", help="which protection domains are isolated from which, by the answer of nova_policy")
+    sides.add_argument("answer", type=Path, nargs="?", default=Path("-"), metavar="ANSWER", help="what nova_policy wrote (standard input)")
+    sides.add_argument("--policy", type=Path, metavar="FILE", help="the policy that was asked for: a domain without ties is drawn in its own side, also beside a breach")
+    sides.add_argument("--title", metavar="TEXT", help="what is written above it (the name of the file)")
+    sides.add_argument("--dot", action="store_true", help="write a graph for Graphviz, not an SVG")
+    sides.add_argument("--page", action="store_true", help="write a page of HTML that shows a line's ties, not an SVG")
+    sides.add_argument("--output", type=Path, metavar="FILE", help="where to write (standard output)")
     for picture in (run, trees):
         picture.add_argument("--all", action="store_true", help="draw all turns that are asked for, also where the picture passes 5 MB")
         picture.add_argument("--page", action="store_true", help="write a page of HTML that shows a mark's line, not an SVG")
@@ -115,6 +127,28 @@ def draw(words: argparse.Namespace) -> bytes:
         window = events.cut(window)
         picture = draw_window(words, text, events, window)
     return picture
+
+
+def told_in(words: argparse.Namespace) -> Told:
+    """The answer that is drawn. Bytes that are not ASCII are kept as they are, for the reader to refuse."""
+    if words.answer == Path("-"):
+        text = sys.stdin.buffer.read().decode("ascii", errors="surrogateescape")
+    else:
+        text = read_text(words.answer)
+    return faultless(words.answer, lambda: read_sides(text))
+
+
+def draw_answer(words: argparse.Namespace) -> bytes:
+    """The picture of the sides of a state."""
+    told = told_in(words)
+    title = words.title or ("sides" if words.answer == Path("-") else words.answer.stem)
+    named = named_in(read_text(words.policy)) if words.policy else {}
+    if words.dot:
+        return dot(title, told, named).encode("utf-8", "replace")
+    if len(told.ties) > LINES:
+        raise Refused(f"there are {len(told.ties)} ties: --dot writes a graph, for Graphviz")
+    scene = draw_sides(title, told, named)
+    return (page(scene) if words.page else svg(scene)).encode("utf-8", "replace")
 
 
 def read_window(words: argparse.Namespace, text: str, events: Events, window: Window) -> Report:
@@ -242,7 +276,7 @@ def main(arguments: list[str]) -> int:
         if words.picture == "trace":
             write_trace(words)
             return 0
-        picture = draw(words)
+        picture = draw_answer(words) if words.picture == "sides" else draw(words)
         if words.output is None:
             sys.stdout.buffer.write(picture)
         else:

@@ -20,7 +20,7 @@ sys.path.insert(0, str(TOOL))
 
 from children import Children, Ended  # noqa: E402
 from endings import Endings  # noqa: E402, F401
-from hints import hints  # noqa: E402
+from hints import POLICY_HELP, hints, policy_hints  # noqa: E402
 from schedule import Schedule, above, costs, dependencies, in_order, seconds_by  # noqa: E402
 
 CRATES = "# Crates.\nlow:\nlong: low\nshort: low\nnova: long short clap # the program\n"
@@ -287,6 +287,40 @@ class Hints(unittest.TestCase):
             ):
                 with self.subTest(words):
                     self.assertEqual(hints(words), said)
+
+    def test_why_words_are_no_request(self) -> None:
+        for words, why in (
+            ([], "no scenario is named"),
+            (["--at", "3"], "no scenario is named"),
+            (["a", "b"], "there is a word too many: 'b'"),
+            (["a", "--until", "3"], "there is no option --until (a file with such a name stands behind --)"),
+            (["a", "--at=1", "--at", "2"], "--at is given twice"),
+            (["a", "--policy"], "--policy wants POLICY behind it"),
+            (["a", "--at", "x"], "--at: 'x' is no number"),
+            (["a", "--at", "0x989681"], "--at: 10,000,001 is more than 10,000,000"),
+        ):
+            with self.subTest(words):
+                self.assertEqual(policy_hints(words), [f"these words are no request: {why}. ./nova-policy --help lists them"])
+
+    def test_which_file_of_a_request(self) -> None:
+        with tempfile.TemporaryDirectory() as folder:
+            there, missing = Path(folder, "1.nova"), Path(folder, "2.policy")
+            there.touch()
+            gone = f"{missing}: No such file or directory"
+            for words, said in (
+                ([str(there), "--at=0x10", "--order", str(there)], []),
+                ([str(missing)], [gone]),
+                ([f"--policy={missing}", "--", str(there)], [gone]),
+                ([str(there), "--order", folder, "--policy", str(missing)], [f"{folder} is a folder", gone]),
+            ):
+                with self.subTest(words):
+                    self.assertEqual(policy_hints(words), said)
+
+    def test_help_of_the_policy_has_each_option_and_status(self) -> None:
+        told = subprocess.run([sys.executable, str(TOOL / "hints.py"), "policy", "--help"], capture_output=True, text=True, check=True).stdout
+        self.assertEqual(told, POLICY_HELP)
+        for word in ("--at", "--order", "--policy", "0 apart", "1 served", "9 breach", "10 stuck", "11 single", "2 no request", "7 a fault of the policy"):
+            self.assertIn(word, told)
 
     def test_a_text_of_twin(self) -> None:
         with tempfile.TemporaryDirectory() as folder:

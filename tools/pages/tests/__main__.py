@@ -64,6 +64,7 @@ WRONG = (
     "```text part=docs/A.md\nlast\n# A\n```",
     "```text part=docs/C.md\nlast\n```",
     "```text whole=docs/A.md\n# A\n```",
+    "```sh try needs=nova\nfalse\n```",
     "```sh try\necho 1\n```\n```text\n2\n```",
     "```sh try\nfalse | true\n```",
     "| line outside a block | fault | why |\n|---|---|---|\n| `a` | Syntax | |",

@@ -59,6 +59,10 @@ CASES = (
     Case("time", "run {}/time.report --order {}/time.order --scenario {}/time.nova"),
     Case("time-window", "run {}/time.report --from 20 --to 41"),
     Case("timer-delegations", "delegations {}/../../../examples/timer.report"),
+    Case("sides-apart", "sides {}/../../../examples/policy/apart.sides --policy {}/../../../examples/policy/apart.policy"),
+    Case("sides-breach", "sides {}/../../../examples/policy/tenants.sides"),
+    Case("sides-stuck", "sides {}/stuck.sides --title named"),
+    Case("sides-causes", "sides {}/causes.sides --policy {}/causes.policy"),
     Case("nothing", "run {}/nothing.report"),
     Case("nothing-delegations", "delegations {}/nothing.report"),
 )
@@ -205,6 +209,26 @@ class Pictures(unittest.TestCase):
                 answer = picture("run", str(report), "--order", str(order), "--output", str(output))
                 self.assertEqual((answer.returncode, answer.stderr), (1, f"picture: {file}: {line}\n"))
                 self.assertFalse(output.exists())
+
+    def test_sides_are_drawn_from_standard_input_and_for_graphviz(self) -> None:
+        file = HERE / "causes.sides"
+        words = [sys.executable, str(TOP), "sides", "--title", "causes", "--policy", str(HERE / "causes.policy")]
+        read = subprocess.run(words, input=file.read_text(), capture_output=True, text=True, check=False)
+        self.assertEqual(read.stdout, (HERE / "sides-causes.svg").read_text(encoding="utf-8"))
+        graph = picture("sides", str(file), "--dot").stdout
+        self.assertIn('d5 -> d8 [label="serves ec 7 ec 9", color=red, fontcolor=red, penwidth=2]', graph)
+        self.assertIn('subgraph cluster_0 { label="trusted"; style=filled; fillcolor=gray95; d0 [label="domain 0"] }', graph)
+        self.assertEqual(graph.count(" -> "), 10)
+
+    def test_what_is_no_answer_is_refused(self) -> None:
+        with tempfile.TemporaryDirectory() as folder:
+            answer = Path(folder, "a.sides")
+            for text, line in (("turn 3\napart\ntie a:5 b:6 portal\n", "line 3: this is no tie"), ("run quiet 3\n", "line 1: `turn N` is wanted")):
+                answer.write_text(text)
+                done = picture("sides", str(answer))
+                self.assertEqual((done.returncode, done.stderr), (1, f"picture: {answer}: {line}\n"))
+            answer.write_text("turn 3\napart\n" + "tie a:5 a:6 portal cap 3\n" * 2001)
+            self.assertIn("2001 ties: --dot writes a graph", picture("sides", str(answer)).stderr)
 
     def test_sources_of_another_scenario_are_refused(self) -> None:
         with tempfile.TemporaryDirectory() as folder:

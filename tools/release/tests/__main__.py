@@ -17,6 +17,7 @@ from pathlib import Path
 TOP = Path(__file__).resolve().parents[3]
 # Programs that say with which words they were started.
 PROGRAM = "#!/bin/sh\necho {name} \"$@\"\n"
+NAMES = ("nova", "nova_debug", "nova_policy")
 
 
 def run(*words: str | Path, folder: Path) -> subprocess.CompletedProcess[str]:
@@ -33,14 +34,15 @@ def repository(folder: str) -> Path:
     shutil.copytree(TOP / "examples", top / "examples", ignore=lambda _, names: [name for name in names if not name.startswith("race.")])
     (top / "docs").mkdir()
     (top / "README.md").write_text("# nova\n")
-    shutil.copy(TOP / "nova", top / "nova")
+    for name in ("nova", "nova-policy"):
+        shutil.copy(TOP / name, top / name)
     (top / ".gitignore").write_text("out/\n__pycache__/\n")
     (top / "HANDLES").write_text("Handles allowed: none.\n")
-    (top / "crates.txt").write_text("low: # the lowest\nnova: low\nnova_debug: low\n")
-    for crate, source in (("low", "lib.rt"), ("nova", "main.rt"), ("nova_debug", "main.rt")):
+    (top / "crates.txt").write_text("low: # the lowest\nnova: low\nnova_debug: low\nnova_policy: low\n")
+    for crate, source in (("low", "lib.rt"), *((name, "main.rt") for name in NAMES)):
         (top / "crates" / crate / "src").mkdir(parents=True)
         (top / "crates" / crate / "src" / source).write_text("fn\n")
-    for name in ("nova", "nova_debug"):
+    for name in NAMES:
         program = top / "crates" / name / "out" / name
         program.parent.mkdir()
         program.write_text(PROGRAM.format(name=name))
@@ -70,6 +72,8 @@ class Releases(unittest.TestCase):
             shutil.rmtree(top)
             self.assertEqual(run(root / "nova", "solo", "examples/race.nova", folder=root).stdout, "nova solo examples/race.nova\n")
             self.assertEqual(run(root / "nova", "draft", "x", folder=root).returncode, 1)
+            absent = run(root / "nova-policy", "examples/race.nova", folder=root)
+            self.assertEqual((absent.returncode, absent.stderr), (1, "nova: nova_policy isn't in this release\n"))
             told = run(sys.executable, root / "tools/explain", "examples/race.report", folder=root)
             self.assertEqual((told.returncode, told.stdout.split(":")[0]), (0, "The run came to rest after 54 turns"))
             lines = (root / "MANIFEST").read_text().splitlines()
@@ -81,6 +85,42 @@ class Releases(unittest.TestCase):
             Path(folder, "sums").write_text(sums)
             self.assertEqual(run("sha256sum", "--quiet", "-c", f"{folder}/sums", folder=root).returncode, 0)
             self.assertFalse((root / "tools/release").exists() or (root / "crates").exists())
+
+    def test_another_program_is_packed_too(self) -> None:
+        with tempfile.TemporaryDirectory() as folder:
+            top, archive = repository(folder), Path(folder, "a.tar.gz")
+            self.assertEqual(release(top, "--with", "nova_policy", "--output", str(archive)).returncode, 0)
+            with tarfile.open(archive) as packed:
+                packed.extractall(folder)
+            (root,) = Path(folder).glob("nova-*")
+            for words in ((root / "nova-policy",), (root / "nova", "policy")):
+                self.assertEqual(run(*words, "examples/race.nova", folder=root).stdout, "nova_policy examples/race.nova\n")
+
+    def test_what_is_said_beside_the_line_of_the_policy(self) -> None:
+        with tempfile.TemporaryDirectory() as folder:
+            top = repository(folder)
+            (top / "MANIFEST").touch()
+            program = top / "bin" / "nova_policy"
+            program.parent.mkdir()
+            domains = "nova: no protection domain has such a number then. The same words with --policy /dev/null tell all there are\n"
+            odd = "there is no option --until (a file with such a name stands behind --)"
+            request = f"nova: these words are no request: {odd}. ./nova-policy --help lists them\n"
+            for line, status, words, before, behind in (
+                ("policy line 2: NoDomain", 7, ["a"], "", domains),
+                ("policy line 2: Number", 7, ["a"], "", ""),
+                ("read fault", 3, ["a"], "nova: a: No such file or directory\n", ""),
+                ("usage: ..", 2, ["--until"], request, ""),
+            ):
+                program.write_text(f"#!/bin/sh\necho 'nova_policy: {line}' >&2\nexit {status}\n")
+                program.chmod(0o755)
+                with self.subTest(line):
+                    told = run(top / "nova-policy", *words, folder=top)
+                    self.assertEqual((told.returncode, told.stdout, told.stderr), (status, "", f"{before}nova_policy: {line}\n{behind}"))
+            program.write_text("#!/bin/sh\nprintf 'turn 3\\nserved\\n'\nexit 1\n")
+            told = run(top / "nova-policy", "a", folder=top)
+            self.assertEqual((told.returncode, told.stdout, told.stderr), (1, "turn 3\nserved\n", ""))
+            for words in (("nova-policy", "--help"), ("nova", "policy", "--help")):
+                self.assertIn("--policy POLICY", run(top / words[0], *words[1:], folder=top).stdout)
 
     def test_it_is_the_same_bytes_again(self) -> None:
         with tempfile.TemporaryDirectory() as folder:

@@ -1,0 +1,116 @@
+-- What is answered of a policy in a state.
+use Rattle.std.specs.Prelude.{◌≡◌, ℕ, ◌==◌, ◌≤◌, ◌^◌, ◌⊎◌, Bool, if◌then◌else◌, List, length, ◌++◌, codes, decimal, find, Option, Some, None, Result, Ok, Err, string_bytes}
+use Rattle.nova_model.specs.State.{KernelState}
+use Rattle.nova_report.specs.Words.{line_feed}
+use Rattle.nova_ties.specs.Ties.{AreRespected, IsCoarser, IsStuck, label_in}
+use Rattle.nova_ties.specs.declared.tie.Tie.{Tie}
+use Rattle.law_sides.specs.Tied.{ties}
+use Rattle.nova_naming.specs.Statements.{Stated}
+use Rattle.nova_sides.specs.Verdicts.{IsJudged}
+use Rattle.nova_sides.specs.declared.judging.Verdict.{Verdict}
+use Rattle.nova_sides.specs.declared.judging.Verdict.TheVariants as verdict
+use Rattle.nova_judging.specs.Labelled.{are_two, is_strange, labels_of}
+use Rattle.nova_judging.specs.Lines.{judged_lines, stuck_lines, tie_lines}
+use Rattle.nova_judging.specs.Sides.{side_lines}
+use Rattle.nova_judging.specs.declared.answer.Answer.{Answer}
+use Rattle.nova_judging.specs.declared.answer.Answer.TheVariants.{Apart, Served, Single, Breach, Stuck}
+use Rattle.nova_judging.specs.declared.answer.Facts.{Facts}
+use Rattle.nova_judging.specs.declared.answer.JudgingFault.{JudgingFault}
+use Rattle.nova_judging.specs.declared.answer.JudgingFault.TheVariants.{Stranger, Memory}
+use Rattle.nova_judging.specs.declared.answer.Told.{Told}
+
+-- the answer of a verdict, where there are two sides or not
+abbrev pub answer_if : Bool → Answer → Answer
+answer_if two answer = if two then answer else Single
+
+abbrev pub answer_of : Bool → Verdict → Answer
+answer_of two (verdict.Breach t) = Breach
+answer_of two verdict.Apart = answer_if two Apart
+answer_of two (verdict.Served why) = answer_if two Served
+
+-- THE FINEST SIDES
+
+-- labels were joined to the finest that respect all ties of a state, and trust no more
+pub record AreFinest (k : KernelState) (old new : List ℕ) : Type 0 where
+  pub respected : AreRespected (label_in new) (ties k)
+  pub trusted : (n : ℕ) → (label_in new n == 0) ≡ (label_in old n == 0)
+  pub joined : IsCoarser (label_in new) (label_in old)
+  pub finest : (label : ℕ → ℕ) → AreRespected label (ties k) → IsCoarser label (label_in old) → IsCoarser label (label_in new)
+
+-- or no labels can be, for a tie that leads to what is trusted
+abbrev pub AreSettled : KernelState → List ℕ → List ℕ → Option Tie → Type 0
+AreSettled k old new None = AreFinest k old new
+AreSettled k old new (Some t) = IsStuck (ties k) (label_in old) t
+
+-- TEXTS
+
+abbrev pub turn_line : KernelState → List ℕ
+turn_line k = codes "turn " ++ (decimal k.turns ++ line_feed)
+
+-- the finest sides to which those of some labels are joined, or the tie for which there are none
+abbrev pub finest_lines : List Stated → KernelState → List ℕ → List ℕ → Option Tie → List ℕ
+finest_lines policy k old new None = side_lines policy new k.objects
+finest_lines policy k old new (Some t) = stuck_lines policy old k.delegations.list t
+
+-- what is told of the sides as a policy names them: the verdict, the finest sides to which they can be joined, and the ties
+abbrev pub named_text : List Stated → KernelState → List ℕ → List ℕ → Option Tie → Verdict → List ℕ
+named_text policy k labels new stuck v = turn_line k ++ (judged_lines policy labels k k.delegations.list v
+    ++ (finest_lines policy k labels new stuck ++ tie_lines policy labels (ties k)))
+
+-- what is told of the finest sides
+abbrev pub finest_text : List Stated → KernelState → List ℕ → List ℕ → Verdict → List ℕ
+finest_text policy k labels new v = turn_line k ++ (judged_lines policy new k k.delegations.list v
+    ++ (side_lines policy new k.objects ++ tie_lines policy labels (ties k)))
+
+abbrev pub stuck_text : List Stated → KernelState → List ℕ → Tie → List ℕ
+stuck_text policy k labels t = turn_line k ++ (stuck_lines policy labels k.delegations.list t ++ tie_lines policy labels (ties k))
+
+-- ANSWERS
+
+-- the sides of a policy, as it names them, in a state
+pub record IsNamedAnswer (policy : List Stated) (k : KernelState) (answer : Answer) (text : List ℕ) : Type 0 where
+  pub verdict : Verdict
+  pub judged : IsJudged k (label_in (labels_of policy k)) verdict
+  pub is : answer ≡ answer_of (are_two (labels_of policy k)) verdict
+  pub new : List ℕ
+  pub stuck : Option Tie
+  pub settled : AreSettled k (labels_of policy k) new stuck
+  pub told : text ≡ named_text policy k (labels_of policy k) new stuck verdict
+
+-- the finest sides to which those of a policy can be joined
+pub record AreFound (policy : List Stated) (k : KernelState) (answer : Answer) (text : List ℕ) : Type 0 where
+  pub new : List ℕ
+  pub finest : AreFinest k (labels_of policy k) new
+  pub verdict : Verdict
+  pub judged : IsJudged k (label_in new) verdict
+  pub is : answer ≡ answer_of (are_two new) verdict
+  pub told : text ≡ finest_text policy k (labels_of policy k) new verdict
+
+-- or none to which they can
+pub record AreNone (policy : List Stated) (k : KernelState) (text : List ℕ) : Type 0 where
+  pub tie : Tie
+  pub stuck : IsStuck (ties k) (label_in (labels_of policy k)) tie
+  pub told : text ≡ stuck_text policy k (labels_of policy k) tie
+
+abbrev pub IsFinestAnswer : List Stated → KernelState → Answer → List ℕ → Type 0
+IsFinestAnswer policy k answer text = AreFound policy k answer text ⊎ ((answer ≡ Stuck) × AreNone policy k text)
+
+-- the first line of a policy that names what is no domain
+abbrev pub stranger_of : Option Stated → Option ℕ
+stranger_of None = None
+stranger_of (Some s) = Some s.line
+
+abbrev pub first_stranger : List Stated → KernelState → Option ℕ
+first_stranger policy k = stranger_of (find (is_strange k) policy)
+
+abbrev pub IsAnswered : List Stated → KernelState → Result Told JudgingFault → Type 0
+IsAnswered policy k (Ok t) = (first_stranger policy k ≡ None) × IsNamedAnswer policy k t.answer (string_bytes t.text)
+IsAnswered policy k (Err (Stranger line)) = first_stranger policy k ≡ Some line
+IsAnswered policy k (Err Memory) = Unit {0}
+
+-- what is asked of a state
+pub record IsGathered (policy : List Stated) (k : KernelState) (f : Facts) : Type 0 where
+  pub ties : f.ties.items ≡ ties k
+  pub list : f.list.items ≡ k.delegations.list
+  pub labels : f.labels.items ≡ labels_of policy k
+  pub few : length f.labels.items ≤ 2 ^ 31

@@ -1,0 +1,11 @@
+//! What is told of the sides of a policy in a kernel's state: what they are, the finest that there are, and what ties them.
+#![tactic(auto)]
+
+mod answer;
+mod labels;
+mod lines;
+mod sides;
+mod strangers;
+mod trails;
+
+pub use answer::{Answer, JudgingFault, Told, answer_finest, answer_named};

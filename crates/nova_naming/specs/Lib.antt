@@ -1,0 +1,4 @@
+pub mod Fault
+pub mod Statements
+pub mod Policy
+pub mod Labels

@@ -1,0 +1,59 @@
+-- What a line of a policy says by itself.
+use Rattle.std.specs.Prelude.{ℕ, ◌==◌, Bool, false, not, ◌&&◌, ◌||◌, if◌then◌else◌, List, [], ◌∷◌, codes, length, nat_lt, Option, Some, None, option_map, Result, Ok, Err}
+use Rattle.std.specs.Char.{is_ascii_alphabetic, is_ascii_alphanumeric}
+use Rattle.std.specs.List.{list_all}
+use Rattle.std.specs.Option.{option_and_then}
+use Rattle.std.specs.Result.{result_ok}
+use Rattle.std.specs.Str.{bytes_eq}
+use Rattle.nova_text.specs.Number.{number, u32_of}
+use Rattle.nova_naming.specs.declared.fault.PolicyWhy.{PolicyWhy}
+use Rattle.nova_naming.specs.declared.fault.PolicyWhy.TheVariants.{Word, Name, Number, Empty}
+
+-- domains that are one side, of this name, or trusted where there is none; and the line that says so
+pub record Stated : Type 0 where
+  pub line : ℕ
+  pub side : Option (List ℕ)
+  pub domains : List ℕ
+
+-- a name is a letter and up to 31 letters, digits, `-` and `_`, but not `trusted`
+abbrev pub is_name_byte : ℕ → Bool
+is_name_byte b = is_ascii_alphanumeric b || (b == 45 || b == 95)
+
+abbrev pub is_name : List ℕ → Bool
+is_name [] = false
+is_name (b ∷ bs) = is_ascii_alphabetic b && (list_all is_name_byte bs && (nat_lt (length bs) 32 && not (bytes_eq (b ∷ bs) (codes "trusted"))))
+
+-- the number below 2 ^ 32 that a word writes; the numbers of words, where each writes one
+abbrev pub number_of : List ℕ → Option ℕ
+number_of word = result_ok (u32_of (number word))
+
+abbrev pub numbers_of : List (List ℕ) → Option (List ℕ)
+numbers_of [] = Some []
+numbers_of (word ∷ words) = option_and_then (λ n. option_map (λ ns. n ∷ ns) (numbers_of words)) (number_of word)
+
+-- the domains that words name: one at least
+abbrev pub some_of : Option (List ℕ) → Result (List ℕ) PolicyWhy
+some_of None = Err Number
+some_of (Some []) = Err Empty
+some_of (Some (n ∷ ns)) = Ok (n ∷ ns)
+
+abbrev pub domains_of : List (List ℕ) → Result (List ℕ) PolicyWhy
+domains_of words = some_of (numbers_of words)
+
+-- what is said of domains
+abbrev pub stated : ℕ → Option (List ℕ) → Result (List ℕ) PolicyWhy → Result (Option Stated) PolicyWhy
+stated line side (Err why) = Err why
+stated line side (Ok domains) = Ok (Some (record { line = line; side = side; domains = domains }))
+
+-- behind `side`: its name, and its domains
+abbrev pub sided : ℕ → List (List ℕ) → Result (Option Stated) PolicyWhy
+sided line [] = Err Name
+sided line (name ∷ words) = if is_name name then stated line (Some name) (domains_of words) else Err Name
+
+-- what the words of a line say: nothing where there are none
+abbrev pub said : ℕ → List (List ℕ) → Result (Option Stated) PolicyWhy
+said line [] = Ok None
+said line (word ∷ words) =
+    if bytes_eq word (codes "trusted") then stated line None (domains_of words)
+    else if bytes_eq word (codes "side") then sided line words
+    else Err Word

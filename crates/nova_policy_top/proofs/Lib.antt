@@ -1,0 +1,3 @@
+pub mod FirstTurns
+pub mod Ran
+pub mod Answering

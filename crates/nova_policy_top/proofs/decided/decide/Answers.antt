@@ -1,0 +1,14 @@
+use Rattle.std.proofs.Common.{rules, ◌≡◌, Err}
+use Rattle.nova_boot.specs.Boot.{scenario_of}
+use Rattle.nova_model.specs.Boot.{boot}
+use Rattle.nova_policy_top.proofs.Ran.{decided_by, stops_by}
+use Rattle.nova_policy_top.proofs.decided.decide.Goals as goal
+
+pub returns-in_err-run : goal.returns-in_err-run
+returns-in_err-run c =
+    let is : c.from_residual.result ≡ Err c.in_err-run.field-0.0 = search rules in
+    stops_by (boot (scenario_of c.args.scenario.now)) c.args.order.now c.args.policy.now c.args.at c.in_err-run.field-0.0 _ is c.in_err-run.ensures.idle
+
+pub returns : goal.returns
+returns c =
+    decided_by (boot (scenario_of c.args.scenario.now)) c.in_ok-run.run'.kernel.state c.args.order.now c.args.policy.now c.args.at _ c.in_ok-run.ensures.run c.told_of-told.ensures

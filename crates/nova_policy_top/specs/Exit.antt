@@ -1,0 +1,95 @@
+-- The statuses of the program, and the end that each fault makes.
+use Rattle.std.specs.Prelude.{ℕ}
+use Rattle.std.specs.declared.io.ErrorKind.{ErrorKind}
+use Rattle.std.specs.declared.io.ErrorKind.TheVariants.{InvalidData}
+use Rattle.nova_command.specs.declared.fault.CommandFault.{CommandFault}
+use Rattle.nova_command.specs.declared.fault.CommandFault.TheVariants as command
+use Rattle.nova_io.specs.declared.faults.FetchFault.{FetchFault}
+use Rattle.nova_io.specs.declared.faults.FetchFault.TheVariants as fetch
+use Rattle.nova_judging.specs.declared.answer.Answer.TheVariants.{Apart, Served, Single, Breach, Stuck}
+use Rattle.nova_judging.specs.declared.answer.JudgingFault.{JudgingFault}
+use Rattle.nova_judging.specs.declared.answer.JudgingFault.TheVariants as judging
+use Rattle.nova_naming.specs.declared.fault.PolicyFault.{PolicyFault}
+use Rattle.nova_naming.specs.declared.fault.PolicyFault.TheVariants as policy
+use Rattle.nova_order.specs.declared.fault.OrderFault.{OrderFault}
+use Rattle.nova_order.specs.declared.fault.OrderFault.TheVariants as order
+use Rattle.nova_scenario.specs.declared.fault.ScenarioFault.{ScenarioFault}
+use Rattle.nova_scenario.specs.declared.fault.ScenarioFault.TheVariants as text
+use Rattle.nova_shared.specs.declared.fault.RunFault.{RunFault}
+use Rattle.nova_shared.specs.declared.fault.RunFault.TheVariants as turn
+use Rattle.nova_policy_top.specs.declared.exit.Exit.{Exit}
+use Rattle.nova_policy_top.specs.declared.exit.Exit.TheVariants.{Told, Usage, ReadFault, TooLong, Scenario, Order, Idle, Policy, NoDomain, WriteFault, Memory}
+use Rattle.nova_policy_top.specs.declared.exit.Input.{Input}
+use Rattle.nova_policy_top.specs.declared.exit.Input.TheVariants as input
+
+abbrev pub status_of : Exit → ℕ
+status_of (Told Apart) = 0
+status_of (Told Served) = 1
+status_of (Told Breach) = 9
+status_of (Told Stuck) = 10
+status_of (Told Single) = 11
+status_of Usage = 2
+status_of ReadFault = 3
+status_of (TooLong input.Scenario) = 4
+status_of (Scenario line why) = 4
+status_of (TooLong input.Order) = 5
+status_of (Order fault) = 5
+status_of (Idle line) = 5
+status_of WriteFault = 6
+status_of (TooLong input.Policy) = 7
+status_of (Policy line why) = 7
+status_of (NoDomain line) = 7
+status_of Memory = 8
+
+-- the words could not be read: one is no text, or memory was refused
+abbrev pub of_words : ErrorKind → Exit
+of_words InvalidData = Usage
+of_words _ = Memory
+
+abbrev pub of_command : CommandFault → Exit
+of_command command.Usage = Usage
+of_command command.Memory = Memory
+
+-- a file did not come
+abbrev pub of_fetch : Input → FetchFault → Exit
+of_fetch i fetch.Failed = ReadFault
+of_fetch i fetch.TooLong = TooLong i
+of_fetch i fetch.Memory = Memory
+
+abbrev pub of_scenario : ScenarioFault → Exit
+of_scenario (text.At line why) = Scenario line why
+of_scenario text.Memory = Memory
+
+abbrev pub of_order : OrderFault → Exit
+of_order (order.BadLine line) = Order (order.BadLine line)
+of_order (order.BadCpu line) = Order (order.BadCpu line)
+of_order (order.ZeroCount line) = Order (order.ZeroCount line)
+of_order (order.NotMerged line) = Order (order.NotMerged line)
+of_order (order.TooMany line) = Order (order.TooMany line)
+of_order order.Memory = Memory
+
+abbrev pub of_policy : PolicyFault → Exit
+of_policy (policy.At line why) = Policy line why
+of_policy policy.Memory = Memory
+
+abbrev pub of_run : RunFault → Exit
+of_run (turn.OrderIdle line) = Idle line
+of_run turn.Memory = Memory
+
+abbrev pub of_judging : JudgingFault → Exit
+of_judging (judging.Stranger line) = NoDomain line
+of_judging judging.Memory = Memory
+
+-- nothing is written
+abbrev pub IsUnwritten : Exit → Type 0
+IsUnwritten (Told answer) = ⊥
+IsUnwritten WriteFault = ⊥
+IsUnwritten Usage = Unit {0}
+IsUnwritten ReadFault = Unit {0}
+IsUnwritten (TooLong i) = Unit {0}
+IsUnwritten (Scenario line why) = Unit {0}
+IsUnwritten (Order fault) = Unit {0}
+IsUnwritten (Idle line) = Unit {0}
+IsUnwritten (Policy line why) = Unit {0}
+IsUnwritten (NoDomain line) = Unit {0}
+IsUnwritten Memory = Unit {0}

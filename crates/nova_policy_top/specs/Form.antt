@@ -1,0 +1,44 @@
+-- The form of the command line, and what words give to it.
+use Rattle.std.specs.Prelude.{ℕ, List, [], ◌∷◌, codes, Option, Some, None}
+use Rattle.clap.specs.Walk.{Row, Rule, first_of}
+use Rattle.clap.specs.Simple.{App, matches_of, new_app, new_rule, with_rule}
+use Rattle.clap.specs.Kinds.{Kinds}
+use Rattle.clap.specs.Faults.{fault_of}
+
+-- `--order ORDER`, `--policy POLICY`, and `--at TURN`, one million where it is not given
+abbrev pub order_option : Rule
+order_option = record (new_rule (codes "order")) { long = Some (codes "order") }
+
+abbrev pub policy_option : Rule
+policy_option = record (new_rule (codes "policy")) { long = Some (codes "policy") }
+
+abbrev pub at_option : Rule
+at_option = record (new_rule (codes "at")) { long = Some (codes "at"); defaults = codes "1000000" ∷ [] }
+
+-- the name of the scenario, and the options
+abbrev pub form : App
+form = with_rule (with_rule (with_rule (with_rule (new_app (codes "nova_policy")) (new_rule (codes "scenario"))) order_option) at_option) policy_option
+
+-- what words give to each of the four
+pub record Given : Type 0 where
+  pub scenario : Option (List ℕ)
+  pub order : Option (List ℕ)
+  pub at : Option (List ℕ)
+  pub policy : Option (List ℕ)
+
+abbrev pub given_in : List Row → Given
+given_in rows = record {
+  scenario = first_of (codes "scenario") rows;
+  order = first_of (codes "order") rows;
+  at = first_of (codes "at") rows;
+  policy = first_of (codes "policy") rows;
+}
+
+-- nothing where there is a fault of some kind, as which a call for help counts too
+abbrev pub unless_fault : Kinds → Given → Option Given
+unless_fault [] given = Some given
+unless_fault (kind ∷ kinds) given = None
+
+-- what words give to the form, where the first of them is the program's name, or nothing
+unfoldable pub given : List (List ℕ) → Option Given
+given words = unless_fault (fault_of form words) (given_in (matches_of form words))

@@ -1,0 +1,233 @@
+ghost use Rattle.std.specs.Prelude.{◌≡◌};
+ghost use Rattle.nova_policy_top.specs.Exit.{of_fetch, of_words, status_of};
+
+use nova_command::CommandFault;
+use nova_io::FetchFault;
+use nova_judging::{Answer, JudgingFault};
+use nova_naming::{PolicyFault, PolicyWhy};
+use nova_order::OrderFault;
+use nova_run::RunFault;
+use nova_scenario::{ScenarioFault, Why};
+use std::alloc::AllocError;
+use std::io::ErrorKind;
+use thiserror::Error;
+
+/// A file that is read.
+#[derive(Clone, Copy, Debug, PartialEq, Eq, Error)]
+pub enum Input {
+    /// A scenario, of at most 16 MiB.
+    #[error("scenario")]
+    Scenario,
+
+    /// An order of turns, of at most 64 MiB.
+    #[error("order")]
+    Order,
+
+    /// A policy of sides, of at most 1 MiB.
+    #[error("policy")]
+    Policy,
+}
+
+/// How a call of the program ends.
+#[derive(Clone, Copy, Debug, PartialEq, Eq, Error)]
+pub enum Exit {
+    /// This is what the sides are. The text that tells it is written.
+    #[error("told")]
+    Told(Answer),
+
+    /// The words ask for nothing. Nothing is written.
+    #[error("usage: nova_policy SCENARIO [--order ORDER] [--at TURN] [--policy POLICY]")]
+    Usage,
+
+    /// A file could not be fetched. Nothing is written.
+    #[error("read fault")]
+    ReadFault,
+
+    /// A file is too long. Nothing is written.
+    #[error("{0}: too long")]
+    TooLong(Input),
+
+    /// The scenario is refused, at its first line at fault, from 1. Nothing is written.
+    #[error("scenario line {line}: {why}")]
+    Scenario { line: u64, why: Why },
+
+    /// The order is refused, at its first line at fault. Nothing is written.
+    #[error("order {0}")]
+    Order(OrderFault),
+
+    /// One of the turns up to the one that is asked for meets an idle processor: one of this line of the order. Nothing is written.
+    #[error("order line {0}: Idle")]
+    Idle(u64),
+
+    /// The policy is refused, at its first line at fault, from 1. Nothing is written.
+    #[error("policy line {line}: {why}")]
+    Policy { line: u64, why: PolicyWhy },
+
+    /// This line of the policy is the first that names what is no protection domain after the turn. Nothing is written.
+    #[error("policy line {0}: NoDomain")]
+    NoDomain(u64),
+
+    /// The text could not be written whole. What is written is the beginning of it.
+    #[error("write fault")]
+    WriteFault,
+
+    /// Memory was refused. Nothing is written.
+    #[error("out of memory")]
+    Memory,
+}
+
+/// The status of an answer.
+fn status_of_answer(answer: Answer) -> u8
+    ensures { result ≡ status_of (Exit.Told answer) }
+{
+    match answer {
+        Answer::Apart => 0,
+        Answer::Served => 1,
+        Answer::Breach => 9,
+        Answer::Stuck => 10,
+        Answer::Single => 11,
+    }
+}
+
+/// The status where a file is refused.
+fn status_of_input(input: Input) -> u8
+    ensures { result ≡ status_of (Exit.TooLong input) }
+{
+    match input {
+        Input::Scenario => 4,
+        Input::Order => 5,
+        Input::Policy => 7,
+    }
+}
+
+impl Exit {
+    /// How a call ends whose words could not be read: with a word that is no text they ask for nothing.
+    pub fn of_words(kind: ErrorKind) -> Exit
+        ensures { result ≡ of_words kind }
+    {
+        match kind {
+            ErrorKind::InvalidData => Exit::Usage,
+            _ => Exit::Memory,
+        }
+    }
+
+    /// How a call ends where a file did not come.
+    pub(crate) fn of_fetch(input: Input, fault: FetchFault) -> Exit
+        ensures { result ≡ of_fetch input fault }
+    {
+        match fault {
+            FetchFault::Failed => Exit::ReadFault,
+            FetchFault::TooLong => Exit::TooLong(input),
+            FetchFault::Memory => Exit::Memory,
+        }
+    }
+
+    /// The status that the program ends with.
+    pub fn status(self) -> u8
+        ensures { result ≡ status_of self }
+    {
+        match self {
+            Exit::Told(answer) => status_of_answer(answer),
+            Exit::Usage => 2,
+            Exit::ReadFault => 3,
+            Exit::TooLong(input) => status_of_input(input),
+            Exit::Scenario { .. } => 4,
+            Exit::Order(_) | Exit::Idle(_) => 5,
+            Exit::WriteFault => 6,
+            Exit::Policy { .. } | Exit::NoDomain(_) => 7,
+            Exit::Memory => 8,
+        }
+    }
+}
+
+impl From<AllocError> for Exit {
+    ghost use Rattle.nova_policy_top.specs.declared.exit.Exit.TheVariants.{Memory};
+
+    ghost from_gives = { λ _ exit. exit ≡ Memory };
+
+    fn from(_: AllocError) -> Exit {
+        Exit::Memory
+    }
+}
+
+impl From<CommandFault> for Exit {
+    ghost use Rattle.nova_policy_top.specs.Exit.{of_command};
+
+    ghost from_gives = { λ fault exit. exit ≡ of_command fault };
+
+    fn from(fault: CommandFault) -> Exit {
+        match fault {
+            CommandFault::Usage => Exit::Usage,
+            CommandFault::Memory => Exit::Memory,
+        }
+    }
+}
+
+impl From<ScenarioFault> for Exit {
+    ghost use Rattle.nova_policy_top.specs.Exit.{of_scenario};
+
+    ghost from_gives = { λ fault exit. exit ≡ of_scenario fault };
+
+    fn from(fault: ScenarioFault) -> Exit {
+        match fault {
+            ScenarioFault::At { line, why } => Exit::Scenario { line, why },
+            ScenarioFault::Memory => Exit::Memory,
+        }
+    }
+}
+
+impl From<OrderFault> for Exit {
+    ghost use Rattle.nova_policy_top.specs.Exit.{of_order};
+
+    ghost from_gives = { λ fault exit. exit ≡ of_order fault };
+
+    fn from(fault: OrderFault) -> Exit {
+        match fault {
+            OrderFault::BadLine(line) => Exit::Order(OrderFault::BadLine(line)),
+            OrderFault::BadCpu(line) => Exit::Order(OrderFault::BadCpu(line)),
+            OrderFault::ZeroCount(line) => Exit::Order(OrderFault::ZeroCount(line)),
+            OrderFault::NotMerged(line) => Exit::Order(OrderFault::NotMerged(line)),
+            OrderFault::TooMany(line) => Exit::Order(OrderFault::TooMany(line)),
+            OrderFault::Memory => Exit::Memory,
+        }
+    }
+}
+
+impl From<PolicyFault> for Exit {
+    ghost use Rattle.nova_policy_top.specs.Exit.{of_policy};
+
+    ghost from_gives = { λ fault exit. exit ≡ of_policy fault };
+
+    fn from(fault: PolicyFault) -> Exit {
+        match fault {
+            PolicyFault::At { line, why } => Exit::Policy { line, why },
+            PolicyFault::Memory => Exit::Memory,
+        }
+    }
+}
+
+impl From<RunFault> for Exit {
+    ghost use Rattle.nova_policy_top.specs.Exit.{of_run};
+
+    ghost from_gives = { λ fault exit. exit ≡ of_run fault };
+
+    fn from(fault: RunFault) -> Exit {
+        match fault {
+            RunFault::OrderIdle(line) => Exit::Idle(line),
+            RunFault::Memory => Exit::Memory,
+        }
+    }
+}
+
+impl From<JudgingFault> for Exit {
+    ghost use Rattle.nova_policy_top.specs.Exit.{of_judging};
+
+    ghost from_gives = { λ fault exit. exit ≡ of_judging fault };
+
+    fn from(fault: JudgingFault) -> Exit {
+        match fault {
+            JudgingFault::Stranger(line) => Exit::NoDomain(line),
+            JudgingFault::Memory => Exit::Memory,
+        }
+    }
+}

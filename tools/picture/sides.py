@@ -1,0 +1,150 @@
+"""Reads what `nova_policy` tells of the sides of a state, and refuses what is not of its form."""
+
+from __future__ import annotations
+
+import re
+from dataclasses import dataclass, field
+
+from report import Fault
+
+TRUSTED = "trusted"
+# How many numbers a cause has, and the words between them.
+CAUSES = {
+    **dict.fromkeys(("domain", "context", "portal", "scheduling"), ("cap",)),
+    **dict.fromkeys(("frames", "shared"), ("cap", "cap")),
+    "waits": ("cap", "ec"),
+    "queue": ("ec", "ec"),
+    "serves": ("ec", "ec"),
+    "gives": ("ec",),
+}
+PLACE = re.compile(r"(trusted|[A-Za-z0-9_-]+):(\d+)")
+LINK = re.compile(r"from (\d+) (-|\d+) (\d+) (mem|obj) (\d+) (\d+) (\d+) (\d+)")
+NUMBER = re.compile(r"0|[1-9]\d*|0x[0-9a-fA-F]+")
+SIDE = re.compile(r"(trusted|side [A-Za-z0-9_-]+):((?: \d+)*)")
+
+
+@dataclass(frozen=True, slots=True)
+class Place:
+    """A protection domain, and what its side is called."""
+
+    side: str
+    domain: int
+
+    def __str__(self) -> str:
+        return f"{self.side}:{self.domain}"
+
+
+@dataclass(frozen=True, slots=True)
+class Tie:
+    """What ties a domain to another: its cause, with the numbers of capabilities and execution contexts. Strict: the other may not be trusted instead."""
+
+    source: Place
+    target: Place
+    cause: str
+    numbers: tuple[int, ...]
+    strict: bool
+
+    @property
+    def text(self) -> str:
+        """The cause with its numbers."""
+        pairs = zip(CAUSES[self.cause], self.numbers, strict=True)
+        return " ".join((self.cause, *(f"{word} {number}" for word, number in pairs)))
+
+    @property
+    def capabilities(self) -> tuple[int, ...]:
+        """The capabilities among its numbers."""
+        return tuple(number for word, number in zip(CAUSES[self.cause], self.numbers, strict=True) if word == "cap")
+
+
+@dataclass(frozen=True, slots=True)
+class Link:
+    """A capability, as a report tells it, and from which it came."""
+
+    number: int
+    parent: int | None
+    domain: int
+    text: str
+
+
+@dataclass(slots=True)
+class Told:
+    """What is told: the verdict with what shows it, the sides to which those named are joined or the tie for which there are none, and all ties."""
+
+    turn: int
+    verdict: str
+    why: str = ""
+    breach: Tie | None = None
+    links: list[Link] = field(default_factory=list)
+    stuck: Tie | None = None
+    trusted: tuple[int, ...] = ()
+    sides: dict[str, tuple[int, ...]] = field(default_factory=dict)
+    ties: list[Tie] = field(default_factory=list)
+
+
+def read_tie(text: str, line: int) -> Tie:
+    """A tie, from its two places on."""
+    words = text.split(" ")
+    places = [PLACE.fullmatch(word) for word in words[:2]]
+    cause = words[2] if len(words) > 2 else ""
+    strict = words[-1] == "strict"
+    rest = words[3:-1] if strict else words[3:]
+    wanted = CAUSES.get(cause, ())
+    if len(places) != 2 or None in places or not wanted or tuple(rest[::2]) != wanted or not all(word.isdigit() for word in rest[1::2]):
+        raise Fault(line, "this is no tie")
+    if len(rest) != 2 * len(wanted):
+        raise Fault(line, "this is no tie")
+    source, target = (Place(place[1], int(place[2])) for place in places if place)
+    return Tie(source, target, cause, tuple(map(int, rest[1::2])), strict)
+
+
+def read_line(told: Told, text: str, line: int) -> None:
+    """What a line behind the first tells."""
+    word, _, rest = text.partition(" ")
+    if word in ("apart", "single") and not rest and not told.verdict:
+        told.verdict = word
+    elif word == "served" and not told.verdict:
+        told.verdict, told.why = word, rest
+    elif word == "breach" and not told.verdict:
+        told.verdict, told.breach = word, read_tie(rest, line)
+    elif word == "stuck" and told.stuck is None:
+        told.stuck = read_tie(rest, line)
+        told.verdict = told.verdict or word
+    elif word == "tie":
+        told.ties.append(read_tie(rest, line))
+    elif (link := LINK.fullmatch(text)) is not None:
+        told.links.append(Link(int(link[1]), None if link[2] == "-" else int(link[2]), int(link[3]), " ".join(link.groups())))
+    elif (side := SIDE.fullmatch(text)) is not None:
+        domains = tuple(map(int, side[2].split()))
+        if side[1] == TRUSTED:
+            told.trusted = domains
+        else:
+            told.sides[side[1].removeprefix("side ")] = domains
+    else:
+        raise Fault(line, "no line of an answer is of this form")
+
+
+def read_sides(text: str) -> Told:
+    """What an answer tells. Raises Fault."""
+    first, *rest = text.split("\n")
+    if not (turn := re.fullmatch(r"turn (\d+)", first)):
+        raise Fault(1, "`turn N` is wanted")
+    if not text.endswith("\n"):
+        raise Fault(len(rest) + 1, "the text ends without a line feed")
+    told = Told(int(turn[1]), "")
+    for number, line in enumerate(rest[:-1], 2):
+        read_line(told, line, number)
+    if not told.verdict:
+        raise Fault(len(rest) + 1, "no line says what the sides are")
+    return told
+
+
+def named_in(policy: str) -> dict[int, str]:
+    """The side of each domain that a policy names. Numbers are decimal, or hexadecimal behind 0x; what is not of its form is left out."""
+    found: dict[int, str] = {}
+    for line in policy.splitlines():
+        match line.partition("#")[0].split():
+            case [word, *numbers] if word == TRUSTED:
+                found |= {int(number, 0): TRUSTED for number in numbers if NUMBER.fullmatch(number)}
+            case ["side", name, *numbers]:
+                found |= {int(number, 0): name for number in numbers if NUMBER.fullmatch(number)}
+    return found
