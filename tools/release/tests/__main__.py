@@ -21,8 +21,8 @@ NAMES = ("nova", "nova_debug", "nova_policy")
 
 
 def run(*words: str | Path, folder: Path) -> subprocess.CompletedProcess[str]:
-    """Runs a command in a folder, with no kit on the path."""
-    how = os.environ | {"PATH": "/usr/bin:/bin", "GIT_CONFIG_GLOBAL": "/dev/null"}
+    """Runs a command in a folder, with no kit on the path and with hints."""
+    how = os.environ | {"PATH": "/usr/bin:/bin", "GIT_CONFIG_GLOBAL": "/dev/null", "NOVA_HINTS": ""}
     return subprocess.run([*map(str, words)], cwd=folder, capture_output=True, text=True, env=how, check=False)
 
 
