@@ -3,7 +3,6 @@ use Rattle.std.specs.Prelude.{ℕ, ◌==◌, Bool, false, not, ◌&&◌, if◌th
 use Rattle.std.specs.List.{enumerate_from, position}
 use Rattle.nova_objects.specs.declared.object.Object.{Object}
 use Rattle.nova_objects.specs.declared.object.Object.TheVariants.{Pd}
-use Rattle.nova_model.specs.State.{KernelState}
 use Rattle.nova_report.specs.Words.{line_feed}
 use Rattle.nova_ties.specs.Ties.{label_in}
 use Rattle.nova_naming.specs.Labels.{side_text}

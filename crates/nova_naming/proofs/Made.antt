@@ -1,10 +1,10 @@
 -- A policy is what its lines say.
-use Rattle.std.proofs.Common.{◌≡◌, ℕ, Bool, true, false, ◌&&◌, List, [], ◌∷◌, ◌++◌, flat_map, Option, Some, None, Result, Ok, Err, refl, ap, sym, subst, ◌∙◌, append_assoc, append-nil}
+use Rattle.std.proofs.Common.{◌≡◌, ℕ, true, ◌&&◌, List, [], ◌∷◌, ◌++◌, flat_map, Option, Some, None, Result, Ok, Err, refl, ap, sym, subst, ◌∙◌, append_assoc, append-nil}
 use Rattle.std.specs.Prelude.{is_ok}
 use Rattle.std.specs.List.{list_all}
 use Rattle.nova_text.specs.Line.{Row, lines}
 use Rattle.nova_naming.specs.Statements.{Stated}
-use Rattle.nova_naming.specs.Policy.{At, FitBehind, MakePolicy, and_then, clash, is_right, joined, policy_of, said_if_any, said_in, stated_in, with_lines, with_said}
+use Rattle.nova_naming.specs.Policy.{FitBehind, MakePolicy, and_then, clash, is_right, joined, policy_of, said_if_any, said_in, stated_in, with_lines, with_said}
 use Rattle.nova_naming.specs.declared.fault.PolicyWhy.{PolicyWhy}
 
 -- the policy behind these lines

@@ -1,5 +1,5 @@
 -- Lines that are read one after another.
-use Rattle.std.proofs.Common.{◌≡◌, ℕ, List, [], ◌∷◌, ◌++◌, Option, Some, None, Result, Ok, Err, refl, ap, sym, subst, ◌∙◌}
+use Rattle.std.proofs.Common.{◌≡◌, ℕ, List, [], ◌∷◌, ◌++◌, Option, Some, None, Result, Ok, Err, ap, sym, subst, ◌∙◌}
 use Rattle.nova_text.specs.Line.{Row}
 use Rattle.nova_naming.specs.Statements.{Stated}
 use Rattle.nova_naming.specs.Policy.{At, IsFault, and_then, at_line, clash, joined, said_in, with_line, with_lines, with_said}

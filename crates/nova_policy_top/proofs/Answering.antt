@@ -8,7 +8,7 @@ use Rattle.nova_naming.specs.Statements.{Stated}
 use Rattle.nova_order.specs.Blocks.{BlockList}
 use Rattle.nova_scenario.specs.declared.scenario.Scenario.{Scenario as ScenarioText}
 use Rattle.nova_policy_top.specs.Came.{IsOrderFaultIfNamed, IsPolicyFaultIfNamed, IsScenarioFault, OrderCameIfNamed, PolicyCameIfNamed, ScenarioCame}
-use Rattle.nova_policy_top.specs.Main.{AllCame, IsAnswer, IsFault, IsOrderUnread, IsPolicyUnread, IsPrepared, IsSent, IsToldOf, IsUnanswered}
+use Rattle.nova_policy_top.specs.Main.{IsAnswer, IsFault, IsPrepared, IsSent, IsToldOf}
 use Rattle.nova_policy_top.specs.Exit.{IsUnwritten}
 use Rattle.nova_policy_top.specs.Outside.{Depots, Sinks}
 use Rattle.nova_policy_top.specs.Runs.{IsDecided}

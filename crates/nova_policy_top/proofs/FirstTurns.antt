@@ -4,7 +4,7 @@ use Rattle.std.specs.Prelude.{IsTrue}
 use Rattle.std.specs.List.{list_all}
 use Rattle.std.proofs.lemmas.List.{length-take, take-append-le, take_all}
 use Rattle.std.proofs.Math.Seq.{take-append-add, take-suc}
-use Rattle.nova_order.specs.Blocks.{IsOrder, is_within, total, turns}
+use Rattle.nova_order.specs.Blocks.{is_within, total, turns}
 use Rattle.nova_order.specs.declared.block.Block.{Block}
 use Rattle.nova_order.proofs.BlockLemmas.{length_turns, turns_push}
 

@@ -1,6 +1,6 @@
 -- What comes of the files that are named.
 use Rattle.std.specs.Prelude.{◌≡◌, ℕ, List, Option, Some, None, Result, Ok, Err}
-use Rattle.nova_naming.specs.Policy.{At, policy_of}
+use Rattle.nova_naming.specs.Policy.{policy_of}
 use Rattle.nova_naming.specs.Statements.{Stated}
 use Rattle.nova_naming.specs.declared.fault.PolicyWhy.{PolicyWhy}
 use Rattle.nova_order.specs.Blocks.{BlockList}
@@ -12,7 +12,7 @@ use Rattle.nova_scenario.specs.declared.fault.Why.{Why}
 use Rattle.nova_scenario.specs.declared.scenario.Scenario.{Scenario as ScenarioText}
 use Rattle.nova_policy_top.specs.Outside.{Depots, FileCame, HasFailed, TooManyCame}
 use Rattle.nova_policy_top.specs.declared.exit.Exit.{Exit}
-use Rattle.nova_policy_top.specs.declared.exit.Exit.TheVariants.{Told, Usage, ReadFault, TooLong, Scenario, Order, Idle, Policy, NoDomain, WriteFault, Memory}
+use Rattle.nova_policy_top.specs.declared.exit.Exit.TheVariants.{ReadFault, TooLong, Scenario, Order, Policy, Memory}
 use Rattle.nova_policy_top.specs.declared.exit.Input.TheVariants as input
 
 -- the most bytes: of a scenario 16 MiB, of an order 64 MiB, of a policy 1 MiB

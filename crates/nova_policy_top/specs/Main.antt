@@ -1,5 +1,5 @@
 -- What the top call answers to a request, with the cause of each answer and what is written then.
-use Rattle.std.specs.Prelude.{◌≡◌, ◌⊎◌, ℕ, ◌<◌, List, length, take, Option, Some, None, Result, Ok, Err, string_bytes}
+use Rattle.std.specs.Prelude.{◌≡◌, ◌⊎◌, ℕ, ◌<◌, List, length, take, Option, Result, Ok, Err, string_bytes}
 use Rattle.std.specs.Io.KnownBytes.{append_known}
 use Rattle.nova_boot.specs.Boot.{scenario_of}
 use Rattle.nova_io.specs.Faults.{Rose}
@@ -11,11 +11,10 @@ use Rattle.nova_naming.specs.Statements.{Stated}
 use Rattle.nova_order.specs.Blocks.{BlockList}
 use Rattle.nova_scenario.specs.declared.scenario.Scenario.{Scenario as ScenarioText}
 use Rattle.nova_policy_top.specs.Came.{IsOrderFaultIfNamed, IsPolicyFaultIfNamed, IsScenarioFault, OrderCameIfNamed, PolicyCameIfNamed, ScenarioCame}
-use Rattle.nova_policy_top.specs.Outside.{Depots, HasFailed, Sinks}
+use Rattle.nova_policy_top.specs.Outside.{Depots, Sinks}
 use Rattle.nova_policy_top.specs.Runs.{IsToldAt, IsUndecided}
 use Rattle.nova_policy_top.specs.declared.exit.Exit.{Exit}
 use Rattle.nova_policy_top.specs.declared.exit.Exit.TheVariants as exit
-use Rattle.nova_policy_top.specs.declared.exit.Input.TheVariants as input
 use Rattle.nova_policy_top.specs.declared.request.Request.{Request}
 
 -- all files came: the scenario, and where they are named, the order and the policy

@@ -1,7 +1,7 @@
-use Rattle.std.proofs.Common.{rules, ◌≡◌, ◌∷◌, ◌++◌, [], ap, sym, ◌∙◌, Some, None, ℕ, List, subst}
+use Rattle.std.proofs.Common.{rules, ◌≡◌, ◌∷◌, ◌++◌, [], ap, sym, ◌∙◌, Some, ℕ, List, subst}
 use Rattle.nova_text.specs.Token.{piece_of, texts_of, tokens_left}
 use Rattle.nova_naming.specs.Statements.{number_of, numbers_of}
-use Rattle.nova_naming.proofs.Numbers.{begun, behind, ended, no_number, one_more}
+use Rattle.nova_naming.proofs.Numbers.{begun, behind, ended, one_more}
 use Rattle.nova_naming.proofs.lines.read_numbers.Goals as goal
 
 pub loop-token-init : goal.loop-token-init

@@ -1,7 +1,7 @@
 use Rattle.std.proofs.Common.{rules, ◌≡◌, ◌<◌, ◌+◌, List, length, sym, subst}
 use Rattle.nova_order.specs.Blocks.{BlockList}
 use Rattle.nova_order.specs.declared.block.Block.{Block}
-use Rattle.nova_policy_top.proofs.FirstTurns.{AreFirst, all_blocks, begun, next_block}
+use Rattle.nova_policy_top.proofs.FirstTurns.{AreFirst, begun, next_block}
 use Rattle.nova_policy_top.proofs.running.first_turns.Goals as goal
 
 pub loop-block-init : goal.loop-block-init

@@ -1,7 +1,7 @@
-use Rattle.std.proofs.Common.{◌≡◌, ℕ, ◌≤◌, ap, sym, subst, ◌∙◌, arith, rules, IsTrue, take}
+use Rattle.std.proofs.Common.{◌≡◌, ◌≤◌, rules, take}
 use Rattle.nova_model.specs.Boot.{boot}
 use Rattle.nova_boot.specs.Boot.{scenario_of}
-use Rattle.nova_order.specs.Blocks.{IsOrder, is_within, total, turns}
+use Rattle.nova_order.specs.Blocks.{IsOrder, total, turns}
 use Rattle.nova_policy_top.proofs.FirstTurns.{first_within}
 use Rattle.nova_policy_top.proofs.Ran.{ran_by, stopped_by}
 use Rattle.nova_policy_top.proofs.running.run_along.Goals as goal

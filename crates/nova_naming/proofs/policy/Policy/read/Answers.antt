@@ -1,7 +1,7 @@
-use Rattle.std.proofs.Common.{rules, ◌≡◌, ◌∷◌, ◌∙◌, Ok, ap, subst}
+use Rattle.std.proofs.Common.{rules, ◌≡◌, ◌∷◌, ◌∙◌, subst}
 use Rattle.std.proofs.lemmas.Result.{err_from_is_err_and}
 use Rattle.nova_text.specs.Line.{row_of}
-use Rattle.nova_naming.specs.Policy.{IsFault, at_line, with_line}
+use Rattle.nova_naming.specs.Policy.{IsFault}
 use Rattle.nova_naming.proofs.Reading.{goes_on, stops}
 use Rattle.nova_naming.proofs.policy.Policy.read.Goals as goal
 
