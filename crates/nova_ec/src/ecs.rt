@@ -1,6 +1,6 @@
 ghost use Rattle.std.specs.Prelude.{ℕ, false, true, ◌||◌, ◌≡◌, ◌+◌, ◌-◌, ◌<◌, ◌≤◌, [], ◌∷◌, ◌++◌, length, max, IsOk, IsSome, IfOk, IfSome, OnOk, OnErr, option_and_then, option_map, Some, None};
 ghost use Rattle.rv_model.specs.Step.{one};
-ghost use Rattle.rv_core.specs.Steps.{Follows, space_of};
+ghost use Rattle.rv_core.specs.Steps.{space_of};
 ghost use Rattle.nova_model.specs.State.{ec_in, ec_of, with_ec};
 ghost use Rattle.nova_model.specs.Calls.{is_same_cpu, is_parked};
 ghost use Rattle.nova_model.specs.Edges.{cpu_in, is_dead, state_in, edge_of, edge, acts, stays, met, chase, circle, MayWait, MayServe, AreEdges, AreCallers};
@@ -379,16 +379,5 @@ impl Ecs {
             unreachable!();
         };
         step_in(context, bus, &mut self.readings)
-    }
-
-    /// One instruction over a bus, on registers that lie beside the table. No entry changes.
-    #[inline(always)]
-    pub fn step_beside<B: Bus>(&mut self, regs: &mut Regs, bus: &mut B) -> Outcome
-        requires { B.room (B.state bus.old) }
-        ensures follows { let space = space_of B.fetched B.loaded B.takes (B.state bus.old) in
-            Follows B.stored (one regs.old space) regs.old (B.state bus.old) result regs.new (B.state bus.new) }
-        ensures kept { self.new ≡ self.old }
-    {
-        step_read(regs, bus, &mut self.readings)
     }
 }
