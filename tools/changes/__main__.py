@@ -5,7 +5,7 @@ python3 tools/changes [--tables | --write] [FOLDER]
 Fails where the row of a crate isn't the first sentence that the crate says of itself, or a crate has none; where a file has a row for most
 hypercalls, deeds, kinds of events or states and the page doesn't list it; where the page lists one that has not; where a proof that cites the
 rows of hypercalls isn't named in their section; and where it names a file, or a function in brackets behind one, that isn't there. `--tables`
-shows the tables of files as the page is to have them; `--write` writes these, and those of the crates, into the page.
+shows the tables of files as the page is to have them; `--write` writes these, and the rows of the crates, into the page.
 """
 
 from __future__ import annotations

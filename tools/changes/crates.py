@@ -1,4 +1,4 @@
-"""The tables of docs/ARCHITECTURE.md that are written by this tool: the crates of each layer, and the files that have a table of an enumeration."""
+"""What this tool writes into docs/ARCHITECTURE.md: lists of the crates of each layer, and tables of files that have a table of an enumeration."""
 
 from __future__ import annotations
 
@@ -13,16 +13,18 @@ sys.path.append(str(Path(__file__).resolve().parents[1] / "definitions"))
 
 from heads import crate_summary, layers  # noqa: E402
 
-# The section with a table for each layer, whose first column is the layer.
+# The section with a list for each layer, below the layer's name.
 HEADING = "By layer"
+# How a layer's name, and how the row of a crate begins.
+BEGINS = ("**", "- ")
 
 
-def crate_tables(top: Path) -> str:
-    """A table for each layer of crates.txt: its crates, and what each says of itself."""
+def crate_lists(top: Path) -> str:
+    """A list for each layer of crates.txt: its crates, and what each says of itself."""
     texts = []
     for layer in layers(top):
-        rows = "\n".join(f"| `{crate}` | {crate_summary(top, crate)} |" for crate in layer.crates)
-        texts.append(f"| {layer.name} | what it is |\n|---|---|\n{rows}\n")
+        rows = "\n".join(f"- `{crate}`: {crate_summary(top, crate)}" for crate in layer.crates)
+        texts.append(f"**{layer.name}**\n\n{rows}\n")
     return "\n".join(texts)
 
 
@@ -42,10 +44,10 @@ def span(text: str, heading: str) -> tuple[int, int]:
 
 
 def with_crates(text: str, top: Path) -> str:
-    """The page with the tables of the crates: what stands before the first of them stays."""
+    """The page with the lists of the crates: what stands before the first of them stays."""
     begin, end = span(text, HEADING)
-    before = text[begin:end].partition("\n|")[0].rstrip("\n")
-    return text[:begin] + before + "\n\n" + crate_tables(top) + "\n" + text[end:]
+    before = text[begin:end].partition("\n**")[0].rstrip("\n")
+    return text[:begin] + before + "\n\n" + crate_lists(top) + "\n" + text[end:]
 
 
 def with_files(text: str, heading: str, files: list[str]) -> str:
@@ -62,8 +64,8 @@ def with_files(text: str, heading: str, files: list[str]) -> str:
 def stale_crates(text: str, top: Path) -> list[str]:
     """The rows of crates that are missing, or that aren't what the crate says, a line each."""
     begin, end = span(text, HEADING)
-    there = [line for line in text[begin:end].splitlines() if line.startswith("|")]
-    wanted = [line for line in crate_tables(top).splitlines() if line.startswith("|")]
+    there = [line for line in text[begin:end].splitlines() if line.startswith(BEGINS)]
+    wanted = [line for line in crate_lists(top).splitlines() if line.startswith(BEGINS)]
     faults = [f"{crate} says nothing at its head" for layer in layers(top) for crate in layer.crates if not crate_summary(top, crate)]
     faults += [f'"{HEADING}" lacks this row: {line}' for line in wanted if line not in there]
     faults += [f'"{HEADING}" has a row of no crate: {line}' for line in there if line not in wanted]

@@ -9,6 +9,8 @@ from pathlib import Path
 SENTENCE = re.compile(r".*?[.!?](?=\s|$)")
 # A remark behind the first sentence that says where the rule comes from.
 SOURCE = re.compile(r"\((?:NOVA|EuroSys|RISC-V|RV32I)[^()]*\)")
+# A sentence of more than LONG words stands up to its first colon in an index, where at least FEW words come before that.
+LONG, FEW = 20, 4
 # What only names the files beside it.
 NAMES = "Lib.antt"
 
@@ -44,12 +46,21 @@ def head(text: str, mark: str) -> str:
 
 
 def summary(text: str, mark: str) -> str:
-    """The first sentence of that comment, with the source that it names, as the cell of a table."""
+    """The first sentence of that comment, a long one shortened, with the source that it names, as the cell of a table."""
     said = head(text, mark)
     sentence = SENTENCE.match(said)
     first = sentence[0] if sentence else said
     source = SOURCE.search(said, len(first))
-    return (f"{first} {source[0]}" if source else first).replace("|", r"\|")
+    short = shortened(first)
+    return (f"{short} {source[0]}" if source else short).replace("|", r"\|")
+
+
+def shortened(sentence: str) -> str:
+    """A sentence, up to its first colon where it is long and that is neither a mere heading nor a command."""
+    before = sentence.partition(": ")[0]
+    is_said = len(before.split()) >= FEW and not before.startswith("`")
+    is_cut = is_said and before != sentence and len(sentence.split()) > LONG
+    return f"{before}." if is_cut else sentence
 
 
 def crate_summary(top: Path, crate: str) -> str:

@@ -80,7 +80,7 @@ GONE = (
     ("`nova_b/out/kept.rt`", ["no file: nova_b/out/kept.rt"]),
 )
 
-# Crates by layer, and the page with a table for each, before and after it is written.
+# Crates by layer, and the page with a list for each, before and after it is written.
 CRATES = {
     "crates.txt": "# The first.\nnova_a: nova_b\nnova_b:\n\n# The last.\nnova_d may=Wait:\n",
     "nova_a/src/lib.rt": "//! Asks. More.\n",
@@ -93,10 +93,10 @@ OLD = """# Architecture
 
 Each says:
 
-| The first | what it is |
-|---|---|
-| `nova_b` | Rows, by number. |
-| `nova_a` | Answers. |
+**The first**
+
+- `nova_b`: Rows, by number.
+- `nova_a`: Answers.
 
 ## Another
 """
@@ -106,14 +106,14 @@ NEW = """# Architecture
 
 Each says:
 
-| The first | what it is |
-|---|---|
-| `nova_a` | Asks. |
-| `nova_b` | Rows, by number. |
+**The first**
 
-| The last | what it is |
-|---|---|
-| `nova_d` | `d`: ends. |
+- `nova_a`: Asks.
+- `nova_b`: Rows, by number.
+
+**The last**
+
+- `nova_d`: `d`: ends.
 
 ## Another
 """
@@ -138,10 +138,9 @@ class Crates(unittest.TestCase):
 
     def test_a_row_that_is_not_what_its_crate_says_is_found(self) -> None:
         lacks, none = '"By layer" lacks this row: ', '"By layer" has a row of no crate: '
-        head = "| The last | what it is |"
-        said = [lacks + "| `nova_a` | Asks. |", lacks + head, lacks + "| `nova_d` | `d`: ends. |", none + "| `nova_a` | Answers. |"]
+        said = [lacks + "- `nova_a`: Asks.", lacks + "**The last**", lacks + "- `nova_d`: `d`: ends.", none + "- `nova_a`: Answers."]
         self.assertEqual(stale_crates(OLD, self.top), said)
-        turned = NEW.replace("| `nova_a` | Asks. |\n| `nova_b` | Rows, by number. |", "| `nova_b` | Rows, by number. |\n| `nova_a` | Asks. |")
+        turned = NEW.replace("- `nova_a`: Asks.\n- `nova_b`: Rows, by number.", "- `nova_b`: Rows, by number.\n- `nova_a`: Asks.")
         self.assertEqual(stale_crates(turned, self.top), ['"By layer" has its rows in another order than crates.txt'])
 
     def test_a_crate_that_says_nothing_is_found(self) -> None:

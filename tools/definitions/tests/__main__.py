@@ -13,8 +13,8 @@ from pathlib import Path
 TOP = Path(__file__).resolve().parents[1]
 sys.path.insert(0, str(TOP))
 
-from heads import crate_summary, layers, summary  # noqa: E402
-from index import stale, written  # noqa: E402
+from heads import crate_summary, layers, shortened, summary  # noqa: E402
+from index import stale, without_name, written  # noqa: E402
 from names import Law, defined, laws_of, names_in  # noqa: E402
 from rows import Link, contracts, edits_gone, left_out, links, missing  # noqa: E402
 from scenarios import FILE, differing  # noqa: E402
@@ -195,11 +195,11 @@ Each says:
 
 ### Of another name
 
-| file | what it defines |
-|---|---|
-| `nova_b/specs/Bare.antt` † | By hand. |
-| `nova_b/specs/Gone.antt` | It was. |
-| `nova_b/specs/Turn.antt` | Two turns. |
+`nova_b/specs`
+
+- `Bare.antt` †: By hand.
+- `Gone.antt`: It was.
+- `Turn.antt`: Two turns.
 
 ## Behind
 
@@ -213,10 +213,10 @@ Each says:
 
 ### The first
 
-| file | what it defines |
-|---|---|
-| `nova_b/specs/Bare.antt` † | By hand. |
-| `nova_b/specs/Turn.antt` | One turn. |
+`nova_b/specs`
+
+- `Bare.antt` †: By hand.
+- `Turn.antt`: One turn.
 
 ## Behind
 
@@ -241,6 +241,13 @@ class Heads(unittest.TestCase):
             with self.subTest(text):
                 self.assertEqual(summary(text, "--"), said)
 
+    def test_a_long_sentence_ends_at_its_colon(self) -> None:
+        words = " ".join(["word"] * 21)
+        self.assertEqual(shortened(f"Turns, of all, one by one: {words}."), "Turns, of all, one by one.")
+        kept = ("Turns, of all, one by one: the first.", f"Turns one by: {words} and more.", f"`a B C D`: {words} and.", f"One turn of a {words}.")
+        for said in kept:
+            self.assertEqual(shortened(said), said)
+
     def test_crates_have_their_layers_and_say_what_they_are(self) -> None:
         self.assertEqual([layer.crates for layer in layers(self.top)], [("nova_b", "nova_c"), ("nova_d",)])
         self.assertEqual([crate_summary(self.top, f"nova_{name}") for name in "bcd"], ["Turns, one by one.", "", "Ends."])
@@ -255,6 +262,10 @@ class Heads(unittest.TestCase):
         other = "the row of nova_b/specs/Turn.antt isn't what the file says: One turn."
         self.assertEqual(stale(INDEX, self.top), [other, gone])
         self.assertEqual(stale("# Empty\n\n## Files\n", self.top), ["no row of nova_b/specs/Bare.antt", "no row of nova_b/specs/Turn.antt"])
+
+    def test_a_row_begins_without_the_name_of_its_file(self) -> None:
+        said = ("Range words: base.", "Range word: base.", "Two words.", "Range words are.")
+        self.assertEqual([without_name("nova_b/specs/RangeWords.antt", one) for one in said], ["base.", *said[1:]])
 
     def test_a_row_by_hand_is_of_a_file_that_says_nothing(self) -> None:
         marked = NEW_INDEX.replace("Turn.antt`", "Turn.antt` †")
