@@ -5,9 +5,9 @@ python3 tools/definitions [--write] [FOLDER]
 
 Fails where a definition of the model is missing from the table of docs/PINS.md, where the table has a name that no definition has, where it
 credits a law or a clause that isn't there, or a law of another crate; and where a row of docs/THEOREMS.md links to a function that isn't in
-the file, or names a clause that the function's contract hasn't, or an edit that no crate has, or where no row has a law; where a row of
-docs/DEFINITIONS.md isn't what its file says, or a file has none; and where a scenario of a specification isn't word for word the text of its
-name. `--write` writes the rows of docs/DEFINITIONS.md anew.
+the file, or names a clause that the function's contract hasn't, or an edit that no crate has, or where no row has a law, or a clause of a top
+call; where a row of docs/DEFINITIONS.md isn't what its file says, or a file has none; and where a scenario of a specification isn't word for
+word the text of its name. `--write` writes the rows of docs/DEFINITIONS.md anew.
 """
 
 from __future__ import annotations
@@ -18,7 +18,7 @@ from pathlib import Path
 
 from index import stale, written
 from names import defined, laws_of
-from rows import edits_gone, left_out, links, missing
+from rows import WHOLE, edits_gone, left_out, links, missing, unnamed
 from scenarios import differing
 from table import Row, read, wrong
 
@@ -66,7 +66,8 @@ def main(words: argparse.Namespace) -> int:
     told = links(theorems)
     faults = named_wrong(rows, words.top) + credited_wrong(rows, words.top)
     not_there = [fault for link in told for fault in missing(link, words.top)]
-    faults += [f"docs/THEOREMS.md: {fault}" for fault in not_there + left_out(told, laws_of(words.top)) + edits_gone(theorems, words.top)]
+    untold = left_out(told, laws_of(words.top)) + unnamed(told, WHOLE, words.top)
+    faults += [f"docs/THEOREMS.md: {fault}" for fault in not_there + untold + edits_gone(theorems, words.top)]
     faults += [f"{INDEX}: {fault}" for fault in stale(index.read_text("utf-8"), words.top)] + differing(words.top)
     for fault in faults:
         print(fault, file=sys.stderr)

@@ -14,6 +14,12 @@ from pathlib import Path
 from names import CLAUSE, Law
 
 MUTANTS = "## Mutants"
+# What has a row for each of its clauses or fields: the top calls, and what one of them says of a run.
+WHOLE = (
+    ("nova_main", "crates/nova_top/src/main_call.rt"),
+    ("policy_main", "crates/nova_policy_top/src/main_call.rt"),
+    ("IsRun", "crates/nova_top/specs/Runs.antt"),
+)
 LINK = re.compile(r"\[`([^`]+)`\]\(\.\./(crates/[^)#]+)\)([^\[]*)")
 NAME = re.compile(r"`([^`]+)`")
 
@@ -43,6 +49,28 @@ def contracts(text: str, name: str) -> list[str]:
     return [found[1] for found in re.findall(contract, text, re.MULTILINE | re.DOTALL)]
 
 
+def fields(text: str, name: str) -> set[str]:
+    """The fields of a record of a specification, which ends at an empty line."""
+    record = re.search(rf"^pub record {name} .*?(?:^$|\Z)", text, re.MULTILINE | re.DOTALL)
+    return set(re.findall(r"^  pub (\w+) :", record[0], re.MULTILINE)) if record else set()
+
+
+def clauses(text: str, name: str) -> set[str]:
+    """The clauses of the functions of a name."""
+    return {clause for contract in contracts(text, name) for clause in CLAUSE.findall(contract)}
+
+
+def unnamed(told: list[Link], whole: tuple[tuple[str, str], ...], top: Path) -> list[str]:
+    """The clauses and fields that no row names of what is to be named whole, a line each."""
+    faults = []
+    for name, path in whole:
+        text = (top / path).read_text("utf-8")
+        stated = fields(text, name) if path.endswith(".antt") else clauses(text, name)
+        named = {behind for link in told if (link.name, link.path) == (name, path) for behind in link.behind}
+        faults += [f"no row of {name}: {clause}" for clause in sorted(stated - named)]
+    return faults
+
+
 def missing(link: Link, top: Path) -> list[str]:
     """What a link names that isn't there, a line each."""
     file, name = top / link.path, link.name.rpartition("::")[2]
@@ -52,8 +80,8 @@ def missing(link: Link, top: Path) -> list[str]:
     if file.suffix == ".antt":
         there = re.search(rf"^pub record {name}\b", text, re.MULTILINE)
         known = set(re.findall(r"^  pub (\w+) :", text, re.MULTILINE))
-    elif found := contracts(text, name):
-        there, known = True, {clause for contract in found for clause in CLAUSE.findall(contract)}
+    elif contracts(text, name):
+        there, known = True, clauses(text, name)
     else:
         there = re.search(rf"^pub(?:\([a-z]+\))? (?:struct|enum|trait) {name}\b", text, re.MULTILINE)
         known = names_of_crate(file)

@@ -16,7 +16,7 @@ sys.path.insert(0, str(TOP))
 from heads import crate_summary, layers, shortened, summary  # noqa: E402
 from index import stale, without_name, written  # noqa: E402
 from names import Law, defined, laws_of, names_in  # noqa: E402
-from rows import Link, contracts, edits_gone, left_out, links, missing  # noqa: E402
+from rows import Link, contracts, edits_gone, left_out, links, missing, unnamed  # noqa: E402
 from scenarios import FILE, differing  # noqa: E402
 from table import Credit, read, wrong  # noqa: E402
 from words import assembled  # noqa: E402
@@ -376,6 +376,12 @@ class Theorems(unittest.TestCase):
         folder.mkdir()
         (folder / "ends_early.edit").write_text("", "utf-8")
         self.assertEqual(edits_gone(BODIES, self.top), ["no edit of nova_a: ends_late", "no edit of nova_b: starts_early"])
+
+    def test_a_clause_or_field_that_no_row_names_is_found(self) -> None:
+        whole = (("edges_end", "crates/nova_a/src/laws.rt"), ("IsEnd", "crates/nova_a/specs/End.antt"))
+        self.assertEqual(unnamed(links(THEOREMS), whole, self.top), [])
+        self.assertEqual(unnamed(links(THEOREMS.replace("`first`, `last`;", "`first`;")), whole, self.top), ["no row of edges_end: last"])
+        self.assertEqual(unnamed(links(THEOREMS.replace("End.antt): `last`", "End.antt)")), whole, self.top), ["no row of IsEnd: last"])
 
     def test_a_law_without_a_row_is_found(self) -> None:
         self.assertEqual(left_out(links(THEOREMS), LAWS), ["no row of nova_a: turns_end"])
