@@ -1,6 +1,6 @@
 """Tries what the pages show, and follows their links.
 
-python3 tools/pages [--program FILE] [--policy FILE] [--links] [FOLDER]
+python3 tools/pages [--program FILE] [--explorer FILE] [--policy FILE] [--links] [FOLDER]
 
 Fails where a scenario of a page has another report or fault than the page says, a command writes something else, a quoted part of a file isn't
 in it, or a link leads nowhere.
@@ -27,6 +27,7 @@ def parser() -> argparse.ArgumentParser:
     """The words that the program takes."""
     words = argparse.ArgumentParser(prog="pages", description="Tries what the pages show, and follows their links.")
     words.add_argument("--program", type=Path, metavar="FILE", help="the program that runs scenarios (that of the repository)")
+    words.add_argument("--explorer", type=Path, metavar="FILE", help="the program that pages call as nova-explore (that of the repository)")
     words.add_argument("--policy", type=Path, metavar="FILE", help="the program that pages call as nova-policy (that of the repository)")
     words.add_argument("--links", action="store_true", help="follow links alone")
     words.add_argument("top", nargs="?", type=Path, default=TOP, metavar="FOLDER", help="the repository (this one)")
@@ -52,7 +53,10 @@ def main(words: argparse.Namespace) -> int:
     if not words.links and not program.is_file():
         print(f"pages: {program} isn't there: `python3 tools/build` builds it, --program FILE names another, --links follows links alone", file=sys.stderr)
         return 1
-    others = {"nova-policy": words.policy or top / "crates/nova_policy/out/nova_policy"}
+    others = {
+        "nova-explore": words.explorer or top / "crates/nova_explore/out/nova_explore",
+        "nova-policy": words.policy or top / "crates/nova_policy/out/nova_policy",
+    }
     tried = Tried() if words.links else tried_of(top, program, others)
     for fault in faults + tried.faults:
         print(fault.replace(f"{top}/", ""), file=sys.stderr)

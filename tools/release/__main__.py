@@ -28,7 +28,7 @@ from built import MANIFEST, PROGRAMS, Missing, State, advice, ended, lines_of, p
 
 NAMES = ("nova", "nova_debug")
 # What is packed beside the programs, of what git knows. Tools that look after sources or make programs of them stay.
-PARTS = ("README.md", "nova", "nova-policy", "docs", "examples", "tools")
+PARTS = ("README.md", "nova", "nova-explore", "nova-policy", "docs", "examples", "tools")
 LEFT_OUT = ("tools/changes/", "tools/definitions/", "tools/draft/", "tools/map/", "tools/release/", "tools/vectors/")
 EXECUTABLE, PLAIN = 0o755, 0o644
 

@@ -40,4 +40,4 @@ all_led k limit states place is_whole way all whole = record {
     each : (s : KernelState) → Contains states s → IsExpanded k.cpus states s
     each s there =
         let less : there.0 < place = let is = there.1 in omega (arith, is, all) in
-        expanded k limit states place is_whole way all s there (subst (λ (x : KernelState). x.turns < limit) there.2 (way.whole whole there.0 s less))
+        subst (λ (x : KernelState). IsExpanded k.cpus states x) there.2 (way.whole whole there.0 s less)

@@ -3,10 +3,12 @@ use Rattle.std.proofs.Common.{◌≡◌, ℕ, zero, suc, ◌+◌, ◌<◌, ◌�
 use Rattle.std.specs.Prelude.{◌⊎◌, Option, Some, None, Bool, true, false, nat_lt, slice_index_or, Contains, All}
 use Rattle.std.proofs.lemmas.List.{append-nil, get_or-map, length-append, length-map, map-append}
 use Rattle.std.proofs.lemmas.List.Elements.{All-cons, All-contains, All-nil, All-push, Contains-append_left, Contains-get_or}
+use Rattle.std.specs.Bool.{OnTrue}
 use Rattle.nova_model.specs.State.{KernelState}
 use Rattle.nova_model.specs.Runs.{after}
 use Rattle.nova_compare.specs.Steps.{IsNext, IsSuccessor}
 use Rattle.nova_search.specs.declared.found.Found.{Found}
+use Rattle.nova_search.specs.Reductions.{IsStill}
 use Rattle.nova_search.specs.Searches.{AreVisited, Grows, IsExpanded, IsMore, IsReached, IsUnderWay, IsVisited, Keeps, state_at, state_of, states_of}
 use Rattle.nova_search.proofs.Ways.{begun, goes_on}
 
@@ -39,7 +41,7 @@ still_there xs ys s g there = subst (λ (l : List KernelState). Contains l s) (s
 pub still_expanded : (n : ℕ) (xs ys : List KernelState) (s : KernelState) → Grows xs ys → IsExpanded n xs s → IsExpanded n ys s
 still_expanded n xs ys s g e = record { each = λ cpu is. still_there xs ys (after s cpu) g (e.each cpu is); turns = e.turns }
 
-at_front : (xs ys : List KernelState) (i : ℕ) (d : KernelState) → i < length xs → slice_index_or (xs ++ ys) i d ≡ slice_index_or xs i d
+pub at_front : {T : Type 0} (xs ys : List T) (i : ℕ) (d : T) → i < length xs → slice_index_or (xs ++ ys) i d ≡ slice_index_or xs i d
 at_front [] ys i d less = absurd (omega (arith, less))
 at_front (x ∷ xs) ys zero d less = refl
 at_front (x ∷ xs) ys (suc i) d less = at_front xs ys i d (omega (arith, less))
@@ -120,51 +122,70 @@ underway_first k limit states only = subst (λ (l : List KernelState). IsUnderWa
 })
 
 pub underway_on : (k : KernelState) (limit : ℕ) (xs ys : List KernelState) (i : ℕ) (is_whole : Bool) → IsUnderWay k limit xs i is_whole → i < length xs →
-    ((d : KernelState) → (slice_index_or xs i d).turns < limit) → ((d : KernelState) → AreVisited xs ys (slice_index_or xs i d) k.cpus) →
-    IsUnderWay k limit ys (i + 1) is_whole
-underway_on k limit xs ys i is_whole way less few visited = record {
+    ((d : KernelState) → AreVisited xs ys (slice_index_or xs i d) k.cpus) → IsUnderWay k limit ys (i + 1) is_whole
+underway_on k limit xs ys i is_whole way less visited = record {
   opening = still_there xs ys k grows way.opening;
   reached = (visited k).keeps.reached k way.reached;
-  expanded = λ j d is. expanded_by j d (place j i is);
+  expanded = λ j d is turns. expanded_by j d (place j i is) turns;
   whole = λ whole j d is. whole_by whole j d (place j i is);
 }
   where
     grows : Grows xs ys
     grows = (visited k).grows
 
+    same : (j : ℕ) (d : KernelState) → j < length xs → slice_index_or ys j d ≡ slice_index_or xs j d
+    same j d is = still_at xs ys j d grows is
+
+    before : (j : ℕ) (d : KernelState) → j < length xs → IsExpanded k.cpus xs (slice_index_or xs j d) → IsExpanded k.cpus ys (slice_index_or ys j d)
+    before j d is e = subst (λ (s : KernelState). IsExpanded k.cpus ys s) (sym (same j d is)) (still_expanded k.cpus xs ys (slice_index_or xs j d) grows e)
+
+    here : (j : ℕ) (d : KernelState) → j ≡ i → IsExpanded k.cpus ys (slice_index_or ys j d)
+    here j d last =
+        subst (λ (n : ℕ). IsExpanded k.cpus ys (slice_index_or ys n d)) (sym last)
+        (subst (λ (s : KernelState). IsExpanded k.cpus ys s) (sym (same i d less)) (visited d).expanded)
+
     expanded_by : (j : ℕ) (d : KernelState) → (j < i) ⊎ (j ≡ i) → (slice_index_or ys j d).turns < limit → IsExpanded k.cpus ys (slice_index_or ys j d)
     expanded_by j d (inl old) turns =
-        let same = still_at xs ys j d grows (omega (arith, old, less)) in
-        subst (λ (s : KernelState). IsExpanded k.cpus ys s) (sym same)
-        (still_expanded k.cpus xs ys (slice_index_or xs j d) grows (way.expanded j d old (subst (λ (s : KernelState). s.turns < limit) same turns)))
-    expanded_by j d (inr last) turns =
-        let same = still_at xs ys i d grows less in
-        subst (λ (n : ℕ). IsExpanded k.cpus ys (slice_index_or ys n d)) (sym last)
-        (subst (λ (s : KernelState). IsExpanded k.cpus ys s) (sym same) (visited d).expanded)
+        let is : j < length xs = omega (arith, old, less) in
+        before j d is (way.expanded j d old (subst (λ (s : KernelState). s.turns < limit) (same j d is) turns))
+    expanded_by j d (inr last) turns = here j d last
 
-    whole_by : is_whole ≡ true → (j : ℕ) (d : KernelState) → (j < i) ⊎ (j ≡ i) → (slice_index_or ys j d).turns < limit
-    whole_by whole j d (inl old) =
-        let same = still_at xs ys j d grows (omega (arith, old, less)) in
-        subst (λ (s : KernelState). s.turns < limit) (sym same) (way.whole whole j d old)
-    whole_by whole j d (inr last) =
-        let same = still_at xs ys i d grows less in
-        subst (λ (n : ℕ). (slice_index_or ys n d).turns < limit) (sym last) (subst (λ (s : KernelState). s.turns < limit) (sym same) (few d))
+    whole_by : is_whole ≡ true → (j : ℕ) (d : KernelState) → (j < i) ⊎ (j ≡ i) → IsExpanded k.cpus ys (slice_index_or ys j d)
+    whole_by whole j d (inl old) = before j d (omega (arith, old, less)) (way.whole whole j d old)
+    whole_by whole j d (inr last) = here j d last
 
-pub underway_cut : (k : KernelState) (limit : ℕ) (xs : List KernelState) (i : ℕ) (is_whole : Bool) → IsUnderWay k limit xs i is_whole →
-    ((d : KernelState) → limit ≤ (slice_index_or xs i d).turns) → IsUnderWay k limit xs (i + 1) false
-underway_cut k limit xs i is_whole way many = record {
+-- where each turn is idle, the states after them are found
+still_expands : (n : ℕ) (xs : List KernelState) (s : KernelState) → Contains xs s → IsStill n s → IsExpanded n xs s
+still_expands n xs s there still = record {
+  each = λ cpu is. subst (λ (x : KernelState). Contains xs x) (sym (still cpu is)) there;
+  turns = λ cpu is. subst (λ (x : KernelState). x.turns ≤ s.turns + 1) (sym (still cpu is)) (omega arith);
+}
+
+-- a place that is left as it is, where the search stays whole only if each turn is idle there
+pub underway_left : (k : KernelState) (limit : ℕ) (xs : List KernelState) (i : ℕ) (is_whole r : Bool) → IsUnderWay k limit xs i is_whole → i < length xs →
+    ((d : KernelState) → limit ≤ (slice_index_or xs i d).turns) → OnTrue r ((is_whole ≡ true) × ((d : KernelState) → IsStill k.cpus (slice_index_or xs i d))) →
+    IsUnderWay k limit xs (i + 1) r
+underway_left k limit xs i is_whole r way less many stays = record {
   opening = way.opening;
   reached = way.reached;
   expanded = λ j d is turns. expanded_by j d (place j i is) turns;
-  whole = λ whole. absurd (cc);
+  whole = λ whole j d is. whole_by r stays whole j d (place j i is);
 }
   where
     expanded_by : (j : ℕ) (d : KernelState) → (j < i) ⊎ (j ≡ i) → (slice_index_or xs j d).turns < limit → IsExpanded k.cpus xs (slice_index_or xs j d)
     expanded_by j d (inl old) turns = way.expanded j d old turns
     expanded_by j d (inr last) turns =
-        let less = subst (λ (n : ℕ). (slice_index_or xs n d).turns < limit) last turns in
+        let few = subst (λ (n : ℕ). (slice_index_or xs n d).turns < limit) last turns in
         let more = many d in
-        absurd (omega (arith, less, more))
+        absurd (omega (arith, few, more))
+
+    whole_by : (t : Bool) → OnTrue t ((is_whole ≡ true) × ((d : KernelState) → IsStill k.cpus (slice_index_or xs i d))) → t ≡ true →
+        (j : ℕ) (d : KernelState) → (j < i) ⊎ (j ≡ i) → IsExpanded k.cpus xs (slice_index_or xs j d)
+    whole_by true stays whole j d (inl old) = way.whole stays.0 j d old
+    whole_by true stays whole j d (inr last) =
+        subst (λ (n : ℕ). IsExpanded k.cpus xs (slice_index_or xs n d)) (sym last)
+        (still_expands k.cpus xs (slice_index_or xs i d) (Contains-get_or xs i d less) (stays.1 d))
+    whole_by false stays whole j d is = absurd (cc)
 
 -- the state at a place, as code reads it
 pub at_place : (xs : List Found) (i : ℕ) (d : KernelState) (e : Found) → i < length xs → slice_index_or (states_of xs) i d ≡ state_of (slice_index_or xs i e)
@@ -172,6 +193,12 @@ at_place xs i d e less = get_or-map state_of xs i e d less
 
 pub state_here : (xs : List Found) (i : ℕ) (f : Found) (d : KernelState) → i < length xs → f ≡ slice_index_or xs i f → state_at xs i d ≡ state_of f
 state_here xs i f d less is = at_place xs i d f less ∙ ap state_of (sym is)
+
+-- a state that is seen to be that at a place
+pub found_if : (r : Bool) (xs : List Found) (i : ℕ) (f : Found) (s : KernelState) → i < length xs → f ≡ slice_index_or xs i f → OnTrue r (state_of f ≡ s) → r ≡ true →
+    Contains (states_of xs) s
+found_if true xs i f s less is same holds = (i, (let long = length-map xs state_of in omega (arith, less, long)), state_here xs i f s less is ∙ same)
+found_if false xs i f s less is same holds = absurd (cc)
 
 contains_here : (xs : List Found) (i : ℕ) (d : KernelState) → i < length xs → Contains (states_of xs) (state_at xs i d)
 contains_here xs i d less = Contains-get_or (states_of xs) i d (let long = length-map xs state_of in omega (arith, less, long))
@@ -231,10 +258,26 @@ pub many_here : (xs : List Found) (i most : ℕ) (f : Found) → i < length xs �
 many_here xs i most f less is many d = subst (λ (s : KernelState). most ≤ s.turns) (sym (state_here xs i f d less is)) many
 
 pub underway_here : (k : KernelState) (limit : ℕ) (xs ys : List Found) (i : ℕ) (w : Bool) → IsUnderWay k limit (states_of xs) i w → i < length xs →
-    ((d : KernelState) → (state_at xs i d).turns < limit) → ((d : KernelState) → AreVisited (states_of xs) (states_of ys) (state_at xs i d) k.cpus) →
-    IsUnderWay k limit (states_of ys) (i + 1) w
-underway_here k limit xs ys i w way less few visited =
-    underway_on k limit (states_of xs) (states_of ys) i w way (let long = length-map xs state_of in omega (arith, less, long)) few visited
+    ((d : KernelState) → AreVisited (states_of xs) (states_of ys) (state_at xs i d) k.cpus) → IsUnderWay k limit (states_of ys) (i + 1) w
+underway_here k limit xs ys i w way less visited =
+    underway_on k limit (states_of xs) (states_of ys) i w way (let long = length-map xs state_of in omega (arith, less, long)) visited
+
+pub left_here : (k : KernelState) (limit : ℕ) (xs : List Found) (i : ℕ) (f : Found) (w r : Bool) → IsUnderWay k limit (states_of xs) i w → i < length xs →
+    ((d : KernelState) → limit ≤ (state_at xs i d).turns) → f ≡ slice_index_or xs i f → OnTrue r ((w ≡ true) × IsStill (state_of f).cpus (state_of f)) →
+    IsUnderWay k limit (states_of xs) (i + 1) r
+left_here k limit xs i f w r way less many is stays =
+    underway_left k limit (states_of xs) i w r way (let long = length-map xs state_of in omega (arith, less, long)) many (by_test r stays)
+  where
+    here : (d : KernelState) → state_at xs i d ≡ state_of f
+    here d = state_here xs i f d less is
+
+    cpus : (state_of f).cpus ≡ k.cpus
+    cpus = ap (λ (s : KernelState). s.cpus) (sym (here (state_of f))) ∙ cpus_here k limit xs i w way less (state_of f)
+
+    by_test : (t : Bool) → OnTrue t ((w ≡ true) × IsStill (state_of f).cpus (state_of f)) →
+        OnTrue t ((w ≡ true) × ((d : KernelState) → IsStill k.cpus (state_at xs i d)))
+    by_test true stays = (stays.0, λ d. subst (λ (s : KernelState). IsStill k.cpus s) (sym (here d)) (subst (λ (n : ℕ). IsStill n (state_of f)) cpus stays.1))
+    by_test false stays = tt
 
 pub visited_as : (xs ys : List Found) (i n m : ℕ) → n ≡ m → ((d : KernelState) → AreVisited (states_of xs) (states_of ys) (state_at xs i d) n) →
     (d : KernelState) → AreVisited (states_of xs) (states_of ys) (state_at xs i d) m

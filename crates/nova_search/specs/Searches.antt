@@ -3,6 +3,7 @@ use Rattle.std.specs.Prelude.{◌≡◌, ◌⊎◌, ℕ, ◌+◌, ◌<◌, ◌�
 use Rattle.std.specs.List.{AllByRecursion}
 use Rattle.nova_model.specs.State.{KernelState}
 use Rattle.nova_model.specs.Runs.{IsFreeOfIdle, after, run}
+use Rattle.nova_compare.specs.Steps.{IsSuccessor}
 use Rattle.nova_search.specs.declared.found.Found.{Found}
 
 -- each processor of an order is below `n`
@@ -40,13 +41,6 @@ pub record AreAllWithin (k : KernelState) (limit : ℕ) (states : List KernelSta
 pub record AreAll (k : KernelState) (states : List KernelState) : Type 0 where
   pub each : (order : List ℕ) → AreProcessors k.cpus order → Contains states (run k order)
 
--- ON THE WAY
-
--- the state after a turn of each processor below `n` is among the states, and has at most one turn more
-pub record IsExpanded (n : ℕ) (states : List KernelState) (s : KernelState) : Type 0 where
-  pub each : (cpu : ℕ) → cpu < n → Contains states (after s cpu)
-  pub turns : (cpu : ℕ) → cpu < n → (after s cpu).turns ≤ s.turns + 1
-
 abbrev pub state_of : Found → KernelState
 state_of f = f.vertex
 
@@ -55,6 +49,23 @@ states_of found = map state_of found
 
 abbrev pub state_at : List Found → ℕ → KernelState → KernelState
 state_at found place d = slice_index_or (states_of found) place d
+
+-- a state was found after a turn of a processor in a state that was found before it
+pub record IsLink (found : List Found) (i : ℕ) (f : Found) : Type 0 where
+  pub before : f.from < i
+  pub processor : (d : KernelState) → f.cpu < (state_at found f.from d).cpus
+  pub next : (d : KernelState) → IsSuccessor (state_at found f.from d) f.cpu (state_of f)
+
+-- each state but the first was found so
+pub record AreLinked (found : List Found) : Type 0 where
+  pub each : (i : ℕ) (d : Found) → 0 < i → i < length found → IsLink found i (slice_index_or found i d)
+
+-- ON THE WAY
+
+-- the state after a turn of each processor below `n` is among the states, and has at most one turn more
+pub record IsExpanded (n : ℕ) (states : List KernelState) (s : KernelState) : Type 0 where
+  pub each : (cpu : ℕ) → cpu < n → Contains states (after s cpu)
+  pub turns : (cpu : ℕ) → cpu < n → (after s cpu).turns ≤ s.turns + 1
 
 -- nothing more was found, or one more
 abbrev pub IsMore : List Found → Found → List Found → Type 0
@@ -82,9 +93,9 @@ pub record AreVisited (old new : List KernelState) (s : KernelState) (n : ℕ) :
   pub keeps : Keeps old new
   pub expanded : IsExpanded n new s
 
--- Of the states that were found those before `place` are expanded, but for those that have taken `limit` turns; and where the search is whole, none of them has.
+-- Of the states that were found those before `place` are expanded, but for those that have taken `limit` turns; and where the search is whole, these are too.
 pub record IsUnderWay (k : KernelState) (limit : ℕ) (states : List KernelState) (place : ℕ) (is_whole : Bool) : Type 0 where
   pub opening : Contains states k
   pub reached : All (IsReached k) states
   pub expanded : (i : ℕ) (d : KernelState) → i < place → (slice_index_or states i d).turns < limit → IsExpanded k.cpus states (slice_index_or states i d)
-  pub whole : is_whole ≡ true → (i : ℕ) (d : KernelState) → i < place → (slice_index_or states i d).turns < limit
+  pub whole : is_whole ≡ true → (i : ℕ) (d : KernelState) → i < place → IsExpanded k.cpus states (slice_index_or states i d)

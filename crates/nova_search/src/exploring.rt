@@ -1,17 +1,30 @@
-ghost use Rattle.std.specs.Prelude.{◌≡◌, ◌^◌, ◌≤◌, true, All, IfOk};
-ghost use Rattle.nova_search.specs.Searches.{AreAll, AreAllWithin, IsReached, states_of};
+ghost use Rattle.std.specs.Prelude.{◌≡◌, ◌^◌, ◌<◌, ◌≤◌, true, false, length, All, IfOk};
+ghost use Rattle.std.specs.Bool.{OnTrue};
+ghost use Rattle.nova_model.specs.State.{KernelState};
+ghost use Rattle.nova_search.specs.Reductions.{IsStill};
+ghost use Rattle.nova_search.specs.Searches.{AreAll, AreAllWithin, AreLinked, IsReached, state_at, state_of, states_of};
 
 use crate::found::{Found, expand};
+use crate::hash::hash_of;
+use crate::index::Index;
 use nova_compare::Vertex;
 use std::alloc::{AllocError, Global};
 
 /// The states that a search found. The search is over where each of them was expanded but those that had taken as many turns as the
-/// limit allows, and whole where none of them had.
+/// limit allows, and whole where in each of these no processor has a turn to take.
 #[derive(Drop)]
 pub struct Explored {
     pub found: Vec<Found>,
     pub is_over: bool,
     pub is_whole: bool,
+}
+
+/// Whether a search that was whole or wasn't is whole where it doesn't expand a state: if no processor has a turn to take in it.
+fn stays_whole(is_whole: bool, f: &Found) -> bool
+    ensures { OnTrue result ((is_whole ≡ true) × IsStill (state_of f.now).cpus (state_of f.now)) }
+{
+    law_turns::quiet_is_every_processor_idle();
+    is_whole && f.vertex.kernel().quiet()
 }
 
 /// The states that `opening` comes to, in whatever order its processors take turns: those after at most `limit` turns, counted from
@@ -29,7 +42,14 @@ pub fn explore(
     ensures within { IfOk result (λ s. s.is_over ≡ true → AreAllWithin opening.now limit (states_of s.found.items)) }
     // Where none was cut, each order does.
     ensures all { IfOk result (λ s. s.is_over ≡ true → s.is_whole ≡ true → AreAll opening.now (states_of s.found.items)) }
+    // There are more of them than may be expanded, or it is over.
+    ensures more { IfOk result (λ s. s.is_over ≡ false → most < length s.found.items) }
+    // From the first, each other one was found after a turn in one before it.
+    ensures first { IfOk result (λ s. (d : KernelState) → state_at s.found.items 0 d ≡ opening.now) }
+    ensures linked { IfOk result (λ s. AreLinked s.found.items) }
 {
+    let mut index = Index::new(alloc);
+    index.add(hash_of(opening))?;
     let mut found = Vec::new(alloc);
     let vertex = opening.copy()?;
     found.push(Found {
@@ -48,14 +68,15 @@ pub fn explore(
             });
         }
         if found[place].vertex.turns() < limit {
-            expand(&mut found, place, cpus)?;
+            expand(&mut found, &mut index, place, cpus)?;
         } else {
-            is_whole = false;
+            is_whole = stays_whole(is_whole, &found[place]);
         }
     }
+    let is_over = found.len() <= most;
     Ok(Explored {
         found,
-        is_over: false,
+        is_over,
         is_whole,
     })
 }

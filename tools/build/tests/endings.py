@@ -27,6 +27,8 @@ WORDS = {
               f"trace --program PROGRAM {SCENARIO}"],
     "definitions": ["--nosuch", "FILE"],
     "draft": ["--path nosuch x"],
+    "explore": ["--nosuch", f"{SCENARIO} --program PROGRAM --nova ends blocked", "FILE --program ends --nova ends blocked",
+                f"{SCENARIO} --program ends --nova ends --elf FILE word x 1", f"{SCENARIO} --program ends --nova PROGRAM dies x"],
     "explain": ["--nosuch", "FILE", f"{REPORT} --names noise", f"{REPORT} --scenario {SCENARIO} --program PROGRAM"],
     "map": ["nowhere/x.svg", "folder"],
     "orders": ["--nosuch", f"explore {SCENARIO} --program PROGRAM", f"shrink {SCENARIO} FILE --keep x --program ends",
@@ -46,7 +48,7 @@ WORDS = {
 # What writes much to a pipe that nobody reads, and what waits for a file or a program when it is interrupted.
 HELPS = [f"{tool} --help" for tool in WORDS if tool != "map"]
 WRITES = [*HELPS, f"picture run {REPORT} --order {ORDER}", "explain examples/hart.report", "c/exits examples/hart.report", "map"]
-WAITS = ["explain waits", "picture run waits", f"debug trace --program sleeps {SCENARIO}", f"response --program sleeps {SCENARIO} 1",
+WAITS = ["explain waits", f"explore {SCENARIO} --program sleeps --nova ends blocked", "picture run waits", f"debug trace --program sleeps {SCENARIO}", f"response --program sleeps {SCENARIO} 1",
          f"orders explore --program sleeps {SCENARIO}", "replays --count 1 --program sleeps", "refusals --program sleeps texts"]
 
 

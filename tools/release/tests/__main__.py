@@ -17,7 +17,7 @@ from pathlib import Path
 TOP = Path(__file__).resolve().parents[3]
 # Programs that say with which words they were started.
 PROGRAM = "#!/bin/sh\necho {name} \"$@\"\n"
-NAMES = ("nova", "nova_debug", "nova_policy")
+NAMES = ("nova", "nova_debug", "nova_explore", "nova_policy")
 
 
 def run(*words: str | Path, folder: Path) -> subprocess.CompletedProcess[str]:
@@ -34,11 +34,11 @@ def repository(folder: str) -> Path:
     shutil.copytree(TOP / "examples", top / "examples", ignore=lambda _, names: [name for name in names if not name.startswith("race.")])
     (top / "docs").mkdir()
     (top / "README.md").write_text("# nova\n")
-    for name in ("nova", "nova-policy"):
+    for name in ("nova", "nova-explore", "nova-policy"):
         shutil.copy(TOP / name, top / name)
     (top / ".gitignore").write_text("out/\n__pycache__/\n")
     (top / "HANDLES").write_text("Handles allowed: none.\n")
-    (top / "crates.txt").write_text("low: # the lowest\nnova: low\nnova_debug: low\nnova_policy: low\n")
+    (top / "crates.txt").write_text("low: # the lowest\nnova: low\nnova_debug: low\nnova_explore: low\nnova_policy: low\n")
     for crate, source in (("low", "lib.rt"), *((name, "main.rt") for name in NAMES)):
         (top / "crates" / crate / "src").mkdir(parents=True)
         (top / "crates" / crate / "src" / source).write_text("fn\n")
@@ -72,8 +72,9 @@ class Releases(unittest.TestCase):
             shutil.rmtree(top)
             self.assertEqual(run(root / "nova", "solo", "examples/race.nova", folder=root).stdout, "nova solo examples/race.nova\n")
             self.assertEqual(run(root / "nova", "draft", "x", folder=root).returncode, 1)
-            absent = run(root / "nova-policy", "examples/race.nova", folder=root)
-            self.assertEqual((absent.returncode, absent.stderr), (1, "nova: nova_policy isn't in this release\n"))
+            for name in ("explore", "policy"):
+                absent = run(root / f"nova-{name}", "examples/race.nova", folder=root)
+                self.assertEqual((absent.returncode, absent.stderr), (1, f"nova: nova_{name} isn't in this release\n"))
             told = run(sys.executable, root / "tools/explain", "examples/race.report", folder=root)
             self.assertEqual((told.returncode, told.stdout.split(":")[0]), (0, "The run came to rest after 54 turns"))
             lines = (root / "MANIFEST").read_text().splitlines()
@@ -87,14 +88,15 @@ class Releases(unittest.TestCase):
             self.assertFalse((root / "tools/release").exists() or (root / "crates").exists())
 
     def test_another_program_is_packed_too(self) -> None:
-        with tempfile.TemporaryDirectory() as folder:
-            top, archive = repository(folder), Path(folder, "a.tar.gz")
-            self.assertEqual(release(top, "--with", "nova_policy", "--output", str(archive)).returncode, 0)
-            with tarfile.open(archive) as packed:
-                packed.extractall(folder)
-            (root,) = Path(folder).glob("nova-*")
-            for words in ((root / "nova-policy",), (root / "nova", "policy")):
-                self.assertEqual(run(*words, "examples/race.nova", folder=root).stdout, "nova_policy examples/race.nova\n")
+        for name in ("explore", "policy"):
+            with self.subTest(name), tempfile.TemporaryDirectory() as folder:
+                top, archive = repository(folder), Path(folder, "a.tar.gz")
+                self.assertEqual(release(top, "--with", f"nova_{name}", "--output", str(archive)).returncode, 0)
+                with tarfile.open(archive) as packed:
+                    packed.extractall(folder)
+                (root,) = Path(folder).glob("nova-*")
+                for words in ((root / f"nova-{name}",), (root / "nova", name)):
+                    self.assertEqual(run(*words, "examples/race.nova", "ends", folder=root).stdout, f"nova_{name} examples/race.nova ends\n")
 
     def test_what_is_said_beside_the_line_of_the_policy(self) -> None:
         with tempfile.TemporaryDirectory() as folder:

@@ -1,0 +1,124 @@
+-- Ends that are entered one by one.
+use Rattle.std.proofs.Common.{◌≡◌, ◌⊎◌, ◌∙◌, ℕ, zero, suc, ◌+◌, ◌<◌, ◌≤◌, List, [], ◌∷◌, ◌++◌, length, refl, ap, subst, sym, arith, inl, inr}
+use Rattle.std.specs.Prelude.{Contains, Option, None, true, slice_index_or, slice_set}
+use Rattle.std.specs.List.{AllByRecursion}
+use Rattle.std.proofs.lemmas.List.{get_or-map, length-map, map-append}
+use Rattle.std.proofs.lemmas.List.Elements.{Contains-append_left, Contains-push, Contains-push_cases}
+use Rattle.nova_model.specs.Choice.{is_quiet}
+use Rattle.nova_model.specs.State.{KernelState}
+use Rattle.nova_search.specs.Searches.{state_at, state_of}
+use Rattle.nova_search.specs.declared.found.Found.{Found}
+use Rattle.nova_search.proofs.Growth.{state_here}
+use Rattle.nova_asking.specs.Answers.{AreDistinct, IsEnd, outcomes}
+use Rattle.nova_asking.specs.Searched.{HaveOutcomes, IsPlaceOf, KeepEnds, LeadThere}
+use Rattle.nova_asking.specs.Outcomes.{outcome}
+use Rattle.nova_asking.specs.declared.ends.End.{End}
+use Rattle.nova_asking.proofs.Found.{place}
+
+abbrev pub outcome_of : End → List ℕ
+outcome_of e = e.outcome.items
+
+pub outcome_there : (ends : List End) (i : ℕ) (e : End) (text : List ℕ) → i < length ends → e ≡ slice_index_or ends i e → outcome_of e ≡ text → Contains (outcomes ends) text
+outcome_there ends i e text less is same =
+    (i, (let long = length-map ends outcome_of in omega (arith, less, long)), get_or-map outcome_of ends i e text less ∙ ap outcome_of (sym is) ∙ same)
+
+-- an end that changes in its count alone
+same_outcomes : (ends : List End) (i : ℕ) (e : End) → outcome_of e ≡ outcome_of (slice_index_or ends i e) → outcomes (slice_set ends i e) ≡ outcomes ends
+same_outcomes [] i e same = refl
+same_outcomes (x ∷ xs) zero e same = ap (λ (t : List ℕ). t ∷ outcomes xs) same
+same_outcomes (x ∷ xs) (suc i) e same = ap (λ (l : List (List ℕ)). outcome_of x ∷ l) (same_outcomes xs i e same)
+
+any_default : (l : List End) (n : ℕ) (a b : End) → n < length l → slice_index_or l n a ≡ slice_index_or l n b
+any_default [] n a b less = absurd (omega (arith, less))
+any_default (x ∷ l) zero a b less = refl
+any_default (x ∷ l) (suc n) a b less = any_default l n a b (omega (arith, less))
+
+pub counted_outcomes : (ends : List End) (i : ℕ) (x e : End) → i < length ends → x ≡ slice_index_or ends i x → outcome_of e ≡ outcome_of x → outcomes (slice_set ends i e) ≡ outcomes ends
+counted_outcomes ends i x e less is same = same_outcomes ends i e (same ∙ ap outcome_of (is ∙ any_default ends i x e less))
+
+pub all_set : {T : Type 0} (P : T → Type 0) (xs : List T) (i : ℕ) (x : T) → (P (slice_index_or xs i x) → P x) → AllByRecursion P xs → AllByRecursion P (slice_set xs i x)
+all_set P [] i x goes each = each
+all_set P (y ∷ xs) zero x goes each = (goes each.0, each.1)
+all_set P (y ∷ xs) (suc i) x goes each = (each.0, all_set P xs i x goes each.1)
+
+all_more : {T : Type 0} (P : T → Type 0) (xs : List T) (x : T) → AllByRecursion P xs → P x → AllByRecursion P (xs ++ x ∷ [])
+all_more P [] x each is = (is, tt)
+all_more P (y ∷ xs) x each is = (each.0, all_more P xs x each.1 is)
+
+pub same_kept : (ends : List End) → KeepEnds ends ends
+same_kept ends = record { outcomes = λ text there. there; once = λ once. once }
+
+pub counted_kept : (old new : List End) → outcomes new ≡ outcomes old → KeepEnds old new
+counted_kept old new same = record {
+  outcomes = λ text there. subst (λ (l : List (List ℕ)). Contains l text) (sym same) there;
+  once = λ once. subst AreDistinct (sym same) once;
+}
+
+distinct_more : (xs : List (List ℕ)) (y : List ℕ) → (Contains xs y → ⊥) → AreDistinct xs → AreDistinct (xs ++ y ∷ [])
+distinct_more [] y new once = ((λ there. absurd (let is = there.1 in omega (arith, is))), tt)
+distinct_more (x ∷ xs) y new once = (λ there. by_case (Contains-push_cases xs y x there), distinct_more xs y (λ there. new (behind there)) once.1)
+  where
+    behind : Contains xs y → Contains (x ∷ xs) y
+    behind there = (suc there.0, (let is = there.1 in omega (arith, is)), there.2)
+
+    by_case : Contains xs x ⊎ (y ≡ x) → ⊥
+    by_case (inl there) = once.0 there
+    by_case (inr same) = new (0, omega arith, sym same)
+
+outcomes_more : (ends : List End) (e : End) → outcomes (ends ++ e ∷ []) ≡ outcomes ends ++ outcome_of e ∷ []
+outcomes_more ends e = map-append outcome_of ends (e ∷ [])
+
+pub pushed_kept : (ends : List End) (e : End) → (Contains (outcomes ends) (outcome_of e) → ⊥) → KeepEnds ends (ends ++ e ∷ [])
+pushed_kept ends e new = record {
+  outcomes = λ text there. subst (λ (l : List (List ℕ)). Contains l text) (sym (outcomes_more ends e)) (Contains-append_left (outcomes ends) (outcome_of e ∷ []) text there);
+  once = λ once. subst AreDistinct (sym (outcomes_more ends e)) (distinct_more (outcomes ends) (outcome_of e) new once);
+}
+
+pub pushed_lead : (k : KernelState) (ends : List End) (e : End) → IsEnd k e → LeadThere k ends (ends ++ e ∷ [])
+pushed_lead k ends e is each = all_more (IsEnd k) ends e each is
+
+pub pushed_there : (ends : List End) (e : End) (text : List ℕ) → outcome_of e ≡ text → Contains (outcomes (ends ++ e ∷ [])) text
+pushed_there ends e text same =
+    subst (λ (l : List (List ℕ)). Contains l text) (sym (outcomes_more ends e))
+    (subst (λ (t : List ℕ). Contains (outcomes ends ++ outcome_of e ∷ []) t) same (Contains-push (outcomes ends) (outcome_of e)))
+
+-- what is told of an outcome that is not there
+pub none_by : (ends es : List End) (text t : List ℕ) (o : Option ℕ) → IsPlaceOf es t o → o ≡ None → es ≡ ends → t ≡ text → Contains (outcomes ends) text → ⊥
+none_by ends es text t o is none same equal there =
+    let not : Contains (outcomes es) t → ⊥ = subst (λ (x : Option ℕ). IsPlaceOf es t x) none is in
+    not (subst (λ (l : List End). Contains (outcomes l) t) (sym same) (subst (λ (x : List ℕ). Contains (outcomes ends) x) (sym equal) there))
+
+-- the outcome of the state at a place, as code reads it
+pub at_place : (found : List Found) (place : ℕ) (f : Found) (texts : List (List ℕ)) (text : List ℕ) → place < length found → f ≡ slice_index_or found place f →
+    text ≡ outcome (state_of f) → Contains texts text → (d : KernelState) → Contains texts (outcome (state_at found place d))
+at_place found place f texts text less is same there d =
+    subst (λ (t : List ℕ). Contains texts t) (same ∙ ap outcome (sym (state_here found place f d less is))) there
+
+-- where no end has an outcome, it isn't there
+pub none_there : (ends : List End) (i : ℕ) (text : List ℕ) → ((d : End) (j : ℕ) → j < i → outcome_of (slice_index_or ends j d) ≡ text → ⊥) → length ends ≤ i →
+    Contains (outcomes ends) text → ⊥
+none_there [] i text none all there = absurd (let is = there.1 in omega (arith, is))
+none_there (x ∷ ends) i text none all there =
+    let long = length-map (x ∷ ends) outcome_of in
+    let is = there.1 in
+    let less : there.0 < length (x ∷ ends) = omega (arith, is, long) in
+    none x there.0 (omega (arith, less, all)) (sym (get_or-map outcome_of (x ∷ ends) there.0 x text less) ∙ there.2)
+
+-- the outcomes of the states so far
+abbrev pub HaveSoFar : List KernelState → ℕ → List (List ℕ) → Type 0
+HaveSoFar states i texts = (d : KernelState) (j : ℕ) → j < i → is_quiet (slice_index_or states j d) ≡ true → Contains texts (outcome (slice_index_or states j d))
+
+pub have_all : (states : List KernelState) (i : ℕ) (texts : List (List ℕ)) → HaveSoFar states i texts → length states ≤ i → HaveOutcomes states texts
+have_all states i texts have all = record {
+  each = λ s there quiet. subst (λ (x : KernelState). Contains texts (outcome x)) there.2
+      (have s there.0 (let is = there.1 in omega (arith, is, all)) (subst (λ (x : KernelState). is_quiet x ≡ true) (sym there.2) quiet));
+}
+
+pub have_on : (states : List KernelState) (i : ℕ) (old new : List (List ℕ)) → HaveSoFar states i old → ((text : List ℕ) → Contains old text → Contains new text) →
+    ((d : KernelState) → is_quiet (slice_index_or states i d) ≡ true → Contains new (outcome (slice_index_or states i d))) → HaveSoFar states (i + 1) new
+have_on states i old new have kept here d j less quiet = by_place (place j i less)
+  where
+    by_place : (j < i) ⊎ (j ≡ i) → Contains new (outcome (slice_index_or states j d))
+    by_place (inl is) = kept (outcome (slice_index_or states j d)) (have d j is quiet)
+    by_place (inr same) = subst (λ (n : ℕ). Contains new (outcome (slice_index_or states n d))) (sym same)
+        (here d (subst (λ (n : ℕ). is_quiet (slice_index_or states n d) ≡ true) same quiet))

@@ -1,0 +1,31 @@
+use Rattle.std.proofs.Common.{◌≡◌, [], List, subst, sym, arith}
+use Rattle.std.proofs.lemmas.List.{length-map}
+use Rattle.std.specs.List.{AllByRecursion}
+use Rattle.nova_search.specs.Searches.{state_of, states_of}
+use Rattle.nova_asking.specs.Answers.{AreDistinct, IsEnd, outcomes}
+use Rattle.nova_asking.specs.declared.ends.End.{End}
+use Rattle.nova_asking.proofs.Ended.{have_all, have_on}
+use Rattle.nova_asking.proofs.ends.gather.Goals as goal
+
+pub loop-place-init : goal.loop-place-init
+loop-place-init c =
+    let none : c.new-ends.result.items ≡ [] = c.new-ends.ensures.items in
+    record {
+      lead = λ k first. subst (λ (l : List End). AllByRecursion (IsEnd k) l) (sym none) tt;
+      have = λ d j less quiet. absurd (omega (arith, less));
+      once = subst (λ (l : List End). AreDistinct (outcomes l)) (sym none) tt;
+    }
+
+pub loop-place-preserved : goal.loop-place-preserved
+loop-place-preserved c = record {
+  lead = λ k first. c.in_ok-see.ensures.lead k first (c.loop-place.invariant.lead k first);
+  have = have_on (states_of c.args.found.now) c.loop-place.place (outcomes c.loop-place.ends.items) (outcomes c.see.new.ends.items) c.loop-place.invariant.have
+      c.in_ok-see.ensures.kept.outcomes c.in_ok-see.ensures.there;
+  once = c.in_ok-see.ensures.kept.once c.loop-place.invariant.once;
+}
+
+pub returns-clause-all : goal.returns-clause-all
+returns-clause-all c =
+    let long = length-map c.args.found.now state_of in
+    let done = c.loop-place-test.false in
+    have_all (states_of c.args.found.now) c.loop-place.place (outcomes c.loop-place.ends.items) c.loop-place.invariant.have (omega (arith, long, done))

@@ -1,0 +1,4 @@
+pub mod Questions
+pub mod Outcomes
+pub mod Answers
+pub mod Searched

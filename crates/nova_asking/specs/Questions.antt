@@ -1,0 +1,65 @@
+-- What may be asked of a state.
+use Rattle.std.specs.Prelude.{ℕ, ◌+◌, ◌≤◌, ◌==◌, ◌&&◌, Bool, true, false, not, List, drop, filter, map, length, nat_eq, slice_get, Option, Some, None}
+use Rattle.std.specs.List.{list_any, range_with_len, starts_with}
+use Rattle.byteorder.specs.Endian.{little_number}
+use Rattle.nova_model.specs.Choice.{is_quiet}
+use Rattle.nova_model.specs.State.{KernelState, context_at}
+use Rattle.nova_model.specs.declared.context.EcState.{EcState}
+use Rattle.nova_model.specs.declared.context.State.{State}
+use Rattle.nova_model.specs.declared.context.State.TheVariants.{Blocked, Dead}
+use Rattle.nova_model.specs.declared.log.LogByte.{LogByte}
+use Rattle.nova_asking.specs.declared.question.Question.{Question}
+use Rattle.nova_asking.specs.declared.question.Question.TheVariants as question
+
+abbrev pub is_on : ℕ → LogByte → Bool
+is_on console b = b.console == console
+
+-- the bytes that a console shows
+abbrev pub shown : ℕ → List LogByte → List ℕ
+shown console log = map (λ (b : LogByte). b.value) (filter (is_on console) log)
+
+-- a question on a word asks for one that lies in its frame
+abbrev pub IsApt : Question → Type 0
+IsApt (question.Word frame offset value) = offset + 4 ≤ 4096
+IsApt other = Unit {0}
+
+-- whether a RAM frame has this word at an offset, the lowest byte first
+abbrev pub has_word : Option (List ℕ) → ℕ → ℕ → Bool
+has_word (Some bytes) offset value = little_number 4 (drop offset bytes) == value
+has_word None offset value = false
+
+abbrev pub is_waiting : State → Bool
+is_waiting (Blocked sm) = true
+is_waiting other = false
+
+abbrev pub is_over : State → Bool
+is_over Dead = true
+is_over other = false
+
+-- whether an execution context is there, and waits at a semaphore; is dead; is not dead
+abbrev pub waits : Option EcState → Bool
+waits (Some x) = is_waiting x.state
+waits None = false
+
+abbrev pub is_dead : Option EcState → Bool
+is_dead (Some x) = is_over x.state
+is_dead None = false
+
+abbrev pub is_left : Option EcState → Bool
+is_left (Some x) = not (is_over x.state)
+is_left None = false
+
+-- whether an execution context of some number is so
+abbrev pub some_context : (Option EcState → Bool) → KernelState → Bool
+some_context test k = list_any (λ (n : ℕ). test (context_at k n)) (range_with_len 0 (length k.objects))
+
+-- whether a state is what is asked for: a console shows these bytes first, a word of memory has this value, the run has ended while an execution context waits at a
+-- semaphore, one is dead, this one is dead, the run has ended while this one is not dead, the run has ended
+unfoldable pub is_so : Question → KernelState → Bool
+is_so (question.Console console bytes) k = starts_with nat_eq (shown console k.memory.log) bytes
+is_so (question.Word frame offset value) k = has_word (slice_get k.memory.ram frame) offset value
+is_so question.Blocked k = is_quiet k && some_context waits k
+is_so question.Dies k = some_context is_dead k
+is_so (question.DiesOf ec) k = is_dead (context_at k ec)
+is_so (question.Stuck ec) k = is_quiet k && is_left (context_at k ec)
+is_so question.Ends k = is_quiet k

@@ -1,0 +1,171 @@
+ghost use Rattle.std.specs.Prelude.{◌≡◌, ◌^◌, ◌<◌, ◌≤◌, true, length, IfOk, OnOk, Contains};
+ghost use Rattle.std.specs.Bool.{Decides};
+ghost use Rattle.std.specs.List.{AllByRecursion};
+ghost use Rattle.nova_model.specs.Choice.{is_quiet};
+ghost use Rattle.nova_model.specs.State.{KernelState};
+ghost use Rattle.nova_search.specs.Searches.{AreLinked, state_at, states_of};
+ghost use Rattle.nova_asking.specs.Answers.{AreDistinct, AreEnds, IsEnd, outcomes};
+ghost use Rattle.nova_asking.specs.Outcomes.{outcome};
+ghost use Rattle.nova_asking.specs.Searched.{BeginsIn, HaveOutcomes, IsCount, IsPlaceOf, IsSearch, KeepEnds, LeadThere};
+
+use crate::answer::let_go;
+use crate::extent::Extent;
+use crate::outcome::outcome_of;
+use crate::path::order_to;
+use nova_compare::Vertex;
+use nova_order::Order;
+use nova_search::{Explored, Found, explore};
+use std::alloc::{AllocError, Global};
+
+/// An outcome of a run, an order that ends in it, and in how many of the states that were found a run ends so.
+#[derive(Drop)]
+pub struct End {
+    pub outcome: Vec<u8>,
+    pub order: Order,
+    pub states: u64,
+}
+
+/// The outcomes that a search found, each once.
+#[derive(Drop)]
+pub struct Ends {
+    pub ends: Vec<End>,
+    pub extent: Extent,
+    pub states: usize,
+}
+
+/// Whether two texts are equal.
+#[tactic(auto, using(crate::proofs::Equal::same_when))]
+fn same_bytes(a: &[u8], b: &[u8]) -> bool
+    ensures { Decides result (a.now ≡ b.now) }
+{
+    a == b
+}
+
+/// Whether an end has this outcome.
+fn has_outcome(end: &End, outcome: &[u8]) -> bool
+    ensures { Decides result (end.now.outcome.items ≡ outcome.now) }
+{
+    same_bytes(&end.outcome, outcome)
+}
+
+/// The place of an outcome among ends.
+fn place_of(ends: &[End], outcome: &[u8]) -> Option<usize>
+    ensures { IsPlaceOf ends.now outcome.now result }
+{
+    for i in 0..ends.len() {
+        if has_outcome(&ends[i], outcome) {
+            return Some(i);
+        }
+    }
+    None
+}
+
+/// One state more of an end.
+fn count(ends: &mut Vec<End>, at: usize)
+    requires { at < length ends.old.items }
+    ensures outcomes { outcomes ends.new.items ≡ outcomes ends.old.items }
+    ensures lead { (k : KernelState) → LeadThere k ends.old.items ends.new.items }
+{
+    ends[at].states = ends[at].states.saturating_add(1);
+}
+
+/// Enters the outcome of the state at a place, in which a run has ended, among ends, unless it is there.
+fn enter(
+    alloc: Global,
+    found: &[Found],
+    place: usize,
+    ends: &mut Vec<End>,
+) -> Result<(), AllocError>
+    requires place { place < length found.now }
+    requires linked { AreLinked found.now }
+    requires quiet { (d : KernelState) → is_quiet (state_at found.now place d) ≡ true }
+    ensures kept { OnOk result (KeepEnds ends.old.items ends.new.items) }
+    ensures lead { OnOk result ((k : KernelState) → BeginsIn k found.now → LeadThere k ends.old.items ends.new.items) }
+    ensures there { OnOk result ((d : KernelState) → Contains (outcomes ends.new.items) (outcome (state_at found.now place d))) }
+{
+    let outcome = outcome_of(alloc, found[place].vertex.kernel())?;
+    if let Some(at) = place_of(ends, &outcome) {
+        count(ends, at);
+        return Ok(());
+    }
+    let order = order_to(alloc, found, place)?;
+    ends.push(End {
+        outcome,
+        order,
+        states: 1,
+    })?;
+    Ok(())
+}
+
+/// Enters the outcome of the state at a place among ends, where a run has ended in it.
+fn see(alloc: Global, found: &[Found], place: usize, ends: &mut Vec<End>) -> Result<(), AllocError>
+    requires place { place < length found.now }
+    requires linked { AreLinked found.now }
+    ensures kept { OnOk result (KeepEnds ends.old.items ends.new.items) }
+    ensures lead { OnOk result ((k : KernelState) → BeginsIn k found.now → LeadThere k ends.old.items ends.new.items) }
+    ensures there { OnOk result ((d : KernelState) → is_quiet (state_at found.now place d) ≡ true → Contains (outcomes ends.new.items) (outcome (state_at found.now place d))) }
+{
+    if !found[place].vertex.kernel().quiet() {
+        return Ok(());
+    }
+    enter(alloc, found, place, ends)
+}
+
+/// The outcomes of the states that were found.
+fn gather(alloc: Global, found: &[Found]) -> Result<Vec<End>, AllocError>
+    requires { AreLinked found.now }
+    ensures each { IfOk result (λ ends. (k : KernelState) → BeginsIn k found.now → AllByRecursion (IsEnd k) ends.items) }
+    ensures all { IfOk result (λ ends. HaveOutcomes (states_of found.now) (outcomes ends.items)) }
+    ensures once { IfOk result (λ ends. AreDistinct (outcomes ends.items)) }
+{
+    let mut ends = Vec::new(alloc);
+    for place in 0..found.len() {
+        see(alloc, found, place, &mut ends)?;
+    }
+    Ok(ends)
+}
+
+/// The outcomes of the states that a search from `opening` found.
+fn ends_of(
+    alloc: Global,
+    opening: &Vertex,
+    limit: u64,
+    most: usize,
+    explored: &Explored,
+) -> Result<Ends, AllocError>
+    requires { IsSearch opening.now limit most explored.now }
+    ensures each { IfOk result (λ e. AllByRecursion (IsEnd opening.now) e.ends.items) }
+    ensures all { IfOk result (λ e. AreEnds opening.now limit e.extent (outcomes e.ends.items)) }
+    ensures once { IfOk result (λ e. AreDistinct (outcomes e.ends.items)) }
+    ensures states { IfOk result (λ e. IsCount opening.now most e.extent e.states) }
+{
+    let found = explored.found.as_slice();
+    let extent = Extent::of(explored.is_over, explored.is_whole);
+    let states = found.len();
+    let ends = gather(alloc, found)?;
+    Ok(Ends {
+        ends,
+        extent,
+        states,
+    })
+}
+
+/// The outcomes of the runs from `opening`: along orders after which at most `limit` turns were taken, counted from its boot, and
+/// with at most `most` states expanded. The limit is at most 2^31.
+pub fn list_ends(
+    alloc: Global,
+    opening: &Vertex,
+    limit: u64,
+    most: usize,
+) -> Result<Ends, AllocError>
+    requires { limit ≤ 2 ^ 31 }
+    ensures each { IfOk result (λ e. AllByRecursion (IsEnd opening.now) e.ends.items) }
+    ensures all { IfOk result (λ e. AreEnds opening.now limit e.extent (outcomes e.ends.items)) }
+    ensures once { IfOk result (λ e. AreDistinct (outcomes e.ends.items)) }
+    ensures states { IfOk result (λ e. IsCount opening.now most e.extent e.states) }
+{
+    let explored = explore(alloc, opening, limit, most)?;
+    let ends = ends_of(alloc, opening, limit, most, &explored);
+    let_go(explored);
+    ends
+}

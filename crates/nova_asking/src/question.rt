@@ -1,0 +1,103 @@
+ghost use Rattle.std.specs.Prelude.{◌≡◌, ◌+◌, ◌≤◌, IfOk, drop, length, nat_eq, slice_get};
+ghost use Rattle.byteorder.specs.Endian.{little_number};
+ghost use Rattle.std.specs.List.{starts_with};
+ghost use Rattle.nova_asking.specs.Questions.{IsApt, has_word, is_so, shown};
+
+use crate::bytes::Bytes;
+use crate::contexts::{is_dead, is_left, some_is_dead, some_waits};
+use nova_guest::words::read_word;
+use nova_kernel::{Kernel, LogByte};
+use std::alloc::{AllocError, Global};
+
+/// What is asked of the states that a kernel comes to.
+#[derive(Drop)]
+pub enum Question {
+    /// Whether a console shows these bytes first.
+    Console { console: u32, bytes: Bytes },
+
+    /// Whether the word at an offset of a RAM frame has this value. The offset is at most 4,092.
+    Word { frame: u32, offset: u32, value: u32 },
+
+    /// Whether the run ends while an execution context waits at a semaphore.
+    Blocked,
+
+    /// Whether an execution context dies.
+    Dies,
+
+    /// Whether the execution context of this number dies.
+    DiesOf { ec: u32 },
+
+    /// Whether the run ends while the execution context of this number is there, and not dead.
+    Stuck { ec: u32 },
+
+    /// Whether the run ends.
+    Ends,
+}
+
+/// The bytes that a console shows.
+fn shown(alloc: Global, log: &[LogByte], console: u32) -> Result<Vec<u8>, AllocError>
+    ensures { IfOk result (λ bytes. bytes.items ≡ shown console log.now) }
+{
+    let mut bytes = Vec::new(alloc);
+    for byte in log {
+        if byte.console == console {
+            bytes.push(byte.value)?;
+        }
+    }
+    Ok(bytes)
+}
+
+/// Whether a console shows these bytes first.
+fn shows(alloc: Global, kernel: &Kernel, console: u32, bytes: &[u8]) -> Result<bool, AllocError>
+    ensures { IfOk result (λ is. is ≡ starts_with nat_eq (shown console kernel.now.state.memory.log) bytes.now) }
+{
+    let shown = shown(alloc, kernel.log(), console)?;
+    Ok(shown.starts_with(bytes))
+}
+
+/// The word at an offset of a frame, the lowest byte first.
+fn word_at(bytes: &[u8], offset: u32) -> u32
+    requires { offset + 4 ≤ length bytes.now }
+    ensures { result ≡ little_number 4 (drop offset bytes.now) }
+{
+    read_word(&bytes[offset as usize..], 4)
+}
+
+/// Whether a RAM frame is there, and has this word at an offset.
+fn has_word(kernel: &Kernel, frame: u32, offset: u32, value: u32) -> bool
+    requires { offset + 4 ≤ 4096 }
+    ensures { result ≡ has_word (slice_get kernel.now.state.memory.ram frame) offset value }
+{
+    if frame >= kernel.ram() {
+        return false;
+    }
+    word_at(kernel.frame(frame), offset) == value
+}
+
+impl Question {
+    /// Whether the state of a kernel is what is asked for.
+    #[tactic(auto, unfolding(crate::specs::Questions::is_so))]
+    pub fn is_so(&self, alloc: Global, kernel: &Kernel) -> Result<bool, AllocError>
+        requires { IsApt self.now }
+        ensures { IfOk result (λ is. is ≡ is_so self.now kernel.now.state) }
+    {
+        match self {
+            Question::Console { console, bytes } => shows(
+                alloc,
+                kernel,
+                *console,
+                bytes.as_slice(),
+            ),
+            Question::Word {
+                frame,
+                offset,
+                value,
+            } => Ok(has_word(kernel, *frame, *offset, *value)),
+            Question::Blocked => Ok(kernel.quiet() && some_waits(kernel)),
+            Question::Dies => Ok(some_is_dead(kernel)),
+            Question::DiesOf { ec } => Ok(is_dead(kernel, *ec)),
+            Question::Stuck { ec } => Ok(kernel.quiet() && is_left(kernel, *ec)),
+            Question::Ends => Ok(kernel.quiet()),
+        }
+    }
+}

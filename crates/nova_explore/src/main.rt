@@ -1,0 +1,29 @@
+//! `nova_explore`: whether any order of turns leads a scenario to what is asked for.
+#![tactic(auto)]
+
+use nova_explorer::{Exit, explore_main};
+use nova_io::{FileDepot, StdSink};
+use std::env;
+use std::process::ExitCode;
+
+/// The words after the program's own name, or the end that it makes where they can't be read.
+fn words(rt: HostRuntime) -> Result<Vec<String>, Exit> {
+    let words = env::args(&rt).map_err(|error| Exit::of_words(error.kind()))?;
+    Ok(words.skip(1).collect(rt.alloc())?)
+}
+
+fn main(rt: HostRuntime) -> ExitCode {
+    let exit = match words(rt) {
+        Ok(words) => {
+            let mut depot = FileDepot::new(rt);
+            let mut out = StdSink::new(rt);
+            explore_main(rt.alloc(), &words, &mut depot, &mut out)
+        }
+        Err(exit) => exit,
+    };
+    if !matches!(exit, Exit::Told(_)) {
+        // Where standard error takes nothing, the status alone tells the end.
+        let _ = eprintln!(rt; "nova_explore: {exit}");
+    }
+    ExitCode::from(exit.status())
+}

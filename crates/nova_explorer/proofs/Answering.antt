@@ -1,0 +1,65 @@
+-- What is answered, by what came and what was told.
+use Rattle.std.proofs.Common.{◌≡◌, inl, inr, Result, Ok, Err, subst, sym}
+use Rattle.nova_scenario.specs.declared.scenario.Scenario.{Scenario as ScenarioText}
+use Rattle.nova_explorer.specs.Came.{IsScenarioFault, ScenarioCame}
+use Rattle.nova_explorer.specs.Exit.{IsUnwritten}
+use Rattle.nova_explorer.specs.Main.{IsAnswer, IsExplored, IsFault, IsPrepared, IsSent, IsToldOf}
+use Rattle.nova_explorer.specs.Outside.{Depots, Sinks}
+use Rattle.nova_explorer.specs.declared.exit.Exit.{Exit}
+use Rattle.nova_explorer.specs.declared.exit.Exit.TheVariants as exit
+use Rattle.nova_explorer.specs.declared.request.Request.{Request}
+use Rattle.nova_explorer.specs.declared.told.Told.{Told}
+use Rattle.nova_explorer.specs.declared.verdict.Verdict.{Verdict}
+
+module _ {D : Type 0} (d : Depots D) (q : Request) (old new : D) where
+  -- the scenario isn't read
+  pub unread : (e : Exit) (r : Result Told Exit) → r ≡ Err e → IsScenarioFault d q.scenario old new e → IsPrepared d q old new r
+  unread e r is fault = subst (IsPrepared d q old new) (sym is) (inl fault)
+
+  -- it came, and this was answered
+  pub explored : (from : ScenarioText) (r : Result Told Exit) → ScenarioCame d q.scenario old from new → IsExplored from q r → IsPrepared d q old new r
+  explored from (Ok t) came is = record { from = from; came = came; told = is }
+  explored from (Err e) came is = inr (record { from = from; came = came; fault = is })
+
+module _ {D O : Type 0} (d : Depots D) (o : Sinks O) (q : Request) (old new : D) (before after : O) where
+  no_fault : IsFault d q old new exit.WriteFault → ⊥
+  no_fault (inl is) = is
+  no_fault (inr is) = is.fault
+
+  no_told_fault : (verdict : Verdict) → IsFault d q old new (exit.Told verdict) → ⊥
+  no_told_fault verdict (inl is) = is
+  no_told_fault verdict (inr is) = is.fault
+
+  -- a fault is the answer
+  pub faulty : (e : Exit) → IsFault d q old new e → IsAnswer d o q e old new before after
+  faulty (exit.Told verdict) is = absurd (no_told_fault verdict is)
+  faulty exit.WriteFault is = absurd (no_fault is)
+  faulty exit.Usage is = is
+  faulty exit.ReadFault is = is
+  faulty exit.TooLong is = is
+  faulty (exit.Scenario line why) is = is
+  faulty exit.Absent is = is
+  faulty exit.Memory is = is
+
+  -- what was told was sent
+  pub sent : (t : Told) (e : Exit) → IsToldOf d q old new t.verdict t.text.items → IsSent o t e before after → IsAnswer d o q e old new before after
+  sent t (exit.Told verdict) told (same, out) =
+      record { text = t.text.items; told = subst (λ (v : Verdict). IsToldOf d q old new v t.text.items) (sym same) told; out = out }
+  sent t exit.WriteFault told out = record { verdict = t.verdict; text = t.text.items; told = told; out = out }
+  sent t exit.Usage told out = absurd out
+  sent t exit.ReadFault told out = absurd out
+  sent t exit.TooLong told out = absurd out
+  sent t (exit.Scenario line why) told out = absurd out
+  sent t exit.Absent told out = absurd out
+  sent t exit.Memory told out = absurd out
+
+-- then something is written
+pub written : {O : Type 0} (o : Sinks O) (t : Told) (e : Exit) (before after : O) → IsSent o t e before after → IsUnwritten e → after ≡ before
+written o t (exit.Told verdict) before after is un = absurd un
+written o t exit.WriteFault before after is un = absurd un
+written o t exit.Usage before after is un = absurd is
+written o t exit.ReadFault before after is un = absurd is
+written o t exit.TooLong before after is un = absurd is
+written o t (exit.Scenario line why) before after is un = absurd is
+written o t exit.Absent before after is un = absurd is
+written o t exit.Memory before after is un = absurd is

@@ -1,0 +1,9 @@
+pub mod Form
+pub mod Numbers
+pub mod Requests
+pub mod Exit
+pub mod Outside
+pub mod Texts
+pub mod Tellings
+pub mod Came
+pub mod Main

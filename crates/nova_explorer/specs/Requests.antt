@@ -1,0 +1,70 @@
+-- Requests, by the words of the command line.
+use Rattle.std.specs.Prelude.{ℕ, List, ◌∷◌, codes, Option, Some, None, Result, Ok, Err, option_and_then, option_map, if◌then◌else◌}
+use Rattle.std.specs.Str.{bytes_eq}
+use Rattle.hex.specs.Hex.{decode_of}
+use Rattle.nova_asking.specs.declared.question.Question.{Question}
+use Rattle.nova_asking.specs.declared.question.Question.TheVariants as question
+use Rattle.nova_explorer.specs.Form.{Text, Given, given}
+use Rattle.nova_explorer.specs.Numbers.{number_of, offset_of, states_of, turns_of}
+use Rattle.nova_explorer.specs.declared.request.Request.{Request}
+use Rattle.nova_explorer.specs.declared.word.Word.{Word}
+use Rattle.nova_explorer.specs.declared.word.Word.TheVariants as word
+
+-- the word that a text stands for
+abbrev pub word_of : List ℕ → Option Word
+word_of text =
+    if bytes_eq text (codes "console") then Some word.Console
+    else if bytes_eq text (codes "text") then Some word.Text
+    else if bytes_eq text (codes "word") then Some word.Word
+    else if bytes_eq text (codes "blocked") then Some word.Blocked
+    else if bytes_eq text (codes "dies") then Some word.Dies
+    else if bytes_eq text (codes "stuck") then Some word.Stuck
+    else if bytes_eq text (codes "ends") then Some word.Ends
+    else None
+
+-- the bytes that hexadecimal digits write, two of them a byte
+abbrev pub unless_odd : {E : Type 0} → Result (List ℕ) E → Option (List ℕ)
+unless_odd (Ok bytes) = Some bytes
+unless_odd (Err fault) = None
+
+unfoldable pub bytes_of : List ℕ → Option (List ℕ)
+bytes_of text = unless_odd (decode_of text)
+
+abbrev pub on_console : Option ℕ → Option (List ℕ) → Option Question
+on_console (Some console) (Some bytes) = Some (question.Console console bytes)
+on_console _ _ = None
+
+abbrev pub of_word : Option ℕ → Option ℕ → Option ℕ → Option Question
+of_word (Some frame) (Some offset) (Some value) = Some (question.Word frame offset value)
+of_word _ _ _ = None
+
+-- the questions, each by its word and the words after it
+abbrev pub asked : Option Word → Option Text → Option Text → Option Text → Option Question
+asked (Some word.Blocked) None None None = Some question.Blocked
+asked (Some word.Dies) None None None = Some question.Dies
+asked (Some word.Ends) None None None = Some question.Ends
+asked (Some word.Dies) (Some ec) None None = option_map (λ (n : ℕ). question.DiesOf n) (number_of ec)
+asked (Some word.Stuck) (Some ec) None None = option_map (λ (n : ℕ). question.Stuck n) (number_of ec)
+asked (Some word.Console) (Some console) (Some digits) None = on_console (number_of console) (bytes_of digits)
+asked (Some word.Text) (Some console) (Some text) None = on_console (number_of console) (Some text)
+asked (Some word.Word) (Some frame) (Some offset) (Some value) = of_word (number_of frame) (offset_of offset) (number_of value)
+asked _ _ _ _ = None
+
+abbrev pub requested : Option Text → Option ℕ → Option ℕ → Option Question → Option Request
+requested (Some scenario) (Some turns) (Some states) (Some question) = Some (record { scenario = scenario; turns = turns; states = states; question = question })
+requested _ _ _ _ = None
+
+-- the question that was given
+abbrev pub question_in : Given → Option Question
+question_in g = asked (option_and_then word_of g.question) g.first g.second g.third
+
+-- the request that was given
+abbrev pub request_with : Given → Option Question → Option Request
+request_with g question = requested g.scenario (option_and_then turns_of g.turns) (option_and_then states_of g.states) question
+
+abbrev pub request_of : Given → Option Request
+request_of g = request_with g (question_in g)
+
+-- the request that the words after the program's name are, or nothing
+unfoldable pub request : List Text → Option Request
+request words = option_and_then request_of (given (codes "nova_explore" ∷ words))

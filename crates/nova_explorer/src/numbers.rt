@@ -1,0 +1,54 @@
+ghost use Rattle.std.specs.Prelude.{◌≡◌, IfSome};
+ghost use Rattle.nova_explorer.specs.Numbers.{number_of, offset_of, states_of, turns_of, IsStates, IsTurns, IsOffset};
+
+use nova_text::parse_number;
+
+/// The most turns of an order.
+const MOST_TURNS: u32 = 10_000_000;
+
+/// The most states that a search expands.
+const MOST_STATES: u32 = 100_000_000;
+
+/// The last offset of a word in a frame.
+const LAST_OFFSET: u32 = 4092;
+
+/// The number that a text writes, below 2^32.
+#[tactic(auto, unfolding(crate::specs::Numbers::number_of))]
+pub(crate) fn read_number(text: &str) -> Option<u32>
+    ensures { result ≡ number_of text.now }
+{
+    parse_number(text.as_bytes()).ok()
+}
+
+/// The most turns that a text writes.
+#[tactic(auto, unfolding(crate::specs::Numbers::turns_of))]
+pub(crate) fn read_turns(text: &str) -> Option<u32>
+    ensures exact { result ≡ turns_of text.now }
+    ensures range { IfSome result IsTurns }
+{
+    parse_number(text.as_bytes())
+        .ok()
+        .filter(|turns| (1..=MOST_TURNS).contains(turns))
+}
+
+/// The most states that a text writes.
+#[tactic(auto, unfolding(crate::specs::Numbers::states_of))]
+pub(crate) fn read_states(text: &str) -> Option<u32>
+    ensures exact { result ≡ states_of text.now }
+    ensures range { IfSome result IsStates }
+{
+    parse_number(text.as_bytes())
+        .ok()
+        .filter(|states| (1..=MOST_STATES).contains(states))
+}
+
+/// The offset of a word that a text writes.
+#[tactic(auto, unfolding(crate::specs::Numbers::offset_of))]
+pub(crate) fn read_offset(text: &str) -> Option<u32>
+    ensures exact { result ≡ offset_of text.now }
+    ensures range { IfSome result IsOffset }
+{
+    parse_number(text.as_bytes())
+        .ok()
+        .filter(|offset| (0..=LAST_OFFSET).contains(offset))
+}

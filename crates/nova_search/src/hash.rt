@@ -1,0 +1,77 @@
+use nova_compare::Vertex;
+use nova_kernel::{EcState, Kernel, State};
+
+/// The hash of no words.
+const FIRST: u64 = 0xcbf2_9ce4_8422_2325;
+
+/// What a hash is multiplied by at each word.
+const FACTOR: u64 = 0x9e37_79b9_7f4a_7c15;
+
+/// A hash with one word more.
+fn with(hash: u64, word: u64) -> u64 {
+    (hash ^ word).wrapping_mul(FACTOR).rotate_left(29)
+}
+
+/// What a state is, as a number.
+fn number_of(state: State) -> u64 {
+    match state {
+        State::Fresh => 0,
+        State::Ready => 1,
+        State::Parked => 2,
+        State::Calling(handler) => 16 + u64::from(handler),
+        State::Helping(_) => 3,
+        State::Exiting(..) => 4,
+        State::Sending(..) => 5,
+        State::Granting(_) => 6,
+        State::Replying => 7,
+        State::Revoking(..) => 8,
+        State::Blocked(_) => 9,
+        State::Dead => 10,
+    }
+}
+
+/// A hash with an execution context: its state, its program counter and its registers.
+fn with_context(hash: u64, context: &EcState) -> u64 {
+    let mut hash = with(hash, number_of(context.state));
+    hash = with(hash, u64::from(context.regs.pc()));
+    for i in 1..32 {
+        hash = with(hash, u64::from(context.regs.get(i)));
+    }
+    hash
+}
+
+/// A hash with the object of a number: an execution context, a scheduling context or a semaphore.
+fn with_object(hash: u64, kernel: &Kernel, n: u32) -> u64 {
+    if let Some(context) = kernel.ec(n) {
+        return with_context(hash, context);
+    }
+    if let Some(left) = kernel.left(n) {
+        return with(hash, u64::from(left));
+    }
+    match kernel.semaphore(n) {
+        Some((count, waiting)) => with(with(hash, u64::from(count)), u64::from(waiting)),
+        None => hash,
+    }
+}
+
+/// A hash with a frame: the lowest byte of each word.
+fn with_frame(hash: u64, frame: &[u8]) -> u64 {
+    let mut hash = hash;
+    for byte in frame.iter().step_by(4) {
+        hash = with(hash, u64::from(*byte));
+    }
+    hash
+}
+
+/// The hash of the state of a vertex. States of one hash may differ.
+pub(crate) fn hash_of(vertex: &Vertex) -> u64 {
+    let kernel = vertex.kernel();
+    let mut hash = with(FIRST, kernel.turns());
+    for n in 0..kernel.objects().len() as u32 {
+        hash = with_object(hash, kernel, n);
+    }
+    for frame in 0..kernel.ram() {
+        hash = with_frame(hash, kernel.frame(frame));
+    }
+    with(hash, kernel.log().len() as u64)
+}
