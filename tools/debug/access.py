@@ -1,32 +1,35 @@
-"""What an instruction loads or stores, read from its word."""
+"""What a turn loads or stores, as the program tells it."""
 
 from __future__ import annotations
 
 from dataclasses import dataclass
 
-LOAD, STORE = 0x03, 0x23
-
 
 @dataclass(frozen=True, slots=True)
 class Access:
-    """Bytes from an address on that are loaded or stored."""
+    """Bytes from an address on that are loaded, or the number that is stored there. They are in a frame, from an offset on; or in the message
+    words of a thread, where there is no frame."""
 
     address: int
     width: int
-    stores: bool
+    frame: int | None
+    offset: int
+    value: int | None = None
+
+    @property
+    def stores(self) -> bool:
+        """Whether they are stored."""
+        return self.value is not None
+
+    def __str__(self) -> str:
+        """A store as text: the address, and the number in hexadecimal digits."""
+        return "" if self.value is None else f"[{self.address:#x}]={self.value:0{2 * self.width}x}"
 
 
-def signed(number: int, bits: int) -> int:
-    """A number of so many bits with its sign."""
-    return number - (1 << bits) if number >> (bits - 1) else number
-
-
-def access_of(word: int, registers: tuple[int, ...]) -> Access | None:
-    """What an instruction loads or stores, by the registers before it; none where it does neither."""
-    size = word >> 12 & 7
-    base = registers[word >> 15 & 31]
-    if word & 0x7F == LOAD and size in (0, 1, 2, 4, 5):
-        return Access((base + signed(word >> 20, 12)) % 2**32, 1 << (size & 3), False)
-    if word & 0x7F == STORE and size in (0, 1, 2):
-        return Access((base + signed((word >> 25) << 5 | word >> 7 & 31, 12)) % 2**32, 1 << size, True)
-    return None
+def access_of(line: str) -> Access | None:
+    """What is told of a turn, by the program's line; none where the turn loads and stores nothing."""
+    words = line.split()
+    if words[1] == "-":
+        return None
+    address, width, frame, offset, *value = words[2:]
+    return Access(int(address), int(width), None if frame == "-" else int(frame), int(offset), int(value[0]) if value else None)

@@ -9,6 +9,8 @@ from collections.abc import Iterable, Iterator, Sequence
 from dataclasses import dataclass, field
 from pathlib import Path
 
+from access import Access, access_of
+
 PAGE = 4096
 ENDED = "the program has ended"
 OWN_PAGE = 0xFFFFF
@@ -309,6 +311,10 @@ class BackEnd:
         """The execution context, its domain and the address of the instruction that is next; none where something else is."""
         words = self.ask("next")[0].split()[1:]
         return None if words == ["-"] else (int(words[0]), int(words[1]), int(words[2]))
+
+    def access(self) -> Access | None:
+        """What the next turn loads or stores; none where it does neither."""
+        return access_of(self.ask("access")[0])
 
     def delegations(self) -> list[str]:
         """The delegations, as a report has them."""

@@ -5,7 +5,7 @@ from __future__ import annotations
 from collections.abc import Callable
 from dataclasses import dataclass
 
-from access import access_of
+from access import Access
 from backend import PAGE, BackEnd, Context, Event, Refused
 
 # How many turns are gone through at most before an interrupt is looked for, and how many at first on the way back.
@@ -48,10 +48,10 @@ class Watchpoint:
         verbs = {"watch": ["stores"], "rwatch": ["loads"], "awatch": ["loads", "stores"]}[self.kind]
         return [f"{verb} {self.frame} {self.first} {self.last}" for verb in verbs]
 
-    def sees(self, frame: int, first: int, last: int, stores: bool) -> bool:
+    def sees(self, access: Access) -> bool:
         """Whether bytes that are loaded or stored are among them."""
-        is_of_kind = self.kind in ("awatch", "watch" if stores else "rwatch")
-        return is_of_kind and frame == self.frame and first <= self.last and self.first <= last
+        is_of_kind = self.kind in ("awatch", "watch" if access.stores else "rwatch")
+        return is_of_kind and access.frame == self.frame and access.offset <= self.last and self.first < access.offset + access.width
 
 
 class Going:
@@ -83,14 +83,11 @@ class Going:
         number, domain, address = following
         if Breakpoint(domain, address) in self.points:
             return Stop(number, "break")
-        context = self.back.contexts()[number]
-        word = self.back.read(context, address, 4)
-        access = access_of(int.from_bytes(word, "little"), context.registers) if len(word) == 4 else None
-        led = access and self.back.page(domain, access.address // PAGE)
-        if access and led:
-            offset = access.address % PAGE
-            for point in self.points:
-                if isinstance(point, Watchpoint) and point.sees(led[0], offset, offset + access.width - 1, access.stores):
+        watched = [point for point in self.points if isinstance(point, Watchpoint)]
+        access = self.back.access() if watched else None
+        if access:
+            for point in watched:
+                if point.sees(access):
                     return Stop(number, point.kind, point.address)
         return Stop(number, "step" if number == stepped else "")
 

@@ -8,8 +8,8 @@ from dataclasses import dataclass
 from pathlib import Path
 from typing import TextIO
 
-from access import STORE, Access, access_of
-from backend import OWN_PAGE, PAGE, BackEnd, Event, context_of
+from access import Access, access_of
+from backend import OWN_PAGE, PAGE, BackEnd, Event
 from naming import Names
 
 ADDR2LINE = "riscv64-unknown-elf-addr2line"
@@ -35,7 +35,7 @@ class Listing:
 
     def has(self, actor: int, moved: bool, stored: Access | None) -> bool:
         """Whether a turn is listed, by who acts in it, whether it changes a semaphore, and what it stores."""
-        is_there = self.stores is None or (stored is not None and stored.address <= self.stores < stored.address + stored.width)
+        is_there = self.stores is None or (stored is not None and stored.stores and stored.address <= self.stores < stored.address + stored.width)
         return is_there and self.context in (None, actor) and (moved or not self.semaphores)
 
 
@@ -49,12 +49,14 @@ def places_of(executable: Path, addresses: Iterable[int]) -> dict[int, str]:
 
 @dataclass(slots=True)
 class Turn:
-    """A turn: its event, the lines of execution contexts before and after it, by their numbers, and whether it executes an instruction."""
+    """A turn: its event, the lines of execution contexts before and after it, by their numbers, whether it executes an instruction, and what
+    that loads or stores."""
 
     event: Event
     before: dict[int, str]
     after: dict[int, str]
     executes: bool
+    access: Access | None = None
 
 
 def lines_of(contexts: list[str]) -> dict[int, str]:
@@ -93,12 +95,11 @@ class Memory:
             self._frames[frame] = bytearray.fromhex(self._there(event, f"frame {frame}").removeprefix("-"))
         return int.from_bytes(self._frames[frame][offset : offset + 4], "little")
 
-    def store(self, event: Event, address: int, stored: bytes) -> None:
-        """Keeps up what who acts in a turn stores."""
-        page, offset = divmod(address, PAGE)
-        known = self._frames.get(-1 if (frame := self._frame_of(event, page)) is None else frame)
-        if known:
-            known[offset : offset + len(stored)] = stored[: PAGE - offset]
+    def store(self, access: Access) -> None:
+        """Keeps up what a turn stores."""
+        known = self._frames.get(access.frame) if access.frame is not None else None
+        if known and access.value is not None:
+            known[access.offset : access.offset + access.width] = access.value.to_bytes(access.width, "little")
 
     def end_part(self, event: Event) -> None:
         """A part of the turns ends with one."""
@@ -158,8 +159,8 @@ class Lister:
         for part in self._parts(events):
             for turn in self._take(part):
                 moved = self._moved() if self._listing.semaphores and turn.event.kind not in SILENT else []
-                line, stored = self._line(turn, moved)
-                if self._listing.has(turn.event.actor, bool(moved), stored):
+                line = self._line(turn, moved)
+                if self._listing.has(turn.event.actor, bool(moved), turn.access):
                     yield line
             self._memory.end_part(part[-1])
 
@@ -182,41 +183,33 @@ class Lister:
 
     def _take(self, part: list[Event]) -> list[Turn]:
         """Takes turns."""
-        asked = [line for event in part for line in (*(() if event.kind == "step" else ("next",)), f"go {event.place + 1}", "contexts")]
+        asked = [line for event in part for line in ("access" if event.kind == "step" else "next", f"go {event.place + 1}", "contexts")]
         answers = iter(self._back.ask_all(asked))
         turns = []
         for event in part:
-            executes = event.kind == "step" or next(answers) != ["next -"]
+            steps, (told,) = event.kind == "step", next(answers)
             next(answers)
             before, self._contexts = self._contexts, lines_of(next(answers))
-            turns.append(Turn(event, before, self._contexts, executes))
+            turns.append(Turn(event, before, self._contexts, steps or told != "next -", access_of(told) if steps else None))
         return turns
 
-    def _line(self, turn: Turn, moved: list[str]) -> tuple[str, Access | None]:
-        """The line of a turn, and where it stores."""
+    def _line(self, turn: Turn, moved: list[str]) -> str:
+        """The line of a turn."""
         event = turn.event
         before = turn.before.get(event.actor)
-        words, stored, access = self._instruction(event, before) if before and turn.executes else (["-"], "", None)
+        words = self._instruction(event, before) if before and turn.executes else ["-"]
         changed = changes(before, turn.after.get(event.actor)) if before else []
+        stored = str(turn.access) if turn.access else ""
+        if turn.access:
+            self._memory.store(turn.access)
         told = "" if event.kind in SILENT else f"{event.kind} {event.a} {event.b}"
         parts = (f"{event.place + 1} cpu {event.cpu} {self._listing.names.of(event.actor, 'ec')} sc {event.payer}", *words, *changed, stored, told, *moved)
-        return "  ".join(filter(None, parts)), access
+        return "  ".join(filter(None, parts))
 
-    def _instruction(self, event: Event, line: str) -> tuple[list[str], str, Access | None]:
-        """The address, text and source line of an instruction, by the line of who acts, what it stores as text, and where."""
+    def _instruction(self, event: Event, line: str) -> list[str]:
+        """The address, text and source line of an instruction, by the line of who acts."""
         address = int(line.split(" ", 5)[4], 16)
-        word = self._memory.word(event, address)
-        words = [f"{address:08x}", self._text(word), self._place(address)]
-        if word & 0x7F != STORE:
-            return words, "", None
-        _, kind, _, registers = context_of(line)
-        access = access_of(word, registers)
-        if access is None:
-            return words, "", None
-        value = registers[word >> 20 & 31] % (1 << 8 * access.width)
-        if event.kind == "step" and (access.address // PAGE != OWN_PAGE or kind == "vcpu"):
-            self._memory.store(event, access.address, value.to_bytes(access.width, "little"))
-        return words, f"[{access.address:#x}]={value:0{2 * access.width}x}", access
+        return [f"{address:08x}", self._text(self._memory.word(event, address)), self._place(address)]
 
     def _text(self, word: int) -> str:
         if word not in self._texts:

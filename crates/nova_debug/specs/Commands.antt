@@ -9,7 +9,7 @@ use Rattle.nova_text.specs.Token.{texts_of, tokens}
 use Rattle.nova_debug.specs.declared.verb.Verb.{Verb}
 use Rattle.nova_debug.specs.declared.verb.Verb.TheVariants as verb
 use Rattle.nova_debug.specs.declared.command.Command.{Command}
-use Rattle.nova_debug.specs.declared.command.Command.TheVariants.{Tell, Code, Page, Go, Run, Last, Break, By, Loads, Stores, Clear, Keep}
+use Rattle.nova_debug.specs.declared.command.Command.TheVariants.{Tell, Access, Code, Page, Go, Run, Last, Break, By, Loads, Stores, Clear, Keep}
 use Rattle.nova_telling.specs.declared.reading.Reading.TheVariants.{Place, Instruction, Contexts, Semaphores, Consoles, Delegations, Objects, Words, Frame, Events, Slices, Queue}
 
 -- the words of a line, before its comment
@@ -35,6 +35,7 @@ verbs =
     ∷ verb.Consoles
     ∷ verb.Delegations
     ∷ verb.Objects
+    ∷ verb.Access
     ∷ verb.Clear
     ∷ verb.Words
     ∷ verb.Frame
@@ -61,6 +62,7 @@ verb_text verb.Semaphores = codes "semaphores"
 verb_text verb.Consoles = codes "consoles"
 verb_text verb.Delegations = codes "delegations"
 verb_text verb.Objects = codes "objects"
+verb_text verb.Access = codes "access"
 verb_text verb.Clear = codes "clear"
 verb_text verb.Words = codes "words"
 verb_text verb.Frame = codes "frame"
@@ -90,6 +92,7 @@ command verb.Semaphores [] = Some (Tell Semaphores)
 command verb.Consoles [] = Some (Tell Consoles)
 command verb.Delegations [] = Some (Tell Delegations)
 command verb.Objects [] = Some (Tell Objects)
+command verb.Access [] = Some Access
 command verb.Clear [] = Some Clear
 command verb.Words (ec ∷ []) = Some (Tell (Words ec))
 command verb.Frame (frame ∷ []) = Some (Tell (Frame frame))

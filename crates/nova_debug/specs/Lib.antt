@@ -8,6 +8,7 @@ pub use Rattle.nova_text.specs.Line
 pub use Rattle.nova_text.specs.Number
 pub use Rattle.nova_text.specs.Token
 pub mod Answers
+pub mod Beginnings
 pub mod Commands
 pub mod Conversations
 pub mod Orders

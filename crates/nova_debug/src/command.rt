@@ -11,6 +11,8 @@ use nova_text::{Line, parse_number};
 pub enum Command {
     /// Tells something of the present state.
     Tell(Reading),
+    /// Tells what the next turn loads or stores.
+    Access,
     /// Tells the text of an instruction's word.
     Code(u32),
     /// Tells the frame that a page of a domain leads to.
@@ -47,6 +49,7 @@ fn alone(verb: Verb) -> Option<Command>
         Verb::Consoles => Some(Command::Tell(Reading::Consoles)),
         Verb::Delegations => Some(Command::Tell(Reading::Delegations)),
         Verb::Objects => Some(Command::Tell(Reading::Objects)),
+        Verb::Access => Some(Command::Access),
         Verb::Clear => Some(Command::Clear),
         _ => None,
     }

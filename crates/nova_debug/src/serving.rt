@@ -1,12 +1,13 @@
-ghost use Rattle.std.specs.Prelude.{◌≡◌, ◌++◌, ◌∷◌, [], not, OnErr, OnOk, string_bytes};
-ghost use Rattle.nova_debug.specs.Answers.{HasPassed, HasRun, IsAnswered, IsReplied, bytes_of, last_line, page_at, stop_line, turn_of, wants_after, watches_after};
+ghost use Rattle.std.specs.Prelude.{◌≡◌, ◌≤◌, ◌⊎◌, ◌++◌, ◌∷◌, [], not, OnErr, OnOk, string_bytes};
+ghost use Rattle.nova_debug.specs.Answers.{HasPassed, HasRun, IsAnswered, IsReplied, IsStopped, accessed_at, bytes_of, end_of, last_line, most_after, page_at, stop_line, turn_of, wants_after, watches_after};
 ghost use Rattle.nova_recording.specs.Recordings.{IsSameRun, at_turn};
-ghost use Rattle.nova_telling.specs.Told.{page_line};
+ghost use Rattle.nova_recording.specs.Wants.{IsOnTheWay};
+ghost use Rattle.nova_telling.specs.Told.{access_line, page_line};
 
 use crate::command::Command;
 use bitflags::Flags;
 use nova_recording::{Recording, Search, Want, Watch};
-use nova_telling::{tell, write_code, write_page};
+use nova_telling::{tell, write_access, write_code, write_page};
 use std::alloc::{AllocError, Global};
 
 /// A run that is gone through, and what is looked for in it.
@@ -107,7 +108,9 @@ impl Session {
     /// Goes to a turn, or to the end.
     fn go(&mut self, to: u32) -> Result<(), AllocError>
         ensures turn { OnOk result (self.new.recording.turn ≡ turn_of self.old.recording to) }
+        ensures way { (self.new.recording.turn ≡ self.old.recording.turn) ⊎ (self.new.recording.turn ≤ turn_of self.old.recording to) }
         ensures same { IsSameRun self.old.recording self.new.recording }
+        ensures most { self.new.recording.most ≡ self.old.recording.most }
         ensures search { self.new.search ≡ self.old.search }
     {
         let to = self.within(to);
@@ -117,7 +120,9 @@ impl Session {
     /// Goes on to the first turn that is looked for, and tells whether there is one.
     fn run(&mut self, out: &mut String, to: u32) -> Result<(), AllocError>
         ensures ran { OnOk result (HasRun self.old.recording self.new.recording self.old.search to (string_bytes out.old) (string_bytes out.new)) }
+        ensures way { IsOnTheWay self.old.recording.opening self.old.recording.events self.old.search self.old.recording.turn (end_of self.old.recording to) self.new.recording.turn }
         ensures same { IsSameRun self.old.recording self.new.recording }
+        ensures most { self.new.recording.most ≡ self.old.recording.most }
         ensures search { self.new.search ≡ self.old.search }
     {
         let to = self.within(to).max(self.recording.turn());
@@ -128,7 +133,9 @@ impl Session {
     /// Goes on, and tells the last turn that is looked for.
     fn last(&mut self, out: &mut String, to: u32) -> Result<(), AllocError>
         ensures passed { OnOk result (HasPassed self.old.recording self.new.recording self.old.search to (string_bytes out.old) (string_bytes out.new)) }
+        ensures way { (self.old.recording.turn ≤ self.new.recording.turn) × (self.new.recording.turn ≤ end_of self.old.recording to) }
         ensures same { IsSameRun self.old.recording self.new.recording }
+        ensures most { self.new.recording.most ≡ self.old.recording.most }
         ensures search { self.new.search ≡ self.old.search }
     {
         let to = self.within(to).max(self.recording.turn());
@@ -146,6 +153,16 @@ impl Session {
         write_page(out, page.map(|(frame, rights)| (frame, rights.bits())))
     }
 
+    /// Tells what the next turn loads or stores.
+    fn access(&mut self, out: &mut String) -> Result<(), AllocError>
+        ensures told { OnOk result (string_bytes out.new ≡ string_bytes out.old ++ access_line (accessed_at self.old.recording)) }
+        ensures kept { self.new.recording ≡ self.old.recording }
+        ensures search { self.new.search ≡ self.old.search }
+    {
+        let access = self.recording.access();
+        write_access(out, access)
+    }
+
     /// Goes where a command asks one to go, and tells what it asks for.
     fn follow(
         &mut self,
@@ -154,11 +171,14 @@ impl Session {
         command: Command,
     ) -> Result<(), AllocError>
         ensures answered { OnOk result (IsAnswered command self.old.search self.old.recording self.new.recording (string_bytes out.old) (string_bytes out.new)) }
+        ensures stopped { IsStopped command self.old.search self.old.recording self.new.recording }
         ensures same { IsSameRun self.old.recording self.new.recording }
+        ensures most { self.new.recording.most ≡ most_after command self.old.recording.most }
         ensures search { self.new.search ≡ self.old.search }
     {
         match command {
             Command::Tell(reading) => tell(alloc, out, &self.recording, reading),
+            Command::Access => self.access(out),
             Command::Code(word) => write_code(alloc, out, word),
             Command::Page(pd, page) => self.page(out, pd, page),
             Command::Go(to) => self.go(to),
@@ -172,8 +192,9 @@ impl Session {
         }
     }
 
-    /// Does what a line asks, and answers it. Where memory runs out, one is in the state of a turn of the same run, and what is looked for
-    /// stays.
+    /// Does what `command` asks, and tells its answer in `out`. Where memory runs out the recording is in the state of a turn of the same run: of
+    /// `run` after no turn that is looked for, of `last` on the way, of `go` the same one or not after its own, else the same one. What is
+    /// looked for stays, and so does the bound on kept states, unless the command is `keep`.
     pub fn serve(
         &mut self,
         alloc: Global,
@@ -185,7 +206,9 @@ impl Session {
         ensures watches { OnOk result (self.new.search.watches.items ≡ watches_after command self.old.search.watches.items) }
         ensures same_wants { OnErr result (self.new.search.wants.items ≡ self.old.search.wants.items) }
         ensures same_watches { OnErr result (self.new.search.watches.items ≡ self.old.search.watches.items) }
+        ensures stopped { IsStopped command self.old.search self.old.recording self.new.recording }
         ensures same { IsSameRun self.old.recording self.new.recording }
+        ensures most { self.new.recording.most ≡ most_after command self.old.recording.most }
     {
         self.follow(alloc, out, command)?;
         look_for(&mut self.search, command)

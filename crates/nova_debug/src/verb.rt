@@ -11,6 +11,7 @@ pub enum Verb {
     Consoles,
     Delegations,
     Objects,
+    Access,
     Clear,
     Words,
     Frame,
@@ -29,7 +30,7 @@ pub enum Verb {
     Stores,
 }
 
-const VERBS: [Verb; 23] = [
+const VERBS: [Verb; 24] = [
     Verb::At,
     Verb::Next,
     Verb::Contexts,
@@ -37,6 +38,7 @@ const VERBS: [Verb; 23] = [
     Verb::Consoles,
     Verb::Delegations,
     Verb::Objects,
+    Verb::Access,
     Verb::Clear,
     Verb::Words,
     Verb::Frame,
@@ -67,6 +69,7 @@ impl Verb {
             Verb::Consoles => "consoles",
             Verb::Delegations => "delegations",
             Verb::Objects => "objects",
+            Verb::Access => "access",
             Verb::Clear => "clear",
             Verb::Words => "words",
             Verb::Frame => "frame",

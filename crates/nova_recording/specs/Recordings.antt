@@ -6,6 +6,7 @@ use Rattle.nova_model.specs.Runs.{IsFreeOfIdle, run}
 use Rattle.nova_model.specs.declared.event.Event.{Event}
 use Rattle.nova_shared.specs.Finished.{IsFinished}
 use Rattle.nova_shared.specs.declared.finished.Finished.{Finished}
+use Rattle.nova_recording.specs.Copies.{sizes_of}
 use Rattle.nova_recording.specs.declared.copies.Kept.{Kept}
 
 -- the processors whose turns were taken
@@ -32,18 +33,26 @@ pub record AreTurns (k : KernelState) (events : List Event) : Type 0 where
   pub cpus : AllByRecursion (λ (e : Event). e.cpu < k.cpus) events
   pub few : k.turns + length events ≤ 2 ^ 31
 
--- what is seen of a recording: the state at its beginning, the event of each turn, the present turn and its state, and the console log's room
+-- what is seen of a recording: the state at its beginning, the event of each turn, the present turn and its state, the console log's room, and
+-- the states kept on the way with the most bytes that they may take; the first state and the present one are no part of these
 pub record RecordingView : Type 0 where
   pub opening : KernelState
   pub events : List Event
   pub turn : ℕ
   pub state : KernelState
   pub room : ℕ
+  pub kept : List Kept
+  pub most : ℕ
 
 -- the same run
 pub record IsSameRun (old new : RecordingView) : Type 0 where
   pub opening : new.opening ≡ old.opening
   pub events : new.events ≡ old.events
+
+-- the bound on what is kept is as before, and what is kept is within it
+pub record IsBounded (old new : RecordingView) : Type 0 where
+  pub most : new.most ≡ old.most
+  pub within : sizes_of new.kept ≤ new.most
 
 -- a finished run, of which each turn is of a processor that is there and not idle
 pub record IsDone (f : Finished) : Type 0 where

@@ -61,13 +61,28 @@ wanted_at k events search n = wanted_in search (at_turn k events n) (slice_get e
 abbrev pub NoneWanted : KernelState → List Event → Search → ℕ → ℕ → Type 0
 NoneWanted k events search first last = (n : ℕ) → first ≤ n → n < last → wanted_at k events search n ≡ false
 
--- the first turn from one on that is wanted, or the end of the search
-pub record IsFirst (k : KernelState) (events : List Event) (search : Search) (first last turn : ℕ) (is_found : Bool) : Type 0 where
+-- a turn that is wanted, from `first` on and before `last`, and none of those before it is
+pub record IsTheFirst (k : KernelState) (events : List Event) (search : Search) (first last turn : ℕ) : Type 0 where
+  pub from : first ≤ turn
+  pub to : turn < last
+  pub wanted : wanted_at k events search turn ≡ true
+  pub before : NoneWanted k events search first turn
+
+-- the end of a search in which no turn is wanted
+pub record IsTheEnd (k : KernelState) (events : List Event) (search : Search) (first last turn : ℕ) : Type 0 where
+  pub end : turn ≡ last
+  pub before : NoneWanted k events search first last
+
+-- where a search from `first` on and before `last` stops: at the first turn that is wanted, or at `last`, where none is
+abbrev pub IsFirst : KernelState → List Event → Search → ℕ → ℕ → ℕ → Bool → Type 0
+IsFirst k events search first last turn true = IsTheFirst k events search first last turn
+IsFirst k events search first last turn false = IsTheEnd k events search first last turn
+
+-- a turn on the way of a search, and none of those that were passed is wanted
+pub record IsOnTheWay (k : KernelState) (events : List Event) (search : Search) (first last turn : ℕ) : Type 0 where
   pub from : first ≤ turn
   pub to : turn ≤ last
   pub before : NoneWanted k events search first turn
-  pub found : is_found ≡ true → wanted_at k events search turn ≡ true
-  pub missed : is_found ≡ false → turn ≡ last
 
 -- a turn that is wanted, after which none is
 pub record IsTheLast (k : KernelState) (events : List Event) (search : Search) (first last turn : ℕ) : Type 0 where

@@ -1,5 +1,5 @@
 ghost use Rattle.std.specs.Prelude.{◌≡◌, ◌+◌, ◌/◌, ◌<◌, ◌≤◌, ◌++◌, ◌∷◌, [], vec_len, Contains, IfSome};
-ghost use Rattle.nova_recording.specs.Copies.{AreAmong, IsMore};
+ghost use Rattle.nova_recording.specs.Copies.{AreAmong, IsMore, size_of, sizes_of};
 
 use nova_kernel::Kernel;
 use std::alloc::{AllocError, Global};
@@ -28,14 +28,14 @@ pub(crate) struct Copies {
 }
 
 impl Model for Copies {
-    ghost use Rattle.std.specs.Prelude.{◌<◌, ◌≤◌, ◌/◌, List, length};
-    ghost use Rattle.nova_recording.specs.declared.copies.Kept.{Kept};
+    ghost use Rattle.std.specs.Prelude.{◌<◌, ◌≤◌, ◌/◌, length};
+    ghost use Rattle.nova_recording.specs.Copies.{AreNoLarger, CopiesView};
 
-    ghost Value = { List Kept };
+    ghost Value = { CopiesView };
 
-    ghost view = { λ c. c.kept.items };
+    ghost view = { λ c. record { kept = c.kept.items; most = c.most; each = c.each } };
 
-    ghost invariant = { λ c. (0 < c.each) × (length c.kept.items ≤ c.most / c.each) };
+    ghost invariant = { λ c. (0 < c.each) × ((length c.kept.items ≤ c.most / c.each) × AreNoLarger c.each c.kept.items) };
 }
 
 /// Lets every second one go, from the second on.
@@ -77,10 +77,19 @@ fn make_room(kept: &mut Vec<Kept>, most: usize, spacing: usize) -> usize
     fit(kept, most - 1, spacing)
 }
 
+/// The last of some states that is of turn `to` or before.
+fn newest_of(kept: &[Kept], to: usize) -> Option<&Kept>
+    ensures kept { IfSome result (λ k. Contains kept.now k.now) }
+    ensures before { IfSome result (λ k. k.now.turn ≤ to) }
+{
+    kept.iter().rev().find(|kept| kept.turn <= to)
+}
+
 impl Copies {
     /// None, and none is kept.
+    #[tactic(auto, using(crate::proofs::Copied::none_larger))]
     pub(crate) fn none(alloc: Global) -> Copies
-        ensures { result ≡ [] }
+        ensures { result ≡ record { kept = []; most = 0; each = 1 } }
     {
         Copies {
             kept: Vec::new(alloc),
@@ -92,8 +101,9 @@ impl Copies {
     }
 
     /// Lets all go, and keeps states in at most `most` bytes from a turn on, at first each `spacing` turns; none for 0 bytes.
+    #[tactic(auto, using(crate::proofs::Copied::none_larger))]
     pub(crate) fn begin(&mut self, most: usize, spacing: usize, turn: usize)
-        ensures { self.new ≡ [] }
+        ensures { self.new ≡ record self.old { kept = []; most = most } }
     {
         self.kept.clear();
         self.most = most;
@@ -108,7 +118,10 @@ impl Copies {
 
     /// Makes room for one more that takes so many bytes.
     pub(crate) fn make_room(&mut self, bytes: usize)
-        ensures { AreAmong self.new self.old }
+        ensures among { AreAmong self.new.kept self.old.kept }
+        ensures most { self.new.most ≡ self.old.most }
+        ensures each { bytes ≤ self.new.each }
+        ensures within { sizes_of self.new.kept ≤ self.new.most }
     {
         self.each = self.each.max(bytes);
         let spacing = make_room(&mut self.kept, self.most / self.each, self.spacing);
@@ -120,7 +133,10 @@ impl Copies {
 
     /// Keeps the state of a turn, where there is room for it, and the next one so many turns later.
     pub(crate) fn add(&mut self, kept: Kept) -> Result<(), AllocError>
-        ensures { IsMore self.old kept self.new }
+        requires size { size_of kept.kernel.state ≤ self.old.each }
+        ensures more { IsMore self.old.kept kept self.new.kept }
+        ensures most { self.new.most ≡ self.old.most }
+        ensures within { sizes_of self.new.kept ≤ self.new.most }
     {
         self.next = kept.turn.saturating_add(self.spacing);
         if self.kept.len() < self.most / self.each {
@@ -131,9 +147,9 @@ impl Copies {
 
     /// The newest that is kept of the turns up to one.
     pub(crate) fn newest(&self, to: usize) -> Option<&Kept>
-        ensures kept { IfSome result (λ k. Contains self.now k.now) }
+        ensures kept { IfSome result (λ k. Contains self.now.kept k.now) }
         ensures before { IfSome result (λ k. k.now.turn ≤ to) }
     {
-        self.kept.iter().rev().find(|kept| kept.turn <= to)
+        newest_of(&self.kept, to)
     }
 }

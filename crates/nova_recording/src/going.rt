@@ -1,5 +1,5 @@
-ghost use Rattle.std.specs.Prelude.{◌≡◌, ◌+◌, ◌<◌, ◌≤◌, length, OnOk};
-ghost use Rattle.nova_recording.specs.Recordings.{IsSameRun};
+ghost use Rattle.std.specs.Prelude.{◌≡◌, ◌+◌, ◌<◌, ◌≤◌, ◌⊎◌, length, OnErr, OnOk};
+ghost use Rattle.nova_recording.specs.Recordings.{IsBounded, IsSameRun};
 
 use crate::recording::Recording;
 use std::alloc::AllocError;
@@ -13,7 +13,9 @@ impl Recording {
     /// Begins anew, from the state in which the run began.
     fn restart(&mut self) -> Result<(), AllocError>
         ensures turn { OnOk result (self.new.turn ≡ 0) }
+        ensures err { OnErr result (self.new ≡ self.old) }
         ensures same { IsSameRun self.old self.new }
+        ensures bound { IsBounded self.old self.new }
     {
         let kernel = self.opening().copy()?;
         self.take(0, kernel);
@@ -23,7 +25,9 @@ impl Recording {
     /// Takes the newest state that is kept of the turns up to one, or begins anew.
     fn resume(&mut self, to: usize) -> Result<(), AllocError>
         ensures turn { OnOk result (self.new.turn ≤ to) }
+        ensures err { OnErr result (self.new ≡ self.old) }
         ensures same { IsSameRun self.old self.new }
+        ensures bound { IsBounded self.old self.new }
     {
         let Some(kept) = self.copies.newest(to) else {
             return self.restart();
@@ -39,7 +43,9 @@ impl Recording {
         requires ahead { self.old.turn ≤ to }
         requires within { to ≤ length self.old.events }
         ensures turn { OnOk result (self.new.turn ≡ to) }
+        ensures way { self.new.turn ≤ to }
         ensures same { IsSameRun self.old self.new }
+        ensures bound { IsBounded self.old self.new }
     {
         self.reserve(to - self.turn())?;
         while self.turn() < to {
@@ -48,12 +54,14 @@ impl Recording {
         Ok(())
     }
 
-    /// Goes to the state after so many turns, which the run has, in either direction. Where memory runs out, it is in the state
-    /// of a turn on the way.
+    /// Goes to the state after `to` turns, which the run has, in either direction. Where memory runs out it is at the same turn, or at one
+    /// that is not after `to`.
     pub fn go(&mut self, to: usize) -> Result<(), AllocError>
         requires within { to ≤ length self.old.events }
         ensures turn { OnOk result (self.new.turn ≡ to) }
+        ensures way { (self.new.turn ≡ self.old.turn) ⊎ (self.new.turn ≤ to) }
         ensures same { IsSameRun self.old self.new }
+        ensures bound { IsBounded self.old self.new }
     {
         if to < self.turn() || self.is_kept_before(to) {
             self.resume(to)?;

@@ -1,6 +1,7 @@
 ghost use Rattle.std.specs.Prelude.{◌≡◌, ◌+◌, ◌<◌, ◌≤◌, [], length, max, option_map, IfOk, OnOk, OnErr};
 ghost use Rattle.nova_model.specs.Delegations.{reach};
-ghost use Rattle.nova_recording.specs.Recordings.{IsAt, IsDone, IsSameRun};
+ghost use Rattle.nova_recording.specs.Copies.{sizes_of};
+ghost use Rattle.nova_recording.specs.Recordings.{IsAt, IsBounded, IsDone, IsSameRun};
 
 use crate::copies::{Copies, Kept};
 use crate::events::listed;
@@ -13,7 +14,7 @@ use std::alloc::{AllocError, Global};
 use std::marker::Model;
 
 /// A run that was made, in the state after so many of its turns. States on the way are kept, so that it goes back from the newest of
-/// them; each is the state of its own turn.
+/// them; each is the state of its own turn, and together they take no more bytes than may be.
 #[derive(Drop)]
 pub struct Recording {
     opening: Kernel,
@@ -24,7 +25,8 @@ pub struct Recording {
 }
 
 impl Model for Recording {
-    ghost use Rattle.std.specs.Prelude.{All};
+    ghost use Rattle.std.specs.Prelude.{◌≤◌, All};
+    ghost use Rattle.nova_recording.specs.Copies.{sizes_of};
     ghost use Rattle.nova_recording.specs.Recordings.{RecordingView, AreTurns, IsAt, IsKept};
 
     ghost Value = { RecordingView };
@@ -35,10 +37,12 @@ impl Model for Recording {
       turn = r.turn;
       state = r.preview.kernel.state;
       room = r.preview.kernel.room;
+      kept = r.copies.kept;
+      most = r.copies.most;
     } };
 
     ghost invariant = { λ r. AreTurns r.opening.state r.events.items × (IsAt r.opening.state r.events.items r.turn r.preview.kernel.state
-        × All (IsKept r.opening.state r.events.items) r.copies) };
+        × (All (IsKept r.opening.state r.events.items) r.copies.kept × (sizes_of r.copies.kept ≤ r.copies.most))) };
 }
 
 /// What is let go here is dropped apart from all else.
@@ -67,6 +71,7 @@ impl Recording {
         ensures opening { IfOk result (λ r. r.opening ≡ run.opening.state) }
         ensures events { IfOk result (λ r. r.events ≡ run.trace.items) }
         ensures turn { IfOk result (λ r. r.turn ≡ 0) }
+        ensures kept { IfOk result (λ r. r.kept ≡ []) }
     {
         law_turns::a_trace_has_an_event_a_turn();
         let Finished {
@@ -95,12 +100,17 @@ impl Recording {
         }
     }
 
-    /// From the present turn on states are kept on the way, to go back from, in at most so many bytes; none for 0. What was kept before is
-    /// let go. What a state takes is reckoned by what it has of frames, objects, derivations and bytes in the console log.
+    /// From the present turn on keeps states on the way, to go back from, in at most `bytes` bytes; none for 0. Those kept before are let go.
+    /// What a state takes is reckoned by what it has of frames, objects, derivations and bytes in the console log. The first state and the
+    /// present one are not counted.
     pub fn keep_within(&mut self, bytes: usize)
-        ensures { self.new ≡ self.old }
+        ensures kept { self.new ≡ record self.old { kept = []; most = bytes } }
+        ensures within { sizes_of self.new.kept ≤ bytes }
     {
-        let room = bytes / bytes_of(self.preview.kernel());
+        let room = match bytes_of(self.preview.kernel()) {
+            Some(each) => bytes / each,
+            None => 0,
+        };
         let spacing = self.events.len() / room.max(1);
         self.copies.begin(bytes, spacing.max(1), self.turn);
     }
@@ -109,6 +119,7 @@ impl Recording {
     pub fn turn(&self) -> usize
         ensures turn { result ≡ self.now.turn }
         ensures state { IsAt self.now.opening self.now.events self.now.turn self.now.state }
+        ensures within { sizes_of self.now.kept ≤ self.now.most }
     {
         self.turn
     }
@@ -122,7 +133,8 @@ impl Recording {
 
     /// The kernel at the beginning of the run.
     pub fn opening(&self) -> &Kernel
-        ensures { result.now.state ≡ self.now.opening }
+        ensures state { result.now.state ≡ self.now.opening }
+        ensures within { sizes_of self.now.kept ≤ self.now.most }
     {
         &self.opening
     }
@@ -148,18 +160,23 @@ impl Recording {
     pub(crate) fn reserve(&mut self, turns: usize) -> Result<(), AllocError>
         ensures ok { OnOk result (self.new ≡ record self.old { room = max self.old.room turns }) }
         ensures err { OnErr result (self.new ≡ self.old) }
+        ensures bound { IsBounded self.old self.new }
     {
         self.preview.kernel.reserve_log(turns)
     }
 
     /// Keeps the present state, where its turn has come.
     fn keep(&mut self) -> Result<(), AllocError>
-        ensures { self.new ≡ self.old }
+        ensures here { self.new ≡ record self.old { kept = self.new.kept } }
+        ensures within { sizes_of self.new.kept ≤ self.new.most }
     {
         if !self.copies.is_due(self.turn) {
             return Ok(());
         }
-        self.copies.make_room(bytes_of(self.preview.kernel()));
+        let Some(bytes) = bytes_of(self.preview.kernel()) else {
+            return Ok(());
+        };
+        self.copies.make_room(bytes);
         if !self.copies.is_due(self.turn) {
             return Ok(());
         }
@@ -174,8 +191,9 @@ impl Recording {
         requires room { 0 < self.old.room }
         ensures turn { OnOk result (self.new.turn ≡ self.old.turn + 1) }
         ensures same { IsSameRun self.old self.new }
+        ensures bound { IsBounded self.old self.new }
         ensures room { self.old.room ≤ self.new.room + 1 }
-        ensures err { OnErr result (self.new ≡ self.old) }
+        ensures err { OnErr result (self.new ≡ record self.old { kept = self.new.kept }) }
     {
         self.keep()?;
         let cpu = self.events[self.turn].cpu;
@@ -187,7 +205,8 @@ impl Recording {
     /// Takes another state of the run in place of the present one.
     pub(crate) fn take(&mut self, turn: usize, kernel: Kernel)
         requires { IsAt self.old.opening self.old.events turn kernel.state }
-        ensures { self.new ≡ record self.old { turn = turn; state = kernel.state; room = kernel.room } }
+        ensures taken { self.new ≡ record self.old { turn = turn; state = kernel.state; room = kernel.room } }
+        ensures bound { IsBounded self.old self.new }
     {
         let before = self.preview.replace(kernel);
         self.turn = turn;

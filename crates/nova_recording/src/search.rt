@@ -1,6 +1,6 @@
 ghost use Rattle.std.specs.Prelude.{◌≡◌, ◌+◌, ◌<◌, ◌≤◌, length, IfOk, OnOk};
-ghost use Rattle.nova_recording.specs.Recordings.{IsSameRun};
-ghost use Rattle.nova_recording.specs.Wants.{IsFirst, IsLast, latest};
+ghost use Rattle.nova_recording.specs.Recordings.{IsBounded, IsSameRun};
+ghost use Rattle.nova_recording.specs.Wants.{IsFirst, IsLast, IsOnTheWay, latest};
 
 use crate::recording::Recording;
 use crate::wants::Search;
@@ -19,13 +19,16 @@ impl Recording {
         }
     }
 
-    /// Goes on to the first turn that does something that one looks for, the present one included, and at most to a turn; and whether
-    /// there is such a turn before that. Where memory runs out, it is in the state of a turn on the way.
+    /// Goes on to the first turn before `to` that does what `search` looks for, the present one included; and whether there is one. Where there
+    /// is none it is in the state of `to`. Where memory runs out it is in the state of a turn on the way, and none of those that were passed
+    /// does.
     pub fn run(&mut self, search: &Search, to: usize) -> Result<bool, AllocError>
         requires ahead { self.old.turn ≤ to }
         requires within { to ≤ length self.old.events }
         ensures first { IfOk result (IsFirst self.old.opening self.old.events search.now self.old.turn to self.new.turn) }
+        ensures way { IsOnTheWay self.old.opening self.old.events search.now self.old.turn to self.new.turn }
         ensures same { IsSameRun self.old self.new }
+        ensures bound { IsBounded self.old self.new }
     {
         self.reserve(to - self.turn())?;
         while self.turn() < to {
@@ -44,7 +47,9 @@ impl Recording {
         requires within { to ≤ length self.old.events }
         ensures last { IfOk result (IsLast self.old.opening self.old.events search.now self.old.turn to) }
         ensures turn { OnOk result (self.new.turn ≡ to) }
+        ensures way { (self.old.turn ≤ self.new.turn) × (self.new.turn ≤ to) }
         ensures same { IsSameRun self.old self.new }
+        ensures bound { IsBounded self.old self.new }
     {
         self.reserve(to - self.turn())?;
         let mut found = None;

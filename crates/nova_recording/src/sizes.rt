@@ -1,4 +1,5 @@
-ghost use Rattle.std.specs.Prelude.{◌<◌, ◌≤◌};
+ghost use Rattle.std.specs.Prelude.{◌≡◌, ◌<◌, length, IfSome};
+ghost use Rattle.nova_recording.specs.Copies.{size_of};
 
 use nova_kernel::Kernel;
 
@@ -18,27 +19,27 @@ const DERIVATION: usize = 128;
 const LOGGED: usize = 8;
 
 /// How many derivations there are.
-fn count_derivations(kernel: &Kernel) -> usize {
-    let mut count: usize = 0;
+fn count_derivations(kernel: &Kernel) -> u32
+    ensures { result ≡ length kernel.now.state.delegations.list }
+{
+    let mut count = 0;
     let mut id = 0;
     while let Some(derivation) = kernel.derivation_from(id) {
-        count = count.saturating_add(1);
+        count += 1;
         id = derivation.id + 1;
     }
     count
 }
 
-/// About how many bytes a state takes that is kept, by how much it has of what grows. An estimate: nothing is measured.
-pub(crate) fn bytes_of(kernel: &Kernel) -> usize
-    ensures { 0 < result }
+/// The bytes that a state takes where it is kept, by how much it has of what grows; none where a `usize` is too small. An estimate: nothing is
+/// measured.
+pub(crate) fn bytes_of(kernel: &Kernel) -> Option<usize>
+    ensures bytes { IfSome result (λ bytes. bytes ≡ size_of kernel.now.state) }
+    ensures some { IfSome result (λ bytes. 0 < bytes) }
 {
-    let frames = (kernel.ram() as usize).saturating_mul(FRAME);
-    let objects = kernel.objects().len().saturating_mul(OBJECT);
-    let derivations = count_derivations(kernel).saturating_mul(DERIVATION);
-    let log = kernel.log().len().saturating_mul(LOGGED);
-    STATE
-        .saturating_add(frames)
-        .saturating_add(objects)
-        .saturating_add(derivations)
-        .saturating_add(log)
+    let frames = kernel.ram() as usize * FRAME;
+    let objects = kernel.objects().len() * OBJECT;
+    let derivations = count_derivations(kernel) as usize * DERIVATION;
+    let log = kernel.log().len().checked_mul(LOGGED)?;
+    log.checked_add(STATE + frames + objects + derivations)
 }

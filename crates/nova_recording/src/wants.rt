@@ -1,6 +1,7 @@
 ghost use Rattle.std.specs.Prelude.{◌≡◌, slice_get};
 ghost use Rattle.std.specs.List.{list_any};
 ghost use Rattle.law_forest.specs.Turns.{is_passing};
+ghost use Rattle.nova_recording.specs.Recordings.{IsAt};
 ghost use Rattle.nova_recording.specs.Wants.{is_ready, is_met, wanted_in, next_of, next_by};
 
 use crate::preview::pd_of;
@@ -82,7 +83,8 @@ pub fn is_passing(kind: EventKind) -> bool
 impl Recording {
     /// The instruction that the next turn of the run is about to execute; none where it does anything else, and at the end.
     pub fn next(&self) -> Option<Next>
-        ensures { result ≡ next_by self.now.state (slice_get self.now.events self.now.turn) }
+        ensures next { result ≡ next_by self.now.state (slice_get self.now.events self.now.turn) }
+        ensures at { IsAt self.now.opening self.now.events self.now.turn self.now.state }
     {
         let event = self.events().get(self.turn())?;
         if is_passing(event.kind) {

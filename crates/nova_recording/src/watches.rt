@@ -1,6 +1,7 @@
 ghost use Rattle.std.specs.Prelude.{◌≡◌, slice_get};
 ghost use Rattle.std.specs.List.{list_any};
 ghost use Rattle.nova_recording.specs.Accesses.{accessed};
+ghost use Rattle.nova_recording.specs.Recordings.{IsAt};
 ghost use Rattle.nova_recording.specs.Wants.{access_by};
 ghost use Rattle.nova_recording.specs.Watches.{is_on, is_seen, is_seen_by, overlaps};
 
@@ -73,6 +74,7 @@ impl Recording {
     /// What the next turn of the run loads or stores; none where it does neither, and at the end.
     pub fn access(&mut self) -> Option<Access>
         ensures access { result ≡ access_by self.old.state (slice_get self.old.events self.old.turn) }
+        ensures at { IsAt self.old.opening self.old.events self.old.turn self.old.state }
         ensures kept { self.new ≡ self.old }
     {
         let next = self.next()?;

@@ -1,5 +1,5 @@
 -- What is told of a run, line by line.
-use Rattle.std.specs.Prelude.{ℕ, ◌+◌, ◌-◌, List, [], ◌++◌, codes, decimal, flat_map, length, min, Option, Some, None, slice_get, drop, take}
+use Rattle.std.specs.Prelude.{ℕ, ◌+◌, ◌-◌, ◌%◌, List, [], ◌++◌, codes, decimal, flat_map, length, min, Option, Some, None, slice_get, drop, take}
 use Rattle.std.specs.List.{enumerate_from, range_with_len}
 use Rattle.nova_model.specs.State.{KernelState, context_at, entry}
 use Rattle.nova_model.specs.Semaphores.{semaphore}
@@ -17,6 +17,7 @@ use Rattle.nova_report.specs.Words.{line_feed, hexadecimal, event_word, parent_w
 use Rattle.nova_report.specs.Report.{context_lines, console_lines, derivation_lines, semaphore_lines}
 use Rattle.nova_recording.specs.Recordings.{RecordingView, at_turn}
 use Rattle.nova_recording.specs.Wants.{next_by}
+use Rattle.nova_recording.specs.declared.preview.Access.{Access}
 use Rattle.nova_recording.specs.declared.wants.Next.{Next}
 use Rattle.nova_telling.specs.Slices.{slices_text}
 use Rattle.nova_telling.specs.declared.reading.Reading.{Reading}
@@ -117,6 +118,27 @@ page_line None = codes "page -\n"
 abbrev pub code_line : Option Instr → List ℕ
 code_line (Some i) = codes "code " ++ (printed i ++ line_feed)
 code_line None = codes "code -\n"
+
+-- what the next turn loads: the address of the first byte, how many bytes, and the frame and the offset there; no frame of message words
+abbrev pub load_line : ℕ → ℕ → Option ℕ → List ℕ
+load_line address width (Some frame) = codes "access load " ++ (decimal address ++ (codes " " ++ (decimal width ++ (codes " " ++ (decimal frame
+    ++ (codes " " ++ (decimal (address % 4096) ++ line_feed)))))))
+load_line address width None = codes "access load " ++ (decimal address ++ (codes " " ++ (decimal width ++ (codes " - " ++ (decimal (address % 4096) ++ line_feed)))))
+
+-- or stores: behind it the number
+abbrev pub store_line : ℕ → ℕ → Option ℕ → ℕ → List ℕ
+store_line address width (Some frame) value = codes "access store " ++ (decimal address ++ (codes " " ++ (decimal width ++ (codes " " ++ (decimal frame
+    ++ (codes " " ++ (decimal (address % 4096) ++ (codes " " ++ (decimal value ++ line_feed)))))))))
+store_line address width None value = codes "access store " ++ (decimal address ++ (codes " " ++ (decimal width ++ (codes " - " ++ (decimal (address % 4096)
+    ++ (codes " " ++ (decimal value ++ line_feed)))))))
+
+abbrev pub line_by : Access → Option ℕ → List ℕ
+line_by a None = load_line a.address a.width a.frame
+line_by a (Some value) = store_line a.address a.width a.frame value
+
+abbrev pub access_line : Option Access → List ℕ
+access_line (Some a) = line_by a a.stored
+access_line None = codes "access -\n"
 
 -- what is read of a state, after so many of a run's turns
 abbrev pub told : KernelState → List Event → ℕ → Reading → List ℕ

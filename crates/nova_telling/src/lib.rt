@@ -7,4 +7,4 @@ mod telling;
 
 pub use reading::Reading;
 pub use slices::Slice;
-pub use telling::{tell, write_code, write_page};
+pub use telling::{tell, write_access, write_code, write_page};

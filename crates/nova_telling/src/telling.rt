@@ -2,12 +2,12 @@ ghost use Rattle.std.specs.Prelude.{◌≡◌, ◌++◌, ◌<◌, ◌^◌, codes
 ghost use Rattle.nova_report.specs.Words.{line_feed, parent_word};
 ghost use Rattle.nova_model.specs.State.{context_at, entry};
 ghost use Rattle.rv_model.specs.Codes.{instr_of};
-ghost use Rattle.nova_telling.specs.Told.{awaited, bytes_text, caller_of, code_line, context_line, event_line, events_between, events_text, frame_line, instruction_line, numbers_text, object_line, object_lines, page_line, place_line, queue_line, told_at, word_text, words_line, words_text};
+ghost use Rattle.nova_telling.specs.Told.{access_line, awaited, bytes_text, caller_of, code_line, context_line, event_line, events_between, events_text, frame_line, instruction_line, load_line, numbers_text, object_line, object_lines, page_line, place_line, queue_line, store_line, told_at, word_text, words_line, words_text};
 
 use crate::reading::Reading;
 use crate::slices::write_slices;
 use nova_kernel::{EcState, Event, Kernel, Object, State, Utcb};
-use nova_recording::{Next, Recording};
+use nova_recording::{Access, Next, Recording};
 use nova_report::{
     event_word, write_byte, write_consoles, write_contexts, write_derivations, write_semaphores,
     write_word,
@@ -236,6 +236,59 @@ pub fn write_page(out: &mut String, page: Option<(u32, u8)>) -> Result<(), Alloc
     match page {
         Some((frame, rights)) => writeln!(out, "page {frame} {rights}"),
         None => out.push_str("page -\n"),
+    }
+}
+
+fn write_load(
+    out: &mut String,
+    address: u32,
+    width: u32,
+    frame: Option<u32>,
+) -> Result<(), AllocError>
+    ensures { OnOk result (string_bytes out.new ≡ string_bytes out.old ++ load_line address width frame) }
+{
+    let offset = address % 4096;
+    match frame {
+        Some(frame) => writeln!(out, "access load {address} {width} {frame} {offset}"),
+        None => writeln!(out, "access load {address} {width} - {offset}"),
+    }
+}
+
+fn write_store(
+    out: &mut String,
+    address: u32,
+    width: u32,
+    frame: Option<u32>,
+    value: u32,
+) -> Result<(), AllocError>
+    ensures { OnOk result (string_bytes out.new ≡ string_bytes out.old ++ store_line address width frame value) }
+{
+    let offset = address % 4096;
+    match frame {
+        Some(frame) => writeln!(
+            out,
+            "access store {address} {width} {frame} {offset} {value}"
+        ),
+        None => writeln!(out, "access store {address} {width} - {offset} {value}"),
+    }
+}
+
+/// Writes what a turn loads or stores: the address, how many bytes, the frame and the offset there, and the number that is stored.
+pub fn write_access(out: &mut String, access: Option<Access>) -> Result<(), AllocError>
+    ensures { OnOk result (string_bytes out.new ≡ string_bytes out.old ++ access_line access) }
+{
+    let Some(access) = access else {
+        return out.push_str("access -\n");
+    };
+    let Access {
+        address,
+        width,
+        stored,
+        frame,
+    } = access;
+    match stored {
+        None => write_load(out, address, width, frame),
+        Some(value) => write_store(out, address, width, frame, value),
     }
 }
 

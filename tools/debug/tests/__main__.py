@@ -29,14 +29,15 @@ sys.path.insert(0, str(TOOL))
 sys.path.insert(1, str(TOP / "tools" / "replays"))
 sys.path.insert(2, str(TOP / "tools" / "build"))
 
-from access import Access, access_of  # noqa: E402
-from backend import BYTES, BackEnd, Event, Refused, Slice  # noqa: E402
+from access import Access  # noqa: E402
+from backend import BYTES, OWN_PAGE, PAGE, BackEnd, Event, Refused, Slice  # noqa: E402
 from built import Missing, find  # noqa: E402
+from decoded import decoded  # noqa: E402
 from scenarios import random_scenario  # noqa: E402
 from times import print_times  # noqa: E402
 
-# What the tests are made with, and how many random scenarios there are; each may take so many turns.
-COUNT, LIMIT = 40, 2000
+# What the tests are made with, and how many random scenarios there are; each may take so many turns. Loads and stores of so many are compared.
+COUNT, LIMIT, ACCESSED = 40, 2000, 300
 TOLD = ("ec", "sm", "console", "cap")
 GDB, COMPILER = "gdb-multiarch", "riscv64-unknown-elf-gcc"
 
@@ -170,7 +171,7 @@ class Told(unittest.TestCase):
             for turn in range(back.end):
                 back.go(turn)
                 following = back.next()
-                if following and met(following, self.access(back, following[0])):
+                if following and met(following, self.access(back)):
                     found.append(turn)
             back.go(0)
             forwards = []
@@ -182,10 +183,28 @@ class Told(unittest.TestCase):
             self.assertEqual(back.last(looked_for, back.end), found[-1])
         back.close()
 
-    def access(self, back: BackEnd, number: int) -> Access | None:
-        """What the next instruction of an execution context loads or stores."""
-        context = back.contexts()[number]
-        return access_of(int.from_bytes(back.read(context, context.registers[32], 4), "little"), context.registers)
+    def access(self, back: BackEnd) -> Access | None:
+        """What the next turn loads or stores, by its instruction's word; none where its event is no step."""
+        following = back.next()
+        if following is None or back.events(back.turn, back.turn + 1)[0].kind != "step":
+            return None
+        context = back.contexts()[following[0]]
+        found = decoded(int.from_bytes(back.read(context, context.registers[32], 4), "little"), context.registers)
+        if found is None:
+            return None
+        address, width, value = found
+        page, offset = divmod(address, PAGE)
+        led = None if page == OWN_PAGE and context.kind != "vcpu" else back.page(context.domain, page)
+        return Access(address, width, led[0] if led else None, offset, value)
+
+    def test_loads_and_stores(self) -> None:
+        """What the program tells of a turn is what its instruction's word says, and of a turn that raises nothing."""
+        for scenario in sorted((TOP / "examples").glob("*.nova")):
+            back = BackEnd(given.program, scenario, None, LIMIT)
+            for turn in range(min(back.end, ACCESSED) + 1):
+                back.go(turn)
+                self.assertEqual(back.access(), self.access(back) if turn < back.end else None, f"{scenario.name}: turn {turn}")
+            back.close()
 
 
 class Listings(unittest.TestCase):

@@ -48,7 +48,7 @@ def steps(program: Path, folder: Path) -> Rows:
     """Steps and searches backwards, in a loop that computes."""
     scenario = folder / "memory.nova"
     scenario.write_text(speed.memory(QUANTUM))
-    for kept, name in ((BYTES, "64 MB of states"), (0, "no states")):
+    for kept, name in ((BYTES, "64 MiB of states"), (0, "no states")):
         back = BackEnd(program, scenario, None, TURNS)
         back.keep(kept)
         going = Going(back, lambda: False)

@@ -12,6 +12,7 @@ returns c = record {
   go = refl;
   instruction = refl;
   stores = refl;
+  access = refl;
   keep = refl;
   empty = refl;
   unknown = refl;

@@ -9,7 +9,10 @@ invariant_of-self c =
     let k = c.self.inside.opening.state in
     let events = c.self.inside.events.items in (
       c.self.invariant.0,
-      (c.self.invariant.1.0, some_kept k events c.make_room.new.self c.self.inside.copies c.make_room.ensures c.self.invariant.1.1),
+      (
+        c.self.invariant.1.0,
+        (some_kept k events c.make_room.new.self.kept c.self.inside.copies.kept c.make_room.ensures.among c.self.invariant.1.1.0, c.make_room.ensures.within),
+      ),
     )
 
 pub invariant_of-self-in_err-kernel : goal.invariant_of-self-in_err-kernel
@@ -17,15 +20,21 @@ invariant_of-self-in_err-kernel c =
     let k = c.self.inside.opening.state in
     let events = c.self.inside.events.items in (
       c.self.invariant.0,
-      (c.self.invariant.1.0, some_kept k events c.make_room.new.self c.self.inside.copies c.make_room.ensures c.self.invariant.1.1),
+      (
+        c.self.invariant.1.0,
+        (some_kept k events c.make_room.new.self.kept c.self.inside.copies.kept c.make_room.ensures.among c.self.invariant.1.1.0, c.make_room.ensures.within),
+      ),
     )
 
 pub invariant_of-self-2 : goal.invariant_of-self-2
 invariant_of-self-2 c =
     let k = c.self.inside.opening.state in
     let events = c.self.inside.events.items in
-    let before = some_kept k events c.make_room.new.self c.self.inside.copies c.make_room.ensures c.self.invariant.1.1 in
+    let before = some_kept k events c.make_room.new.self.kept c.self.inside.copies.kept c.make_room.ensures.among c.self.invariant.1.1.0 in
     let here = subst (λ (s : KernelState). IsAt k events c.self.inside.turn s) (sym c.in_ok-kernel.ensures.state) c.self.invariant.1.0 in (
       c.self.invariant.0,
-      (c.self.invariant.1.0, more_kept k events c.make_room.new.self c.add.new.self _ c.add.ensures before here),
+      (
+        c.self.invariant.1.0,
+        (more_kept k events c.make_room.new.self.kept c.add.new.self.kept _ c.add.ensures.more before here, c.add.ensures.within),
+      ),
     )

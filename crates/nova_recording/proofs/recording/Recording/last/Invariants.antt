@@ -1,11 +1,12 @@
 use Rattle.std.proofs.Common.{◌+◌, ◌-◌, ◌≤◌, length}
-use Rattle.nova_recording.specs.Recordings.{IsSameRun}
+use Rattle.nova_recording.specs.Recordings.{IsBounded, IsSameRun}
 use Rattle.nova_recording.specs.Wants.{IsLast}
 use Rattle.nova_recording.proofs.recording.Recording.last.Given as goal
 
 abbrev pub invariant-loop-self : goal.invariant-loop-self
 invariant-loop-self l = record {
   same : IsSameRun l.fn.self l.self;
+  bound : IsBounded l.fn.self l.self;
   from : l.fn.self.turn ≤ l.self.turn;
   ahead : l.self.turn ≤ l.to;
   within : l.to ≤ length l.self.events;
