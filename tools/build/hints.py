@@ -31,6 +31,7 @@ command. What a report says, in sentences: python3 tools/explain REPORT
 POLICY_HELP = f"""\
 ./nova-policy SCENARIO        which protection domains are isolated from which, at the end of a run
   --at TURN                   after turn TURN, 0 to {MOST_TURNS:,} ({TURNS:,}, or the end of the run)
+  --until TURN                in the first state up to turn TURN in which they aren't, from --at on (0); else in the last
   --order ORDER               of the run in the order of turns of ORDER, in place of rounds
   --policy POLICY             with the sides of POLICY; without, the root's domain, 0, is trusted, and the finest sides of the others are told
 ./nova draft policy WORD..    the same at once, unproved
@@ -42,7 +43,8 @@ order, 6 the answer isn't written, 7 a fault of the policy, 8 out of memory. doc
 their lines and the word of each fault. An answer is drawn by: python3 tools/picture sides ANSWER
 """
 # The options of a request, with the word behind each.
-POLICY_OPTIONS = {"--at": "TURN", "--order": "ORDER", "--policy": "POLICY"}
+POLICY_OPTIONS = {"--at": "TURN", "--until": "TURN", "--order": "ORDER", "--policy": "POLICY"}
+TURN_OPTIONS = ("--at", "--until")
 # The names of each command, and what the last one is for.
 FORMS = {
     "run": ("SCENARIO", "ORDER"),
@@ -248,6 +250,9 @@ class Request:
                 return found
         if len(found.names) != 1:
             found.why = f"there is a word too many: {found.names[1]!r}" if found.names else "no scenario is named"
+        first, last = (number_of(found.options.get(option, "")) for option in TURN_OPTIONS)
+        if first is not None and last is not None and last < first:
+            found.why = "--until is before --at"
         return found
 
     def take(self, word: str, left: Iterator[str]) -> None:
@@ -260,10 +265,10 @@ class Request:
             self.why = f"{option} is given twice"
         elif value is None:
             self.why = f"{option} wants {POLICY_OPTIONS[option]} behind it"
-        elif option == "--at" and (turn := number_of(value)) is None:
-            self.why = f"--at: {value!r} is no number"
-        elif option == "--at" and turn > MOST_TURNS:
-            self.why = f"--at: {turn:,} is more than {MOST_TURNS:,}"
+        elif option in TURN_OPTIONS and (turn := number_of(value)) is None:
+            self.why = f"{option}: {value!r} is no number"
+        elif option in TURN_OPTIONS and turn > MOST_TURNS:
+            self.why = f"{option}: {turn:,} is more than {MOST_TURNS:,}"
         else:
             self.options[option] = value
 

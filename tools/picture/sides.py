@@ -21,6 +21,7 @@ PLACE = re.compile(r"(trusted|[A-Za-z0-9_-]+):(\d+)")
 LINK = re.compile(r"from (\d+) (-|\d+) (\d+) (mem|obj) (\d+) (\d+) (\d+) (\d+)")
 NUMBER = re.compile(r"0|[1-9]\d*|0x[0-9a-fA-F]+")
 SIDE = re.compile(r"(trusted|side [A-Za-z0-9_-]+):((?: \d+)*)")
+PROCESSOR = re.compile(r"processor (\d+):((?: [A-Za-z0-9_-]+)*)")
 
 
 @dataclass(frozen=True, slots=True)
@@ -68,7 +69,8 @@ class Link:
 
 @dataclass(slots=True)
 class Told:
-    """What is told: the verdict with what shows it, the sides to which those named are joined or the tie for which there are none, and all ties."""
+    """What is told: the verdict with what shows it, the sides to which those named are joined or the tie for which there are none, the sides that may take
+    turns of each processor, and all ties."""
 
     turn: int
     verdict: str
@@ -78,6 +80,7 @@ class Told:
     stuck: Tie | None = None
     trusted: tuple[int, ...] = ()
     sides: dict[str, tuple[int, ...]] = field(default_factory=dict)
+    processors: list[tuple[str, ...]] = field(default_factory=list)
     ties: list[Tie] = field(default_factory=list)
 
 
@@ -111,6 +114,8 @@ def read_line(told: Told, text: str, line: int) -> None:
         told.verdict = told.verdict or word
     elif word == "tie":
         told.ties.append(read_tie(rest, line))
+    elif (processor := PROCESSOR.fullmatch(text)) is not None and int(processor[1]) == len(told.processors):
+        told.processors.append(tuple(processor[2].split()))
     elif (link := LINK.fullmatch(text)) is not None:
         told.links.append(Link(int(link[1]), None if link[2] == "-" else int(link[2]), int(link[3]), " ".join(link.groups())))
     elif (side := SIDE.fullmatch(text)) is not None:

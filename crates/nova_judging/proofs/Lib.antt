@@ -1,2 +1,3 @@
 pub mod Trailing
+pub mod Numbered
 pub mod Settled

@@ -1,5 +1,5 @@
 -- What is answered of a policy in a state.
-use Rattle.std.specs.Prelude.{◌≡◌, ℕ, ◌==◌, ◌≤◌, ◌^◌, ◌⊎◌, Bool, if◌then◌else◌, List, length, ◌++◌, codes, decimal, find, Option, Some, None, Result, Ok, Err, string_bytes}
+use Rattle.std.specs.Prelude.{◌≡◌, ℕ, ◌==◌, ◌≤◌, ◌^◌, ◌⊎◌, Bool, if◌then◌else◌, List, length, ◌++◌, codes, decimal, Option, Some, None}
 use Rattle.nova_model.specs.State.{KernelState}
 use Rattle.nova_report.specs.Words.{line_feed}
 use Rattle.nova_ties.specs.Ties.{AreRespected, IsCoarser, IsStuck, label_in}
@@ -9,15 +9,13 @@ use Rattle.nova_naming.specs.Statements.{Stated}
 use Rattle.nova_sides.specs.Verdicts.{IsJudged}
 use Rattle.nova_sides.specs.declared.judging.Verdict.{Verdict}
 use Rattle.nova_sides.specs.declared.judging.Verdict.TheVariants as verdict
-use Rattle.nova_judging.specs.Labelled.{are_two, is_strange, labels_of}
+use Rattle.nova_judging.specs.Labelled.{are_two, labels_of}
 use Rattle.nova_judging.specs.Lines.{judged_lines, stuck_lines, tie_lines}
+use Rattle.nova_judging.specs.Processors.{processor_lines}
 use Rattle.nova_judging.specs.Sides.{side_lines}
 use Rattle.nova_judging.specs.declared.answer.Answer.{Answer}
 use Rattle.nova_judging.specs.declared.answer.Answer.TheVariants.{Apart, Served, Single, Breach, Stuck}
 use Rattle.nova_judging.specs.declared.answer.Facts.{Facts}
-use Rattle.nova_judging.specs.declared.answer.JudgingFault.{JudgingFault}
-use Rattle.nova_judging.specs.declared.answer.JudgingFault.TheVariants.{Stranger, Memory}
-use Rattle.nova_judging.specs.declared.answer.Told.{Told}
 
 -- the answer of a verdict, where there are two sides or not
 abbrev pub answer_if : Bool → Answer → Answer
@@ -52,15 +50,15 @@ abbrev pub finest_lines : List Stated → KernelState → List ℕ → List ℕ 
 finest_lines policy k old new None = side_lines policy new k.objects
 finest_lines policy k old new (Some t) = stuck_lines policy old k.delegations.list t
 
--- what is told of the sides as a policy names them: the verdict, the finest sides to which they can be joined, and the ties
+-- what is told of the sides as a policy names them: the verdict, the finest sides to which they can be joined, processors, and the ties
 abbrev pub named_text : List Stated → KernelState → List ℕ → List ℕ → Option Tie → Verdict → List ℕ
 named_text policy k labels new stuck v = turn_line k ++ (judged_lines policy labels k k.delegations.list v
-    ++ (finest_lines policy k labels new stuck ++ tie_lines policy labels (ties k)))
+    ++ (finest_lines policy k labels new stuck ++ (processor_lines policy k labels ++ tie_lines policy labels (ties k))))
 
 -- what is told of the finest sides
 abbrev pub finest_text : List Stated → KernelState → List ℕ → List ℕ → Verdict → List ℕ
 finest_text policy k labels new v = turn_line k ++ (judged_lines policy new k k.delegations.list v
-    ++ (side_lines policy new k.objects ++ tie_lines policy labels (ties k)))
+    ++ (side_lines policy new k.objects ++ (processor_lines policy k new ++ tie_lines policy labels (ties k))))
 
 abbrev pub stuck_text : List Stated → KernelState → List ℕ → Tie → List ℕ
 stuck_text policy k labels t = turn_line k ++ (stuck_lines policy labels k.delegations.list t ++ tie_lines policy labels (ties k))
@@ -94,19 +92,6 @@ pub record AreNone (policy : List Stated) (k : KernelState) (text : List ℕ) : 
 
 abbrev pub IsFinestAnswer : List Stated → KernelState → Answer → List ℕ → Type 0
 IsFinestAnswer policy k answer text = AreFound policy k answer text ⊎ ((answer ≡ Stuck) × AreNone policy k text)
-
--- the first line of a policy that names what is no domain
-abbrev pub stranger_of : Option Stated → Option ℕ
-stranger_of None = None
-stranger_of (Some s) = Some s.line
-
-abbrev pub first_stranger : List Stated → KernelState → Option ℕ
-first_stranger policy k = stranger_of (find (is_strange k) policy)
-
-abbrev pub IsAnswered : List Stated → KernelState → Result Told JudgingFault → Type 0
-IsAnswered policy k (Ok t) = (first_stranger policy k ≡ None) × IsNamedAnswer policy k t.answer (string_bytes t.text)
-IsAnswered policy k (Err (Stranger line)) = first_stranger policy k ≡ Some line
-IsAnswered policy k (Err Memory) = Unit {0}
 
 -- what is asked of a state
 pub record IsGathered (policy : List Stated) (k : KernelState) (f : Facts) : Type 0 where

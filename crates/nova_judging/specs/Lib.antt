@@ -4,4 +4,5 @@ pub mod Labelled
 pub mod Trails
 pub mod Lines
 pub mod Sides
+pub mod Processors
 pub mod Answers

@@ -1,25 +1,22 @@
 -- Where capabilities came from, in lines.
-use Rattle.std.specs.Prelude.{ℕ, zero, suc, ◌==◌, Bool, List, [], ◌∷◌, ◌++◌, codes, decimal, find, flat_map, length, Option, Some, None}
+use Rattle.std.specs.Prelude.{◌≡◌, ℕ, suc, List, [], ◌∷◌, ◌++◌, Contains, codes, decimal, flat_map, Option, Some, None}
+use Rattle.nova_model.specs.Delegations.{with_id}
+use Rattle.nova_model.specs.Lines.{line_by}
 use Rattle.nova_model.specs.declared.delegation.Derivation.{Derivation}
 use Rattle.nova_report.specs.Words.{line_feed, parent_word, space_word}
 use Rattle.nova_ties.specs.declared.tie.Cause.{Cause}
 use Rattle.nova_ties.specs.declared.tie.Cause.TheVariants.{Domain, Context, Portal, Scheduling, Frames, Shared, Waits, Queue, Serves, Gives}
 
-abbrev pub has_id : ℕ → Derivation → Bool
-has_id id d = d.id == id
+-- the derivation of an id, its parent, the parent's parent and so on: ids fall, so that there are at most as many as the id and one
+abbrev pub trail : List Derivation → ℕ → List Derivation
+trail list id = line_by (suc id) list (with_id list id)
 
-abbrev pub found : List Derivation → Option ℕ → Option Derivation
-found list None = None
-found list (Some id) = find (has_id id) list
-
-abbrev pub followed : Option Derivation → (Derivation → List Derivation) → List Derivation
-followed None next = []
-followed (Some d) next = d ∷ next d
-
--- the derivation of a number, that from which it was derived, and so on to one that was derived from none, at most so many
-abbrev pub trail : ℕ → List Derivation → Option ℕ → List Derivation
-trail zero list id = []
-trail (suc n) list id = followed (found list id) (λ (d : Derivation). trail n list d.parent)
+-- what a trail is: each derivation is the parent of the one before it, the first is the one of this id, and the last has no parent
+abbrev pub IsChain : List Derivation → Option ℕ → List Derivation → Type 0
+IsChain list None [] = Unit {0}
+IsChain list None (d ∷ ds) = ⊥
+IsChain list (Some id) [] = ⊥
+IsChain list (Some id) (d ∷ ds) = Contains list d × ((d.id ≡ id) × IsChain list d.parent ds)
 
 -- each in a line, with what a report tells of it
 abbrev pub link_line : Derivation → List ℕ
@@ -27,9 +24,8 @@ link_line d = codes "from " ++ (decimal d.id ++ (codes " " ++ (parent_word d.par
     ++ (space_word d.kind ++ (codes " " ++ (decimal d.base ++ (codes " " ++ (decimal d.order ++ (codes " " ++ (decimal d.rights.0
     ++ (codes " " ++ (decimal d.target ++ line_feed)))))))))))))))
 
--- no trail has more derivations than there are, since each has a greater number than the one from which it was derived
 abbrev pub trail_lines : List Derivation → ℕ → List ℕ
-trail_lines list id = flat_map link_line (trail (length list) list (Some id))
+trail_lines list id = flat_map link_line (trail list id)
 
 -- those of the capabilities of a tie
 abbrev pub cause_lines : List Derivation → Cause → List ℕ

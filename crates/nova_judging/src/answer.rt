@@ -1,13 +1,13 @@
 ghost use Rattle.std.specs.Prelude.{◌≡◌, ◌++◌, ◌≤◌, ◌^◌, IfOk, OnOk, length, string_bytes};
 ghost use Rattle.nova_ties.specs.Ties.{IsStuck, label_in};
 ghost use Rattle.law_sides.specs.Tied.{ties};
-ghost use Rattle.nova_judging.specs.Answers.{AreFinest, AreSettled, IsAnswered, IsFinestAnswer, IsGathered, IsNamedAnswer, answer_if, answer_of, finest_lines, finest_text, named_text, stuck_text, turn_line};
+ghost use Rattle.nova_judging.specs.Answers.{AreFinest, AreSettled, IsFinestAnswer, IsGathered, IsNamedAnswer, answer_if, answer_of, finest_lines, finest_text, named_text, stuck_text, turn_line};
 ghost use Rattle.nova_judging.specs.Labelled.{labels_of};
 
 use crate::labels::{are_two, labels_of};
 use crate::lines::{write_judged, write_stuck, write_ties};
+use crate::processors::write_processors;
 use crate::sides::write_sides;
-use crate::strangers::first_stranger;
 use nova_kernel::{Derivation, Kernel};
 use nova_naming::Policy;
 use nova_sides::{Verdict, derivations_of, judge, ties};
@@ -38,26 +38,6 @@ pub enum Answer {
 pub struct Told {
     pub answer: Answer,
     pub text: String,
-}
-
-/// Why there is no answer.
-#[derive(Clone, Copy, Debug, PartialEq, Eq)]
-pub enum JudgingFault {
-    /// The first line of the policy that names what is no domain of the state.
-    Stranger(u64),
-
-    /// Memory was refused.
-    Memory,
-}
-
-impl From<AllocError> for JudgingFault {
-    ghost use Rattle.nova_judging.specs.declared.answer.JudgingFault.TheVariants.{Memory};
-
-    ghost from_gives = { λ error fault. fault ≡ Memory };
-
-    fn from(_: AllocError) -> JudgingFault {
-        JudgingFault::Memory
-    }
 }
 
 /// The most objects of a state that is judged.
@@ -150,6 +130,7 @@ fn write_named(
     write_turn(out, kernel)?;
     write_judged(out, policy, &facts.labels, kernel, &facts.list, verdict)?;
     write_finest(out, policy, kernel, facts, new, stuck)?;
+    write_processors(out, policy, kernel, &facts.labels, &facts.list)?;
     write_ties(out, policy, &facts.labels, &facts.ties)
 }
 
@@ -170,6 +151,7 @@ fn write_found(
     write_turn(out, kernel)?;
     write_judged(out, policy, new, kernel, &facts.list, verdict)?;
     write_sides(out, policy, new, kernel.objects())?;
+    write_processors(out, policy, kernel, new, &facts.list)?;
     write_ties(out, policy, &facts.labels, &facts.ties)
 }
 
@@ -320,21 +302,16 @@ fn tell_finest(
 }
 
 /// What the sides of a policy are in the present state of a kernel, as the policy names them: whether they are isolated, exactly, and whether
-/// what is trusted is at rest, exactly; with the finest sides to which they can be joined, and the ties of sides to other domains.
-///
-/// `Stranger` comes exactly where a line of the policy names what is no domain, with the first such line. `Memory` comes where memory is
-/// refused.
-pub fn answer_named(alloc: Global, policy: &Policy, kernel: &Kernel) -> Result<Told, JudgingFault>
-    ensures { IsAnswered policy.now kernel.now.state result }
+/// what is trusted is at rest, exactly; with the finest sides to which they can be joined, which sides may take turns of which processor, and the
+/// ties of sides to other domains. A number that the policy names, and that is no domain, counts for nothing. The only refusal is of memory.
+pub fn answer_named(alloc: Global, policy: &Policy, kernel: &Kernel) -> Result<Told, AllocError>
+    ensures { IfOk result (λ t. IsNamedAnswer policy.now kernel.now.state t.answer (string_bytes t.text)) }
 {
-    if let Some(line) = first_stranger(policy, kernel) {
-        return Err(JudgingFault::Stranger(line));
-    }
     if kernel.objects().len() > MOST {
-        return Err(JudgingFault::Memory);
+        return Err(AllocError);
     }
     let facts = gather(alloc, policy, kernel)?;
-    Ok(tell_named(alloc, policy, kernel, &facts)?)
+    tell_named(alloc, policy, kernel, &facts)
 }
 
 /// What the finest sides are to which those of a policy can be joined, in the present state of a kernel, or the tie for which there are none.

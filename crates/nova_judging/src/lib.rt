@@ -3,9 +3,12 @@
 
 mod answer;
 mod labels;
+pub mod laws;
 mod lines;
+mod processors;
 mod sides;
 mod strangers;
 mod trails;
 
-pub use answer::{Answer, JudgingFault, Told, answer_finest, answer_named};
+pub use answer::{Answer, Told, answer_finest, answer_named};
+pub use strangers::{Stranger, first_stranger};

@@ -59,7 +59,7 @@ fn is_place(n: usize, place: Option<usize>) -> bool
 }
 
 /// Whether a number is the first with the label of a side.
-fn begins_side(labels: &[u32], n: usize, label: u32) -> bool
+pub(crate) fn begins_side(labels: &[u32], n: usize, label: u32) -> bool
     ensures { result ≡ begins_side labels.now (n, label) }
 {
     label != 0 && is_place(n, place_of(labels, label))

@@ -1,6 +1,7 @@
-ghost use Rattle.std.specs.Prelude.{◌≡◌, ◌++◌, OnOk, find, option_map, string_bytes};
+ghost use Rattle.std.specs.Prelude.{◌≡◌, ◌++◌, OnOk, option_map, string_bytes};
+ghost use Rattle.nova_model.specs.Delegations.{parent_of, with_id};
 ghost use Rattle.nova_report.specs.Words.{parent_word, space_word};
-ghost use Rattle.nova_judging.specs.Trails.{cause_lines, found, has_id, link_line, trail_lines};
+ghost use Rattle.nova_judging.specs.Trails.{cause_lines, link_line, trail_lines};
 
 use bitflags::Flags;
 use nova_kernel::{Derivation, Kind};
@@ -47,29 +48,36 @@ fn write_link(out: &mut String, derivation: Derivation) -> Result<(), AllocError
 }
 
 fn of_id(list: &[Derivation], id: u32) -> Option<&Derivation>
-    ensures { option_map (λ d. d.now) result ≡ find (has_id id) list.now }
+    ensures { option_map (λ d. d.now) result ≡ with_id list.now id }
 {
     list.iter().find(|d| d.id == id)
 }
 
-/// The derivation of a number, where there is one.
-fn found(list: &[Derivation], id: Option<u32>) -> Option<Derivation>
-    ensures { result ≡ found list.now id }
+/// The derivation of an id, where there is one.
+fn with_id(list: &[Derivation], id: u32) -> Option<Derivation>
+    ensures { result ≡ with_id list.now id }
 {
-    Some(*of_id(list, id?)?)
+    Some(*of_id(list, id)?)
+}
+
+/// The derivation from which another one was derived, if it was.
+fn parent_of(list: &[Derivation], derivation: Derivation) -> Option<Derivation>
+    ensures { result ≡ parent_of list.now derivation }
+{
+    with_id(list, derivation.parent?)
 }
 
 /// Writes where a capability came from: itself, that from which it was derived, and so on.
 pub(crate) fn write_trail(out: &mut String, list: &[Derivation], cap: u32) -> Result<(), AllocError>
     ensures { OnOk result (string_bytes out.new ≡ string_bytes out.old ++ trail_lines list.now cap) }
 {
-    let mut next = Some(cap);
-    for _link in 0..list.len() {
-        let Some(derivation) = found(list, next) else {
+    let mut next = with_id(list, cap);
+    for _link in 0..u64::from(cap) + 1 {
+        let Some(derivation) = next else {
             return Ok(());
         };
         write_link(out, derivation)?;
-        next = derivation.parent;
+        next = parent_of(list, derivation);
     }
     Ok(())
 }

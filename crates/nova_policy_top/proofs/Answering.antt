@@ -33,7 +33,7 @@ module _ {D : Type 0} (d : Depots D) (q : Request) (old : D) where
 
   -- all came, and this was decided
   pub decided : (first second new : D) (from : ScenarioText) (order : Option BlockList) (policy : Option (List Stated)) (r : Result Told Exit) → ScenarioCame d q.scenario old from first
-      → OrderCameIfNamed d q.order from.cpus first order second → PolicyCameIfNamed d q.policy second policy new → IsDecided (boot (scenario_of from)) order policy q.at r
+      → OrderCameIfNamed d q.order from.cpus first order second → PolicyCameIfNamed d q.policy second policy new → IsDecided (boot (scenario_of from)) order policy q.span r
       → IsPrepared d q old new r
   decided first second new from order policy (Ok t) came along named is = record {
     from = from;
@@ -92,7 +92,7 @@ module _ {D O : Type 0} (d : Depots D) (o : Sinks O) (q : Request) (old new : D)
   faulty (exit.Order fault) is = is
   faulty (exit.Idle line) is = is
   faulty (exit.Policy line why) is = is
-  faulty (exit.NoDomain line) is = is
+  faulty (exit.NoDomain line domain) is = is
   faulty exit.Memory is = is
 
   -- what was told was sent
@@ -107,7 +107,7 @@ module _ {D O : Type 0} (d : Depots D) (o : Sinks O) (q : Request) (old new : D)
   sent t (exit.Order fault) told out = absurd out
   sent t (exit.Idle line) told out = absurd out
   sent t (exit.Policy line why) told out = absurd out
-  sent t (exit.NoDomain line) told out = absurd out
+  sent t (exit.NoDomain line domain) told out = absurd out
   sent t exit.Memory told out = absurd out
 
 -- then something is written
@@ -121,5 +121,5 @@ written o t (exit.Scenario line why) before after is un = absurd is
 written o t (exit.Order fault) before after is un = absurd is
 written o t (exit.Idle line) before after is un = absurd is
 written o t (exit.Policy line why) before after is un = absurd is
-written o t (exit.NoDomain line) before after is un = absurd is
+written o t (exit.NoDomain line domain) before after is un = absurd is
 written o t exit.Memory before after is un = absurd is

@@ -1,7 +1,7 @@
 -- The first turns of an order.
 use Rattle.std.proofs.Common.{◌≡◌, ℕ, zero, suc, ◌+◌, ◌-◌, ◌<◌, ◌≤◌, Bool, true, false, ◌&&◌, List, [], ◌∷◌, ◌++◌, get_or, length, replicate, take, min, nat_le, nat_lt, refl, ap, sym, subst, ◌∙◌, arith, append-nil}
 use Rattle.std.specs.Prelude.{IsTrue}
-use Rattle.std.specs.List.{list_all}
+use Rattle.std.specs.List.{AllByRecursion, list_all}
 use Rattle.std.proofs.lemmas.List.{length-take, take-append-le, take_all}
 use Rattle.std.proofs.Math.Seq.{take-append-add, take-suc}
 use Rattle.nova_order.specs.Blocks.{is_within, total, turns}
@@ -101,3 +101,41 @@ first_within cpus most at blocks first of_blocks of_first is few within =
 
     small : (n : ℕ) → n ≤ at → IsTrue (nat_le n at)
     small n le = grind arith
+
+-- each is of a processor that is there, as a test and as what holds of all
+parts : (a b : Bool) → IsTrue (a && b) → IsTrue a × IsTrue b
+parts a b is = grind arith
+
+whole : (a b : Bool) → IsTrue a → IsTrue b → IsTrue (a && b)
+whole a b p q = grind arith
+
+all_below : (cpus : ℕ) (xs : List ℕ) → IsTrue (list_all (λ cpu. nat_lt cpu cpus) xs) → AllByRecursion (λ cpu. cpu < cpus) xs
+all_below cpus [] all = tt
+all_below cpus (x ∷ xs) all =
+    let two = parts (nat_lt x cpus) (list_all (λ cpu. nat_lt cpu cpus) xs) all in
+    let one : IsTrue (nat_lt x cpus) = two.0 in
+    let less : x < cpus = grind arith in (less, all_below cpus xs two.1)
+
+below_all : (cpus : ℕ) (xs : List ℕ) → AllByRecursion (λ cpu. cpu < cpus) xs → IsTrue (list_all (λ cpu. nat_lt cpu cpus) xs)
+below_all cpus [] all = refl
+below_all cpus (x ∷ xs) all =
+    let less : x < cpus = all.0 in
+    let one : IsTrue (nat_lt x cpus) = grind arith in whole (nat_lt x cpus) (list_all (λ cpu. nat_lt cpu cpus) xs) one (below_all cpus xs all.1)
+
+at_most : (n most : ℕ) → IsTrue (nat_le n most) → n ≤ most
+at_most n most is = grind arith
+
+no_more : (n most : ℕ) → n ≤ most → IsTrue (nat_le n most)
+no_more n most le = grind arith
+
+module _ (cpus most : ℕ) (blocks : List Block)
+    (bounds : is_within cpus most blocks ≡ (list_all (λ cpu. nat_lt cpu cpus) (turns blocks) && nat_le (length (turns blocks)) most)) where
+  pub first_there : IsTrue (is_within cpus most blocks) → AllByRecursion (λ cpu. cpu < cpus) (turns blocks) × (length (turns blocks) ≤ most)
+  first_there within =
+      let two = parts (list_all (λ cpu. nat_lt cpu cpus) (turns blocks)) (nat_le (length (turns blocks)) most) (subst IsTrue bounds within) in
+      (all_below cpus (turns blocks) two.0, at_most (length (turns blocks)) most two.1)
+
+  pub within_there : AllByRecursion (λ cpu. cpu < cpus) (turns blocks) → length (turns blocks) ≤ most → IsTrue (is_within cpus most blocks)
+  within_there there few =
+      subst IsTrue (sym bounds)
+      (whole (list_all (λ cpu. nat_lt cpu cpus) (turns blocks)) (nat_le (length (turns blocks)) most) (below_all cpus (turns blocks) there) (no_more (length (turns blocks)) most few))

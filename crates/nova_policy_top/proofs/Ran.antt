@@ -1,9 +1,10 @@
--- The state after the turns that were taken.
-use Rattle.std.proofs.Common.{◌≡◌, ℕ, List, take, Option, Some, None, Result, Ok, Err, subst, sym}
+-- The turns that were taken, and what is decided of them.
+use Rattle.std.proofs.Common.{◌≡◌, ℕ, ◌+◌, ◌<◌, ◌≤◌, List, [], ◌∷◌, ◌++◌, length, take, Option, Some, None, Result, Ok, Err, inl, inr, refl, sym, ◌∙◌, subst, arith, append-nil, string_bytes}
 use Rattle.std.specs.Prelude.{IfErr, IfOk}
+use Rattle.std.specs.List.{AllByRecursion}
 use Rattle.law_turns.specs.Orders.{IsRunOut}
 use Rattle.nova_model.specs.Boot.{Scenario, boot}
-use Rattle.nova_model.specs.Runs.{IsFreeOfIdle, rounds}
+use Rattle.nova_model.specs.Runs.{IsFreeOfIdle, after, rounds, run}
 use Rattle.nova_model.specs.State.{KernelState}
 use Rattle.nova_order.specs.Blocks.{BlockList, IsOrder, turns}
 use Rattle.nova_order.specs.declared.block.Block.{Block}
@@ -11,22 +12,25 @@ use Rattle.nova_judging.specs.declared.answer.Told.{Told as Answered}
 use Rattle.nova_naming.specs.Statements.{Stated}
 use Rattle.nova_shared.specs.Finished.{IsFinished}
 use Rattle.nova_shared.specs.declared.finished.Finished.{Finished}
-use Rattle.nova_policy_top.specs.Runs.{HasRun, HasRunTo, IsDecided, IsNotRun, IsStopped, IsToldBy, IsUndecided, IsUntold}
+use Rattle.nova_watching.specs.Watched.{AreIsolatedBefore, IsBrokenOn, IsTold}
+use Rattle.nova_policy_top.specs.Runs.{HasNoStranger, HasRun, HasTaken, IsDecided, IsDecidedOn, IsMisnamed, IsNotRun, IsStopped, IsStrange, IsUndecided, IsUntoldOn, first_turns}
 use Rattle.nova_policy_top.specs.declared.exit.Exit.{Exit}
 use Rattle.nova_policy_top.specs.declared.exit.Exit.TheVariants.{Told, Usage, ReadFault, TooLong, Scenario as ScenarioFault, Order, Idle, Policy, NoDomain, WriteFault, Memory}
+use Rattle.nova_policy_top.specs.declared.request.Span.{Span}
 
-pub by_rounds : (s : Scenario) (at most : ℕ) (k : KernelState) (f : Finished) → k ≡ boot s → most ≡ at → IsFinished k (rounds k most) most f → IsRunOut (boot s) at (rounds (boot s) at)
-    → HasRunTo (boot s) (rounds (boot s) at) f.kernel.state
-by_rounds s at most k f begun same finished out =
+pub by_rounds : (s : Scenario) (at most : ℕ) (k : KernelState) (f : Finished) → at ≤ 10000000 → k ≡ boot s → most ≡ at → IsFinished k (rounds k most) most f
+    → IsRunOut (boot s) at (rounds (boot s) at) → HasTaken (boot s) (rounds (boot s) at) f
+by_rounds s at most k f last begun same finished out =
     let there : IsFinished (boot s) (rounds (boot s) at) at f =
     subst (λ (n : ℕ). IsFinished (boot s) (rounds (boot s) n) n f) same (subst (λ (q : KernelState). IsFinished q (rounds q most) most f) begun finished) in
-    record { no_idle = out.no_idle; state = there.kernel }
+    let within = out.within in
+    record { no_idle = out.no_idle; state = there.kernel; order = there.order; there = out.processors; few = omega arith }
 
-pub along : (s : Scenario) (most : ℕ) (k : KernelState) (order : List ℕ) (f : Finished) → k ≡ boot s → IsFinished k order most f → IsFreeOfIdle k order → HasRunTo (boot s) order f.kernel.state
-along s most k order f begun finished free = record {
-  no_idle = subst (λ (q : KernelState). IsFreeOfIdle q order) begun free;
-  state = (subst (λ (q : KernelState). IsFinished q order most f) begun finished).kernel;
-}
+pub along : (s : Scenario) (most : ℕ) (k : KernelState) (order : List ℕ) (f : Finished) → k ≡ boot s → IsFinished k order most f → IsFreeOfIdle k order
+    → AllByRecursion (λ cpu. cpu < (boot s).cpus) order → length order ≤ 10000000 → HasTaken (boot s) order f
+along s most k order f begun finished free there few =
+    let from : IsFinished (boot s) order most f = subst (λ (q : KernelState). IsFinished q order most f) begun finished in
+    record { no_idle = subst (λ (q : KernelState). IsFreeOfIdle q order) begun free; state = from.kernel; order = from.order; there = there; few = few }
 
 stopped : (k : KernelState) (order : BlockList) (first : List Block) (at : ℕ) (exit : Exit) → IsOrder first → turns first ≡ take at (turns order.blocks) → IsNotRun k first exit → IsStopped k (Some order) at exit
 stopped k order first at (Idle line) sound of is = record { first = first; sound = sound; of = of; idle = is }
@@ -38,7 +42,7 @@ stopped k order first at (TooLong input) sound of is = is
 stopped k order first at (ScenarioFault line why) sound of is = is
 stopped k order first at (Order fault) sound of is = is
 stopped k order first at (Policy line why) sound of is = is
-stopped k order first at (NoDomain line) sound of is = is
+stopped k order first at (NoDomain line domain) sound of is = is
 stopped k order first at WriteFault sound of is = is
 
 pub stopped_by : (k : KernelState) (order : BlockList) (first : List Block) (at : ℕ) (r : Result Finished Exit) → IsOrder first → turns first ≡ take at (turns order.blocks) → IfErr r (IsNotRun k first)
@@ -47,8 +51,8 @@ stopped_by k order first at (Ok run) sound of is = tt
 stopped_by k order first at (Err exit) sound of is = stopped k order first at exit sound of is
 
 pub ran_by : (k : KernelState) (order : BlockList) (first : List Block) (at : ℕ) (r : Result Finished Exit) → turns first ≡ take at (turns order.blocks)
-    → IfOk r (λ (run : Finished). HasRunTo k (turns first) run.kernel.state) → IfOk r (λ (run : Finished). HasRun k (Some order) at run.kernel.state)
-ran_by k order first at (Ok run) of is = subst (λ (ts : List ℕ). HasRunTo k ts run.kernel.state) of is
+    → IfOk r (HasTaken k (turns first)) → IfOk r (HasRun k (Some order) at)
+ran_by k order first at (Ok f) of is = subst (λ (ts : List ℕ). HasTaken k ts f) of is
 ran_by k order first at (Err exit) of is = tt
 
 pub only_memory : (k : KernelState) (at : ℕ) (r : Result Finished Exit) → IfErr r (λ (e : Exit). e ≡ Memory) → IfErr r (IsStopped k None at)
@@ -57,37 +61,94 @@ only_memory k at (Err e) is = subst (IsStopped k None at) (sym is) tt
 
 -- WHAT IS DECIDED
 
-untold : (k now : KernelState) (order : Option BlockList) (policy : Option (List Stated)) (at : ℕ) (e : Exit) → HasRun k order at now → IsUntold policy now e → IsUndecided k order policy at e
-untold k now order policy at (NoDomain line) run is = record { now = now; run = run; untold = is }
-untold k now order policy at Memory run is = tt
-untold k now order policy at (Told answer) run is = is
-untold k now order policy at Usage run is = is
-untold k now order policy at ReadFault run is = is
-untold k now order policy at (TooLong input) run is = is
-untold k now order policy at (ScenarioFault line why) run is = is
-untold k now order policy at (Order fault) run is = is
-untold k now order policy at (Idle line) run is = absurd is
-untold k now order policy at (Policy line why) run is = is
-untold k now order policy at WriteFault run is = is
+-- of a run of turns
+module _ (k now : KernelState) (list : List ℕ) (policy : Option (List Stated)) (from : ℕ) (free : IsFreeOfIdle k list) (ran : now ≡ run k list) where
+  misnamed : (e : Exit) → IsMisnamed policy now e → IsUntoldOn k list policy e
+  misnamed (NoDomain line domain) is = record { no_idle = free; strange = subst (λ (s : KernelState). IsStrange policy s line domain) ran is }
+  misnamed Memory is = tt
+  misnamed (Told answer) is = is
+  misnamed Usage is = is
+  misnamed ReadFault is = is
+  misnamed (TooLong input) is = is
+  misnamed (ScenarioFault line why) is = is
+  misnamed (Order fault) is = is
+  misnamed (Idle line) is = is
+  misnamed (Policy line why) is = is
+  misnamed WriteFault is = is
 
-pub decided_by : (k now : KernelState) (order : Option BlockList) (policy : Option (List Stated)) (at : ℕ) (r : Result Answered Exit) → HasRun k order at now → IsToldBy policy now r
-    → IsDecided k order policy at r
-decided_by k now order policy at (Ok t) run is = record { now = now; run = run; told = is }
-decided_by k now order policy at (Err e) run is = untold k now order policy at e run is
+  pub misnamed_by : (e : Exit) (r : Result Answered Exit) → r ≡ Err e → IsMisnamed policy now e → IsDecidedOn k list policy from r
+  misnamed_by e r is wrong = subst (IsDecidedOn k list policy from) (sym is) (misnamed e wrong)
 
-stops : (k : KernelState) (order : Option BlockList) (policy : Option (List Stated)) (at : ℕ) (e : Exit) → IsStopped k order at e → IsUndecided k order policy at e
-stops k order policy at (Idle line) is = is
-stops k order policy at Memory is = tt
-stops k order policy at (Told answer) is = is
-stops k order policy at Usage is = is
-stops k order policy at ReadFault is = is
-stops k order policy at (TooLong input) is = is
-stops k order policy at (ScenarioFault line why) is = is
-stops k order policy at (Order fault) is = is
-stops k order policy at (Policy line why) is = is
-stops k order policy at (NoDomain line) is = absurd is
-stops k order policy at WriteFault is = is
+  pub told_early : (t : Answered) → HasNoStranger policy now → IsBrokenOn policy from k 0 list t → IsDecidedOn k list policy from (Ok t)
+  told_early t named b =
+      let late : from ≤ length b.taken = let late = b.late in omega arith in
+      record {
+        no_idle = free;
+        named = subst (HasNoStranger policy) ran named;
+        taken = b.taken;
+        left = b.left;
+        whole = b.whole;
+        isolated = b.isolated;
+        told = b.told;
+        first = inr (late, b.breaking);
+      }
 
-pub stops_by : (k : KernelState) (order : Option BlockList) (policy : Option (List Stated)) (at : ℕ) (e : Exit) (r : Result Answered Exit) → r ≡ Err e → IsStopped k order at e
-    → IsDecided k order policy at r
-stops_by k order policy at e r is stopped = subst (IsDecided k order policy at) (sym is) (stops k order policy at e stopped)
+  pub told_last : (t : Answered) → HasNoStranger policy now → AreIsolatedBefore policy from k 0 list → IsTold policy now t.answer (string_bytes t.text) → IsDecidedOn k list policy from (Ok t)
+  told_last t named isolated told = record {
+    no_idle = free;
+    named = subst (HasNoStranger policy) ran named;
+    taken = list;
+    left = [];
+    whole = append-nil list;
+    isolated = isolated;
+    told = subst (λ (s : KernelState). IsTold policy s t.answer (string_bytes t.text)) ran told;
+    first = inl refl;
+  }
+
+-- no turn is one after so many
+pub none_late : (policy : Option (List Stated)) (from : ℕ) (k : KernelState) (n : ℕ) (list : List ℕ) → n + length list ≤ from → AreIsolatedBefore policy from k n list
+none_late policy from k n [] few = tt
+none_late policy from k n (cpu ∷ cpus) few = (λ late. absurd (omega arith), none_late policy from (after k cpu) (n + 1) cpus (omega arith))
+
+-- of the turns that are asked for
+untold : (k : KernelState) (order : Option BlockList) (policy : Option (List Stated)) (span : Span) (e : Exit) → IsUntoldOn k (first_turns k order span.until) policy e → IsUndecided k order policy span e
+untold k order policy span (NoDomain line domain) is = is
+untold k order policy span Memory is = tt
+untold k order policy span (Told answer) is = is
+untold k order policy span Usage is = is
+untold k order policy span ReadFault is = is
+untold k order policy span (TooLong input) is = is
+untold k order policy span (ScenarioFault line why) is = is
+untold k order policy span (Order fault) is = is
+untold k order policy span (Idle line) is = absurd is
+untold k order policy span (Policy line why) is = is
+untold k order policy span WriteFault is = is
+
+pub decided_by : (k : KernelState) (order : Option BlockList) (policy : Option (List Stated)) (span : Span) (f : Finished) (from : ℕ) (r : Result Answered Exit) → HasRun k order span.until f → from ≡ span.from
+    → IsDecidedOn k (turns f.order.blocks) policy from r → IsDecided k order policy span r
+decided_by k order policy span f from r ran same is =
+    by_result r (subst (λ (n : ℕ). IsDecidedOn k (first_turns k order span.until) policy n r) same (subst (λ (l : List ℕ). IsDecidedOn k l policy from r) ran.order is))
+  where
+    by_result : (q : Result Answered Exit) → IsDecidedOn k (first_turns k order span.until) policy span.from q → IsDecided k order policy span q
+    by_result (Ok t) told = told
+    by_result (Err e) fault = untold k order policy span e fault
+
+pub taken_by : (k : KernelState) (list : List ℕ) (f : Finished) → HasTaken k list f → HasTaken k (turns f.order.blocks) f
+taken_by k list f ran = subst (λ (l : List ℕ). HasTaken k l f) (sym ran.order) ran
+
+stops : (k : KernelState) (order : Option BlockList) (policy : Option (List Stated)) (span : Span) (e : Exit) → IsStopped k order span.until e → IsUndecided k order policy span e
+stops k order policy span (Idle line) is = is
+stops k order policy span Memory is = tt
+stops k order policy span (Told answer) is = is
+stops k order policy span Usage is = is
+stops k order policy span ReadFault is = is
+stops k order policy span (TooLong input) is = is
+stops k order policy span (ScenarioFault line why) is = is
+stops k order policy span (Order fault) is = is
+stops k order policy span (Policy line why) is = is
+stops k order policy span (NoDomain line domain) is = absurd is
+stops k order policy span WriteFault is = is
+
+pub stops_by : (k : KernelState) (order : Option BlockList) (policy : Option (List Stated)) (span : Span) (e : Exit) (r : Result Answered Exit) → r ≡ Err e → IsStopped k order span.until e
+    → IsDecided k order policy span r
+stops_by k order policy span e r is stopped = subst (IsDecided k order policy span) (sym is) (stops k order policy span e stopped)

@@ -7,8 +7,6 @@ use Rattle.nova_command.specs.declared.fault.CommandFault.TheVariants as command
 use Rattle.nova_io.specs.declared.faults.FetchFault.{FetchFault}
 use Rattle.nova_io.specs.declared.faults.FetchFault.TheVariants as fetch
 use Rattle.nova_judging.specs.declared.answer.Answer.TheVariants.{Apart, Served, Single, Breach, Stuck}
-use Rattle.nova_judging.specs.declared.answer.JudgingFault.{JudgingFault}
-use Rattle.nova_judging.specs.declared.answer.JudgingFault.TheVariants as judging
 use Rattle.nova_naming.specs.declared.fault.PolicyFault.{PolicyFault}
 use Rattle.nova_naming.specs.declared.fault.PolicyFault.TheVariants as policy
 use Rattle.nova_order.specs.declared.fault.OrderFault.{OrderFault}
@@ -38,7 +36,7 @@ status_of (Idle line) = 5
 status_of WriteFault = 6
 status_of (TooLong input.Policy) = 7
 status_of (Policy line why) = 7
-status_of (NoDomain line) = 7
+status_of (NoDomain line domain) = 7
 status_of Memory = 8
 
 -- the words could not be read: one is no text, or memory was refused
@@ -76,10 +74,6 @@ abbrev pub of_run : RunFault → Exit
 of_run (turn.OrderIdle line) = Idle line
 of_run turn.Memory = Memory
 
-abbrev pub of_judging : JudgingFault → Exit
-of_judging (judging.Stranger line) = NoDomain line
-of_judging judging.Memory = Memory
-
 -- nothing is written
 abbrev pub IsUnwritten : Exit → Type 0
 IsUnwritten (Told answer) = ⊥
@@ -91,5 +85,5 @@ IsUnwritten (Scenario line why) = Unit {0}
 IsUnwritten (Order fault) = Unit {0}
 IsUnwritten (Idle line) = Unit {0}
 IsUnwritten (Policy line why) = Unit {0}
-IsUnwritten (NoDomain line) = Unit {0}
+IsUnwritten (NoDomain line domain) = Unit {0}
 IsUnwritten Memory = Unit {0}

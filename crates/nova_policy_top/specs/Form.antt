@@ -5,7 +5,7 @@ use Rattle.clap.specs.Simple.{App, matches_of, new_app, new_rule, with_rule}
 use Rattle.clap.specs.Kinds.{Kinds}
 use Rattle.clap.specs.Faults.{fault_of}
 
--- `--order ORDER`, `--policy POLICY`, and `--at TURN`, one million where it is not given
+-- `--order ORDER`, `--at TURN`, `--until TURN` and `--policy POLICY`
 abbrev pub order_option : Rule
 order_option = record (new_rule (codes "order")) { long = Some (codes "order") }
 
@@ -13,17 +13,21 @@ abbrev pub policy_option : Rule
 policy_option = record (new_rule (codes "policy")) { long = Some (codes "policy") }
 
 abbrev pub at_option : Rule
-at_option = record (new_rule (codes "at")) { long = Some (codes "at"); defaults = codes "1000000" ∷ [] }
+at_option = record (new_rule (codes "at")) { long = Some (codes "at") }
+
+abbrev pub until_option : Rule
+until_option = record (new_rule (codes "until")) { long = Some (codes "until") }
 
 -- the name of the scenario, and the options
 abbrev pub form : App
-form = with_rule (with_rule (with_rule (with_rule (new_app (codes "nova_policy")) (new_rule (codes "scenario"))) order_option) at_option) policy_option
+form = with_rule (with_rule (with_rule (with_rule (with_rule (new_app (codes "nova_policy")) (new_rule (codes "scenario"))) order_option) at_option) until_option) policy_option
 
--- what words give to each of the four
+-- what words give to each of the five
 pub record Given : Type 0 where
   pub scenario : Option (List ℕ)
   pub order : Option (List ℕ)
   pub at : Option (List ℕ)
+  pub until : Option (List ℕ)
   pub policy : Option (List ℕ)
 
 abbrev pub given_in : List Row → Given
@@ -31,6 +35,7 @@ given_in rows = record {
   scenario = first_of (codes "scenario") rows;
   order = first_of (codes "order") rows;
   at = first_of (codes "at") rows;
+  until = first_of (codes "until") rows;
   policy = first_of (codes "policy") rows;
 }
 

@@ -12,7 +12,7 @@ use Rattle.nova_order.specs.Blocks.{BlockList}
 use Rattle.nova_scenario.specs.declared.scenario.Scenario.{Scenario as ScenarioText}
 use Rattle.nova_policy_top.specs.Came.{IsOrderFaultIfNamed, IsPolicyFaultIfNamed, IsScenarioFault, OrderCameIfNamed, PolicyCameIfNamed, ScenarioCame}
 use Rattle.nova_policy_top.specs.Outside.{Depots, Sinks}
-use Rattle.nova_policy_top.specs.Runs.{IsToldAt, IsUndecided}
+use Rattle.nova_policy_top.specs.Runs.{IsToldIn, IsUndecided}
 use Rattle.nova_policy_top.specs.declared.exit.Exit.{Exit}
 use Rattle.nova_policy_top.specs.declared.exit.Exit.TheVariants as exit
 use Rattle.nova_policy_top.specs.declared.request.Request.{Request}
@@ -47,19 +47,19 @@ pub record IsUnanswered {D : Type 0} (d : Depots D) (q : Request) (old new : D) 
   pub order : Option BlockList
   pub policy : Option (List Stated)
   pub came : AllCame d q old from order policy new
-  pub fault : IsUndecided (boot (scenario_of from)) order policy q.at exit
+  pub fault : IsUndecided (boot (scenario_of from)) order policy q.span exit
 
 -- why nothing is told
 abbrev pub IsFault : {D : Type 0} → Depots D → Request → D → D → Exit → Type 0
 IsFault d q old new exit = IsScenarioFault d q.scenario old new exit ⊎ (IsOrderUnread d q old new exit ⊎ (IsPolicyUnread d q old new exit ⊎ IsUnanswered d q old new exit))
 
--- all came, and this is told of the state after so many turns of the scenario's run
+-- all came, and this is told of the turns that are asked for of the scenario's run
 pub record IsToldOf {D : Type 0} (d : Depots D) (q : Request) (old new : D) (answer : Answer) (text : List ℕ) : Type 0 where
   pub from : ScenarioText
   pub order : Option BlockList
   pub policy : Option (List Stated)
   pub came : AllCame d q old from order policy new
-  pub told : IsToldAt (boot (scenario_of from)) order policy q.at answer text
+  pub told : IsToldIn (boot (scenario_of from)) order policy q.span answer text
 
 abbrev pub IsPrepared : {D : Type 0} → Depots D → Request → D → D → Result Told Exit → Type 0
 IsPrepared d q old new (Ok t) = IsToldOf d q old new t.answer (string_bytes t.text)

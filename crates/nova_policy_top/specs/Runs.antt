@@ -1,29 +1,36 @@
--- The state after so many turns of a scenario's run, and what is told of it.
-use Rattle.std.specs.Prelude.{◌≡◌, ℕ, List, [], ◌∷◌, take, Option, Some, None, Result, Ok, Err, string_bytes}
+-- A scenario's run up to a turn, and what is told of the states on it.
+use Rattle.std.specs.Prelude.{◌≡◌, ◌⊎◌, ℕ, true, ◌<◌, ◌≤◌, List, [], ◌++◌, length, take, Option, Some, None, Result, Ok, Err, string_bytes}
+use Rattle.std.specs.List.{AllByRecursion}
 use Rattle.nova_model.specs.State.{KernelState}
 use Rattle.nova_model.specs.Runs.{IsFreeOfIdle, rounds, run}
 use Rattle.nova_order.specs.Blocks.{BlockList, IsOrder, turns}
 use Rattle.nova_order.specs.declared.block.Block.{Block}
 use Rattle.nova_shared.specs.Finished.{IsIdleLine}
+use Rattle.nova_shared.specs.declared.finished.Finished.{Finished}
 use Rattle.nova_naming.specs.Statements.{Stated}
-use Rattle.nova_judging.specs.Answers.{IsFinestAnswer, IsNamedAnswer, first_stranger}
+use Rattle.nova_judging.specs.Labelled.{first_stranger}
 use Rattle.nova_judging.specs.declared.answer.Answer.{Answer}
 use Rattle.nova_judging.specs.declared.answer.Told.{Told}
+use Rattle.nova_watching.specs.Watched.{AreIsolatedBefore, IsBrokenOn, IsTold, is_breaking}
 use Rattle.nova_policy_top.specs.declared.exit.Exit.{Exit}
 use Rattle.nova_policy_top.specs.declared.exit.Exit.TheVariants.{Idle, NoDomain, Memory}
+use Rattle.nova_policy_top.specs.declared.request.Span.{Span}
 
 -- the first turns of a run, at most so many: round robin, or those of an order
 abbrev pub first_turns : KernelState → Option BlockList → ℕ → List ℕ
-first_turns k None at = rounds k at
-first_turns k (Some order) at = take at (turns order.blocks)
+first_turns k None until = rounds k until
+first_turns k (Some order) until = take until (turns order.blocks)
 
--- the state after turns, none of which is idle
-pub record HasRunTo (k : KernelState) (order : List ℕ) (now : KernelState) : Type 0 where
-  pub no_idle : IsFreeOfIdle k order
-  pub state : now ≡ run k order
+-- turns were taken, of processors that are there, none of which was idle
+pub record HasTaken (k : KernelState) (list : List ℕ) (f : Finished) : Type 0 where
+  pub no_idle : IsFreeOfIdle k list
+  pub state : f.kernel.state ≡ run k list
+  pub order : turns f.order.blocks ≡ list
+  pub there : AllByRecursion (λ cpu. cpu < k.cpus) list
+  pub few : length list ≤ 10000000
 
-abbrev pub HasRun : KernelState → Option BlockList → ℕ → KernelState → Type 0
-HasRun k order at now = HasRunTo k (first_turns k order at) now
+abbrev pub HasRun : KernelState → Option BlockList → ℕ → Finished → Type 0
+HasRun k order until f = HasTaken k (first_turns k order until) f
 
 -- turns are not taken: the first idle one is of a block
 abbrev pub IsNotRun : KernelState → List Block → Exit → Type 0
@@ -32,63 +39,82 @@ IsNotRun k blocks Memory = Unit {0}
 IsNotRun k blocks _ = ⊥
 
 -- the first idle turn of an order's first turns is of the block of this line
-pub record IsIdleBefore (k : KernelState) (order : BlockList) (at line : ℕ) : Type 0 where
+pub record IsIdleBefore (k : KernelState) (order : BlockList) (until line : ℕ) : Type 0 where
   pub first : List Block
   pub sound : IsOrder first
-  pub of : turns first ≡ take at (turns order.blocks)
+  pub of : turns first ≡ take until (turns order.blocks)
   pub idle : IsIdleLine k first line
 
 abbrev pub IsIdleIn : KernelState → Option BlockList → ℕ → ℕ → Type 0
-IsIdleIn k None at line = ⊥
-IsIdleIn k (Some order) at line = IsIdleBefore k order at line
+IsIdleIn k None until line = ⊥
+IsIdleIn k (Some order) until line = IsIdleBefore k order until line
 
 abbrev pub IsStopped : KernelState → Option BlockList → ℕ → Exit → Type 0
-IsStopped k order at (Idle line) = IsIdleIn k order at line
-IsStopped k order at Memory = Unit {0}
-IsStopped k order at _ = ⊥
+IsStopped k order until (Idle line) = IsIdleIn k order until line
+IsStopped k order until Memory = Unit {0}
+IsStopped k order until _ = ⊥
 
 -- WHAT IS TOLD
 
--- the policy that trusts the root's domain alone, and names no side
-abbrev pub trusted_root : List Stated
-trusted_root = record { line = 1; side = None; domains = 0 ∷ [] } ∷ []
+-- each number that a policy names is of a domain
+abbrev pub HasNoStranger : Option (List Stated) → KernelState → Type 0
+HasNoStranger None k = Unit {0}
+HasNoStranger (Some policy) k = first_stranger policy k ≡ None
 
--- the text of an answer: of the sides of a policy, as it names them; or of the finest beside a trusted root
-abbrev pub IsTold : Option (List Stated) → KernelState → Answer → List ℕ → Type 0
-IsTold None k answer text = IsFinestAnswer trusted_root k answer text
-IsTold (Some policy) k answer text = (first_stranger policy k ≡ None) × IsNamedAnswer policy k answer text
+-- or this is the first that is of none, and its line
+abbrev pub IsStrange : Option (List Stated) → KernelState → ℕ → ℕ → Type 0
+IsStrange None k line domain = ⊥
+IsStrange (Some policy) k line domain = first_stranger policy k ≡ Some (record { line = line; domain = domain })
 
--- there is no answer: this line of the policy is the first that names what is no domain
-abbrev pub IsStrange : Option (List Stated) → KernelState → ℕ → Type 0
-IsStrange None k line = ⊥
-IsStrange (Some policy) k line = first_stranger policy k ≡ Some line
+abbrev pub IsMisnamed : Option (List Stated) → KernelState → Exit → Type 0
+IsMisnamed policy k (NoDomain line domain) = IsStrange policy k line domain
+IsMisnamed policy k _ = ⊥
 
-abbrev pub IsUntold : Option (List Stated) → KernelState → Exit → Type 0
-IsUntold policy k (NoDomain line) = IsStrange policy k line
-IsUntold policy k Memory = Unit {0}
-IsUntold policy k _ = ⊥
+abbrev pub IsNamedBy : Option (List Stated) → KernelState → Result (Unit {0}) Exit → Type 0
+IsNamedBy policy k (Ok done) = HasNoStranger policy k
+IsNamedBy policy k (Err exit) = IsMisnamed policy k exit
 
-abbrev pub IsToldBy : Option (List Stated) → KernelState → Result Told Exit → Type 0
-IsToldBy policy k (Ok t) = IsTold policy k t.answer (string_bytes t.text)
-IsToldBy policy k (Err exit) = IsUntold policy k exit
+-- the first state before one of these turns in which the sides aren't isolated, of those after so many turns at least; or none
+abbrev pub IsToldBefore : KernelState → List ℕ → Option (List Stated) → ℕ → Option Told → Type 0
+IsToldBefore k list policy from None = AreIsolatedBefore policy from k 0 list
+IsToldBefore k list policy from (Some t) = IsBrokenOn policy from k 0 list t
 
--- the same after so many turns
-pub record IsToldAt (k : KernelState) (order : Option BlockList) (policy : Option (List Stated)) (at : ℕ) (answer : Answer) (text : List ℕ) : Type 0 where
-  pub now : KernelState
-  pub run : HasRun k order at now
-  pub told : IsTold policy now answer text
+-- What is told of a run from a state, of turns none of which is idle: each number that the policy names is of a domain at its end. The answer is of the state after these of its turns: of those after so
+-- many turns at least the first in which the sides aren't isolated, or the last of all.
+pub record IsToldOn (k : KernelState) (list : List ℕ) (policy : Option (List Stated)) (from : ℕ) (answer : Answer) (text : List ℕ) : Type 0 where
+  pub no_idle : IsFreeOfIdle k list
+  pub named : HasNoStranger policy (run k list)
+  pub taken : List ℕ
+  pub left : List ℕ
+  pub whole : taken ++ left ≡ list
+  pub isolated : AreIsolatedBefore policy from k 0 taken
+  pub told : IsTold policy (run k taken) answer text
+  pub first : (left ≡ []) ⊎ ((from ≤ length taken) × (is_breaking answer ≡ true))
 
-pub record IsUntoldAt (k : KernelState) (order : Option BlockList) (policy : Option (List Stated)) (at line : ℕ) : Type 0 where
-  pub now : KernelState
-  pub run : HasRun k order at now
-  pub untold : IsStrange policy now line
+-- or there is no answer
+pub record IsMisnamedOn (k : KernelState) (list : List ℕ) (policy : Option (List Stated)) (line domain : ℕ) : Type 0 where
+  pub no_idle : IsFreeOfIdle k list
+  pub strange : IsStrange policy (run k list) line domain
 
-abbrev pub IsUndecided : KernelState → Option BlockList → Option (List Stated) → ℕ → Exit → Type 0
-IsUndecided k order policy at (NoDomain line) = IsUntoldAt k order policy at line
-IsUndecided k order policy at (Idle line) = IsIdleIn k order at line
-IsUndecided k order policy at Memory = Unit {0}
-IsUndecided k order policy at _ = ⊥
+abbrev pub IsUntoldOn : KernelState → List ℕ → Option (List Stated) → Exit → Type 0
+IsUntoldOn k list policy (NoDomain line domain) = IsMisnamedOn k list policy line domain
+IsUntoldOn k list policy Memory = Unit {0}
+IsUntoldOn k list policy _ = ⊥
 
-abbrev pub IsDecided : KernelState → Option BlockList → Option (List Stated) → ℕ → Result Told Exit → Type 0
-IsDecided k order policy at (Ok t) = IsToldAt k order policy at t.answer (string_bytes t.text)
-IsDecided k order policy at (Err exit) = IsUndecided k order policy at exit
+abbrev pub IsDecidedOn : KernelState → List ℕ → Option (List Stated) → ℕ → Result Told Exit → Type 0
+IsDecidedOn k list policy from (Ok t) = IsToldOn k list policy from t.answer (string_bytes t.text)
+IsDecidedOn k list policy from (Err exit) = IsUntoldOn k list policy exit
+
+-- the same of a span of a run, by an order or round robin
+abbrev pub IsToldIn : KernelState → Option BlockList → Option (List Stated) → Span → Answer → List ℕ → Type 0
+IsToldIn k order policy span answer text = IsToldOn k (first_turns k order span.until) policy span.from answer text
+
+abbrev pub IsUndecided : KernelState → Option BlockList → Option (List Stated) → Span → Exit → Type 0
+IsUndecided k order policy span (NoDomain line domain) = IsMisnamedOn k (first_turns k order span.until) policy line domain
+IsUndecided k order policy span (Idle line) = IsIdleIn k order span.until line
+IsUndecided k order policy span Memory = Unit {0}
+IsUndecided k order policy span _ = ⊥
+
+abbrev pub IsDecided : KernelState → Option BlockList → Option (List Stated) → Span → Result Told Exit → Type 0
+IsDecided k order policy span (Ok t) = IsToldIn k order policy span t.answer (string_bytes t.text)
+IsDecided k order policy span (Err exit) = IsUndecided k order policy span exit

@@ -1,23 +1,37 @@
 -- What words ask for.
-use Rattle.std.specs.Prelude.{ℕ, List, ◌∷◌, codes, nat_le, if◌then◌else◌, Option, Some, None, option_and_then}
+use Rattle.std.specs.Prelude.{ℕ, List, ◌∷◌, codes, nat_le, if◌then◌else◌, Option, Some, None, option_and_then, option_map}
 use Rattle.nova_text.specs.Number.{number}
 use Rattle.nova_policy_top.specs.Form.{Given, given}
 use Rattle.nova_policy_top.specs.declared.request.Request.{Request}
+use Rattle.nova_policy_top.specs.declared.request.Span.{Span}
 
--- the turn that a text writes: from 0 to 10,000,000
+-- the turn that a text writes: from 0 to 10,000,000; where there is no text, another one
 abbrev pub up_to : ℕ → ℕ → Option ℕ
 up_to last n = if nat_le n last then Some n else None
 
 unfoldable pub turn_of : List ℕ → Option ℕ
 turn_of text = option_and_then (up_to 10000000) (number text)
 
--- a scenario and a turn, with the order and the policy where they are named
-abbrev pub requested : Option (List ℕ) → Option (List ℕ) → Option ℕ → Option (List ℕ) → Option Request
-requested (Some scenario) order (Some at) policy = Some (record { scenario = scenario; order = order; at = at; policy = policy })
-requested scenario order at policy = None
+abbrev pub turn_or : ℕ → Option (List ℕ) → Option ℕ
+turn_or turn None = Some turn
+turn_or turn (Some text) = turn_of text
+
+-- from a turn on, until another, which isn't before it
+abbrev pub between : ℕ → ℕ → Option Span
+between from until = if nat_le from until then Some (record { from = from; until = until }) else None
+
+-- one turn, which is one million where none is given; or, where a last one is given, all from it, or from the boot, until that one
+abbrev pub spanned : Option (List ℕ) → Option (List ℕ) → Option Span
+spanned at None = option_and_then (λ turn. between turn turn) (turn_or 1000000 at)
+spanned at (Some text) = option_and_then (λ until. option_and_then (λ from. between from until) (turn_or 0 at)) (turn_of text)
+
+-- a scenario and these turns, with the order and the policy where they are named
+abbrev pub requested : Option (List ℕ) → Option (List ℕ) → Option Span → Option (List ℕ) → Option Request
+requested (Some scenario) order (Some span) policy = Some (record { scenario = scenario; order = order; span = span; policy = policy })
+requested scenario order span policy = None
 
 abbrev pub asked_of : Given → Option Request
-asked_of g = requested g.scenario g.order (option_and_then turn_of g.at) g.policy
+asked_of g = requested g.scenario g.order (spanned g.at g.until) g.policy
 
 -- what the words after the program's name ask for, or nothing
 unfoldable pub asked : List (List ℕ) → Option Request

@@ -1,56 +1,101 @@
-ghost use Rattle.std.specs.Prelude.{◌≡◌, ◌≤◌, IfOk, IfSome, IsTrue, string_bytes};
+ghost use Rattle.std.specs.Prelude.{◌≡◌, ◌<◌, ◌≤◌, IfOk, IfSome, IsTrue, length};
+ghost use Rattle.std.specs.List.{AllByRecursion};
 ghost use Rattle.nova_boot.specs.Boot.{scenario_of};
 ghost use Rattle.nova_model.specs.Boot.{boot};
-ghost use Rattle.nova_order.specs.Blocks.{is_within};
+ghost use Rattle.nova_order.specs.Blocks.{is_within, turns};
 ghost use Rattle.nova_scenario.specs.Sound.{IsSound};
-ghost use Rattle.nova_judging.specs.Answers.{IsFinestAnswer};
-ghost use Rattle.nova_policy_top.specs.Runs.{IsDecided, IsToldBy, trusted_root};
+ghost use Rattle.nova_policy_top.specs.Runs.{HasTaken, IsDecided, IsDecidedOn, IsNamedBy, IsToldBefore};
 
 use crate::exit::Exit;
+use crate::request::Span;
 use crate::running::run_to;
-use nova_judging::{Told, answer_finest, answer_named};
+use nova_boot::boot;
+use nova_judging::{Told, first_stranger};
 use nova_naming::Policy;
 use nova_order::Order;
-use nova_run::Kernel;
+use nova_run::{Finished, Kernel};
 use nova_scenario::Scenario;
+use nova_watching::{told_of, watch};
 use std::alloc::{AllocError, Global};
 
 /// What is let go here is dropped apart from all else.
 fn let_go<T: Drop>(_value: T) {}
 
-/// What the finest sides are beside a trusted root.
-fn told_of_finest(alloc: Global, kernel: &Kernel) -> Result<Told, AllocError>
-    ensures { IfOk result (λ t. IsFinestAnswer trusted_root kernel.now.state t.answer (string_bytes t.text)) }
+/// Whether each number that a policy names is of a domain.
+fn check_names(policy: &Option<Policy>, kernel: &Kernel) -> Result<(), Exit>
+    ensures { IsNamedBy policy.now kernel.now.state result }
 {
-    let policy = Policy::trusting(alloc, 0)?;
-    answer_finest(alloc, &policy, kernel)
-}
-
-/// What the sides of a policy are in the state of a kernel; or the finest beside a trusted root, where there is no policy.
-fn told_of(alloc: Global, policy: &Option<Policy>, kernel: &Kernel) -> Result<Told, Exit>
-    ensures { IsToldBy policy.now kernel.now.state result }
-{
-    match policy {
-        Some(policy) => Ok(answer_named(alloc, policy, kernel)?),
-        None => Ok(told_of_finest(alloc, kernel)?),
+    let Some(policy) = policy else {
+        return Ok(());
+    };
+    match first_stranger(policy, kernel) {
+        Some(stranger) => Err(Exit::NoDomain {
+            line: stranger.line,
+            domain: stranger.domain,
+        }),
+        None => Ok(()),
     }
 }
 
-/// What the sides of a policy are after so many turns of a scenario's run.
+/// What is told of the first state before a turn of an order in which the sides aren't isolated, of those after so many turns at least.
+fn told_before(
+    alloc: Global,
+    scenario: &Scenario,
+    order: &Order,
+    policy: &Option<Policy>,
+    from: u64,
+) -> Result<Option<Told>, AllocError>
+    requires sound { IsSound scenario.now }
+    requires there { AllByRecursion (λ cpu. cpu < (boot (scenario_of scenario.now)).cpus) (turns order.now.blocks) }
+    requires few { length (turns order.now.blocks) ≤ 10000000 }
+    ensures { IfOk result (IsToldBefore (boot (scenario_of scenario.now)) (turns order.now.blocks) policy.now from) }
+{
+    if order.sum() <= from {
+        return Ok(None);
+    }
+    nova_order::laws::bounds_are_of_turns();
+    let _blocks = order.blocks();
+    let mut kernel = boot(alloc, scenario, order.sum())?;
+    let found = watch(alloc, &mut kernel, order, policy, from);
+    let_go(kernel);
+    found
+}
+
+/// What is told of the first state of a run in which the sides aren't isolated, of those after so many turns at least, or else of the last.
+fn told_on(
+    alloc: Global,
+    scenario: &Scenario,
+    run: &Finished,
+    policy: &Option<Policy>,
+    from: u64,
+) -> Result<Told, Exit>
+    requires sound { IsSound scenario.now }
+    requires run { HasTaken (boot (scenario_of scenario.now)) (turns run.now.order.blocks) run.now }
+    ensures { IsDecidedOn (boot (scenario_of scenario.now)) (turns run.now.order.blocks) policy.now from result }
+{
+    check_names(policy, &run.kernel)?;
+    match told_before(alloc, scenario, &run.order, policy, from)? {
+        Some(told) => Ok(told),
+        None => Ok(told_of(alloc, policy, &run.kernel)?),
+    }
+}
+
+/// What the sides of a policy are in the first state of a span of a scenario's run in which they aren't isolated, or else in the last.
 pub fn decide(
     alloc: Global,
     scenario: &Scenario,
     order: &Option<Order>,
     policy: &Option<Policy>,
-    at: u32,
+    span: Span,
 ) -> Result<Told, Exit>
     requires sound { IsSound scenario.now }
-    requires last { at ≤ 10000000 }
+    requires last { span.until ≤ 10000000 }
     requires within { IfSome order.now (λ o. IsTrue (is_within scenario.now.cpus 10000000 o.blocks)) }
-    ensures { IsDecided (boot (scenario_of scenario.now)) order.now policy.now at result }
+    ensures { IsDecided (boot (scenario_of scenario.now)) order.now policy.now span result }
 {
-    let run = run_to(alloc, scenario, order, at)?;
-    let told = told_of(alloc, policy, &run.kernel);
+    let run = run_to(alloc, scenario, order, span.until)?;
+    let from = u64::from(span.from);
+    let told = told_on(alloc, scenario, &run, policy, from);
     let_go(run);
     told
 }

@@ -3,7 +3,7 @@ ghost use Rattle.nova_policy_top.specs.Exit.{of_fetch, of_words, status_of};
 
 use nova_command::CommandFault;
 use nova_io::FetchFault;
-use nova_judging::{Answer, JudgingFault};
+use nova_judging::Answer;
 use nova_naming::{PolicyFault, PolicyWhy};
 use nova_order::OrderFault;
 use nova_run::RunFault;
@@ -36,7 +36,7 @@ pub enum Exit {
     Told(Answer),
 
     /// The words ask for nothing. Nothing is written.
-    #[error("usage: nova_policy SCENARIO [--order ORDER] [--at TURN] [--policy POLICY]")]
+    #[error("usage: nova_policy SCENARIO [--order ORDER] [--at TURN] [--until TURN] [--policy POLICY]")]
     Usage,
 
     /// A file could not be fetched. Nothing is written.
@@ -55,7 +55,7 @@ pub enum Exit {
     #[error("order {0}")]
     Order(OrderFault),
 
-    /// One of the turns up to the one that is asked for meets an idle processor: one of this line of the order. Nothing is written.
+    /// One of the turns up to the last that is asked for meets an idle processor: one of this line of the order. Nothing is written.
     #[error("order line {0}: Idle")]
     Idle(u64),
 
@@ -63,9 +63,9 @@ pub enum Exit {
     #[error("policy line {line}: {why}")]
     Policy { line: u64, why: PolicyWhy },
 
-    /// This line of the policy is the first that names what is no protection domain after the turn. Nothing is written.
-    #[error("policy line {0}: NoDomain")]
-    NoDomain(u64),
+    /// The policy names what is no protection domain after the last turn: its first such number, and the line. Nothing is written.
+    #[error("policy line {line}: NoDomain {domain}")]
+    NoDomain { line: u64, domain: u32 },
 
     /// The text could not be written whole. What is written is the beginning of it.
     #[error("write fault")]
@@ -134,7 +134,7 @@ impl Exit {
             Exit::Scenario { .. } => 4,
             Exit::Order(_) | Exit::Idle(_) => 5,
             Exit::WriteFault => 6,
-            Exit::Policy { .. } | Exit::NoDomain(_) => 7,
+            Exit::Policy { .. } | Exit::NoDomain { .. } => 7,
             Exit::Memory => 8,
         }
     }
@@ -215,19 +215,6 @@ impl From<RunFault> for Exit {
         match fault {
             RunFault::OrderIdle(line) => Exit::Idle(line),
             RunFault::Memory => Exit::Memory,
-        }
-    }
-}
-
-impl From<JudgingFault> for Exit {
-    ghost use Rattle.nova_policy_top.specs.Exit.{of_judging};
-
-    ghost from_gives = { λ fault exit. exit ≡ of_judging fault };
-
-    fn from(fault: JudgingFault) -> Exit {
-        match fault {
-            JudgingFault::Stranger(line) => Exit::NoDomain(line),
-            JudgingFault::Memory => Exit::Memory,
         }
     }
 }

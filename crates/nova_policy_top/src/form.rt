@@ -4,7 +4,7 @@ ghost use Rattle.clap.specs.Simple.{app_of};
 ghost use Rattle.clap.specs.Walk.{rows_of, first_of, rule_of};
 ghost use Rattle.clap.specs.Matches.{found_of};
 ghost use Rattle.nova_command.specs.CommandFault.{AnswersBy, IsFaultOf};
-ghost use Rattle.nova_policy_top.specs.Form.{at_option, form, given, given_in, order_option, policy_option};
+ghost use Rattle.nova_policy_top.specs.Form.{at_option, form, given, given_in, order_option, policy_option, until_option};
 
 use clap::error::ErrorKind;
 use clap::{Arg, ArgMatches, Command, Error};
@@ -18,12 +18,18 @@ fn order_option<'a>(alloc: Global) -> Arg<'a>
     Arg::new(alloc, "order").long("order")
 }
 
-/// The turn, which is one million where none is given.
 fn at_option<'a>(alloc: Global) -> Arg<'a>
     ensures rule { rule_of result ≡ at_option }
     ensures local { result.global ≡ false }
 {
-    Arg::new(alloc, "at").long("at").default_value("1000000")
+    Arg::new(alloc, "at").long("at")
+}
+
+fn until_option<'a>(alloc: Global) -> Arg<'a>
+    ensures rule { rule_of result ≡ until_option }
+    ensures local { result.global ≡ false }
+{
+    Arg::new(alloc, "until").long("until")
 }
 
 fn policy_option<'a>(alloc: Global) -> Arg<'a>
@@ -41,6 +47,7 @@ fn form<'a>(alloc: Global) -> Result<Command<'a>, AllocError>
         .arg(Arg::new(alloc, "scenario"))?
         .arg(order_option(alloc))?
         .arg(at_option(alloc))?
+        .arg(until_option(alloc))?
         .arg(policy_option(alloc))
 }
 

@@ -1,5 +1,5 @@
 //! The top call of `nova_policy`: from the words of the command line, a scenario, an order of turns and a policy of sides to the lines that tell
-//! which sides are isolated from which in the state after a turn.
+//! which sides are isolated from which in the state after a turn, or in each up to one.
 #![tactic(auto)]
 
 mod decided;

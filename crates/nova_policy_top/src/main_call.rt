@@ -14,13 +14,13 @@ use std::alloc::Global;
 
 /// Reads what is asked for, and decides it.
 fn prepare<D: Depot>(alloc: Global, request: &Request, depot: &mut D) -> Result<Told, Exit>
-    requires last { request.now.at ≤ 10000000 }
+    requires last { request.now.span.until ≤ 10000000 }
     ensures { IsPrepared (depots D.files D.gave D.fetch_faults) request.now depot.old depot.new result }
 {
     let scenario = fetch_scenario(alloc, depot, &request.scenario)?;
     let order = fetch_order_if_named(alloc, depot, &request.order, scenario.cpus)?;
     let policy = fetch_policy_if_named(alloc, depot, &request.policy)?;
-    decide(alloc, &scenario, &order, &policy, request.at)
+    decide(alloc, &scenario, &order, &policy, request.span)
 }
 
 /// Writes what was told.
@@ -35,7 +35,7 @@ fn send<O: Sink>(out: &mut O, told: &Told) -> Exit
 
 /// Decides what is asked for, and writes it.
 fn serve<D: Depot, O: Sink>(alloc: Global, request: &Request, depot: &mut D, out: &mut O) -> Exit
-    requires last { request.now.at ≤ 10000000 }
+    requires last { request.now.span.until ≤ 10000000 }
     ensures answer { IsAnswer (depots D.files D.gave D.fetch_faults) (sinks O.written O.took O.write_failed O.faults) request.now result depot.old depot.new out.old out.new }
     ensures unwritten { IsUnwritten result → out.new ≡ out.old }
 {
@@ -46,20 +46,23 @@ fn serve<D: Depot, O: Sink>(alloc: Global, request: &Request, depot: &mut D, out
 }
 
 /// The top call: what the words ask for is decided over the depot's files, and the text that tells it is written to `out`. The words are
-/// those after the program's own name: `SCENARIO [--order ORDER] [--at TURN] [--policy POLICY]`, TURN from 0 to 10,000,000, and 1,000,000 where
-/// it isn't given.
+/// those after the program's own name: `SCENARIO [--order ORDER] [--at TURN] [--until TURN] [--policy POLICY]`, each TURN from 0 to 10,000,000.
 ///
 /// SCENARIO is fetched and read, of at most 16 MiB; then ORDER, of its processors, of at most 10,000,000 turns and 64 MiB; then POLICY, of at
-/// most 1 MiB. The scenario's run is taken from its boot state over the first TURN turns of the order, or of round robin. Of the state after them
-/// is told what the sides of the policy are, as it names them; or, where no policy is named, the finest sides beside a trusted root.
+/// most 1 MiB. The scenario's run is taken from its boot state over the first turns of the order, or of round robin. Of a state is told what the
+/// sides of the policy are, as it names them; or, where no policy is named, the finest sides beside a trusted root. Without `--until` it is the
+/// state after the TURN of `--at`, or after 1,000,000. With it, it is the first state from that of `--at`, or from the boot, until that of
+/// `--until`, in which the sides aren't isolated; or the last, where they are in each. A run that ends before has its last state there.
 /// The answer is `Told` with what they are: isolated or not, and what is trusted at rest or not, both exactly. The text is then written, whole:
-/// the turns, the verdict with where its capabilities came from, the finest sides, and the ties of sides to other domains.
+/// the turns, the verdict with where its capabilities came from, the finest sides, the sides of each processor, and the ties of sides to other
+/// domains.
 ///
 /// Other answers, each with its cause: Usage exactly where the words ask for nothing. ReadFault only where the count of failed fetches of one of
 /// the names rose. TooLong where more bytes came than may; Scenario, Order and Policy where the bytes that came are none, with the first line
-/// at fault. Idle where one of the turns meets an idle processor, with the line of the order that has the first such turn. NoDomain where a line of
-/// the policy names what is no protection domain in the state, with the first such line. WriteFault only where a write of the text failed; a part
-/// of it, from its first byte on, is then written. Memory may come in place of each. But for Told and WriteFault the sink is as before.
+/// at fault. Idle where one of the turns meets an idle processor, with the line of the order that has the first such turn. NoDomain where the
+/// policy names what is no protection domain in the last state, with the first such number and its line. WriteFault only where a write of the
+/// text failed; a part of it, from its first byte on, is then written. Memory may come in place of each. But for Told and WriteFault the sink is
+/// as before.
 pub fn policy_main<D: Depot, O: Sink>(
     alloc: Global,
     words: &[String],

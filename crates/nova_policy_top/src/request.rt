@@ -1,10 +1,10 @@
 // Words to a request.
-ghost use Rattle.std.specs.Prelude.{◌≡◌, ◌≤◌, IfOk, IfSome, map, option_map, string_bytes};
+ghost use Rattle.std.specs.Prelude.{◌≡◌, ◌≤◌, IfOk, IfSome, Some, map, option_map, string_bytes};
 ghost use Rattle.clap.specs.Walk.{rows_of};
 ghost use Rattle.clap.specs.Matches.{found_of};
 ghost use Rattle.nova_command.specs.CommandFault.{Answers};
 ghost use Rattle.nova_policy_top.specs.Form.{given_in};
-ghost use Rattle.nova_policy_top.specs.Words.{asked, asked_of, turn_of};
+ghost use Rattle.nova_policy_top.specs.Words.{asked, asked_of, between, spanned, turn_of, turn_or};
 
 use crate::form::{matches_of, text_of, with_program_name};
 use clap::ArgMatches;
@@ -12,7 +12,14 @@ use nova_command::{CommandFault, Name};
 use nova_text::parse_number;
 use std::alloc::{AllocError, Global};
 
-/// What the program is asked: which files, and after which turn of the scenario's run.
+/// Turns of a run: the last, and the first whose state is asked for, from 0 to 10,000,000 and not after it.
+#[derive(Clone, Copy, Debug)]
+pub struct Span {
+    pub from: u32,
+    pub until: u32,
+}
+
+/// What the program is asked: which files, and after which turns of the scenario's run.
 #[derive(Debug, Drop)]
 pub struct Request {
     /// The file of the scenario.
@@ -21,8 +28,8 @@ pub struct Request {
     /// The file of the order of turns. Where none is named, they go round robin.
     pub order: Option<Name>,
 
-    /// The turn, from 0 to 10,000,000.
-    pub at: u32,
+    /// The turns.
+    pub span: Span,
 
     /// The file of the policy. Where none is named, the root's domain is trusted, and the finest sides of all others are looked for.
     pub policy: Option<Name>,
@@ -42,6 +49,60 @@ fn read_turn(text: &str) -> Option<u32>
         .filter(|turn| *turn <= LAST_TURN)
 }
 
+/// The turn that a text writes, or another one where there is no text.
+fn turn_or(turn: u32, text: Option<&str>) -> Option<u32>
+    requires { turn ≤ 10000000 }
+    ensures exact { result ≡ turn_or turn (option_map (λ t. t.now) text.entry) }
+    ensures last { IfSome result (λ t. t ≤ 10000000) }
+{
+    match text {
+        Some(text) => read_turn(text),
+        None => Some(turn),
+    }
+}
+
+/// From a turn on, until another, which isn't before it.
+fn between(from: u32, until: u32) -> Option<Span>
+    ensures exact { result ≡ between from until }
+    ensures last { IfSome result (λ span. span.until ≡ until) }
+{
+    if from <= until {
+        Some(Span { from, until })
+    } else {
+        None
+    }
+}
+
+/// The turns from the one that is given, or from the boot, until another.
+fn span_until(at: Option<&str>, until: &str) -> Option<Span>
+    ensures exact { result ≡ spanned (option_map (λ t. t.now) at.entry) (Some until.now) }
+    ensures last { IfSome result (λ span. span.until ≤ 10000000) }
+{
+    let until = read_turn(until)?;
+    let from = turn_or(0, at)?;
+    between(from, until)
+}
+
+/// The one turn that is given.
+fn span_at(at: Option<&str>) -> Option<Span>
+    ensures exact { result ≡ spanned (option_map (λ t. t.now) at.entry) None }
+    ensures last { IfSome result (λ span. span.until ≤ 10000000) }
+{
+    let turn = turn_or(1_000_000, at)?;
+    between(turn, turn)
+}
+
+/// The turns that are given.
+fn spanned(at: Option<&str>, until: Option<&str>) -> Option<Span>
+    ensures exact { result ≡ spanned (option_map (λ t. t.now) at.entry) (option_map (λ t. t.now) until.entry) }
+    ensures last { IfSome result (λ span. span.until ≤ 10000000) }
+{
+    match until {
+        Some(until) => span_until(at, until),
+        None => span_at(at),
+    }
+}
+
 /// A text as a name of its own.
 fn name_of(alloc: Global, text: &str) -> Result<Name, AllocError>
     ensures { IfOk result (λ name. name ≡ text.now) }
@@ -59,17 +120,17 @@ fn name_if_any(alloc: Global, text: Option<&str>) -> Result<Option<Name>, AllocE
     }
 }
 
-/// The request for a scenario at a turn.
+/// The request for a scenario and some turns.
 fn request_for(
     alloc: Global,
     matches: &ArgMatches,
     scenario: &str,
-    at: u32,
+    span: Span,
 ) -> Result<Request, AllocError>
     ensures { IfOk result (λ request. request ≡ record {
       scenario = scenario.now;
       order = (given_in (rows_of (found_of matches.now))).order;
-      at = at;
+      span = span;
       policy = (given_in (rows_of (found_of matches.now))).policy;
     }) }
 {
@@ -79,7 +140,7 @@ fn request_for(
     Ok(Request {
         scenario,
         order,
-        at,
+        span,
         policy,
     })
 }
@@ -87,25 +148,26 @@ fn request_for(
 /// The request that was given.
 fn request_of(alloc: Global, matches: &ArgMatches) -> Result<Request, CommandFault>
     ensures exact { Answers (asked_of (given_in (rows_of (found_of matches.now)))) result }
-    ensures last { IfOk result (λ request. request.at ≤ 10000000) }
+    ensures last { IfOk result (λ request. request.span.until ≤ 10000000) }
 {
     let Some(scenario) = text_of(matches, "scenario") else {
         return Err(CommandFault::Usage);
     };
-    let Some(at) = text_of(matches, "at").and_then(read_turn) else {
+    let Some(span) = spanned(text_of(matches, "at"), text_of(matches, "until")) else {
         return Err(CommandFault::Usage);
     };
-    Ok(request_for(alloc, matches, scenario, at)?)
+    Ok(request_for(alloc, matches, scenario, span)?)
 }
 
-/// Reads the words after the program's own name: `SCENARIO [--order ORDER] [--at TURN] [--policy POLICY]`, the options anywhere among them.
+/// Reads the words after the program's own name: `SCENARIO [--order ORDER] [--at TURN] [--until TURN] [--policy POLICY]`, the options anywhere
+/// among them.
 ///
-/// TURN is decimal digits, or `0x` and hexadecimal digits, of a number from 0 to 10,000,000; where it is not given, it is 1,000,000. `Usage`
-/// comes exactly where the words are no request, and asking for help or for the version is none. `Memory` says nothing of the words.
+/// TURN is decimal digits, or `0x` and hexadecimal digits, of a number from 0 to 10,000,000. Without `--until` the one turn is that of `--at`, or
+/// 1,000,000; with it the first turn is that of `--at`, or 0, and not after the last. `Usage` comes exactly where the words are no request, and asking for help or for the version is none. `Memory` says nothing of the words.
 #[tactic(auto, unfolding(crate::specs::Words::asked))]
 pub fn read_request(alloc: Global, words: &[String]) -> Result<Request, CommandFault>
     ensures exact { Answers (asked (map string_bytes words.now)) result }
-    ensures last { IfOk result (λ request. request.at ≤ 10000000) }
+    ensures last { IfOk result (λ request. request.span.until ≤ 10000000) }
 {
     let named = with_program_name(alloc, words)?;
     let matches = matches_of(alloc, named.as_slice())?;

@@ -1,10 +1,10 @@
 ghost use Rattle.std.specs.Prelude.{◌≡◌, ◌≤◌, ◌++◌, ◌-◌, min, replicate, None, Some, IfOk, IfErr, IfSome, IsTrue, OnOk, take};
 ghost use Rattle.nova_boot.specs.Boot.{scenario_of};
 ghost use Rattle.nova_model.specs.Boot.{boot};
-ghost use Rattle.nova_order.specs.Blocks.{is_within, total, turns};
+ghost use Rattle.nova_order.specs.Blocks.{IsOrder, is_within, total, turns};
 ghost use Rattle.nova_scenario.specs.Sound.{IsSound};
 ghost use Rattle.nova_policy_top.specs.declared.exit.Exit.TheVariants.{Memory};
-ghost use Rattle.nova_policy_top.specs.Runs.{HasRun, HasRunTo, IsNotRun, IsStopped};
+ghost use Rattle.nova_policy_top.specs.Runs.{HasRun, HasTaken, IsNotRun, IsStopped};
 
 use crate::exit::Exit;
 use nova_boot::boot;
@@ -42,7 +42,7 @@ fn first_turns(alloc: Global, order: &Order, most: u64) -> Result<Order, AllocEr
 fn run_rounds(alloc: Global, scenario: &Scenario, at: u32) -> Result<Finished, Exit>
     requires sound { IsSound scenario.now }
     requires last { at ≤ 10000000 }
-    ensures run { IfOk result (λ run. HasRun (boot (scenario_of scenario.now)) None at run.kernel.state) }
+    ensures run { IfOk result (HasRun (boot (scenario_of scenario.now)) None at) }
     ensures memory { IfErr result (λ exit. exit ≡ Memory) }
 {
     law_turns::round_robin_runs_out();
@@ -55,10 +55,12 @@ fn run_rounds(alloc: Global, scenario: &Scenario, at: u32) -> Result<Finished, E
 fn run_first(alloc: Global, scenario: &Scenario, first: &Order, at: u32) -> Result<Finished, Exit>
     requires sound { IsSound scenario.now }
     requires last { at ≤ 10000000 }
+    requires order { IsOrder first.now.blocks }
     requires within { IsTrue (is_within scenario.now.cpus at first.now.blocks) }
-    ensures run { IfOk result (λ run. HasRunTo (boot (scenario_of scenario.now)) (turns first.now.blocks) run.kernel.state) }
+    ensures run { IfOk result (HasTaken (boot (scenario_of scenario.now)) (turns first.now.blocks)) }
     ensures idle { IfErr result (IsNotRun (boot (scenario_of scenario.now)) first.now.blocks) }
 {
+    nova_order::laws::bounds_are_of_turns();
     let most = u64::from(at);
     let kernel = boot(alloc, scenario, most)?;
     Ok(run_order(alloc, kernel, first, most)?)
@@ -69,7 +71,7 @@ fn run_along(alloc: Global, scenario: &Scenario, order: &Order, at: u32) -> Resu
     requires sound { IsSound scenario.now }
     requires last { at ≤ 10000000 }
     requires within { IsTrue (is_within scenario.now.cpus 10000000 order.now.blocks) }
-    ensures run { IfOk result (λ run. HasRun (boot (scenario_of scenario.now)) (Some order.now) at run.kernel.state) }
+    ensures run { IfOk result (HasRun (boot (scenario_of scenario.now)) (Some order.now) at) }
     ensures idle { IfErr result (IsStopped (boot (scenario_of scenario.now)) (Some order.now) at) }
 {
     nova_order::laws::bounds_are_of_turns();
@@ -89,7 +91,7 @@ pub fn run_to(
     requires sound { IsSound scenario.now }
     requires last { at ≤ 10000000 }
     requires within { IfSome order.now (λ o. IsTrue (is_within scenario.now.cpus 10000000 o.blocks)) }
-    ensures run { IfOk result (λ run. HasRun (boot (scenario_of scenario.now)) order.now at run.kernel.state) }
+    ensures run { IfOk result (HasRun (boot (scenario_of scenario.now)) order.now at) }
     ensures idle { IfErr result (IsStopped (boot (scenario_of scenario.now)) order.now at) }
 {
     match order {

@@ -43,6 +43,7 @@ breach_found k label t is =
     let found = broken_there label (ties k) t is in
     let off : Respects label t → ⊥ = λ r. not_both (is_respected label t) (respected_from label t r) found.1 in
     record {
+      first = is;
       there = contains_from_in (ties k) t found.0;
       broken = off;
       none = λ isolated. off (all_at (Respects label) (ties k) t (isolated_respects k label isolated) found.0);

@@ -1,11 +1,11 @@
 -- What an answer says of labels in a state.
-use Rattle.std.specs.Prelude.{◌≡◌, ◌≢◌, ℕ, Contains, false, slice_get, Some}
+use Rattle.std.specs.Prelude.{◌≡◌, ◌≢◌, ℕ, Contains, false, find, slice_get, Some}
 use Rattle.nova_objects.specs.declared.object.Object.TheVariants.{Pd}
 use Rattle.nova_range.specs.declared.range.Kind.TheVariants.{Obj}
 use Rattle.nova_model.specs.State.{KernelState, context_at, pd_of}
 use Rattle.nova_model.specs.declared.context.EcState.{EcState}
 use Rattle.law_integrity.specs.Confined.{IsOwned}
-use Rattle.nova_ties.specs.Ties.{Respects}
+use Rattle.nova_ties.specs.Ties.{Respects, is_broken}
 use Rattle.nova_ties.specs.declared.tie.Tie.{Tie}
 use Rattle.law_sides.specs.Resting.{IsAtRest, Sided, is_resting}
 use Rattle.law_sides.specs.Isolated.{AreIsolated}
@@ -21,8 +21,9 @@ IsRestless k label (Astray n) = (label n ≢ 0) × (slice_get k.objects n ≢ So
 IsRestless k label (Leads d) = Contains k.delegations.list d × (d.kind ≡ Obj) × (label d.pd ≢ 0) × (IsOwned k (Sided label) d.target (slice_get k.objects d.target) → ⊥)
 IsRestless k label (Stirs n) = (label (pd_of k n) ≡ 0) × ((x : EcState) × (context_at k n ≡ Some x) × (is_resting x.state ≡ false))
 
--- a tie of the state that the labels don't respect, and so the sides aren't isolated
+-- the first tie of the state that the labels don't respect, and so the sides aren't isolated
 pub record IsBreach (k : KernelState) (label : ℕ → ℕ) (t : Tie) : Type 0 where
+  pub first : find (is_broken label) (ties k) ≡ Some t
   pub there : Contains (ties k) t
   pub broken : Respects label t → ⊥
   pub none : AreIsolated k label → ⊥

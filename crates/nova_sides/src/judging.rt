@@ -29,7 +29,7 @@ pub enum Verdict {
     Apart,
     /// The sides are isolated, and this is why not all that is trusted is at rest: they are apart for as long as what is trusted is careful.
     Served(Restless),
-    /// The sides aren't isolated: a tie that the labels don't respect.
+    /// The sides aren't isolated: the first tie that the labels don't respect.
     Breach(Tie),
 }
 
@@ -53,7 +53,8 @@ fn first_restless(kernel: &Kernel, labels: &[u32], list: &[Derivation]) -> Optio
     }
 }
 
-/// What the sides of `labels` are in the present state of `kernel`: isolated or not, exactly; and beside what is at rest or not, exactly.
+/// What the sides of `labels` are in the present state of `kernel`: isolated or not, exactly, with the first tie that they don't respect; and beside
+/// what is at rest or not, exactly.
 pub fn judge(alloc: Global, kernel: &Kernel, labels: &[u32]) -> Result<Verdict, AllocError>
     requires few { length labels.now < 2 ^ 32 }
     ensures judged { IfOk result (λ v. IsJudged kernel.now.state (label_in labels.now) v) }

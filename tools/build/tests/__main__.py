@@ -293,11 +293,12 @@ class Hints(unittest.TestCase):
             ([], "no scenario is named"),
             (["--at", "3"], "no scenario is named"),
             (["a", "b"], "there is a word too many: 'b'"),
-            (["a", "--until", "3"], "there is no option --until (a file with such a name stands behind --)"),
+            (["a", "--from", "3"], "there is no option --from (a file with such a name stands behind --)"),
             (["a", "--at=1", "--at", "2"], "--at is given twice"),
             (["a", "--policy"], "--policy wants POLICY behind it"),
             (["a", "--at", "x"], "--at: 'x' is no number"),
-            (["a", "--at", "0x989681"], "--at: 10,000,001 is more than 10,000,000"),
+            (["a", "--until", "0x989681"], "--until: 10,000,001 is more than 10,000,000"),
+            (["a", "--at", "4", "--until", "3"], "--until is before --at"),
         ):
             with self.subTest(words):
                 self.assertEqual(policy_hints(words), [f"these words are no request: {why}. ./nova-policy --help lists them"])

@@ -38,8 +38,8 @@ REFUSED = (
     ("side a 3\nside b 10 3\n", "line 2: SameDomain"),
     ("trusted 0 0\n", "line 1: SameDomain"),
     ("".join(f"side s{n} {n}\n" for n in range(1001)), "line 1001: TooMany"),
-    ("trusted 0\nside a 3\nside b 10 4\n", "line 3: NoDomain"),
-    ("trusted 1000\n", "line 1: NoDomain"),
+    ("trusted 0\nside a 3\nside b 10 4 5\n", "line 3: NoDomain 4"),
+    ("trusted 0 1000\nside a 4\n", "line 1: NoDomain 1000"),
 )
 # Words that are no request, or name what isn't there, and the status.
 WRONG = (
@@ -47,7 +47,9 @@ WRONG = (
     (["--help"], 2),
     (["examples/apart.nova", "examples/apart.order"], 2),
     (["examples/apart.nova", "--at", "10000001"], 2),
-    (["examples/apart.nova", "--until", "9"], 2),
+    (["examples/apart.nova", "--from", "9"], 2),
+    (["examples/apart.nova", "--until", "10000001"], 2),
+    (["examples/apart.nova", "--at", "9", "--until", "8"], 2),
     (["examples/no_such.nova"], 3),
     (["examples/apart.nova", "--policy", "no_such.policy"], 3),
     (["examples/apart.order"], 4),
@@ -88,11 +90,11 @@ class Kept(unittest.TestCase):
         questions, _ = read_kept(ANSWERS.read_text())
         variants = [one for one in questions if one.edits and "tenants.nova" in one.words and one.status == 9]
         causes = {read_sides(one.answer).breach.cause for one in variants}
-        self.assertLessEqual({"domain", "context", "portal", "scheduling", "frames", "shared", "waits"}, causes)
+        self.assertLessEqual({"domain", "context", "portal", "scheduling", "frames", "shared", "waits", "queue"}, causes)
         for one in variants:
+            breach = read_sides(one.answer).breach
             with self.subTest(one.edits):
-                told = read_sides(one.answer)
-                self.assertIn(one.last_capability(Means.program), told.breach.capabilities)
+                self.assertIn(one.last_capability(Means.program), breach.capabilities) if breach.capabilities else self.assertEqual(breach.cause, "queue")
 
 
 class Reported(unittest.TestCase):
@@ -135,9 +137,10 @@ class Read(unittest.TestCase):
     """What is no answer isn't read."""
 
     def test_an_answer_is_read_with_its_ties_or_refused(self) -> None:
-        told = read_sides("turn 3\nbreach a:5 trusted:0 domain cap 9 strict\nfrom 9 - 0 obj 0 0 1 0\ntrusted: 0\nside a: 5\ntie a:5 4:4 queue ec 1 ec 2\n")
+        told = read_sides("turn 3\nbreach a:5 trusted:0 domain cap 9 strict\nfrom 9 - 0 obj 0 0 1 0\ntrusted: 0\nside a: 5\nprocessor 0: a 4\nprocessor 1:\ntie a:5 4:4 queue ec 1 ec 2\n")
         self.assertEqual((told.turn, told.breach.strict, told.links[0].parent, told.sides, told.ties[0].text), (3, True, None, {"a": (5,)}, "queue ec 1 ec 2"))
-        for text in ("", "turn x\n", "turn 3\n", "turn 3\napart", "turn 3\napart\nhello\n", "turn 3\nbreach a:5 b:6 portal ec 3\n", "turn 3\napart\ntie a:5 portal cap 3\n"):
+        self.assertEqual(told.processors, [("a", "4"), ()])
+        for text in ("", "turn x\n", "turn 3\n", "turn 3\napart", "turn 3\napart\nhello\n", "turn 3\napart\nprocessor 1: a\n", "turn 3\nbreach a:5 b:6 portal ec 3\n", "turn 3\napart\ntie a:5 portal cap 3\n"):
             with self.subTest(text), self.assertRaises(Fault):
                 read_sides(text)
 

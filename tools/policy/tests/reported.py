@@ -23,6 +23,8 @@ CONTEXTS = {1: 0, 4: 3, 8: 3, 11: 10, 15: 10}
 PORTALS, SCHEDULING, SEMAPHORES = {5: 4, 12: 11}, {2: 1, 9: 8, 16: 15}, (6, 7, 13, 14)
 WAITS = {8: 7, 15: 14}
 WRITE, CREATE, CONTROL, ANY = 2, 1, 1, 7
+# Both tenants have a thread on the only processor.
+PROCESSOR = "processor 0: a b"
 
 
 @dataclass(frozen=True, slots=True)
@@ -99,6 +101,6 @@ def differing_of(seed: int, program: Path, nova: Path, folder: Path) -> str | No
     file.write_text(SCENARIO.read_text().replace(LINE, f"more:   li x12, {word:#x}"))
     told = subprocess.run([str(program), str(file), "--policy", str(POLICY)], capture_output=True, text=True, check=False).stdout.splitlines()
     report = subprocess.run([str(nova), "solo", str(file)], capture_output=True, text=True, check=True).stdout
-    lines = [line for line in told if line.startswith("tie ")]
-    pairs = zip([*lines, "(the end)"], [*ties_of(read_report(report)), "(the end)"], strict=False)
+    lines = [line for line in told if line.startswith(("processor ", "tie "))]
+    pairs = zip([*lines, "(the end)"], [PROCESSOR, *ties_of(read_report(report)), "(the end)"], strict=False)
     return next((f"range {word:#x}: {one!r} in place of {other!r}" for one, other in pairs if one != other), None)

@@ -18,4 +18,4 @@ returns-clause-run c =
     let s = scenario_of c.args.scenario.now in
     let begun : c.in_ok-kernel.kernel.state ≡ boot s = ap (λ (k : KernelView). k.state) c.in_ok-kernel.ensures in
     let same : c.from-most.result ≡ c.args.at = search rules in
-    by_rounds s c.args.at c.from-most.result c.in_ok-kernel.kernel.state _ begun same c.in_ok-round_robin.ensures.finished (c.round_robin_runs_out.ensures (boot s) c.args.at)
+    by_rounds s c.args.at c.from-most.result c.in_ok-kernel.kernel.state _ c.requires.last begun same c.in_ok-round_robin.ensures.finished (c.round_robin_runs_out.ensures (boot s) c.args.at)
