@@ -1,12 +1,12 @@
 -- From states that were found to orders.
 use Rattle.std.proofs.Common.{◌≡◌, ◌∙◌, ◌<◌, ℕ, List, refl, ap, sym, subst, length}
-use Rattle.std.specs.Prelude.{Bool, true, false, Option, Some, None, Result, Ok, Err, IfOk, Contains, slice_index_or}
+use Rattle.std.specs.Prelude.{All, Bool, true, false, Option, Some, None, Result, Ok, Err, IfOk, Contains, slice_index_or}
 use Rattle.std.proofs.lemmas.List.{length-map}
 use Rattle.nova_model.specs.Choice.{is_quiet}
 use Rattle.nova_model.specs.Runs.{run}
 use Rattle.nova_model.specs.State.{KernelState}
 use Rattle.nova_order.specs.Blocks.{BlockList, turns}
-use Rattle.nova_search.specs.Searches.{AreAll, AreAllWithin, IsWay, state_at, state_of, states_of}
+use Rattle.nova_search.specs.Searches.{AreAll, AreAllWithin, AreLinked, IsReached, IsWay, state_at, state_of, states_of}
 use Rattle.nova_search.specs.declared.exploring.Explored.{Explored}
 use Rattle.nova_search.specs.declared.found.Found.{Found}
 use Rattle.nova_search.proofs.Growth.{state_here}
@@ -86,6 +86,12 @@ end_by k found place f order text less is first ways quiet same = record {
   where
     way : IsWay k (state_at found place k) order
     way = way_from k found place order first ways k
+
+-- what a search promises, clause by clause
+pub searched : (k : KernelState) (limit most : ℕ) (e : Explored) → All (IsReached k) (states_of e.found.items) → (e.is_over ≡ true → AreAllWithin k limit (states_of e.found.items)) →
+    (e.is_over ≡ true → e.is_whole ≡ true → AreAll k (states_of e.found.items)) → (e.is_over ≡ false → most < length e.found.items) → BeginsIn k e.found.items →
+    AreLinked e.found.items → IsSearch k limit most e
+searched k limit most e reached within all more first linked = record { reached = reached; within = within; all = all; more = more; first = first; linked = linked }
 
 -- what is told of what a search found
 pub told_never : (q : Question) (k : KernelState) (limit most : ℕ) (e : Explored) (found : List Found) (o : Option ℕ) (extent : Extent) → IsSearch k limit most e →

@@ -1,4 +1,6 @@
-ghost use Rattle.std.specs.Prelude.{◌≡◌, ◌^◌, ◌≤◌, IfOk};
+ghost use Rattle.std.specs.Prelude.{◌≡◌, ◌^◌, ◌≤◌, ℕ, IfOk};
+ghost use Rattle.nova_model.specs.State.{KernelState};
+ghost use Rattle.nova_search.specs.Searches.{AreLinked};
 ghost use Rattle.nova_asking.specs.Answers.{IsAnswer};
 ghost use Rattle.nova_asking.specs.Questions.{IsApt};
 ghost use Rattle.nova_asking.specs.Searched.{IsCount, IsPlaceSo, IsSearch};
@@ -40,19 +42,12 @@ fn first_so(
     Ok(None)
 }
 
-/// What is answered to a question by the states that a search from `opening` found.
-fn answered(
-    alloc: Global,
-    opening: &Vertex,
-    limit: u64,
-    most: usize,
-    question: &Question,
-    explored: &Explored,
-) -> Result<Answer, AllocError>
+/// What is answered to a question by the states that a search found.
+fn answered(alloc: Global, question: &Question, explored: &Explored) -> Result<Answer, AllocError>
     requires apt { IsApt question.now }
-    requires search { IsSearch opening.now limit most explored.now }
-    ensures answer { IfOk result (IsAnswer question.now opening.now limit) }
-    ensures states { IfOk result (λ a. IsCount opening.now most a.extent a.states) }
+    requires linked { AreLinked explored.now.found.items }
+    ensures answer { (k : KernelState) (limit most : ℕ) → IsSearch k limit most explored.now → IfOk result (IsAnswer question.now k limit) }
+    ensures states { (k : KernelState) (limit most : ℕ) → IsSearch k limit most explored.now → IfOk result (λ a. IsCount k most a.extent a.states) }
 {
     let found = explored.found.as_slice();
     let extent = Extent::of(explored.is_over, explored.is_whole);
@@ -87,7 +82,7 @@ pub fn judge(
     ensures states { IfOk result (λ a. IsCount opening.now most a.extent a.states) }
 {
     let explored = explore(alloc, opening, limit, most)?;
-    let answer = answered(alloc, opening, limit, most, question, &explored);
+    let answer = answered(alloc, question, &explored);
     let_go(explored);
     answer
 }

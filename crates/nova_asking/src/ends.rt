@@ -1,4 +1,4 @@
-ghost use Rattle.std.specs.Prelude.{◌≡◌, ◌^◌, ◌<◌, ◌≤◌, true, length, IfOk, OnOk, Contains};
+ghost use Rattle.std.specs.Prelude.{◌≡◌, ◌^◌, ◌<◌, ◌≤◌, ℕ, true, length, IfOk, OnOk, Contains};
 ghost use Rattle.std.specs.Bool.{Decides};
 ghost use Rattle.std.specs.List.{AllByRecursion};
 ghost use Rattle.nova_model.specs.Choice.{is_quiet};
@@ -125,19 +125,13 @@ fn gather(alloc: Global, found: &[Found]) -> Result<Vec<End>, AllocError>
     Ok(ends)
 }
 
-/// The outcomes of the states that a search from `opening` found.
-fn ends_of(
-    alloc: Global,
-    opening: &Vertex,
-    limit: u64,
-    most: usize,
-    explored: &Explored,
-) -> Result<Ends, AllocError>
-    requires { IsSearch opening.now limit most explored.now }
-    ensures each { IfOk result (λ e. AllByRecursion (IsEnd opening.now) e.ends.items) }
-    ensures all { IfOk result (λ e. AreEnds opening.now limit e.extent (outcomes e.ends.items)) }
+/// The outcomes of the states that a search found.
+fn ends_of(alloc: Global, explored: &Explored) -> Result<Ends, AllocError>
+    requires { AreLinked explored.now.found.items }
+    ensures each { (k : KernelState) (limit most : ℕ) → IsSearch k limit most explored.now → IfOk result (λ e. AllByRecursion (IsEnd k) e.ends.items) }
+    ensures all { (k : KernelState) (limit most : ℕ) → IsSearch k limit most explored.now → IfOk result (λ e. AreEnds k limit e.extent (outcomes e.ends.items)) }
     ensures once { IfOk result (λ e. AreDistinct (outcomes e.ends.items)) }
-    ensures states { IfOk result (λ e. IsCount opening.now most e.extent e.states) }
+    ensures states { (k : KernelState) (limit most : ℕ) → IsSearch k limit most explored.now → IfOk result (λ e. IsCount k most e.extent e.states) }
 {
     let found = explored.found.as_slice();
     let extent = Extent::of(explored.is_over, explored.is_whole);
@@ -165,7 +159,7 @@ pub fn list_ends(
     ensures states { IfOk result (λ e. IsCount opening.now most e.extent e.states) }
 {
     let explored = explore(alloc, opening, limit, most)?;
-    let ends = ends_of(alloc, opening, limit, most, &explored);
+    let ends = ends_of(alloc, &explored);
     let_go(explored);
     ends
 }

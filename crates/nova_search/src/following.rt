@@ -1,8 +1,37 @@
-ghost use Rattle.std.specs.Prelude.{◌+◌, ◌^◌, ◌≤◌, length, IfOk};
-ghost use Rattle.nova_search.specs.Searches.{IsEnd};
+ghost use Rattle.std.specs.Prelude.{◌≡◌, ◌+◌, ◌^◌, ◌<◌, ◌≤◌, true, length, IfOk};
+ghost use Rattle.nova_compare.specs.Steps.{IsSuccessor};
+ghost use Rattle.nova_search.specs.Searches.{IsEnd, IsWay};
 
 use nova_compare::Vertex;
 use std::alloc::AllocError;
+
+/// Goes on by a turn of a processor, and says whether it took one: it may be idle, or not be there.
+fn go_on(vertex: &mut Vertex, cpu: u32) -> Result<bool, AllocError>
+    requires { vertex.old.turns < 2 ^ 31 }
+    ensures { IfOk result (λ went. went ≡ true → (cpu < vertex.old.cpus) × IsSuccessor vertex.old cpu vertex.new) }
+{
+    if cpu >= vertex.cpus() {
+        return Ok(false);
+    }
+    let Some(next) = vertex.next(cpu)? else {
+        return Ok(false);
+    };
+    *vertex = next;
+    Ok(true)
+}
+
+/// Goes along an order of turns, and says whether it took each.
+fn go_along(vertex: &mut Vertex, order: &[u32]) -> Result<bool, AllocError>
+    requires { vertex.old.turns + length order.now ≤ 2 ^ 31 }
+    ensures { IfOk result (λ went. went ≡ true → IsWay vertex.old vertex.new order.now) }
+{
+    for cpu in order {
+        if !go_on(vertex, *cpu)? {
+            return Ok(false);
+        }
+    }
+    Ok(true)
+}
 
 /// The vertex after the turns of `order` from `opening`; none where one of them is of a processor that isn't there, or is idle. At most 2^31
 /// turns are taken in all.
@@ -10,16 +39,10 @@ pub fn follow(opening: &Vertex, order: &[u32]) -> Result<Option<Vertex>, AllocEr
     requires { opening.now.turns + length order.now ≤ 2 ^ 31 }
     ensures { IfOk result (IsEnd opening.now order.now) }
 {
-    let cpus = opening.cpus();
     let mut vertex = opening.copy()?;
-    for cpu in order {
-        if *cpu >= cpus {
-            return Ok(None);
-        }
-        let Some(next) = vertex.next(*cpu)? else {
-            return Ok(None);
-        };
-        vertex = next;
+    if go_along(&mut vertex, order)? {
+        Ok(Some(vertex))
+    } else {
+        Ok(None)
     }
-    Ok(Some(vertex))
 }

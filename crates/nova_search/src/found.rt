@@ -9,7 +9,7 @@ use nova_compare::Vertex;
 use std::alloc::AllocError;
 
 /// The most states of one hash that a state is compared with. One that is not seen to be there is entered once more.
-const MOST_COMPARED: usize = 8;
+const MOST_COMPARED: usize = 64;
 
 /// A state that was found: after a turn of processor `cpu` in the state at place `from` of what was found. The first is the
 /// state in which the search begins.

@@ -1,5 +1,5 @@
 use nova_compare::Vertex;
-use nova_kernel::{EcState, Kernel, State};
+use nova_kernel::{EcState, Kernel, LogByte, State};
 
 /// The hash of no words.
 const FIRST: u64 = 0xcbf2_9ce4_8422_2325;
@@ -63,6 +63,15 @@ fn with_frame(hash: u64, frame: &[u8]) -> u64 {
     hash
 }
 
+/// A hash with what consoles show.
+fn with_log(hash: u64, log: &[LogByte]) -> u64 {
+    let mut hash = hash;
+    for byte in log {
+        hash = with(hash, u64::from(byte.console) << 8 | u64::from(byte.value));
+    }
+    hash
+}
+
 /// The hash of the state of a vertex. States of one hash may differ.
 pub(crate) fn hash_of(vertex: &Vertex) -> u64 {
     let kernel = vertex.kernel();
@@ -73,5 +82,5 @@ pub(crate) fn hash_of(vertex: &Vertex) -> u64 {
     for frame in 0..kernel.ram() {
         hash = with_frame(hash, kernel.frame(frame));
     }
-    with(hash, kernel.log().len() as u64)
+    with_log(hash, kernel.log())
 }

@@ -1,17 +1,24 @@
-use Rattle.std.proofs.Common.{rules, ◌≡◌, ap, length}
+use Rattle.std.proofs.Common.{rules, ◌≡◌, List, ap, length, subst, sym}
+use Rattle.nova_search.specs.declared.found.Found.{Found}
 use Rattle.nova_asking.specs.Answers.{outcomes}
+use Rattle.nova_asking.specs.Searched.{BeginsIn}
 use Rattle.nova_asking.proofs.Told.{counted, told_ends}
 use Rattle.nova_asking.proofs.ends.ends_of.Goals as goal
 
 pub returns-clause-all : goal.returns-clause-all
-returns-clause-all c =
+returns-clause-all c = λ k limit most given.
     let e = c.args.explored.now in
     let same : c.as_slice-found.result.now ≡ e.found.items = search rules in
-    told_ends c.args.opening.now c.args.limit c.args.most e c.as_slice-found.result.now (outcomes c.in_ok-ends.ends.items) c.of-extent.result c.requires same
+    told_ends k limit most e c.as_slice-found.result.now (outcomes c.in_ok-ends.ends.items) c.of-extent.result given same
     c.in_ok-ends.ensures.all c.of-extent.ensures
 
 pub returns-clause-states : goal.returns-clause-states
-returns-clause-states c =
+returns-clause-states c = λ k limit most given.
     let e = c.args.explored.now in
     let same : c.as_slice-found.result.now ≡ e.found.items = search rules in
-    counted c.args.opening.now c.args.limit c.args.most e c.of-extent.result (length c.as_slice-found.result.now) c.requires c.of-extent.ensures (ap length same)
+    counted k limit most e c.of-extent.result (length c.as_slice-found.result.now) given c.of-extent.ensures (ap length same)
+
+pub returns-clause-each : goal.returns-clause-each
+returns-clause-each c = λ k limit most given.
+    let same : c.as_slice-found.result.now ≡ c.args.explored.now.found.items = search rules in
+    c.in_ok-ends.ensures.each k (subst (λ (l : List Found). BeginsIn k l) (sym same) given.first)

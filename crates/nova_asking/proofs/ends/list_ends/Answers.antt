@@ -1,11 +1,20 @@
+use Rattle.nova_asking.proofs.Told.{searched}
 use Rattle.nova_asking.proofs.ends.list_ends.Goals as goal
 
-pub ends_of-ends-requires : goal.ends_of-ends-requires
-ends_of-ends-requires c = record {
-  reached = c.in_ok-explored.ensures.reached;
-  within = c.in_ok-explored.ensures.within;
-  all = c.in_ok-explored.ensures.all;
-  more = c.in_ok-explored.ensures.more;
-  first = c.in_ok-explored.ensures.first;
-  linked = c.in_ok-explored.ensures.linked;
-}
+pub returns-clause-each : goal.returns-clause-each
+returns-clause-each c =
+    let given = searched c.args.opening.now c.args.limit c.args.most c.in_ok-explored.explored c.in_ok-explored.ensures.reached c.in_ok-explored.ensures.within
+    c.in_ok-explored.ensures.all c.in_ok-explored.ensures.more c.in_ok-explored.ensures.first c.in_ok-explored.ensures.linked in
+    c.ends_of-ends.ensures.each c.args.opening.now c.args.limit c.args.most given
+
+pub returns-clause-all : goal.returns-clause-all
+returns-clause-all c =
+    let given = searched c.args.opening.now c.args.limit c.args.most c.in_ok-explored.explored c.in_ok-explored.ensures.reached c.in_ok-explored.ensures.within
+    c.in_ok-explored.ensures.all c.in_ok-explored.ensures.more c.in_ok-explored.ensures.first c.in_ok-explored.ensures.linked in
+    c.ends_of-ends.ensures.all c.args.opening.now c.args.limit c.args.most given
+
+pub returns-clause-states : goal.returns-clause-states
+returns-clause-states c =
+    let given = searched c.args.opening.now c.args.limit c.args.most c.in_ok-explored.explored c.in_ok-explored.ensures.reached c.in_ok-explored.ensures.within
+    c.in_ok-explored.ensures.all c.in_ok-explored.ensures.more c.in_ok-explored.ensures.first c.in_ok-explored.ensures.linked in
+    c.ends_of-ends.ensures.states c.args.opening.now c.args.limit c.args.most given
