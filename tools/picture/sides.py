@@ -21,6 +21,7 @@ PLACE = re.compile(r"(trusted|[A-Za-z0-9_-]+):(\d+)")
 LINK = re.compile(r"from (\d+) (-|\d+) (\d+) (mem|obj) (\d+) (\d+) (\d+) (\d+)")
 NUMBER = re.compile(r"0|[1-9]\d*|0x[0-9a-fA-F]+")
 SIDE = re.compile(r"(trusted|side [A-Za-z0-9_-]+):((?: \d+)*)")
+ROLE = re.compile(r"domain (\d+) (bare|mute|at work)")
 PROCESSOR = re.compile(r"processor (\d+):((?: [A-Za-z0-9_-]+)*)")
 
 
@@ -69,7 +70,7 @@ class Link:
 
 @dataclass(slots=True)
 class Told:
-    """What is told: the verdict with what shows it, the sides to which those named are joined or the tie for which there are none, the sides that may take
+    """What is told: the verdict with what shows it, what trusted domains are that aren't at rest, the sides to which those named are joined or the tie for which there are none, the sides that may take
     turns of each processor, and all ties."""
 
     turn: int
@@ -77,6 +78,7 @@ class Told:
     why: str = ""
     breach: Tie | None = None
     links: list[Link] = field(default_factory=list)
+    roles: dict[int, str] = field(default_factory=dict)
     stuck: Tie | None = None
     trusted: tuple[int, ...] = ()
     sides: dict[str, tuple[int, ...]] = field(default_factory=dict)
@@ -114,6 +116,8 @@ def read_line(told: Told, text: str, line: int) -> None:
         told.verdict = told.verdict or word
     elif word == "tie":
         told.ties.append(read_tie(rest, line))
+    elif (role := ROLE.fullmatch(text)) is not None and told.verdict == "served":
+        told.roles[int(role[1])] = role[2]
     elif (processor := PROCESSOR.fullmatch(text)) is not None and int(processor[1]) == len(told.processors):
         told.processors.append(tuple(processor[2].split()))
     elif (link := LINK.fullmatch(text)) is not None:

@@ -21,7 +21,7 @@ use Rattle.law_integrity.proofs.Labels.{IsEc, IsTaken, context_ec, label_kept, l
 use Rattle.law_sides.specs.Resting.{StayIsolated}
 
 -- the handler of an edge after the turn was there before it
-handler_there : (k : KernelState) (cpu ec handler : ℕ) → IsTaken k cpu → edge (after k cpu).contexts ec ≡ Some handler → IsEc k handler
+pub handler_there : (k : KernelState) (cpu ec handler : ℕ) → IsTaken k cpu → edge (after k cpu).contexts ec ≡ Some handler → IsEc k handler
 handler_there k cpu ec handler t is = elim (edge_came k cpu ec handler t.rightful is) [
   | inl before ↦ local_ec k handler (t.local ec handler before)
   | inr now ↦ by_portal now.1

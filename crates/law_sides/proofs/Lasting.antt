@@ -38,7 +38,7 @@ last_only [] o (suc n) x none is = absurd (cc)
 last_only (y ∷ os) o zero x none is = absurd (cc)
 last_only (y ∷ os) o (suc n) x none is = ap suc (last_only os o n x none is)
 
-abbrev AreAll : KernelState → (ℕ → ℕ) → (ℕ → Type 0) → Type 0
+abbrev pub AreAll : KernelState → (ℕ → ℕ) → (ℕ → Type 0) → Type 0
 AreAll k label S = (n : ℕ) → label n ≢ 0 → slice_get k.objects n ≡ Some Pd → S n
 
 -- who acts is of the set, where its domain has a label
@@ -54,7 +54,7 @@ actor_of k label S cpu ec tables all acts_ some =
       of = all m.domain (λ none. some (ap label (ap pd_in m.object) ∙ none)) (at_index (Refers k.objects) k.objects ec (Ec m.domain m.cpu m.kind m.event) tables.refer m.object);
     }
 
-all_after : (k : KernelState) (label : ℕ → ℕ) (S : ℕ → Type 0) (cpu : ℕ) → HasTables k → AreAll k label S → AreAll (after k cpu) (labels_after k label cpu) (more k S cpu)
+pub all_after : (k : KernelState) (label : ℕ → ℕ) (S : ℕ → Type 0) (cpu : ℕ) → HasTables k → AreAll k label S → AreAll (after k cpu) (labels_after k label cpu) (more k S cpu)
 all_after k label S cpu tables all n some there = by_object (slice_get k.objects n) refl
   where
     was : (after k cpu).objects ≡ k.objects → slice_get k.objects n ≡ None → more k S cpu n

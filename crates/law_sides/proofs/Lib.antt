@@ -1,9 +1,13 @@
+pub mod Bare
 pub mod Careful
 pub mod Frames
+pub mod Harmless
 pub mod Isolating
 pub mod Lasting
 pub mod Lists
 pub mod Respecting
+pub mod Parted
 pub mod Rest
+pub mod Roles
 pub mod Untouched
 pub mod Words

@@ -2,3 +2,4 @@ pub use Rattle.nova_ties.specs.Ties
 pub mod Isolated
 pub mod Tied
 pub mod Resting
+pub mod Roles

@@ -11,6 +11,7 @@ ghost use Rattle.law_integrity.specs.Trusted.{HoldsSince, IsMadeBySide, IsWithin
 ghost use Rattle.nova_ties.specs.Ties.{AreRespected};
 ghost use Rattle.law_sides.specs.Isolated.{AreIsolated};
 ghost use Rattle.law_sides.specs.Resting.{IsAtRest, StayIsolated};
+ghost use Rattle.law_sides.specs.Roles.{AreHarmless};
 ghost use Rattle.law_sides.specs.Tied.{ties};
 
 /// Sides are isolated exactly where their labels respect the ties of the state.
@@ -67,6 +68,19 @@ pub fn sides_beside_what_rests_are_apart_for_good()
         → side ≢ 0
         → Holds (run (run (boot scenario) before) turns) (Labelled (labels (run (boot scenario) before) label turns) side) right object
         → HoldsSince (run (boot scenario) before) label turns side right object ⊎ IsMadeBySide (run (boot scenario) before) label turns side right object }
+{}
+
+/// Take sides within their policy in such a state, in which each trusted domain is at rest, bare or mute. A bare one holds memory alone, and all that
+/// sides hold of it are portals for exits: a pager, a monitor, a console. A mute one holds nothing of a side's but memory and semaphores, and no
+/// side holds anything of its: a driver, a logger by buffers. Whatever turns follow, and whatever their programs do, each turn of what is
+/// trusted is careful, so that the policy holds on. They may give memory to sides as they like.
+pub fn bare_and_mute_domains_are_careful()
+    ensures turns { (scenario : Scenario) (before turns : List ℕ) (label : ℕ → ℕ)
+        → IsWithinPolicy (run (boot scenario) before) label → AreHarmless (run (boot scenario) before) label
+        → MayTakeTurns (run (boot scenario) before) label turns }
+    ensures within { (scenario : Scenario) (before turns : List ℕ) (label : ℕ → ℕ)
+        → IsWithinPolicy (run (boot scenario) before) label → AreHarmless (run (boot scenario) before) label
+        → IsWithinPolicy (run (run (boot scenario) before) turns) (labels (run (boot scenario) before) label turns) }
 {}
 
 /// That what is trusted was careful is seen in states: where the sides are isolated after each turn of a run, with the labels that domains have

@@ -5,6 +5,7 @@
 mod laws;
 
 pub use laws::{
-    isolated_sides_touch_no_frame_of_another, isolation_is_respect_of_ties,
-    sides_beside_what_rests_are_apart_for_good, sides_that_stay_isolated_met_careful_turns,
+    bare_and_mute_domains_are_careful, isolated_sides_touch_no_frame_of_another,
+    isolation_is_respect_of_ties, sides_beside_what_rests_are_apart_for_good,
+    sides_that_stay_isolated_met_careful_turns,
 };

@@ -2,6 +2,7 @@ pub use Rattle.nova_naming.specs.Statements
 pub use Rattle.nova_naming.specs.Labels
 pub mod Labelled
 pub mod Trails
+pub mod Roles
 pub mod Lines
 pub mod Sides
 pub mod Processors

@@ -14,6 +14,7 @@ use Rattle.nova_sides.specs.declared.judging.Restless.TheVariants.{Astray, Leads
 use Rattle.nova_sides.specs.declared.judging.Verdict.{Verdict}
 use Rattle.nova_sides.specs.declared.judging.Verdict.TheVariants.{Apart, Served, Breach}
 use Rattle.nova_judging.specs.Labelled.{are_two}
+use Rattle.nova_judging.specs.Roles.{role_lines}
 use Rattle.nova_judging.specs.Trails.{cause_lines, trail_lines}
 
 -- a domain, behind what its side is called
@@ -65,11 +66,11 @@ breach_lines policy labels list t = codes "breach " ++ (tie_text policy labels t
 abbrev pub stuck_lines : List Stated → List ℕ → List Derivation → Tie → List ℕ
 stuck_lines policy labels list t = codes "stuck " ++ (tie_text policy labels t ++ cause_lines list t.cause)
 
--- a verdict: where there aren't two sides, `single` in place of what would be said of their isolation
+-- a verdict, with what trusted domains are where they are served: where there aren't two sides, `single` in place of what would be said of their isolation
 abbrev pub verdict_lines : List Stated → List ℕ → KernelState → List Derivation → Bool → Verdict → List ℕ
 verdict_lines policy labels k list two (Breach t) = breach_lines policy labels list t
 verdict_lines policy labels k list true Apart = codes "apart\n"
-verdict_lines policy labels k list true (Served why) = restless_lines policy labels k list why
+verdict_lines policy labels k list true (Served why) = restless_lines policy labels k list why ++ role_lines k labels
 verdict_lines policy labels k list false Apart = codes "single\n"
 verdict_lines policy labels k list false (Served why) = codes "single\n"
 

@@ -6,6 +6,7 @@ mod labels;
 pub mod laws;
 mod lines;
 mod processors;
+mod roles;
 mod sides;
 mod strangers;
 mod trails;

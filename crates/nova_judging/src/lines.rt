@@ -2,9 +2,11 @@ ghost use Rattle.std.specs.Prelude.{◌≡◌, ◌++◌, OnOk, codes, decimal, f
 ghost use Rattle.nova_model.specs.State.{pd_of};
 ghost use Rattle.nova_report.specs.Words.{line_feed};
 ghost use Rattle.nova_judging.specs.Lines.{breach_lines, cause_text, domain_text, is_untold, judged_lines, restless_lines, strict_text, stuck_lines, tie_line, tie_lines, tie_text, verdict_lines};
+ghost use Rattle.nova_judging.specs.Roles.{role_lines};
 ghost use Rattle.nova_judging.specs.Trails.{trail_lines};
 
 use crate::labels::are_two;
+use crate::roles::write_roles;
 use crate::trails::{write_cause_trails, write_trail};
 use nova_kernel::{Derivation, Kernel, Object};
 use nova_naming::Policy;
@@ -176,6 +178,23 @@ fn write_restless(
     }
 }
 
+/// Why not all that is trusted is at rest, and what each trusted domain is that isn't.
+fn write_served(
+    out: &mut String,
+    policy: &Policy,
+    labels: &[u32],
+    kernel: &Kernel,
+    list: &[Derivation],
+    why: Restless,
+) -> Result<(), AllocError>
+    requires list { list.now ≡ kernel.now.state.delegations.list }
+    ensures { OnOk result (string_bytes out.new ≡ string_bytes out.old
+        ++ (restless_lines policy.now labels.now kernel.now.state list.now why ++ role_lines kernel.now.state labels.now)) }
+{
+    write_restless(out, policy, labels, kernel, list, why)?;
+    write_roles(out, labels, kernel, list)
+}
+
 /// A verdict on two sides.
 fn write_verdict(
     out: &mut String,
@@ -185,11 +204,12 @@ fn write_verdict(
     list: &[Derivation],
     verdict: Verdict,
 ) -> Result<(), AllocError>
+    requires list { list.now ≡ kernel.now.state.delegations.list }
     ensures { OnOk result (string_bytes out.new ≡ string_bytes out.old ++ verdict_lines policy.now labels.now kernel.now.state list.now true verdict) }
 {
     match verdict {
         Verdict::Apart => out.push_str("apart\n"),
-        Verdict::Served(why) => write_restless(out, policy, labels, kernel, list, why),
+        Verdict::Served(why) => write_served(out, policy, labels, kernel, list, why),
         Verdict::Breach(tie) => write_breach(out, policy, labels, list, tie),
     }
 }
@@ -220,6 +240,7 @@ pub(crate) fn write_judged(
     list: &[Derivation],
     verdict: Verdict,
 ) -> Result<(), AllocError>
+    requires list { list.now ≡ kernel.now.state.delegations.list }
     ensures { OnOk result (string_bytes out.new ≡ string_bytes out.old ++ judged_lines policy.now labels.now kernel.now.state list.now verdict) }
 {
     if are_two(labels) {

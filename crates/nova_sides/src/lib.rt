@@ -7,9 +7,11 @@ mod derivations;
 mod holding;
 mod judging;
 mod resting;
+mod roles;
 mod tied;
 mod waiting;
 
 pub use derivations::derivations_of;
 pub use judging::{Restless, Verdict, judge};
+pub use roles::{Role, role_of, what_is_not_at_work_is_harmless};
 pub use tied::ties;

@@ -10,7 +10,7 @@ use nova_kernel::{Derivation, Kernel, Object, State};
 use nova_ties::{Tie, label_of};
 
 /// It does nothing, and nothing but a call or an exit has it do something.
-fn is_resting(state: State) -> bool
+pub(crate) fn is_resting(state: State) -> bool
     ensures { result ≡ is_resting state }
 {
     matches!(state, State::Parked | State::Dead)

@@ -10,7 +10,7 @@ use nova_ties::{Cause, Tie};
 use std::alloc::AllocError;
 
 /// The handler that one waits for.
-fn edge_of(state: State) -> Option<u32>
+pub(crate) fn edge_of(state: State) -> Option<u32>
     ensures { result ≡ edge_of state }
 {
     match state {
