@@ -39,6 +39,9 @@ use Rattle.nova_turn.specs.Parts.{state_of}
 use Rattle.nova_turn.specs.Reach.{ReachState}
 use Rattle.nova_turn.specs.Revoking.{AreRunning}
 use Rattle.nova_turn.specs.Runners.{RevokesState}
+use Rattle.nova_turn.specs.StoresSeen.{AreSeersOf}
+use Rattle.nova_turn.specs.declared.act.seers.Seers.{Seers}
+use Rattle.nova_turn.proofs.StoresSeen.{seers_alike}
 use Rattle.nova_turn.specs.declared.decide.deciding.Raised.{Raised}
 use Rattle.nova_turn.specs.declared.parts.Parts.{Parts}
 use Rattle.nova_kernel.specs.Rides.{AreSteps, IsBeside, IsLater, IsNext, IsHalted, IsStepping, MayCount, MayRide, Raises, beside, step_by, without_counts}
@@ -144,6 +147,14 @@ module _ (p q : Parts) (cpu : ℕ) (chosen : Chosen) (x y : Registers) (n most :
 
   pub cpus_ridden : q.cpus ≡ p.cpus
   cpus_ridden = same_cpus (beside p chosen x) (beside q chosen y) cpu chosen n most may is.few is.goes
+
+-- for whom stores are counted stays while turns are charged
+pub seers_paid : (q r : Parts) (cpu sc n ec : ℕ) (s : Seers) → state_of r ≡ charged_times n (state_of q) cpu sc → r.reach ≡ q.reach → AreSeersOf (state_of q) ec s → AreSeersOf (state_of r) ec s
+seers_paid q r cpu sc n ec s charged reach = seers_alike (state_of q) (state_of r) ec s (record {
+  objects = ap (λ (k : KernelState). k.objects) charged ∙ (times_keep n (state_of q) cpu sc).objects;
+  delegations = ap (λ (u : ReachState). u.nodes.delegations.list) reach;
+  frames = ap (λ (u : ReachState). length u.memory.ram) reach;
+})
 
 -- and the same with the charge
 pub record HasPaid (q r : Parts) (cpu : ℕ) (chosen : Chosen) (n : ℕ) : Type 0 where

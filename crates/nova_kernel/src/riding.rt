@@ -16,11 +16,12 @@ ghost use Rattle.law_leases.specs.Rides.{rides};
 ghost use Rattle.nova_turn.specs.Beside.{IsEntered, with_regs};
 ghost use Rattle.nova_turn.specs.Parts.{state_of};
 ghost use Rattle.nova_turn.specs.Revoking.{AreRunning};
+ghost use Rattle.nova_turn.specs.StoresSeen.{AreSeersOf};
 
 use crate::burst::charge_times;
 use nova_choice::Chosen;
 use nova_model::{Event, EventKind, State};
-use nova_turn::{Parts, Raised};
+use nova_turn::{Parts, Raised, Seers};
 use rv_core::Regs;
 use rv_core::outcome::Outcome;
 
@@ -67,17 +68,19 @@ pub(crate) fn plain_step(cpu: u32, chosen: Chosen) -> Event
 /// Instructions of an execution context whose address space was entered, on registers that lie beside the table: at most so many, one
 /// after another while they go on, with the store of each counted for the other virtual CPUs that could see it. No turn is charged.
 #[inline(never)]
-fn ride_beside(parts: &mut Parts, ec: u32, regs: &mut Regs, most: u64) -> Ridden
+fn ride_beside(parts: &mut Parts, ec: u32, regs: &mut Regs, seers: &mut Seers, most: u64) -> Ridden
     requires there { IsSome (context_at (state_of parts.old) ec) }
     requires entered { IsEntered parts.old ec }
     requires log { most ≤ parts.old.reach.room }
     requires fresh { parts.old.reach.written ≡ None }
+    requires seers { AreSeersOf (state_of parts.old) ec seers.old }
     requires counts { (n : ℕ) (m : KernelState) → n < most → rides n (with_regs (state_of parts.old) ec regs.old) ec ≡ Some m → MayCount m }
     ensures most { result.count ≤ most }
     ensures raised { IfSome result.raised (λ r. (result.count < most) × Raises (with_regs (state_of parts.new) ec regs.new) ec r) }
     ensures all { result.raised ≡ None → result.count ≡ most }
     ensures rides { rides result.count (with_regs (state_of parts.old) ec regs.old) ec ≡ Some (with_regs (state_of parts.new) ec regs.new) }
     ensures fresh { result.raised ≡ None → parts.new.reach.written ≡ None }
+    ensures seers { AreSeersOf (state_of parts.new) ec seers.new }
     ensures entered { IsEntered parts.new ec }
     ensures contexts { parts.new.contexts ≡ parts.old.contexts }
     ensures queues { parts.new.queues ≡ parts.old.queues }
@@ -86,7 +89,7 @@ fn ride_beside(parts: &mut Parts, ec: u32, regs: &mut Regs, most: u64) -> Ridden
 {
     let mut left = most;
     while left > 0 {
-        match parts.step_beside(ec, regs) {
+        match parts.step_beside(ec, regs, seers) {
             Outcome::Next => left -= 1,
             Outcome::Raise { reason, q0, q1 } => {
                 return Ridden {
@@ -149,9 +152,17 @@ fn is_still_chosen(parts: &Parts, known: &[Option<Chosen>], cpu: u32, chosen: Ch
 
 /// Plain steps on registers that lie beside the table, as many as instructions go on one after another: at most so many, all of one quantum
 /// and before anything is due. They are charged.
-fn ride_quantum(parts: &mut Parts, cpu: u32, chosen: Chosen, regs: &mut Regs, most: u64) -> Ridden
+fn ride_quantum(
+    parts: &mut Parts,
+    cpu: u32,
+    chosen: Chosen,
+    regs: &mut Regs,
+    seers: &mut Seers,
+    most: u64,
+) -> Ridden
     requires beside { IsBeside parts.old chosen regs.old }
     requires fresh { parts.old.reach.written ≡ None }
+    requires seers { AreSeersOf (state_of parts.old) chosen.actor seers.old }
     requires next { IsNext parts.old cpu chosen }
     requires left { IfSome (queued_at parts.old.queues.all chosen.sc) (λ e. most ≤ e.budget.left) }
     requires early { IsEarly (state_of parts.old).times cpu most }
@@ -162,11 +173,12 @@ fn ride_quantum(parts: &mut Parts, cpu: u32, chosen: Chosen, regs: &mut Regs, mo
     ensures halted { IfSome result.raised (λ r. (result.count < most) × IsHalted (beside parts.new chosen regs.new) cpu chosen r) }
     ensures all { result.raised ≡ None → result.count ≡ most }
     ensures fresh { result.raised ≡ None → parts.new.reach.written ≡ None }
+    ensures seers { AreSeersOf (state_of parts.new) chosen.actor seers.new }
     ensures beside { IsBeside parts.new chosen regs.new }
     ensures later { IsLater parts.old regs.old parts.new regs.new cpu chosen result.count }
 {
     law_turns::turns_keep_what_they_find();
-    let ridden = ride_beside(parts, chosen.actor, regs, most);
+    let ridden = ride_beside(parts, chosen.actor, regs, seers, most);
     charge_times(parts, cpu, chosen.sc, ridden.count);
     ridden
 }
@@ -179,10 +191,12 @@ fn ride_quanta(
     cpu: u32,
     chosen: Chosen,
     regs: &mut Regs,
+    seers: &mut Seers,
     most: u64,
 ) -> Ridden
     requires beside { IsBeside parts.old chosen regs.old }
     requires fresh { parts.old.reach.written ≡ None }
+    requires seers { AreSeersOf (state_of parts.old) chosen.actor seers.old }
     requires next { IsNext parts.old cpu chosen }
     requires known { AreKnown (state_of parts.old) known.now }
     requires cpu { cpu < parts.old.cpus }
@@ -196,7 +210,7 @@ fn ride_quanta(
     let mut count = 0;
     while count < most {
         let quantum = turns_at_once(parts, cpu, chosen.sc, most - count);
-        let ridden = ride_quantum(parts, cpu, chosen, regs, quantum);
+        let ridden = ride_quantum(parts, cpu, chosen, regs, seers, quantum);
         count += ridden.count;
         if ridden.raised.is_some()
             || ridden.count == 0
@@ -247,7 +261,8 @@ pub(crate) fn quanta(
 {
     parts.enter(chosen.actor);
     let mut regs = parts.contexts.context(chosen.actor).regs;
-    let ridden = ride_quanta(parts, known, cpu, chosen, &mut regs, most);
+    let mut seers = Seers::none();
+    let ridden = ride_quanta(parts, known, cpu, chosen, &mut regs, &mut seers, most);
     parts.contexts.set_regs(chosen.actor, &regs);
     ridden
 }

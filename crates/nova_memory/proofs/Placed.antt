@@ -109,30 +109,33 @@ find_more p (z ∷ zs) y x h = by_test (p z) h (λ g. find_more p zs y x g)
     by_test true g rest = g
     by_test false g rest = rest g
 
-found_more : (list : List Derivation) (x d : Derivation) → IsFound Mem list d → IsFound Mem (list ++ x ∷ []) d
-found_more list x d found = record {
-  order = found.order;
-  placed = found.placed;
-  always = λ pd page covered. find_more (covers Mem pd page) list x d (found.always pd page covered);
-}
+-- what is found at a place is found there still
+abbrev pub AreFoundStill : List Derivation → List Derivation → Type 0
+AreFoundStill old new = (kind : Kind) (pd place : ℕ) (d : Derivation) → find (covers kind pd place) old ≡ Some d → find (covers kind pd place) new ≡ Some d
 
-pub last_more : (list : List Derivation) (x : Derivation) (last : Option Derivation) → IfSome last (IsFound Mem list) → IfSome last (IsFound Mem (list ++ x ∷ []))
-last_more list x None found = tt
-last_more list x (Some d) found = found_more list x d found
+pub more_still : (list : List Derivation) (x : Derivation) → AreFoundStill list (list ++ x ∷ [])
+more_still list x kind pd place d is = find_more (covers kind pd place) list x d is
 
-pub last_given : (f : Delegations) (p : Option Part) (last : Option Derivation) → IfSome last (IsFound Mem f.list) → IfSome last (IsFound Mem (given f p).list)
-last_given f None last found = found
-last_given f (Some p) last found = by_child p.child
+pub given_still : (f : Delegations) (p : Option Part) → AreFoundStill f.list (given f p).list
+given_still f None = λ kind pd place d is. is
+given_still f (Some p) = by_child p.child
   where
-    by_child : (r : Result Derivation Reason) → IfSome last (IsFound Mem (joined f r).list)
-    by_child (Ok x) = last_more f.list x last found
-    by_child (Err reason) = found
+    by_child : (r : Result Derivation Reason) → AreFoundStill f.list (joined f r).list
+    by_child (Ok x) = more_still f.list x
+    by_child (Err reason) = λ kind pd place d is. is
 
 -- after what changes delegations or leaves them
-pub last_kept : {T E : Type 0} (X : Type 0) (r : Result T E) (f g h : Delegations) (last : Option Derivation) → OnOk r (g ≡ h) → OnErr r ((g ≡ f) × X) →
-    IfSome last (IsFound Mem f.list) → IfSome last (IsFound Mem h.list) → IfSome last (IsFound Mem g.list)
-last_kept X (Ok x) f g h last ok err old new = rw ok new
-last_kept X (Err e) f g h last ok err old new = rw err.0 old
+pub part_still : {T E : Type 0} (X : Type 0) (r : Result T E) (f g h : Delegations) → OnOk r (g ≡ h) → OnErr r ((g ≡ f) × X) → AreFoundStill f.list h.list → AreFoundStill f.list g.list
+part_still X (Ok x) f g h ok err still = subst (λ (q : Delegations). AreFoundStill f.list q.list) (sym ok) still
+part_still X (Err e) f g h ok err still = λ kind pd place d is. subst (λ (q : Delegations). find (covers kind pd place) q.list ≡ Some d) (sym err.0) is
+
+pub found_still : (kind : Kind) (old new : List Derivation) (o : Option Derivation) → AreFoundStill old new → IfSome o (IsFound kind old) → IfSome o (IsFound kind new)
+found_still kind old new None still found = tt
+found_still kind old new (Some d) still found = record {
+  order = found.order;
+  placed = found.placed;
+  always = λ pd place covered. still kind pd place d (found.always pd place covered);
+}
 
 -- a page that is found leads to a frame
 pub page_leads_by : (frames pd page : ℕ) (list : List Derivation) (d : Derivation) → find (covers Mem pd page) list ≡ Some d → LeadToFrames frames list →

@@ -1,18 +1,20 @@
 -- What is remembered of pages that were looked up is what a search finds.
-use Rattle.std.proofs.Common.{◌≡◌, ℕ, ◌+◌, ◌-◌, ◌<◌, ◌≤◌, List, refl, ap, sym, ◌∙◌, arith}
-use Rattle.std.specs.Prelude.{◌≢◌, Bool, true, false, ◌==◌, ◌&&◌, ◌/◌, ◌^◌, if◌then◌else◌, is_some, length, Option, Some, None, IfSome, option_and_then, option_map}
+use Rattle.std.proofs.Common.{inl, inr, ◌≡◌, ◌⊎◌, ℕ, zero, suc, ◌+◌, ◌-◌, ◌<◌, ◌≤◌, List, [], ◌∷◌, replicate, refl, ap, sym, ◌∙◌, subst, arith}
+use Rattle.std.proofs.lemmas.Option.{same_Some}
+use Rattle.std.specs.Prelude.{◌≢◌, Bool, true, false, ◌==◌, ◌&&◌, ◌/◌, ◌^◌, if◌then◌else◌, is_some, length, Option, Some, None, IfSome, option_and_then, option_map, slice_get, slice_set}
 use Rattle.std.specs.List.{find}
 use Rattle.nova_guest.specs.Frames.{frame_with}
-use Rattle.nova_range.specs.Rights.{allows}
+use Rattle.nova_range.specs.Rights.{allows, execute_right, read_right, write_right}
 use Rattle.nova_range.specs.declared.range.Kind.TheVariants.{Mem, Obj}
 use Rattle.nova_model.specs.AddressSpaces.{frame_for, own_page}
 use Rattle.nova_model.specs.Delegations.{covers, page_in, reach}
 use Rattle.nova_model.specs.declared.delegation.Derivation.{Derivation}
 use Rattle.nova_memory.specs.Reach.{IsFound, LeadToFrames, ReachState, own_of, reached}
-use Rattle.nova_memory.specs.Recents.{AreRecent, IsRecent}
+use Rattle.nova_memory.specs.Recents.{AreRecent, AreRecentPages, IsRecent, LeadsOn}
+use Rattle.nova_memory.specs.declared.recent.Pages.{Pages}
 use Rattle.nova_memory.specs.declared.recent.Recent.{Recent}
 use Rattle.nova_memory.specs.declared.recent.Recents.{Recents}
-use Rattle.nova_memory.proofs.Placed.{page_found}
+use Rattle.nova_memory.proofs.Placed.{AreFoundStill, found_still, page_found}
 
 -- a page that isn't a thread's own
 passes : (own : Option (List ℕ)) (page : ℕ) → page ≢ own_page → (is_some own && (page == own_page)) ≡ false
@@ -55,3 +57,45 @@ learned s right address frame is other = λ low. record {
 pub at_hand : (list : List Derivation) (r : Recents) (capability : Option Derivation) → AreRecent list r → IfSome capability (IsFound Obj list) →
     AreRecent list (record r { capability = capability })
 at_hand list r capability are found = record { fetched = are.fetched; loaded = are.loaded; stored = are.stored; capability = found }
+
+-- PAGES BY PLACE
+
+each_is : (n : ℕ) (v : Recent) (i : ℕ) (x : Recent) → slice_get (replicate n v) i ≡ Some x → v ≡ x
+each_is zero v i x at = absurd (cc)
+each_is (suc n) v zero x at = same_Some v x at
+each_is (suc n) v (suc i) x at = each_is n v i x at
+
+set_or : (xs : List Recent) (n : ℕ) (v : Recent) (i : ℕ) (x : Recent) → slice_get (slice_set xs n v) i ≡ Some x → (v ≡ x) ⊎ (slice_get xs i ≡ Some x)
+set_or [] n v i x h = absurd (cc)
+set_or (y ∷ xs) zero v zero x h = inl (same_Some v x h)
+set_or (y ∷ xs) zero v (suc i) x h = inr h
+set_or (y ∷ xs) (suc n) v zero x h = inr h
+set_or (y ∷ xs) (suc n) v (suc i) x h = set_or xs n v i x h
+
+pub none_recent : (list : List Derivation) (pd right n : ℕ) (v : Recent) → v.page ≡ 1048576 → AreRecentPages list pd right (record { places = replicate n v })
+none_recent list pd right n v beyond i x at low = absurd (let e = ap (λ (y : Recent). y.page) (each_is n v i x at) in omega (arith, e, beyond, low))
+
+pub one_recent : (list : List Derivation) (pd right n : ℕ) (old : Pages) (v : Recent) → AreRecentPages list pd right old → IsRecent list pd right v →
+    AreRecentPages list pd right (record old { places = slice_set old.places n v })
+one_recent list pd right n old v are is i x at = elim (set_or old.places n v i x at) [
+  | inl new ↦ subst (IsRecent list pd right) new is
+  | inr was ↦ are i x was
+]
+
+-- WHAT IS FOUND STILL
+
+pub leads_still : (old new : List Derivation) (pd right : ℕ) (r : Recent) → AreFoundStill old new → LeadsOn old pd right r → LeadsOn new pd right r
+leads_still old new pd right r still on = record { own = on.own; frame = by_found (find (covers Mem pd r.page) old) refl on.frame }
+  where
+    by_found : (o : Option Derivation) → find (covers Mem pd r.page) old ≡ o → option_and_then (frame_with right) (option_map (page_in r.page) o) ≡ Some r.frame →
+        option_and_then (frame_with right) (reach new pd r.page) ≡ Some r.frame
+    by_found None is h = absurd (cc)
+    by_found (Some d) is h = ap (λ (o : Option Derivation). option_and_then (frame_with right) (option_map (page_in r.page) o)) (still Mem pd r.page d is) ∙ h
+
+pub recents_still : (old new : List Derivation) (r : Recents) → AreFoundStill old new → AreRecent old r → AreRecent new r
+recents_still old new r still are = record {
+  fetched = λ low. leads_still old new r.pd execute_right r.fetched still (are.fetched low);
+  loaded = λ i x at low. leads_still old new r.pd read_right x still (are.loaded i x at low);
+  stored = λ i x at low. leads_still old new r.pd write_right x still (are.stored i x at low);
+  capability = found_still Obj old new r.capability still are.capability;
+}

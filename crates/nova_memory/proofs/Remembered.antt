@@ -12,7 +12,8 @@ use Rattle.nova_memory.specs.Reach.{ReachState}
 use Rattle.nova_memory.specs.Recalled.{AreLeft, AreRecalled, IsReadAt, LiesAt, StandsAt}
 use Rattle.nova_memory.specs.declared.recalled.Recalled.{Recalled}
 use Rattle.nova_memory.specs.declared.recalled.Slot.{Slot}
-use Rattle.nova_memory.proofs.Recents.{hit}
+use Rattle.nova_memory.proofs.Placed.{AreFoundStill}
+use Rattle.nova_memory.proofs.Recents.{hit, leads_still}
 
 -- PLACES
 
@@ -73,6 +74,23 @@ module _ (list : List Derivation) (memory : Memory) (r : Recalled) (v : Slot) (p
       | inr old ↦ are.each i other x old its
     ];
   }
+
+-- what is found still
+pub recalled_still : (old new : List Derivation) (memory : Memory) (r : Recalled) → AreFoundStill old new → AreRecalled old memory r → AreRecalled new memory r
+recalled_still old new memory r still are = record {
+  began = are.began;
+  room = are.room;
+  before = are.before;
+  each = λ i pd x at its.
+      let stands = are.each i pd x at its in record {
+        place = stands.place;
+        lies = record {
+          aligned = stands.lies.aligned;
+          leads = leads_still old new pd execute_right (record { page = x.address / 4096; frame = x.frame }) still stands.lies.leads;
+          there = stands.lies.there;
+        };
+      };
+}
 
 -- what is found there
 pub found : (s : ReachState) (r : Recalled) (pd address : ℕ) (x : Slot) → address < 2 ^ 32 → AreRecalled s.nodes.delegations.list s.memory r → s.pd ≡ pd →

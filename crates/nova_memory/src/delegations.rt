@@ -77,9 +77,6 @@ impl Reach {
             order: 0,
         };
         self.sights.forget();
-        self.recents.forget();
-        self.others.forget();
-        self.recalled.forget();
         self.nodes.root(pd, place, rights, object);
     }
 
@@ -172,9 +169,6 @@ impl Reach {
         ensures log { self.new.room ≡ self.old.room }
     {
         self.sights.forget();
-        self.recents.forget();
-        self.others.forget();
-        self.recalled.forget();
         part(&mut self.nodes, job, revokes)
     }
 

@@ -30,8 +30,8 @@ pub(crate) const OWN_PAGE: u32 = 0xfffff;
 const MESSAGE_SIZE: u32 = 512;
 
 /// What an instruction reaches: the frames, through the derivations of the protection domain of the
-/// execution context that acts, and the message words of one that is a thread. The domain's last pages to fetch from, to load from and to
-/// store to are looked at first, then the derivation of the page that was looked up last, and who sees a frame that was stored to is
+/// execution context that acts, and the message words of one that is a thread. The domain's last page to fetch from, and some of those to load from
+/// and to store to, are looked at first, then the derivation of the page that was looked up last, and who sees a frame that was stored to is
 /// remembered.
 #[derive(Drop)]
 pub struct Reach {
@@ -122,6 +122,14 @@ impl Reach {
         if self.recents.pd != pd {
             self.change_domain(pd);
         }
+    }
+
+    /// A store was seen to: nothing is stored.
+    #[inline(always)]
+    pub fn forget_store(&mut self)
+        ensures { self.new ≡ record self.old { written = None } }
+    {
+        self.written = None;
     }
 
     /// Whether the present instruction stored to a frame.
@@ -267,10 +275,7 @@ impl Reach {
     {
         let frame = self.frame_for(Rights::READ, address)?;
         if address / 4096 != OWN_PAGE {
-            self.recents.loaded = Recent {
-                page: address / 4096,
-                frame,
-            };
+            self.recents.loaded.learn(address, frame);
         }
         Some(frame)
     }
@@ -282,7 +287,7 @@ impl Reach {
         ensures there { IfSome result (λ frame. frame < length self.old.memory.ram + self.old.consoles) }
         ensures kept { self.new ≡ self.old }
     {
-        if let Some(frame) = frame_of(&self.recents.loaded, address) {
+        if let Some(frame) = frame_of(self.recents.loaded.at(address), address) {
             return Some(frame);
         }
         self.load_elsewhere(address)
@@ -297,10 +302,7 @@ impl Reach {
     {
         let frame = self.frame_for(Rights::WRITE, address)?;
         if address / 4096 != OWN_PAGE {
-            self.recents.stored = Recent {
-                page: address / 4096,
-                frame,
-            };
+            self.recents.stored.learn(address, frame);
         }
         Some(frame)
     }
@@ -312,7 +314,7 @@ impl Reach {
         ensures there { IfSome result (λ frame. frame < length self.old.memory.ram + self.old.consoles) }
         ensures kept { self.new ≡ self.old }
     {
-        if let Some(frame) = frame_of(&self.recents.stored, address) {
+        if let Some(frame) = frame_of(self.recents.stored.at(address), address) {
             return Some(frame);
         }
         self.store_elsewhere(address)

@@ -146,7 +146,16 @@ impl Recalled {
         if self.base < LAST {
             self.base += SCOPES;
         } else {
-            *self = Recalled::none();
+            self.begin_anew();
         }
+    }
+
+    /// Nothing is remembered any more, and scopes begin with the first. This is seldom done, and stays out of the code of the rest, which
+    /// would clear a place for all slots.
+    #[inline(never)]
+    fn begin_anew(&mut self)
+        ensures { (list : List Derivation) (memory : Memory) → AreRecalled list memory self.new }
+    {
+        *self = Recalled::none();
     }
 }

@@ -1,11 +1,14 @@
-ghost use Rattle.std.specs.Prelude.{◌≡◌, ◌<◌, ◌+◌, ℕ, List, Some, IfSome, length};
+ghost use Rattle.std.specs.Prelude.{◌≡◌, ◌<◌, ◌+◌, ◌/◌, ◌%◌, ℕ, List, Some, IfSome, length, slice_get};
 ghost use Rattle.nova_model.specs.AddressSpaces.{frame_for};
 ghost use Rattle.nova_model.specs.declared.delegation.Derivation.{Derivation};
 ghost use Rattle.nova_memory.specs.Reach.{LeadToFrames, ReachState, reached};
-ghost use Rattle.nova_memory.specs.Recents.{AreRecent, IsRecent};
+ghost use Rattle.nova_memory.specs.Recents.{AreRecent, AreRecentPages, IsRecent};
 
 use crate::reach::Reach;
 use nova_model::Derivation;
+
+/// How many pages are remembered.
+const PLACES: usize = 8;
 
 /// A page that was looked up, and the frame that it leads to. Beyond all pages before any was.
 #[derive(Clone, Copy)]
@@ -14,14 +17,20 @@ pub(crate) struct Recent {
     pub frame: u32,
 }
 
-/// What is remembered of a protection domain: the pages that were looked up last, to fetch, to load and to store, and the capability that
-/// is at hand.
+/// Pages that were looked up, each at the place of its number.
+#[derive(Clone, Copy)]
+pub(crate) struct Pages {
+    places: [Recent; PLACES],
+}
+
+/// What is remembered of a protection domain: the page that was looked up last to fetch, pages that were looked up to load and to store,
+/// and the capability that is at hand.
 #[derive(Clone, Copy)]
 pub(crate) struct Recents {
     pub pd: u32,
     pub fetched: Recent,
-    pub loaded: Recent,
-    pub stored: Recent,
+    pub loaded: Pages,
+    pub stored: Pages,
     pub capability: Option<Derivation>,
 }
 
@@ -30,6 +39,53 @@ const NOWHERE: Recent = Recent {
     page: 0x0010_0000,
     frame: 0,
 };
+
+/// The place of the page of an address.
+#[inline(always)]
+fn place_of(address: u32) -> usize
+    ensures place { result ≡ address / 4096 % 8 }
+    ensures there { result < PLACES }
+{
+    (address / 4096 % 8) as usize
+}
+
+/// What stands at the place of the page of an address.
+#[inline(always)]
+fn recent_at(places: &[Recent; PLACES], address: u32) -> &Recent
+    ensures { slice_get places.now (address / 4096 % 8) ≡ Some result.now }
+{
+    &places[place_of(address)]
+}
+
+impl Pages {
+    /// None was looked up.
+    fn none() -> Pages
+        ensures { (list : List Derivation) (pd right : ℕ) → AreRecentPages list pd right result }
+    {
+        Pages {
+            places: [NOWHERE; PLACES],
+        }
+    }
+
+    /// What was looked up at the place of an address.
+    #[inline(always)]
+    pub(crate) fn at(&self, address: u32) -> &Recent
+        ensures { (list : List Derivation) (pd right : ℕ) → AreRecentPages list pd right self.now → IsRecent list pd right result.now }
+    {
+        recent_at(&self.places, address)
+    }
+
+    /// The page of an address is remembered from now on, with the frame that it leads to.
+    pub(crate) fn learn(&mut self, address: u32, frame: u32)
+        ensures { (list : List Derivation) (pd right : ℕ) → AreRecentPages list pd right self.old
+            → IsRecent list pd right (record { page = address / 4096; frame = frame }) → AreRecentPages list pd right self.new }
+    {
+        self.places[place_of(address)] = Recent {
+            page: address / 4096,
+            frame,
+        };
+    }
+}
 
 impl Recents {
     /// Nothing of a protection domain was looked up yet.
@@ -40,8 +96,8 @@ impl Recents {
         Recents {
             pd,
             fetched: NOWHERE,
-            loaded: NOWHERE,
-            stored: NOWHERE,
+            loaded: Pages::none(),
+            stored: Pages::none(),
             capability: None,
         }
     }

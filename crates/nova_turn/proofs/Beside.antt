@@ -1,6 +1,6 @@
 -- One instruction on registers that lie beside the table of execution contexts.
 use Rattle.std.proofs.Common.{◌≡◌, ℕ, refl, ap, ap₂, sym, ◌∙◌, subst}
-use Rattle.std.specs.Prelude.{◌==◌, Bool, false, Option, Some, None, IsSome, is_some, option_and_then, if◌then◌else◌}
+use Rattle.std.specs.Prelude.{◌==◌, Bool, false, Option, Some, None, IsSome, option_and_then, if◌then◌else◌}
 use mathlib.Core.Path.{fun_ext}
 use Rattle.std.proofs.lemmas.List.{set-set}
 use Rattle.rv_model.specs.Registers.{Registers}

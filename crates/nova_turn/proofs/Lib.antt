@@ -18,5 +18,6 @@ pub mod Foreseen
 pub mod Ongoing
 pub mod Going
 pub mod Homes
+pub mod StoresSeen
 pub mod Whom
 pub mod Dues

@@ -25,6 +25,7 @@ pub mod Known
 pub mod Parts
 pub mod Beside
 pub mod Homes
+pub mod StoresSeen
 pub mod ObjectTypes
 pub mod Revoking
 pub mod Going

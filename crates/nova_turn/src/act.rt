@@ -10,6 +10,7 @@ mod instructions;
 mod items;
 mod queues;
 mod revoking;
+pub mod seers;
 mod semaphores;
 mod stirs;
 mod turn;

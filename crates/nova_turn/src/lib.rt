@@ -6,6 +6,7 @@ mod decide;
 mod parts;
 mod tables;
 
+pub use act::seers::Seers;
 pub use decide::deciding::Raised;
 pub use nova_memory::Reach;
 pub use parts::Parts;

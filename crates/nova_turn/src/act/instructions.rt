@@ -1,15 +1,20 @@
-ghost use Rattle.std.specs.Prelude.{◌≡◌, ◌+◌, ◌-◌, ◌^◌, ◌<◌, ◌≤◌, ℕ, slice_get, None, IsSome, IfSome};
+ghost use Rattle.std.specs.Prelude.{◌≡◌, ◌+◌, ◌-◌, ◌^◌, ◌<◌, ◌≤◌, ℕ, slice_get, None, Some, IsSome, IfSome};
 ghost use Rattle.nova_model.specs.Deeds.{instruction, done};
 ghost use Rattle.nova_model.specs.declared.deed.Deed.TheVariants.{Steps};
 ghost use Rattle.nova_model.specs.Inputs.{stirred};
 ghost use Rattle.nova_model.specs.State.{context_at, entry};
 ghost use Rattle.nova_turn.specs.Beside.{IsEntered, with_regs};
-ghost use Rattle.nova_turn.specs.Homes.{HasCounts};
+ghost use Rattle.nova_turn.specs.Homes.{AreStirred, HasCounts};
+ghost use Rattle.nova_turn.specs.StoresSeen.{AreSeersOf, IsSeer};
+ghost use Rattle.nova_deeds.specs.StirCounts.{risen_from};
 ghost use Rattle.nova_turn.specs.Parts.{state_of};
 ghost use Rattle.nova_deeds.specs.Acts.{outcome_of};
 ghost use Rattle.nova_deeds.specs.Stirs.{is_stirring, risen_in, written_frame};
 
+use crate::act::seers::{Seer, Seers};
 use crate::parts::Parts;
+use crate::tables::inventory::Numbers;
+use nova_model::Deed;
 use rv_core::Regs;
 use rv_core::outcome::Outcome;
 
@@ -50,13 +55,80 @@ impl Parts {
         self.reach.step(regs)
     }
 
+    /// For whom a store of an execution context is counted, of those for whom it may be.
+    fn seer_of(&self, ec: u32, guests: Numbers) -> Seer
+        requires these { AreStirred (state_of self.now) (is_stirring (state_of self.now) self.now.reach.written ec Steps) guests }
+        ensures { (frame : ℕ) → self.now.reach.written ≡ Some frame → IsSeer (state_of self.now) ec frame result }
+    {
+        match guests {
+            Numbers::Empty => Seer::Nobody,
+            Numbers::Single(guest) => {
+                if self.is_stirring(ec, Deed::Steps, guest) {
+                    Seer::Only(guest)
+                } else {
+                    Seer::Nobody
+                }
+            }
+            Numbers::Several => Seer::Unknown,
+        }
+    }
+
+    /// Counts a store to a frame of which it isn't known for whom it is counted. Where that is nobody, or one alone, it is known from now
+    /// on. Few stores are to such a frame, so that this stays out of the code of each.
+    #[inline(never)]
+    fn note_anew(&mut self, ec: u32, frame: u32, seers: &mut Seers)
+        requires counted { HasCounts (state_of self.old) }
+        requires few { (g : ℕ) → IfSome (entry (slice_get (state_of self.old).stirs.guests g)) (λ n. n < 2 ^ 64 - 1) }
+        requires written { self.old.reach.written ≡ Some frame }
+        ensures counts { self.new.guests.counts ≡ risen_from (is_stirring (state_of self.old) self.old.reach.written ec Steps) 0 self.old.guests.counts }
+        ensures rest { self.new ≡ record self.old { guests = self.new.guests } }
+        ensures seers { AreSeersOf (state_of self.old) ec seers.old → AreSeersOf (state_of self.old) ec seers.new }
+    {
+        let guests = self.whom(ec, Deed::Steps);
+        let seer = self.seer_of(ec, guests);
+        seers.learn(frame, seer);
+        self.stir_these(ec, Deed::Steps, guests);
+    }
+
+    /// Counts the store of an instruction to a frame for each other virtual CPU that could see it.
+    fn note_in(&mut self, ec: u32, frame: u32, seers: &mut Seers)
+        requires counted { HasCounts (state_of self.old) }
+        requires few { (g : ℕ) → IfSome (entry (slice_get (state_of self.old).stirs.guests g)) (λ n. n < 2 ^ 64 - 1) }
+        requires written { self.old.reach.written ≡ Some frame }
+        requires seers { AreSeersOf (state_of self.old) ec seers.old }
+        ensures counts { self.new.guests.counts ≡ risen_from (is_stirring (state_of self.old) self.old.reach.written ec Steps) 0 self.old.guests.counts }
+        ensures rest { self.new ≡ record self.old { guests = self.new.guests } }
+        ensures seers { AreSeersOf (state_of self.old) ec seers.new }
+    {
+        match seers.of(frame) {
+            Seer::Unknown => self.note_anew(ec, frame, seers),
+            Seer::Nobody => {}
+            Seer::Only(guest) => self.guests.rise(guest),
+        }
+    }
+
+    /// Counts the store of an instruction, where there was one, for each other virtual CPU that could see it.
+    fn note_written(&mut self, ec: u32, seers: &mut Seers)
+        requires counted { HasCounts (state_of self.old) }
+        requires few { (g : ℕ) → IfSome (entry (slice_get (state_of self.old).stirs.guests g)) (λ n. n < 2 ^ 64 - 1) }
+        requires seers { AreSeersOf (state_of self.old) ec seers.old }
+        ensures shown { state_of self.new ≡ risen_in (state_of self.old) (is_stirring (state_of self.old) self.old.reach.written ec Steps) }
+        ensures rest { self.new ≡ record self.old { guests = self.new.guests } }
+        ensures seers { AreSeersOf (state_of self.old) ec seers.new }
+    {
+        if let Some(frame) = self.reach.stored_to() {
+            self.note_in(ec, frame, seers);
+        }
+    }
+
     /// Counts the store of an instruction for each other virtual CPU that could see it; then nothing is stored again. Most instructions
     /// store nothing, so that this stays out of their code.
     #[inline(never)]
-    fn note_store(&mut self, ec: u32)
-        requires there { IsSome (context_at (state_of self.old) ec) }
+    fn note_store(&mut self, ec: u32, seers: &mut Seers)
+        requires entered { IsEntered self.old ec }
         requires counted { HasCounts (state_of self.old) }
         requires few { (g : ℕ) → IfSome (entry (slice_get (state_of self.old).stirs.guests g)) (λ n. n < 2 ^ 64 - 1) }
+        requires seers { AreSeersOf (state_of self.old) ec seers.old }
         ensures shown { state_of self.new ≡ risen_in (state_of self.old) (is_stirring (state_of self.old) self.old.reach.written ec Steps) }
         ensures entered { IsEntered self.new ec }
         ensures contexts { self.new.contexts ≡ self.old.contexts }
@@ -64,19 +136,21 @@ impl Parts {
         ensures revokes { self.new.revokes ≡ self.old.revokes }
         ensures written { self.new.reach.written ≡ None }
         ensures log { self.new.reach.room ≡ self.old.reach.room }
+        ensures seers { AreSeersOf (state_of self.old) ec seers.new }
     {
-        self.note_step(ec);
-        self.enter(ec);
+        self.note_written(ec, seers);
+        self.reach.forget_store();
     }
 
     /// One instruction as by `execute_beside`, where nothing is stored yet. Where it goes on, its store is counted for each other virtual CPU that could
     /// see it, and then nothing is stored again.
     #[inline(always)]
-    pub fn step_beside(&mut self, ec: u32, regs: &mut Regs) -> Outcome
+    pub fn step_beside(&mut self, ec: u32, regs: &mut Regs, seers: &mut Seers) -> Outcome
         requires there { IsSome (context_at (state_of self.old) ec) }
         requires entered { IsEntered self.old ec }
         requires fresh { self.old.reach.written ≡ None }
         requires log { 0 < self.old.reach.room }
+        requires seers { AreSeersOf (state_of self.old) ec seers.old }
         requires counted { HasCounts (state_of self.old) }
         requires few { (g : ℕ) → IfSome (entry (slice_get (state_of self.old).stirs.guests g)) (λ n. n < 2 ^ 64 - 1) }
         ensures outcome { result ≡ outcome_of (instruction (with_regs (state_of self.old) ec regs.old) ec) }
@@ -84,6 +158,7 @@ impl Parts {
             (done (with_regs (state_of self.old) ec regs.old) ec Steps) }
         ensures raised { (reason q0 q1 : ℕ) → result ≡ Outcome.Raise reason q0 q1 → with_regs (state_of self.new) ec regs.new ≡ with_regs (state_of self.old) ec regs.old }
         ensures fresh { result ≡ Outcome.Next → self.new.reach.written ≡ None }
+        ensures seers { AreSeersOf (state_of self.new) ec seers.new }
         ensures entered { IsEntered self.new ec }
         ensures contexts { self.new.contexts ≡ self.old.contexts }
         ensures queues { self.new.queues ≡ self.old.queues }
@@ -94,7 +169,7 @@ impl Parts {
         match self.execute_beside(ec, regs) {
             Outcome::Next => {
                 if self.reach.has_stored() {
-                    self.note_store(ec);
+                    self.note_store(ec, seers);
                 }
                 Outcome::Next
             }

@@ -22,7 +22,7 @@ impl Parts {
     }
 
     /// Whether a deed of an execution context is an input from outside for a virtual CPU.
-    fn is_stirring(&self, ec: u32, deed: Deed, guest: u32) -> bool
+    pub(crate) fn is_stirring(&self, ec: u32, deed: Deed, guest: u32) -> bool
         ensures { result ≡ is_stirring (state_of self.now) self.now.reach.written ec deed guest }
     {
         if ec == guest {
@@ -80,7 +80,7 @@ impl Parts {
 
     /// The virtual CPUs for which a deed of an execution context may be an input from outside.
     #[tactic(auto, using(crate::proofs::Whom::steps_stir, crate::proofs::Whom::gives_stir, crate::proofs::Whom::removes_stir, crate::proofs::Whom::named_stir))]
-    fn whom(&mut self, ec: u32, deed: Deed) -> Numbers
+    pub(crate) fn whom(&mut self, ec: u32, deed: Deed) -> Numbers
         ensures stirred { AreStirred (state_of self.old) (is_stirring (state_of self.old) self.old.reach.written ec deed) result }
         ensures kept { self.new ≡ self.old }
     {
@@ -115,7 +115,7 @@ impl Parts {
 
     /// Counts a deed of an execution context for those of some virtual CPUs for which it is an input from outside; it
     /// is none for others.
-    fn stir_these(&mut self, ec: u32, deed: Deed, guests: Numbers)
+    pub(crate) fn stir_these(&mut self, ec: u32, deed: Deed, guests: Numbers)
         requires counted { HasCounts (state_of self.old) }
         requires these { AreStirred (state_of self.old) (is_stirring (state_of self.old) self.old.reach.written ec deed) guests }
         requires few { (g : ℕ) → IfSome (entry (slice_get (state_of self.old).stirs.guests g)) (λ n. n < 2 ^ 64 - 1) }

@@ -70,3 +70,6 @@ returns-clause-queued c =
     ap (λ (t : EcTable). record mid { contexts = t.items }) c.set_regs.ensures in
     subst (λ (k : KernelState). AreQueued k c.ride_quanta-ridden.new.parts.queues.all) (sym last)
     (queued_beside mid c.args.chosen.actor c.ride_quanta-ridden.new.regs c.ride_quanta-ridden.new.parts.queues.all c.ride_quanta-ridden.ensures.beside.acts.there c.ride_quanta-ridden.ensures.beside.queued)
+
+pub ride_quanta-ridden-requires-clause-seers : goal.ride_quanta-ridden-requires-clause-seers
+ride_quanta-ridden-requires-clause-seers c = c.none-seers.ensures (state_of c.enter.new.self) c.args.chosen.actor

@@ -1,4 +1,4 @@
-use Rattle.std.proofs.Common.{arith, IsSome, sym, subst, ◌∙◌, ◌-◌, ◌<◌}
+use Rattle.std.proofs.Common.{rules, arith, IsSome, sym, subst, ◌∙◌, ◌-◌, ◌<◌}
 use Rattle.nova_model.specs.State.{ec_in}
 use Rattle.nova_ec.specs.Tables.{EcTable}
 use Rattle.nova_turn.specs.Beside.{with_regs}
@@ -31,3 +31,16 @@ returns-in-Raise-clause-raised c =
       raise_stays (with_regs (state_of c.loop-left.parts) c.args.ec c.loop-left.regs) (with_regs (state_of c.step_beside.new.self) c.args.ec c.step_beside.new.regs) c.args.ec c.in-Raise.reason c.in-Raise.q0 c.in-Raise.q1
           (sym c.in-Raise.is ∙ c.step_beside.ensures.outcome) (c.step_beside.ensures.raised c.in-Raise.reason c.in-Raise.q0 c.in-Raise.q1 c.in-Raise.is),
     )
+
+pub loop-left-preserved : goal.loop-left-preserved
+loop-left-preserved c = (
+  search rules,
+  c.step_beside.ensures.entered,
+  c.step_beside.ensures.contexts ∙ c.loop-left.invariant.2,
+  c.step_beside.ensures.queues ∙ c.loop-left.invariant.3,
+  c.step_beside.ensures.revokes ∙ c.loop-left.invariant.4,
+  search rules,
+  search rules,
+  search rules,
+  c.step_beside.ensures.seers,
+)

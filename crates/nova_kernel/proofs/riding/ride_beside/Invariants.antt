@@ -2,6 +2,7 @@ use Rattle.std.proofs.Common.{◌≡◌, ◌+◌, ◌-◌, ◌≤◌, None, Some
 use Rattle.law_leases.specs.Rides.{rides}
 use Rattle.nova_turn.specs.Beside.{IsEntered, with_regs}
 use Rattle.nova_turn.specs.Parts.{state_of}
+use Rattle.nova_turn.specs.StoresSeen.{AreSeersOf}
 use Rattle.nova_kernel.proofs.riding.ride_beside.Given as goal
 
 -- those that went on so far
@@ -15,6 +16,7 @@ invariant-loop-left l =
     × (l.fn.parts.reach.room ≤ l.parts.reach.room + (l.most - l.left))
     × (l.left ≤ l.most)
     × (l.parts.reach.written ≡ None)
+    × AreSeersOf (state_of l.parts) l.ec l.seers
 
 -- the instructions that are left
 abbrev pub decreases-loop-left : goal.decreases-loop-left

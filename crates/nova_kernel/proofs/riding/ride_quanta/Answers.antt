@@ -19,6 +19,7 @@ loop-count-preserved c =
       few = few;
       beside = c.ride_quantum-ridden.ensures.beside;
       fresh = fresh;
+      seers = c.ride_quantum-ridden.ensures.seers;
       next = next;
       later = later_on c.args.parts.now c.loop-count.parts c.ride_quantum-ridden.new.parts c.args.regs.now c.loop-count.regs c.ride_quantum-ridden.new.regs c.args.cpu c.args.chosen c.loop-count.count c.ride_quantum-ridden.result.count
           c.loop-count.invariant.later c.ride_quantum-ridden.ensures.later;

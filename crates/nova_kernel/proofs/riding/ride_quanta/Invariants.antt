@@ -1,4 +1,6 @@
 use Rattle.std.proofs.Common.{◌≡◌, ◌-◌, ◌≤◌, None}
+use Rattle.nova_turn.specs.Parts.{state_of}
+use Rattle.nova_turn.specs.StoresSeen.{AreSeersOf}
 use Rattle.nova_kernel.specs.Rides.{IsBeside, IsLater, IsNext}
 use Rattle.nova_kernel.proofs.riding.ride_quanta.Given as goal
 
@@ -8,6 +10,7 @@ invariant-loop-count l = record {
   few : l.count ≤ l.most;
   beside : IsBeside l.parts l.chosen l.regs;
   fresh : l.parts.reach.written ≡ None;
+  seers : AreSeersOf (state_of l.parts) l.chosen.actor l.seers;
   next : IsNext l.parts l.cpu l.chosen;
   later : IsLater l.fn.parts l.fn.regs l.parts l.regs l.cpu l.chosen l.count;
 }

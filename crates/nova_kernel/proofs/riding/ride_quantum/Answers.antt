@@ -2,7 +2,7 @@ use Rattle.std.proofs.Common.{arith, ◌<◌, ℕ, sym, subst}
 use Rattle.std.specs.Prelude.{Option, Some, None, IfSome}
 use Rattle.nova_turn.specs.declared.decide.deciding.Raised.{Raised}
 use Rattle.nova_kernel.specs.Rides.{IsHalted, Raises, beside}
-use Rattle.nova_kernel.proofs.Quanta.{HasPaid, HasRidden, bounds_ridden, cpus_ridden, left_ridden, pays_ridden, quantum_beside, quantum_later, quantum_raises, queued_ridden, turns_ridden, counts_along}
+use Rattle.nova_kernel.proofs.Quanta.{HasPaid, HasRidden, bounds_ridden, cpus_ridden, left_ridden, pays_ridden, quantum_beside, quantum_later, quantum_raises, queued_ridden, seers_paid, turns_ridden, counts_along}
 use Rattle.nova_kernel.proofs.riding.ride_quantum.Goals as goal
 
 pub charge_times-requires-clause-charged : goal.charge_times-requires-clause-charged
@@ -199,3 +199,8 @@ pub ride_beside-ridden-requires-clause-counts : goal.ride_beside-ridden-requires
 ride_beside-ridden-requires-clause-counts c =
     counts_along c.args.parts.now c.args.cpu c.args.chosen c.args.regs.now c.args.most c.requires.beside c.requires.next c.requires.left c.requires.early c.requires.cpu
     c.turns_keep_what_they_find.ensures.turns c.requires.turns
+
+pub returns-clause-seers : goal.returns-clause-seers
+returns-clause-seers c =
+    seers_paid c.ride_beside-ridden.new.parts c.charge_times.new.parts c.args.cpu c.args.chosen.sc c.ride_beside-ridden.result.count c.args.chosen.actor c.ride_beside-ridden.new.seers
+    c.charge_times.ensures.charged c.charge_times.ensures.reach c.ride_beside-ridden.ensures.seers
