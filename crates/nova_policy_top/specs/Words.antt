@@ -1,5 +1,5 @@
 -- What words ask for.
-use Rattle.std.specs.Prelude.{ℕ, List, ◌∷◌, codes, nat_le, if◌then◌else◌, Option, Some, None, option_and_then, option_map}
+use Rattle.std.specs.Prelude.{ℕ, List, ◌∷◌, codes, nat_le, if◌then◌else◌, Option, Some, None, option_and_then}
 use Rattle.nova_text.specs.Number.{number}
 use Rattle.nova_policy_top.specs.Form.{Given, given}
 use Rattle.nova_policy_top.specs.declared.request.Request.{Request}

@@ -1,2 +1,3 @@
+pub mod Queues
 pub mod Ranges
 pub mod Verdicts

@@ -1,8 +1,10 @@
-ghost use Rattle.std.specs.Prelude.{◌≡◌, ◌++◌, ◌+◌, ◌<◌, ◌^◌, ◌||◌, flat_map, nat_lt, option_to_list, slice_get, OnOk, Some, ℕ};
+ghost use Rattle.std.specs.Prelude.{◌≡◌, ◌++◌, ◌+◌, ◌<◌, ◌^◌, ◌||◌, flat_map, length, nat_lt, option_to_list, slice_get, OnOk, Some, ℕ};
 ghost use Rattle.std.specs.List.{enumerate_from};
 ghost use Rattle.nova_range.specs.Rights.{allows, write_right};
 ghost use Rattle.nova_model.specs.Capabilities.{bind_portal_right, bind_scheduling_right, control_right};
+ghost use Rattle.nova_model.specs.Semaphores.{semaphore};
 ghost use Rattle.nova_model.specs.State.{context_at};
+ghost use Rattle.law_turns.specs.Waiting.{AreBlocked};
 ghost use Rattle.law_sides.specs.Isolated.{commands};
 ghost use Rattle.law_sides.specs.Tied.{is_blocked_at, lead_of, leads, leads_to, meets, overlaps, overlaps_all, shares, shares_all, strict, ties_by, waits_at, waits_in, weak};
 
@@ -133,13 +135,34 @@ fn waits_in(kernel: &Kernel, d: Derivation, n: u32, object: Object) -> Option<Ti
     }
 }
 
-fn push_waits(out: &mut Vec<Tie>, kernel: &Kernel, d: Derivation) -> Result<(), AllocError>
+/// How many execution contexts wait at a semaphore.
+fn waiting_at(kernel: &Kernel, sm: u32) -> u32
+    ensures { result ≡ length (semaphore kernel.now.state.semaphores sm).waiting }
+{
+    match kernel.semaphore(sm) {
+        Some((_, waiting)) => waiting,
+        None => 0,
+    }
+}
+
+fn push_waiting(out: &mut Vec<Tie>, kernel: &Kernel, d: Derivation) -> Result<(), AllocError>
     ensures { OnOk result (out.new.items ≡ out.old.items ++ flat_map (λ e. option_to_list (waits_in kernel.now.state d e)) (enumerate_from 0 kernel.now.state.objects)) }
 {
     for (i, object) in kernel.objects().iter().enumerate() {
         push(out, waits_in(kernel, d, i as u32, *object))?;
     }
     Ok(())
+}
+
+/// All that wait at what a capability leads to. Mostly nobody does, and then no execution context is looked at.
+fn push_waits(out: &mut Vec<Tie>, kernel: &Kernel, d: Derivation) -> Result<(), AllocError>
+    requires blocked { AreBlocked kernel.now.state.contexts kernel.now.state.semaphores }
+    ensures { OnOk result (out.new.items ≡ out.old.items ++ flat_map (λ e. option_to_list (waits_in kernel.now.state d e)) (enumerate_from 0 kernel.now.state.objects)) }
+{
+    if waiting_at(kernel, d.target) == 0 {
+        return Ok(());
+    }
+    push_waiting(out, kernel, d)
 }
 
 /// The first frame after a range of memory.
@@ -218,6 +241,7 @@ fn push_by(
     d: Derivation,
     list: &[Derivation],
 ) -> Result<(), AllocError>
+    requires blocked { AreBlocked kernel.now.state.contexts kernel.now.state.semaphores }
     ensures { OnOk result (out.new.items ≡ out.old.items ++ ties_by kernel.now.state list.now d) }
 {
     if !is_object(d.kind) {
@@ -233,6 +257,7 @@ pub(crate) fn push_all_by(
     kernel: &Kernel,
     list: &[Derivation],
 ) -> Result<(), AllocError>
+    requires blocked { AreBlocked kernel.now.state.contexts kernel.now.state.semaphores }
     ensures { OnOk result (out.new.items ≡ out.old.items ++ flat_map (ties_by kernel.now.state list.now) list.now) }
 {
     for d in list {

@@ -13,6 +13,7 @@ use std::alloc::{AllocError, Global};
 pub fn ties(alloc: Global, kernel: &Kernel) -> Result<Vec<Tie>, AllocError>
     ensures { IfOk result (λ list. list.items ≡ ties kernel.now.state) }
 {
+    kernel.actor(0);
     let list = derivations_of(alloc, kernel)?;
     let mut out = Vec::new(alloc);
     push_all_by(&mut out, kernel, &list)?;

@@ -1,5 +1,5 @@
 -- What is told of sides that are isolated.
-use Rattle.std.proofs.Common.{◌≡◌, ℕ, Bool, true, false, List, Option, Some, None, inl, inr, ap, sym, ◌∙◌, subst}
+use Rattle.std.proofs.Common.{◌≡◌, ℕ, Bool, true, false, List, Option, Some, None, inl, inr, ap, sym, ◌∙◌}
 use Rattle.nova_model.specs.State.{KernelState}
 use Rattle.nova_ties.specs.Ties.{label_in}
 use Rattle.law_sides.specs.Isolated.{AreIsolated}

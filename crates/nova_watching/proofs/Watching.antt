@@ -1,5 +1,5 @@
 -- States that are judged one after another.
-use Rattle.std.proofs.Common.{◌≡◌, ℕ, ◌+◌, ◌-◌, ◌≤◌, ◌<◌, List, [], ◌∷◌, ◌++◌, Option, Some, None, length, replicate, take, drop, ap, sym, subst, ◌∙◌, arith, append_assoc, append-nil, string_bytes, slice_index_or, refl}
+use Rattle.std.proofs.Common.{◌≡◌, ℕ, ◌+◌, ◌-◌, ◌<◌, List, [], ◌∷◌, ◌++◌, Option, Some, None, length, replicate, take, drop, ap, sym, subst, ◌∙◌, arith, append_assoc, string_bytes, slice_index_or, refl}
 use Rattle.std.proofs.lemmas.List.{length-append, length-replicate, replicate-append-replicate, replicate_more, take-append-drop}
 use Rattle.law_turns.proofs.Passes.{run_append}
 use Rattle.nova_model.specs.Runs.{after, run}

@@ -17,11 +17,7 @@ fn told_of_finest(alloc: Global, kernel: &Kernel) -> Result<Told, AllocError>
 
 /// What the sides of `policy` are in the present state of `kernel`, as it names them; or the finest beside a trusted root, where there is no policy.
 /// The only refusal is of memory.
-pub fn told_of(
-    alloc: Global,
-    policy: &Option<Policy>,
-    kernel: &Kernel,
-) -> Result<Told, AllocError>
+pub fn told_of(alloc: Global, policy: &Option<Policy>, kernel: &Kernel) -> Result<Told, AllocError>
     ensures { IfOk result (λ t. IsTold policy.now kernel.now.state t.answer (string_bytes t.text)) }
 {
     match policy {

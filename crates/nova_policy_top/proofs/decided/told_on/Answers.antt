@@ -1,4 +1,4 @@
-use Rattle.std.proofs.Common.{Option, None, subst}
+use Rattle.std.proofs.Common.{Option, subst}
 use Rattle.nova_boot.specs.Boot.{scenario_of}
 use Rattle.nova_judging.specs.declared.answer.Told.{Told}
 use Rattle.nova_model.specs.Boot.{boot}

@@ -1,7 +1,6 @@
-use Rattle.std.proofs.Common.{◌≡◌, ◌≢◌, ◌||◌, ℕ, Bool, true, false, refl}
+use Rattle.std.proofs.Common.{◌≡◌, ◌≢◌, ◌||◌, Bool, true, false, refl}
 use Rattle.std.specs.Prelude.{if◌then◌else◌}
 use Rattle.law_sides.specs.Roles.{is_at_rest, is_bare, is_mute}
-use Rattle.nova_sides.specs.declared.roles.Role.{Role}
 use Rattle.nova_sides.specs.declared.roles.Role.TheVariants.{Rests, Bare, Mute, Works}
 use Rattle.nova_sides.proofs.roles.what_is_not_at_work_is_harmless.Goals as goal
 

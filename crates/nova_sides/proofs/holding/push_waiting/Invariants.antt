@@ -3,7 +3,7 @@ use Rattle.std.specs.Prelude.{option_to_list}
 use Rattle.std.specs.List.{enumerate_from}
 use Rattle.nova_objects.specs.declared.object.Object.{Object}
 use Rattle.law_sides.specs.Tied.{waits_in}
-use Rattle.nova_sides.proofs.holding.push_waits.Given as goal
+use Rattle.nova_sides.proofs.holding.push_waiting.Given as goal
 
 abbrev pub invariant-loop-i : goal.invariant-loop-i
 invariant-loop-i l =
