@@ -105,13 +105,13 @@ class Releases(unittest.TestCase):
             program = top / "bin" / "nova_policy"
             program.parent.mkdir()
             domains = "nova: no protection domain has such a number then. The same words with --policy /dev/null tell all there are\n"
-            odd = "there is no option --until (a file with such a name stands behind --)"
+            odd = "there is no option --before (a file with such a name stands behind --)"
             request = f"nova: these words are no request: {odd}. ./nova-policy --help lists them\n"
             for line, status, words, before, behind in (
                 ("policy line 2: NoDomain", 7, ["a"], "", domains),
                 ("policy line 2: Number", 7, ["a"], "", ""),
                 ("read fault", 3, ["a"], "nova: a: No such file or directory\n", ""),
-                ("usage: ..", 2, ["--until"], request, ""),
+                ("usage: ..", 2, ["--before"], request, ""),
             ):
                 program.write_text(f"#!/bin/sh\necho 'nova_policy: {line}' >&2\nexit {status}\n")
                 program.chmod(0o755)
