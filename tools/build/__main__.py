@@ -10,8 +10,8 @@ kit is used again, by checksums: the times of files mean nothing. With --plan no
 the room on disk. --built says by its status, 0 or 1, whether CRATE is built of the sources that are here. --above says what a change of each
 crate proves again: how many crates, itself among them, and the minutes of their proofs by one job. Nothing is built.
 
-Crates are proved side by side, each as soon as those below it are proved, that with the longest way to the top first, and by as many jobs as there are
-processors. How long it takes yet is reckoned from costs.txt, which has each crate's seconds by one job, and from how fast this
+Crates are proved side by side, each as soon as those below it are proved. Those with nearly the longest way to the top go before the others, and
+have as many jobs as there are processors. How long it takes yet is reckoned from costs.txt, which has each crate's seconds by one job, and from how fast this
 machine was so far.
 
 Ended by a signal, it ends what it began. A second one in the same tree waits for the first.
@@ -84,7 +84,8 @@ class Builder:
         tree = self._trees.pop()
         for other in [*self.plan.below[crate], crate]:
             hand_on(other, TOP, tree)
-        status, said = self.children.run(["rt", "lib", "--jobs", str(self._jobs[crate])], tree / "crates" / crate)
+        jobs = self._jobs[crate]
+        status, said = self.children.run(["rt", "lib", "--jobs", str(jobs)], tree / "crates" / crate, behind=jobs < self.plan.jobs)
         if status == 0:
             hand_on(crate, tree, TOP)
         self._trees.append(tree)

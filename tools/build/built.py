@@ -19,9 +19,9 @@ from ending import Missing, ended  # noqa: E402
 from kit import TOP, identity  # noqa: E402
 from schedule import Schedule, costs, dependencies, in_order  # noqa: E402
 
-# More workers than this are no quicker: the longest chain of crates is the clock, to which the other processors go as jobs. A job takes up to so many bytes.
+# More workers than this are no quicker: the longest chain of crates is the clock. A job takes up to so many bytes.
 PROCESSORS = len(os.sched_getaffinity(0))
-WORKERS = min(3, PROCESSORS)
+WORKERS = min(4, PROCESSORS)
 MEMORY_OF_A_JOB = 3_000_000_000
 PARTS = ("src", "specs", "proofs", "c")
 # A release has this file, and its programs in this folder; it has no sources.

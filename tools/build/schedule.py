@@ -12,6 +12,8 @@ from pathlib import Path
 UNKNOWN = 30
 # The share of a crate's seconds that more jobs don't shorten: what is below is loaded, and the last function waits for.
 UNSHARED = 0.4
+# The crates that have all jobs, and go before others: those whose way to the top is at least this share of the longest.
+NEAR = 0.8
 
 Names = Mapping[str, list[str]]
 
@@ -87,14 +89,11 @@ class Schedule:
         return sorted(able, key=lambda crate: -ways[crate])
 
     def next(self, left: Iterable[str], proved: Collection[str], running: Collection[str]) -> dict[str, int]:
-        """The crates that begin now, each with its jobs. That with the longest way to the top has all of them, since others that are short end long
-        before it does, and the others have one each. The program itself has one: most of its time is the compiler's."""
-        able, ways = self.ready(left, proved), self.ways()
-        begun = {crate: 1 for crate in able[: self.workers - len(running)]}
-        first = max([*running, *begun], key=lambda crate: ways[crate], default=self.program)
-        if first in begun and first != self.program:
-            begun[first] = self.jobs
-        return begun
+        """The crates that begin now, each with its jobs. Those with the longest way to the top, or nearly, have all of them, since others that are
+        short end long before they do, and the others have one each. The program itself has one: most of its time is the compiler's."""
+        begun, ways = self.ready(left, proved)[: self.workers - len(running)], self.ways()
+        near = NEAR * max((ways[crate] for crate in [*running, *begun]), default=0)
+        return {crate: self.jobs if crate != self.program and ways[crate] >= near else 1 for crate in begun}
 
     def seconds_left(self, proved: Collection[str], running: Mapping[str, float], pace: float) -> float:
         """How long the rest takes, the program's own proof and compiling included.

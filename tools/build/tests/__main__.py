@@ -122,6 +122,10 @@ class Schedules(unittest.TestCase):
         alone = Schedule.of("nova", dependencies(CRATES), SECONDS, 1, 1)
         self.assertEqual(alone.seconds_left([], {}, 1), 160)
 
+    def test_a_way_that_is_nearly_the_longest_has_all_jobs(self) -> None:
+        plan = Schedule.of("nova", dependencies(CRATES), SECONDS | {"short": 75}, 2, 4)
+        self.assertEqual(plan.next(["long", "short", "nova"], ["low"], []), {"long": 4, "short": 4})
+
     def test_the_longest_way_has_all_jobs(self) -> None:
         plan = Schedule.of("nova", dependencies(CRATES), SECONDS, 2, 4)
         self.assertEqual(plan.next(plan.below, [], []), {"low": 4})
