@@ -1,4 +1,4 @@
-"""What this tool writes into docs/ARCHITECTURE.md: lists of the crates of each layer, and tables of files that have a table of an enumeration."""
+"""The lists of the crates of each layer, which this tool writes into docs/ARCHITECTURE.md, and lists of files by crate, which it shows."""
 
 from __future__ import annotations
 
@@ -7,31 +7,32 @@ import sys
 from itertools import groupby
 from pathlib import Path
 
-from page import HEADER
-
 sys.path.append(str(Path(__file__).resolve().parents[1] / "definitions"))
 
 from heads import crate_summary, layers  # noqa: E402
 
 # The section with a list for each layer, below the layer's name.
 HEADING = "By layer"
+# Crates that have no row: those of tests, and those that outside tools are compared with.
+WITHOUT_ROW = ("nova_tests_", "vectors_")
 # How a layer's name, and how the row of a crate begins.
 BEGINS = ("**", "- ")
 
 
 def crate_lists(top: Path) -> str:
-    """A list for each layer of crates.txt: its crates, and what each says of itself."""
+    """A list for each layer of crates.txt: its crates that have a row, and what each says of itself."""
     texts = []
     for layer in layers(top):
-        rows = "\n".join(f"- `{crate}`: {crate_summary(top, crate)}" for crate in layer.crates)
-        texts.append(f"**{layer.name}**\n\n{rows}\n")
+        rows = [f"- `{crate}`: {crate_summary(top, crate)}" for crate in layer.crates if not crate.startswith(WITHOUT_ROW)]
+        if rows:
+            texts.append("\n".join([f"**{layer.name}**", "", *rows, ""]))
     return "\n".join(texts)
 
 
 def file_rows(files: list[str]) -> str:
-    """The rows of a table of files, a crate each."""
+    """The lines of a list of files, a crate each."""
     crates = groupby((file.partition("/")[::2] for file in files), key=lambda pair: pair[0])
-    return "\n".join(f"| `{crate}` | {', '.join(f'`{file}`' for _, file in pairs)} |" for crate, pairs in crates)
+    return "\n".join(f"  {crate}: {', '.join(file for _, file in pairs)}" for crate, pairs in crates)
 
 
 def span(text: str, heading: str) -> tuple[int, int]:
@@ -48,17 +49,6 @@ def with_crates(text: str, top: Path) -> str:
     begin, end = span(text, HEADING)
     before = text[begin:end].partition("\n**")[0].rstrip("\n")
     return text[:begin] + before + "\n\n" + crate_lists(top) + "\n" + text[end:]
-
-
-def with_files(text: str, heading: str, files: list[str]) -> str:
-    """The page with these files in the table of a section; one without a table stays as it is."""
-    begin, end = span(text, heading)
-    before, mark, rest = text[begin:end].partition(HEADER)
-    if not mark:
-        return text
-    head, rule, behind = rest.partition("|---|---|\n")
-    after = re.sub(r"\A(?:\|.*\n)*", "", behind)
-    return text[:begin] + before + mark + head + rule + file_rows(files) + "\n" + after + text[end:]
 
 
 def stale_crates(text: str, top: Path) -> list[str]:

@@ -1,7 +1,7 @@
-"""What docs/ARCHITECTURE.md says of files: which have a table, and which it names at all.
+"""What docs/ARCHITECTURE.md says of files.
 
-A section `### heading` has a table whose first column is `crate` and whose second has files below that crate. Everywhere else a file is a
-name in backticks that ends in .rt or .antt, with folders before it or alone; the names in brackets behind it are words of that file.
+A file is a name in backticks that ends in .rt or .antt, with folders before it or alone; the names in brackets behind it are words of that
+file.
 """
 
 from __future__ import annotations
@@ -9,22 +9,9 @@ from __future__ import annotations
 import re
 from pathlib import Path
 
-HEADER = "| crate |"
 QUOTED = re.compile(r"`([^`]+)`")
 FILE = re.compile(r"`([\w./]+\.(?:rt|antt))`(?: \(([^()]*)\))?")
 WORD = re.compile(r"^\w+$")
-
-
-def section(text: str, heading: str) -> str:
-    """The text under a heading of the third level."""
-    return re.split(r"^#{1,3} ", text.partition(f"\n### {heading}\n")[2], maxsplit=1, flags=re.MULTILINE)[0]
-
-
-def listed(text: str, heading: str) -> list[str]:
-    """The files in the table of a section, by path below the crates."""
-    rows = section(text, heading).partition(HEADER)[2].partition("\n\n")[0].splitlines()
-    cells = [[QUOTED.findall(cell) for cell in row.split("|")[1:3]] for row in rows if row.count("|") == 3]
-    return sorted(f"{crates[0]}/{file}" for crates, files in cells if crates for file in files)
 
 
 def named(text: str) -> list[tuple[str, list[str]]]:

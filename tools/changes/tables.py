@@ -15,7 +15,7 @@ TESTS = "nova_tests_"
 
 @dataclass(frozen=True)
 class Enumeration:
-    """An enumeration: the heading of its section in the page, where it stands, and which share of its variants makes a table."""
+    """An enumeration: the heading of its section in docs/ARCHITECTURE.md, where it stands, and which share of its variants makes a table."""
 
     heading: str
     path: str

@@ -4,7 +4,7 @@ from __future__ import annotations
 
 import re
 from collections import Counter
-from dataclasses import dataclass
+from dataclasses import dataclass, field
 from pathlib import Path
 
 # A public definition begins at the start of its line: `abbrev pub x : T`, `pub record X (..) : T where`.
@@ -16,11 +16,12 @@ CLAUSE = re.compile(r"^ +ensures (\w+) \{", re.MULTILINE)
 
 @dataclass(frozen=True)
 class Law:
-    """A law of a crate, with the names of its clauses; one without names has none."""
+    """A law of a crate, with the names of its clauses; one without names has none. Its source is a path below the repository."""
 
     crate: str
     name: str
     clauses: frozenset[str]
+    path: str = field(default="", compare=False)
 
 
 def defined(folder: Path) -> set[str]:
@@ -39,7 +40,7 @@ def laws_of(top: Path) -> list[Law]:
     """The laws of all crates of a repository."""
     found = []
     for file in sorted(top.glob("crates/*/src/**/*.rt")):
-        crate = file.relative_to(top).parts[1]
+        path = file.relative_to(top)
         for name, contract in LAW.findall(file.read_text("utf-8")):
-            found.append(Law(crate, name, frozenset(CLAUSE.findall(contract))))
+            found.append(Law(path.parts[1], name, frozenset(CLAUSE.findall(contract)), path.as_posix()))
     return found

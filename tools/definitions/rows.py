@@ -11,7 +11,7 @@ import re
 from dataclasses import dataclass
 from pathlib import Path
 
-from names import CLAUSE, Law
+from names import CLAUSE
 
 MUTANTS = "## Mutants"
 # What has a row for each of its clauses or fields: the top calls, and what one of them says of a run.
@@ -87,12 +87,6 @@ def missing(link: Link, top: Path) -> list[str]:
         known = names_of_crate(file)
     wrong = [] if there else [f"not in {link.path}: {link.name}"]
     return wrong + [f"not behind {link.name}: {name}" for name in link.behind if there and name not in known]
-
-
-def left_out(told: list[Link], laws: list[Law]) -> list[str]:
-    """The laws that no row links to, a line each."""
-    named = {(Path(link.path).parts[1], link.name) for link in told}
-    return [f"no row of {law.crate}: {law.name}" for law in laws if (law.crate, law.name) not in named]
 
 
 def edits_gone(text: str, top: Path) -> list[str]:

@@ -13,8 +13,8 @@ from pathlib import Path
 TOP = Path(__file__).resolve().parents[1]
 sys.path.insert(0, str(TOP))
 
-from crates import stale_crates, with_crates, with_files  # noqa: E402
-from page import gone, listed, named, section  # noqa: E402
+from crates import file_rows, stale_crates, with_crates  # noqa: E402
+from page import gone, named  # noqa: E402
 from tables import Enumeration, citing, sources, tables, variants  # noqa: E402
 
 CALLS = """/// What is asked for. It was Never.
@@ -45,31 +45,7 @@ FILES = {
 OF = Enumeration("A call", "crates/nova_a/src/call.rt", "Call", 0.75)
 FOUND = ["nova_a/src/call.rt", "nova_a/src/row.rt", "nova_b/specs/Rows.antt"]
 
-PAGE = """# Architecture
-
-| go to |
-|---|
-| `nova_a/src/row.rt` (`row`, the table `Call`), `Rows.antt` (of some); `nova_a/src`; `cargo.toml` |
-
-### A call
-
-1. Its number.
-
-| crate | files with a row |
-|---|---|
-| `nova_a` | `src/call.rt`, `src/row.rt` |
-| `nova_b` | `specs/Rows.antt` |
-
-| crate | of another table |
-|---|---|
-| `nova_c` | `src/c.rt` |
-
-### Another
-
-| crate | files |
-|---|---|
-| `nova_d` | `src/d.rt` |
-"""
+PAGE = "| `nova_a/src/row.rt` (`row`, the table `Call`), `Rows.antt` (of some); `nova_a/src`; `cargo.toml` |\n"
 
 # What is named, and what is wrong with it.
 GONE = (
@@ -82,10 +58,11 @@ GONE = (
 
 # Crates by layer, and the page with a list for each, before and after it is written.
 CRATES = {
-    "crates.txt": "# The first.\nnova_a: nova_b\nnova_b:\n\n# The last.\nnova_d may=Wait:\n",
+    "crates.txt": "# The first.\nnova_a: nova_b\nnova_b:\n\n# The last.\nnova_d may=Wait:\n\n# Tests.\nnova_tests_a: nova_a\n",
     "nova_a/src/lib.rt": "//! Asks. More.\n",
     "nova_b/src/lib.rt": "//! Rows,\n//! by number.\n//!\n//! More.\n",
     "nova_d/src/main.rt": "//! `d`: ends.\n",
+    "nova_tests_a/src/lib.rt": "//! Tries.\n",
 }
 OLD = """# Architecture
 
@@ -147,11 +124,9 @@ class Crates(unittest.TestCase):
         (self.top / "crates/nova_d/src/main.rt").write_text("fn main() {}\n", "utf-8")
         self.assertEqual(stale_crates(with_crates(NEW, self.top), self.top), ["nova_d says nothing at its head"])
 
-    def test_a_table_of_files_is_written_in_its_section_alone(self) -> None:
-        written = with_files(PAGE, "A call", ["nova_a/src/row.rt", "nova_c/src/b.rt", "nova_c/src/c.rt"])
-        self.assertEqual(listed(written, "A call"), ["nova_a/src/row.rt", "nova_c/src/b.rt", "nova_c/src/c.rt"])
-        self.assertEqual(with_files(written, "A call", FOUND), PAGE)
-        self.assertEqual(with_files(PAGE, "A deed", FOUND), PAGE)
+    def test_files_are_shown_by_crate(self) -> None:
+        self.assertEqual(file_rows(FOUND), "  nova_a: src/call.rt, src/row.rt\n  nova_b: specs/Rows.antt")
+        self.assertEqual(file_rows([]), "")
 
 
 class Changes(unittest.TestCase):
@@ -180,12 +155,6 @@ class Changes(unittest.TestCase):
         self.assertEqual(citing(self.top, "Make", "Rattle.nova_a"), ["nova_b/proofs/Told.antt"])
         self.assertEqual(citing(self.top, "Mak", "Rattle.nova_a"), [])
         self.assertEqual(citing(self.top, "Make", "Rattle.nova_b"), [])
-
-    def test_the_first_table_of_files_of_a_section_is_meant(self) -> None:
-        self.assertEqual(listed(PAGE, "A call"), FOUND)
-        self.assertEqual(listed(PAGE, "Another"), ["nova_d/src/d.rt"])
-        self.assertEqual(listed(PAGE, "A deed"), [])
-        self.assertTrue(section(PAGE, "A call").rstrip().endswith("`src/c.rt` |"))
 
     def test_names_in_brackets_are_of_the_file_before_them(self) -> None:
         self.assertEqual(named(PAGE)[:2], [("nova_a/src/row.rt", ["row", "Call"]), ("Rows.antt", [])])

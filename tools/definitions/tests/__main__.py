@@ -16,8 +16,13 @@ sys.path.insert(0, str(TOP))
 from heads import crate_summary, layers, shortened, summary  # noqa: E402
 from index import stale, without_name, written  # noqa: E402
 from names import Law, defined, laws_of, names_in  # noqa: E402
-from rows import Link, contracts, edits_gone, left_out, links, missing, unnamed  # noqa: E402
+from others import stale as stale_laws  # noqa: E402
+from others import written as with_laws  # noqa: E402
+from rows import Link, contracts, edits_gone, links, missing, unnamed  # noqa: E402
 from scenarios import FILE, differing  # noqa: E402
+from sentences import stale as stale_sentences  # noqa: E402
+from sentences import told  # noqa: E402
+from sentences import written as with_sentences  # noqa: E402
 from table import Credit, read, wrong  # noqa: E402
 from words import assembled  # noqa: E402
 
@@ -104,6 +109,22 @@ Not a row: [`edges_end`](../crates/nova_a/src/laws.rt): `third`.
 | a line ends | [`Line::end`](../crates/nova_a/src/line.rt): `exact`, [`Line`](../crates/nova_a/src/line.rt): `end`, `few`, `first` |
 """
 
+# The list of other laws, with one that has a row and one that is gone.
+OTHERS = (
+    THEOREMS
+    + """
+### Other laws
+
+By source:
+
+- [`nova_a/src/laws.rt`](../crates/nova_a/src/laws.rt): `edges_end`, `gone`
+
+## Behind
+
+Stays.
+"""
+)
+
 BODIES = """| a | `nova_a`: `of_another_section` |
 
 ## Mutants, and more
@@ -126,6 +147,33 @@ LINKS = (
     (Link("starts", "crates/nova_a/src/laws.rt", ()), ["not in crates/nova_a/src/laws.rt: starts"]),
     (Link("edges_end", "crates/nova_a/src/edges.rt", ()), ["no file of edges_end: crates/nova_a/src/edges.rt"]),
 )
+
+# Two types of a source, each with a function of the same name; and lines that say what comments say first, or another thing.
+SAID = """/// A line, to its end. It has one.
+#[derive(Clone)]
+pub struct Line {
+}
+
+impl Line {
+    /// Where the line
+    /// begins: before it.
+    #[inline]
+    pub fn begin(&self) -> u64 {
+    }
+}
+
+impl Ends for Part {
+    /// Where a part begins.
+    fn begin(&self) -> u64 {
+    }
+}
+"""
+TOLD = """- [`Line`](../crates/nova_a/src/said.rt): A line, to its end.
+- [`Line::begin`](../crates/nova_a/src/said.rt) (`first`):
+- [`Part::begin`](../crates/nova_a/src/said.rt): Where it begins.
+- [`end`](../crates/nova_a/src/said.rt): By hand.
+- [`nova_a/src/said.rt`](../crates/nova_a/src/said.rt): `ends`
+"""
 
 # A scenario as a text and as a specification.
 TEXT = """cpus 1
@@ -383,8 +431,32 @@ class Theorems(unittest.TestCase):
         self.assertEqual(unnamed(links(THEOREMS.replace("`first`, `last`;", "`first`;")), whole, self.top), ["no row of edges_end: last"])
         self.assertEqual(unnamed(links(THEOREMS.replace("End.antt): `last`", "End.antt)")), whole, self.top), ["no row of IsEnd: last"])
 
-    def test_a_law_without_a_row_is_found(self) -> None:
-        self.assertEqual(left_out(links(THEOREMS), LAWS), ["no row of nova_a: turns_end"])
+    def test_lines_say_what_comments_say_first(self) -> None:
+        (self.top / "crates/nova_a/src/said.rt").write_text(SAID, "utf-8")
+        first, second, third, *rest = TOLD.splitlines()
+        page = "\n".join([first, f"{second} Where the line begins: before it.", third.replace("it begins", "a part begins"), *rest, ""])
+        self.assertEqual(with_sentences(TOLD, self.top), page)
+        self.assertEqual(stale_sentences(page, self.top), ["the line of end isn't what crates/nova_a/src/said.rt says: nothing"])
+        self.assertEqual([fault.split(" isn't")[0] for fault in stale_sentences(TOLD, self.top)], [
+            "the line of Line::begin", "the line of Part::begin", "the line of end"])
+        self.assertEqual([(link.name, link.behind) for link in told(TOLD)], [
+            ("Line", ()), ("Line::begin", ("first",)), ("Part::begin", ()), ("end", ())])
+
+    def test_laws_without_a_row_are_listed(self) -> None:
+        (self.top / "crates.txt").write_text("# The first.\nnova_a:\n", "utf-8")
+        laws = laws_of(self.top)
+        page = with_laws(OTHERS, laws, self.top)
+        self.assertEqual(page, OTHERS.replace("edges_end`, `gone", "turns_end"))
+        self.assertEqual(with_laws(page, laws, self.top), page)
+        self.assertEqual(stale_laws(page, laws, self.top), [])
+
+    def test_a_stale_list_of_laws_is_found(self) -> None:
+        (self.top / "crates.txt").write_text("# The first.\nnova_a:\n", "utf-8")
+        line = "- [`nova_a/src/laws.rt`](../crates/nova_a/src/laws.rt)"
+        self.assertEqual(stale_laws(OTHERS, laws_of(self.top), self.top), [
+            f'"Other laws" lacks this line: {line}: `turns_end`',
+            f'"Other laws" has a line of no law without a row: {line}: `edges_end`, `gone`',
+        ])
 
 
 if __name__ == "__main__":
