@@ -2,7 +2,7 @@
    `tail` says so; with -DEARLY after that, and then the consumer may take what isn't there yet.
 
    tools/c/build.sh --debug -O2 -Itools/c/examples --cpus 2 examples/explore/queue.c queue.nova 3
-   python3 tools/explore queue.nova --elf queue.elf word failed 1
+   python3 tools/explore queue.nova --elf queue.elf asserts
 
    queue.nova and queue_early.nova beside this are built without --debug. */
 #include "must.h"
@@ -18,8 +18,7 @@ enum { STARTER = 34, CONSUMER = 36, EVENTS = 48 };
 /* Nobody uses up a quantum of so many turns: where one ends there are more states. */
 enum { QUANTUM = 1000 };
 
-static volatile unsigned slots[SLOTS], head, tail;
-volatile unsigned failed;
+static volatile unsigned slots[SLOTS], head, tail, taken;
 NOVA_STACK(stack, 512);
 
 NOVA_THREAD(consumer_begins, consumer);
@@ -56,11 +55,13 @@ static bool take(unsigned *item)
 /* Looks so often, and not until all have come: a loop without end has no end of states. */
 void consumer(void)
 {
-    unsigned wanted = 1, item;
+    unsigned item;
 
     for (int i = 0; i < LOOKS; i++)
-        if (take(&item) && item != wanted++)
-            failed = 1;
+        if (take(&item)) {
+            nova_assert(item == taken + 1);
+            taken++;
+        }
 }
 
 int main(void)

@@ -42,6 +42,20 @@ Status: 0 apart, 1 served, 9 breach, 10 stuck, 11 single. Without an answer: 2 n
 order, 6 the answer isn't written, 7 a fault of the policy, 8 out of memory. docs/SECURITY.md says what the answers mean, docs/FORMATS.md explains
 their lines and the word of each fault. An answer is drawn by: python3 tools/picture sides ANSWER
 """
+EXPLORE_HELP = f"""\
+./nova-explore SCENARIO QUESTION [WORD ..]   whether any order of turns leads to what is asked for: an order, or that there is none
+  --turns N                   the most turns of an order, 1 to {MOST_TURNS:,} ({TURNS:,})
+  --states N                  the most states that are expanded, 1 to 100,000,000 (20,000)
+./nova draft explore WORD..   the same at once, unproved
+python3 tools/explore WORD..  the same in sentences, with names of a program in C; --help tells more
+
+QUESTION, as ends or blocked, is one of those of docs/TOOLS.md, "Every order"; docs/EXPLORING.md says what answers mean, with examples.
+
+Status: 0 of all orders, 1 an order is told, 7 cut, 9 of orders of at most N turns. Without an answer: 2 no request, 3 a file isn't read, 4 a fault of
+the scenario, 5 no such console or frame, 6 the answer isn't written, 8 out of memory. docs/FORMATS.md explains the lines.
+"""
+# The help of each program, by its name behind nova_.
+HELPS = {"": HELP, "policy": POLICY_HELP, "explore": EXPLORE_HELP}
 # The options of a request, with the word behind each.
 POLICY_OPTIONS = {"--at": "TURN", "--until": "TURN", "--order": "ORDER", "--policy": "POLICY"}
 TURN_OPTIONS = ("--at", "--until")
@@ -284,10 +298,10 @@ def policy_hints(given: list[str]) -> list[str]:
 
 def main(given: list[str]) -> int:
     """Says what there is to say, a line each."""
-    is_policy = given[:1] == ["policy"]
-    if given[is_policy:] == ["--help"]:
-        print(POLICY_HELP if is_policy else HELP, end="")
+    if given[-1:] == ["--help"] and " ".join(given[:-1]) in HELPS:
+        print(HELPS[" ".join(given[:-1])], end="")
         return 0
+    is_policy = given[:1] == ["policy"]
     for line in policy_hints(given[1:]) if is_policy else hints(given):
         print(f"nova: {line}".encode(errors="replace").decode())
     return 0

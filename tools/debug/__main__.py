@@ -21,7 +21,7 @@ from built import Missing, ended, find  # noqa: E402
 from listing import Listing, list_turns  # noqa: E402
 from naming import Names, Unread, add_words, names_of, selectors_in  # noqa: E402
 from packets import Closed, Line  # noqa: E402
-from parsing import Parser  # noqa: E402
+from parsing import Parser, program_file  # noqa: E402
 from symbols import write_symbols  # noqa: E402
 from target import Target  # noqa: E402
 
@@ -44,7 +44,7 @@ def parser(trace: bool) -> argparse.ArgumentParser:
     words.add_argument("scenario", type=Path, metavar="SCENARIO")
     words.add_argument("order", type=Path, nargs="?", metavar="ORDER", help="the order of turns of the run (round robin)")
     words.add_argument("--limit", type=number, default=MOST, metavar="N", help=f"the most turns of the run ({MOST})")
-    words.add_argument("--program", type=Path, metavar="FILE", help="another program in place of the repository's")
+    words.add_argument("--program", type=program_file, metavar="FILE", help="another program in place of the repository's")
     add_words(words)
     told = "an executable whose functions and lines are told" if trace else "an executable whose constants name selectors; gdb has its own"
     words.add_argument("--elf", type=Path, metavar="FILE", help=told)

@@ -14,15 +14,17 @@ import sys
 from collections.abc import Iterable
 from pathlib import Path
 
-sys.path.append(str(Path(__file__).resolve().parents[1] / "picture"))
+sys.path += [str(Path(__file__).resolve().parents[1] / name) for name in ("picture", "explore")]
 
 from account import Run, account  # noqa: E402
 from exact import Exact, Refused, ended, there  # noqa: E402
+from failures import failures  # noqa: E402
 from naming import Names, Unread, add_words, check_executable, constants, named_in, selectors  # noqa: E402
-from parsing import Parser  # noqa: E402
+from parsing import Parser, program_file  # noqa: E402
 from places import Place, places_of  # noqa: E402
 from report import Context, Fault, Report, read_report  # noqa: E402
 from scenario import read_settings  # noqa: E402
+from symbols import NoSymbol  # noqa: E402
 
 
 class Trouble(Exception):
@@ -38,7 +40,7 @@ def parser() -> argparse.ArgumentParser:
     add_words(words)
     words.add_argument("--scenario", type=Path, metavar="FILE", help="the scenario of the run, by which nova_debug is asked who is in which domain")
     words.add_argument("--order", type=Path, metavar="FILE", help="the order of the run")
-    words.add_argument("--program", type=Path, metavar="FILE", help="another program than nova_debug of the repository")
+    words.add_argument("--program", type=program_file, metavar="FILE", help="another program than nova_debug of the repository")
     return words
 
 
@@ -105,6 +107,17 @@ class Places:
         return str(self.find(context.number, address) or "")
 
 
+def failed_in(text: str, places: Places, programs: Iterable[Path]) -> dict[int, str]:
+    """The text of each assertion in C that failed, by the execution context whose program has it. None of a file that is cut short."""
+    found: dict[int, str] = {}
+    for program in programs:
+        try:
+            found |= {number: said for number, said in failures(text, program) if places.program_of(number) == program}
+        except NoSymbol:
+            continue
+    return found
+
+
 def names_of(words: argparse.Namespace, report: Report, places: Places, exact: Exact | None, programs: dict[int | None, Path]) -> Names:
     """Names: of the file, else of the constants of the executables, else of the functions in which execution contexts begin."""
     held = selectors(report.ranges)
@@ -137,7 +150,8 @@ def explain(words: argparse.Namespace) -> None:
     places = Places(programs, domains)
     names = names_of(words, report, places, exact, programs)
     left = [source.count for source in settings.sources] if settings else []
-    print("\n".join(account(Run(report, names, places.where, domains, left), text)), end="")
+    failed = failed_in(text, places, programs.values())
+    print("\n".join(account(Run(report, names, places.where, domains, left, failed), text)), end="")
     if exact:
         exact.close()
 

@@ -27,13 +27,14 @@ Where = Callable[[Context, int], str]
 @dataclass
 class Run:
     """A run as far as it is known: its report, the names of its objects, where addresses lie, the domain of each execution context, where a program
-    was asked for it, and how often each source fires, by the scenario."""
+    was asked for it, how often each source fires, by the scenario, and the text of each assertion in C that failed."""
 
     report: Report
     names: Names = field(default_factory=Names)
     where: Where = lambda context, address: ""
     domains: Mapping[int, int] = field(default_factory=dict)
     left: Sequence[int] = ()
+    failed: Mapping[int, str] = field(default_factory=dict)
 
     def __post_init__(self) -> None:
         self.objects: Objects = find_objects(self.report)
@@ -56,6 +57,11 @@ class Run:
         # A program begins above page 0, where another executable than the root's has nothing of its own.
         found = self.where(context, place) if place or context.number == ROOT else ""
         return f"at 0x{place:x}{', ' if found else ''}{found}"
+
+    def why(self, context: Context) -> str:
+        """Which assertion in C an execution context stopped at, as a part of a sentence."""
+        text = self.failed.get(context.number)
+        return f", since an assertion failed: {text}" if text else ""
 
 
 def makers(report: Report, objects: Objects) -> dict[int, int]:
@@ -99,7 +105,7 @@ def how_died(run: Run, context: Context, last: Event | None) -> str:
     if last.kind is Kind.ABORT:
         return f"died {turn}, {where}: the handler of its exit, {run.of(last.a)}, is dead"
     if last.a == EBREAK:
-        return f"ended {turn}, {where}, by `ebreak`"
+        return f"ended {turn}, {where}, by `ebreak`{run.why(context)}"
     if last.a == STARTUP:
         return f"died {turn} of its startup: its domain has no portal for it, or the portal's handler could not answer"
     return f"died {turn}, {where}, of {reason(last)}{guess(context, last) if context.sort != 'vcpu' else ', which no portal takes'}"
@@ -209,7 +215,7 @@ def goings(run: Run) -> Iterator[str]:
     for context in run.report.contexts:
         if context.state in GOING:
             what = DOING.get(context.state, "would go on")
-            yield capital(f"{who(run, context)} {what}, {run.at(context)}.")
+            yield capital(f"{who(run, context)} {what}, {run.at(context)}{run.why(context)}.")
 
 
 def never(run: Run) -> Iterator[str]:

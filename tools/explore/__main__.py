@@ -1,9 +1,11 @@
 """Asks `nova_explore` about all orders of turns of a scenario, with names of a program in C, and tells its answer in sentences.
 
 python3 tools/explore SCENARIO [--turns N] [--states N] [--elf FILE].. [--names FILE] [--output FOLDER] QUESTION [WORD ..]
+python3 tools/explore SCENARIO [--elf FILE].. [--names FILE] --words
 
 QUESTION is one of the program's: ends, blocked, dies [EC], stuck EC, text N TEXT, console N HEX, word FRAME OFFSET VALUE; or `word VARIABLE
-VALUE`, with a variable of the executable that `--elf` names, or VARIABLE+BYTES. EC may be a name too, of `--elf` or `--names`.
+VALUE`, with a variable of the executable that `--elf` names, or VARIABLE+BYTES; or `asserts`: whether a `nova_assert` of that executable fails.
+EC may be a name too, of `--elf` or `--names`. `--words`, in place of a question, lists what has names.
 
 Orders that are told are written to a folder, NAME.orders for NAME.nova, after `nova solo` has replayed them. The status is the program's: 0 for
 all, 1 where an order is found, 7 for cut, 9 for within; or 3 where there is no answer.
@@ -13,79 +15,38 @@ from __future__ import annotations
 
 import sys
 import tempfile
-from collections.abc import Callable, Sequence
-from dataclasses import dataclass
+from argparse import Namespace
+from collections.abc import Callable, Iterator, Sequence
 from functools import cache
 from pathlib import Path
 
 from answers import Answer
 from answers import Unread as NoAnswer
-from program import Missing, Names, Parser, Refused, Replayer, Unread, add_words, asked, ended, find, names_of, read_report, selectors, there, unread
-from questions import FORMS, Question, number_of, states_in
-from symbols import NoSymbol, frame_of
-from telling import texts
+from failures import failures
+from program import Missing, Parser, Refused, Replayer, Unread, add_words, asked, ended, find, program_file, there, unread
+from questions import Question, number_of, states_in
+from resolving import LIMITS, Naming, listed, number, question_of
+from symbols import NoSymbol
+from telling import Telling
+from wording import clause_of
 
-FAILED = 3
+NO_ANSWER = 3
 
 
 def parser() -> Parser:
     """The words of the tool."""
     words = Parser(prog="explore", description="Asks about all orders of turns of a scenario.")
     words.add_argument("scenario", type=Path, metavar="SCENARIO")
-    words.add_argument("question", nargs="+", metavar="QUESTION", help="ends, blocked, dies, stuck, text, console, word, and what belongs to it")
+    words.add_argument("question", nargs="*", metavar="QUESTION", help="ends, blocked, dies, stuck, text, console, word, asserts, and what belongs to it")
+    words.add_argument("--words", action="store_true", help="list what questions may name, and ask nothing")
     words.add_argument("--turns", metavar="N", help="the most turns of an order (1000000)")
     words.add_argument("--states", metavar="N", help="the most states that are expanded (20000)")
     words.add_argument("--elf", type=Path, action="append", default=[], metavar="FILE", help="an executable whose variables and selectors have names")
     add_words(words)
     words.add_argument("--output", type=Path, metavar="FOLDER", help="where orders are written to (NAME.orders)")
-    words.add_argument("--program", type=Path, metavar="FILE", help="another program in place of the repository's nova_explore")
-    words.add_argument("--nova", type=Path, metavar="FILE", help="another program in place of the repository's nova")
+    words.add_argument("--program", type=program_file, metavar="FILE", help="another program in place of the repository's nova_explore")
+    words.add_argument("--nova", type=program_file, metavar="FILE", help="another program in place of the repository's nova")
     return words
-
-
-@dataclass(frozen=True, slots=True)
-class Naming:
-    """Where names come from: a file of them, and executables."""
-
-    file: Path | None
-    executables: Sequence[Path]
-
-    def names(self, report: str) -> Names:
-        """The names of objects, by what domains hold in a report."""
-        if not (self.file or self.executables):
-            return Names()
-        return names_of(self.file, self.executables, selectors(read_report(report).ranges))
-
-    def context(self, word: str, report: str) -> str:
-        """The number of an execution context, which a word is or names. Raises Refused where none has the name."""
-        if word[:1].isdigit():
-            return word
-        named = [number for number, name in self.names(report).by_number.items() if name == word and number in states_in(report)]
-        if len(named) != 1:
-            raise Refused(f"{word} is no number, and names no execution context that is there after a run by rounds")
-        return str(named[0])
-
-    def place(self, word: str) -> tuple[str, str]:
-        """The frame and the offset of a variable. Raises Refused or NoSymbol."""
-        if len(self.executables) != 1:
-            raise Refused("a variable wants one executable: --elf FILE, as `tools/c/build.sh --debug` keeps it")
-        frame, offset = frame_of(word, self.executables[0])
-        return str(frame), str(offset)
-
-
-def question_of(words: Sequence[str], naming: Naming, rounds: Callable[[], str]) -> Question:
-    """The question of words, with numbers in place of names. Raises Refused or NoSymbol."""
-    name, *given = words
-    if name not in FORMS:
-        raise Refused(f"{name!r} is no question: one of {', '.join(FORMS)} is wanted")
-    if name == "word" and len(given) == 2:
-        given = [*naming.place(given[0]), str(int(given[1], 0) % 2**32) if given[1].startswith("-") else given[1]]
-    if len(given) not in FORMS[name]:
-        wanted = " or ".join(map(str, FORMS[name]))
-        raise Refused(f"{name} wants {wanted} words behind it, and has {len(given)}")
-    if name in ("dies", "stuck") and given:
-        given = [naming.context(given[0], rounds())]
-    return Question((name, *given))
 
 
 def written(answer: Answer, folder: Path) -> list[Path]:
@@ -102,34 +63,59 @@ def written(answer: Answer, folder: Path) -> list[Path]:
     return files
 
 
-def remark(question: Question, answer: Answer, rounds: Callable[[], str]) -> str | None:
-    """What is to be said of an answer beside it: that an execution context isn't there at all."""
+def remarks(question: Question, answer: Answer, rounds: Callable[[], str]) -> Iterator[str]:
+    """What is to be said of an answer that is no order: that an execution context isn't there at all, and what to do where it isn't of all orders."""
     word, *given = question.words
-    if word not in ("dies", "stuck") or not given or answer.order is not None or number_of(given[0]) in states_in(rounds()):
-        return None
-    return f"  EC {given[0]} isn't there after a run by rounds"
+    if word in ("dies", "stuck") and given and number_of(given[0]) not in states_in(rounds()):
+        yield f"EC {given[0]} isn't there after a run by rounds"
+    if answer.extent == "cut":
+        yield "--states N allows more, which take 40 to 80 KB each; with loops that try less often there are fewer"
+    elif answer.extent.startswith("within"):
+        yield "--turns N allows more; where a loop spins, or a source or a deadline is left, no N comes to all"
 
 
-def explore(words: Sequence[str]) -> int:
+def programs(given: Namespace) -> tuple[Path, Path]:
+    """The explorer, and what replays orders. Raises Missing, with a line for each that isn't there."""
+    found, missing = [], []
+    for name, path in (("nova_explore", given.program), ("nova", given.nova)):
+        try:
+            found.append(path or find(name))
+        except Missing as why:
+            missing.append(str(why))
+    if missing:
+        raise Missing("\nexplore: ".join(missing))
+    return found[0], found[1]
+
+
+def failed(naming: Naming, report: str) -> Iterator[str]:
+    """The assertions that failed, by the report of an order that is found."""
+    for executable in naming.executables:
+        for context, text in failures(report, executable):
+            yield f"{naming.names(report).of(context)}: {text}"
+
+
+def explore(given: Namespace) -> int:
     """Asks, replays, writes and tells."""
-    given = parser().parse_args(words)
-    scenario = given.scenario
-    if why := unread(str(scenario)):
-        raise Refused(why)
-    naming = Naming(given.names, given.elf)
-    options = [word for name in ("turns", "states") if (value := getattr(given, name)) for word in (f"--{name}", value)]
+    scenario, naming = given.scenario, Naming(given.scenario, given.names, given.elf)
+    limits = {f"--{name}": (value, most) for name, most in LIMITS.items() if (value := getattr(given, name)) is not None}
+    options = [word for name, (value, most) in limits.items() for word in (name, number(value, 1, most, name))]
+    explorer, nova = programs(given)
     with tempfile.TemporaryDirectory() as folder:
-        replayer = Replayer(given.nova or find("nova"), None if given.nova else there("nova_debug"), Path(folder))
+        replayer = Replayer(nova, None if given.nova else there("nova_debug"), Path(folder))
         rounds = cache(lambda: replayer.rounds(scenario))
+        if given.words:
+            print("\n".join(listed(naming, rounds())))
+            return 0
         question = question_of(given.question, naming, rounds)
-        _, answer = asked(given.program or find("nova_explore"), scenario, [*options, *question.words])
+        _, answer = asked(explorer, scenario, [*options, *question.words])
         if faults := replayer.faults(scenario, question, answer):
             raise Refused(f"what is told is not what comes of it: {faults[0]}")
         files = written(answer, given.output or Path(f"{scenario.stem}.orders"))
-        for line in texts(answer, scenario, files, lambda: naming.names(replayer.report(scenario, answer.orders[0]))):
+        report = cache(lambda: replayer.report(scenario, answer.orders[0]))
+        telling = Telling(answer, scenario, clause_of(given.question), files, given.elf)
+        beside = remarks(question, answer, rounds) if answer.order is None else failed(naming, report())
+        for line in telling.lines(lambda: naming.names(report()), list(beside)):
             print(line)
-        if said := remark(question, answer, rounds):
-            print(said)
     return answer.status
 
 
@@ -138,11 +124,20 @@ def main(words: Sequence[str]) -> int:
     if list(words[:1]) in (["--help"], ["-h"]):
         print(__doc__.strip())
         return 0
+    given = parser().parse_intermixed_args(words)
+    if given.words == bool(given.question):
+        parser().error("a question is wanted, or --words, and not both")
     try:
-        return explore(words)
+        if why := unread(str(given.scenario)):
+            raise Refused(why)
+        return explore(given)
     except (Refused, NoSymbol, NoAnswer, Unread, Missing, ValueError) as why:
         print(f"explore: {why}", file=sys.stderr)
-        return FAILED
+    except BrokenPipeError:  # nobody reads on
+        raise
+    except OSError as why:
+        print(f"explore: {why.filename or 'a file'}: {why.strerror}", file=sys.stderr)
+    return NO_ANSWER
 
 
 if __name__ == "__main__":

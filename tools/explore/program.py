@@ -2,6 +2,7 @@
 
 from __future__ import annotations
 
+import re
 import subprocess
 import sys
 from collections.abc import Sequence
@@ -16,17 +17,18 @@ from questions import RESTS, Question, number_of, outcome_in  # noqa: E402
 from built import Missing, ended, find, there  # noqa: E402
 from hints import unread  # noqa: E402
 from naming import Names, Unread, add_words, as_text, names_of, selectors  # noqa: E402
-from parsing import Parser  # noqa: E402
-from report import read_report  # noqa: E402
+from parsing import Parser, program_file  # noqa: E402
+from report import Fault, Report, read_report  # noqa: E402
 
 __all__ = [
-    *("Missing", "Names", "Parser", "Refused", "Replayer", "Unread", "add_words", "as_text", "asked", "ended", "find", "names_of", "read_report"),
-    *("selectors", "there", "unread"),
+    *("Fault", "Missing", "Names", "Parser", "Refused", "Replayer", "Report", "Unread", "add_words", "as_text", "asked", "ended", "find", "names_of"),
+    *("program_file", "read_report", "selectors", "there", "unread"),
 ]
 
 ANSWERS = (ALL, FOUND, CUT, WITHIN)
 # The most turns of a run, as of nova.
 MOST_TURNS = "10000000"
+BEGINS = re.compile(r"run (quiet|open) \d+\n")
 
 
 class Refused(Exception):
@@ -59,6 +61,8 @@ class Replayer:
         done = subprocess.run([str(self.nova), *words], capture_output=True, text=True, errors="replace", check=False)
         if done.returncode not in (0, 7):
             raise Refused(f"nova solo takes not this order: {done.stderr.strip()}")
+        if not BEGINS.match(done.stdout):
+            raise Refused(f"{self.nova} writes no report")
         return done.stdout
 
     def rounds(self, scenario: Path) -> str:

@@ -8,7 +8,8 @@ from dataclasses import dataclass
 CONTEXT = re.compile(r"^ec (\d+) \w+ (\w+)", re.MULTILINE)
 CONSOLE = re.compile(r"^console (\d+) ([0-9a-f]+)$", re.MULTILINE)
 RESTS = "run quiet "
-# How many words follow each word of a question.
+# How many words follow each word of a question; and of those the tool has beside them.
+OWN = {"asserts": (0,)}
 FORMS = {"console": (2,), "text": (2,), "word": (3,), "blocked": (0,), "dies": (0, 1), "stuck": (1,), "ends": (0,)}
 
 

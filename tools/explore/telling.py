@@ -3,12 +3,15 @@
 from __future__ import annotations
 
 from collections.abc import Callable, Iterator, Sequence
+from dataclasses import dataclass
 from pathlib import Path
 
 from answers import Answer, Outcome
 from program import Names, as_text
 
 KINDS = {"ec": "EC", "sm": "SM"}
+# How many turns before the end of an order its trace begins.
+LAST = 60
 
 
 def turns_in(order: str) -> int:
@@ -56,38 +59,60 @@ def outcome_table(outcomes: Sequence[Outcome], files: Sequence[Path], names: Nam
         yield f"  in {'each' if len(told) > 1 else 'it'}: {', '.join(same)}"
 
 
-def extent_text(answer: Answer, all_: str, within: str) -> str:
-    """How far a search went, in words."""
+def never_text(answer: Answer, clause: str) -> str:
+    """That no order leads to what a clause says, as far as is known."""
     kind, _, limit = answer.extent.partition(" ")
     if kind == "all":
-        return all_
-    return within.format(f"{int(limit):,}") if kind == "within" else "more states than --states allows: nothing is known"
+        return f"{clause} in no order, however long"
+    if kind == "within":
+        return f"{clause} in no order of at most {counted(int(limit), 'turn', 'turns')}; nothing is known of longer ones"
+    return f"nothing is known of whether {clause}: there are more states than --states allows"
 
 
 def ended_text(answer: Answer, count: int) -> str:
     """How many outcomes there are, and of which orders, in words."""
+    kind, _, limit = answer.extent.partition(" ")
     outcomes = counted(count, "outcome", "outcomes")
-    if count == 0 and answer.extent != "cut":
-        return extent_text(answer, "no order ends a run, however long", "no order of at most {} turns ends a run; nothing is known of longer ones")
-    if answer.extent == "cut":
+    if kind == "cut":
         return f"{outcomes}, and perhaps more: there are more states than --states allows"
-    so = "it so" if count == 1 else "it in one of them"
-    all_ = f"{outcomes}; each order that ends a run, however long, ends {so}"
-    return extent_text(answer, all_, f"{outcomes} of orders of at most {{}} turns; nothing is known of longer ones")
+    if count == 0:
+        return never_text(answer, "the run ends")
+    if kind == "all":
+        return f"{outcomes}; each order that ends a run, however long, ends it {'so' if count == 1 else 'in one of them'}"
+    return f"{outcomes} of orders of at most {counted(int(limit), 'turn', 'turns')}; nothing is known of longer ones"
 
 
-def texts(answer: Answer, scenario: Path, files: Sequence[Path], named: Callable[[], Names]) -> Iterator[str]:
-    """What is told of an answer, with the files that its orders were written to."""
-    states = counted(answer.states, "state", "states")
-    if answer.is_alone:
-        yield f"{scenario} has one processor, and so one order of turns"
-    if answer.order is not None:
-        yield f"{scenario}: found, after {size_of(answer.order)}: {files[0]} ({states})"
-        yield f"  ./nova solo {scenario} {files[0]} | python3 tools/explain /dev/stdin"
-    elif answer.outcomes is None:
-        never = extent_text(answer, "no order leads there, however long", "no order of at most {} turns leads there; nothing is known of longer ones")
-        yield f"{scenario}: {never} ({states})"
-    else:
-        yield f"{scenario}: {ended_text(answer, len(answer.outcomes))} ({states})"
-        if answer.outcomes:
-            yield from outcome_table(answer.outcomes, files, named())
+@dataclass(frozen=True, slots=True)
+class Telling:
+    """What is told of an answer: by the scenario, the clause of the question, the files of the orders, and the executables that were given."""
+
+    answer: Answer
+    scenario: Path
+    clause: str
+    files: Sequence[Path]
+    executables: Sequence[Path] = ()
+
+    def lines(self, named: Callable[[], Names], beside: Sequence[str] = ()) -> Iterator[str]:
+        """The lines: a sentence, with what is to be said beside it, and commands that go on, or the table of outcomes."""
+        answer = self.answer
+        if answer.is_alone:
+            yield f"{self.scenario} has one processor, and so one order of turns"
+        if answer.order is not None:
+            said = f"{self.clause} after {size_of(answer.order)}: {self.files[0]}"
+        elif answer.outcomes is None:
+            said = never_text(answer, self.clause)
+        else:
+            said = ended_text(answer, len(answer.outcomes))
+        yield f"{self.scenario}: {said} ({counted(answer.states, 'state', 'states')})"
+        yield from (f"  {line}" for line in beside)
+        if answer.order is not None:
+            yield from self.commands(answer.order)
+        elif answer.outcomes:
+            yield from outcome_table(answer.outcomes, self.files, named())
+
+    def commands(self, order: str) -> Iterator[str]:
+        """What tells more of an order: the report in sentences, and where there is an executable, its last turns by lines of the source."""
+        words = "".join(f" --elf {file}" for file in self.executables)
+        yield f"  ./nova solo {self.scenario} {self.files[0]} | python3 tools/explain /dev/stdin{words}"
+        if self.executables:
+            yield f"  python3 tools/debug trace {self.scenario} {self.files[0]}{words} --from {max(1, turns_in(order) - LAST)}"

@@ -4,6 +4,10 @@ python3 tools/orders explore SCENARIO [--by WHAT].. [--output FOLDER]
 python3 tools/orders expect SCENARIO --never PATTERN | --always PATTERN ..
 python3 tools/orders shrink SCENARIO ORDER --keep PATTERN [--open] [--search N] [--output FILE]
 
+Of orders that aren't tried nothing is said. Where the answer is to hold for all, and the run is short (some thousand turns at most, no sources, loops
+that end), ask `./nova-explore SCENARIO QUESTION`: docs/EXPLORING.md. This tool samples runs of any length, finds patterns in reports, and makes
+orders simpler.
+
 Which orders the first two try: [--switches K] [--random N] [--seed S] [--weights W,..] [--lengths A-B]
 They take [--executor dask:ADDRESS]. All take [--turns N] [--jobs N] [--program FILE] [--stays FILE] [--progress].
 """
@@ -33,7 +37,7 @@ from sending import DASK, Dask, Sending, processes
 from shared import Fault, Names, Unread, counted, names_of, read_order, read_report, read_settings, selectors
 from shrinking import Shrinker, search_simpler
 from tally import Tally
-from telling import Progress, outcome_texts, size_of, write_orders
+from telling import Progress, for_all, is_short, outcome_texts, size_of, write_orders
 from turns import Block, Blocks, text_of, turns_of
 
 Verdict = TypeVar("Verdict")
@@ -50,10 +54,12 @@ class Work:
         path = find_program(ask.program, ask.scenario)
         self.ask = ask
         self.program = Program(path, ask.scenario, folder, ask.jobs, find_staying(ask.stays, ask.program))
-        self.scout = Scout(self.program, read_settings(ask.scenario.read_text(errors="replace")))
+        self.settings = read_settings(ask.scenario.read_text(errors="replace"))
+        self.scout = Scout(self.program, self.settings)
         self.sent: str | None = None
         self.pool = self.open_pool()
         self.progress = Progress(sys.stderr, ask.progress)
+        self.rounds = self.program.rounds(MOST_TURNS) or 0
         self.turns = self.fitting_turns()
         self.rests = False
 
@@ -75,7 +81,7 @@ class Work:
     def fitting_turns(self) -> int:
         """How many turns an order may have: what was asked for, or else twice those that the run takes in rounds, where these are many. Says so, and where
         what was asked for is less than the run takes."""
-        rounds = self.program.rounds(MOST_TURNS) or 0
+        rounds = self.rounds
         turns = self.ask.turns or (min(MOST_TURNS, 2 * rounds) if rounds > TURNS else TURNS)
         if rounds > turns or (rounds > TURNS and self.ask.turns is None):
             told = f"--turns is {turns:,}, so that orders are cut" if rounds > turns else f"an order may have {turns:,} (--turns)"
@@ -135,6 +141,7 @@ class Work:
         orders, outcomes = counted(tally.orders, "different order", "different orders"), counted(tally.outcomes, "outcome", "outcomes")
         print(f"{self.ask.scenario}: {orders}, {outcomes}")
         print("\n".join([*(f"  {line}" for line in choice.account()), *outcome_texts(tally, names, named)]))
+        self.tell_of_all(status, "ends")
         return status
 
     def naming(self, tally: Tally[Outcome]) -> Names:
@@ -169,6 +176,7 @@ class Work:
             status = self.interrupted()
         self.progress.end()
         print("\n".join(choice.account()), file=sys.stderr)
+        self.tell_of_all(status, "QUESTION")
         return status
 
     def shrink(self) -> int:
@@ -226,6 +234,12 @@ class Work:
     def tell(self, text: str) -> None:
         """Tells how far the work is."""
         self.progress.tell(f"orders: {text}, {self.program.starts:,} runs")
+
+    def tell_of_all(self, status: int, question: str) -> None:
+        """Says that all orders can be asked about, where the run is so short that they may come to few states."""
+        if status == DONE and is_short(self.settings, self.rounds):
+            sys.stdout.flush()
+            print(for_all(self.ask.scenario, question), file=sys.stderr)
 
     def interrupted(self) -> int:
         """Ends all that is under way. A second interrupt changes nothing."""

@@ -11,7 +11,7 @@ from typing import Any
 
 from sending import DASK
 from outcome import DEFAULT, PLAIN, SHOWN, Aspect, Sought, aspects_of
-from reading import Parser
+from reading import Parser, program_file
 
 MOST_TURNS = 1_000_000
 TURNS, CHANGES, SEED, LENGTHS, SEARCH = 1000, 3, 1, (1, 8), 2000
@@ -179,7 +179,7 @@ def add_means(command: argparse.ArgumentParser) -> None:
     command.add_argument("--turns", type=number(1, MOST_TURNS), metavar="N", help=turns)
     jobs = "how many runs at a time (one for each processor)"
     command.add_argument("--jobs", type=number(1), default=len(os.sched_getaffinity(0)), metavar="N", help=jobs)
-    command.add_argument("--program", type=Path, metavar="FILE", help="the program to start (that of the repository)")
+    command.add_argument("--program", type=program_file, metavar="FILE", help="the program to start (that of the repository)")
     stays = "a program that stays and is asked for one order after another (nova_debug of the repository, where it is built and --program isn't given)"
-    command.add_argument("--stays", type=Path, metavar="FILE", help=stays)
+    command.add_argument("--stays", type=program_file, metavar="FILE", help=stays)
     command.add_argument("--progress", action="store_true", help="say how far the work is also where standard error is no terminal")

@@ -10,9 +10,9 @@ from program import Trouble
 sys.path.append(str(Path(__file__).resolve().parents[1] / "build"))
 
 from hints import unread  # noqa: E402
-from parsing import Parser  # noqa: E402
+from parsing import Parser, program_file  # noqa: E402
 
-__all__ = ["Parser", "check_readable"]
+__all__ = ["Parser", "check_readable", "program_file"]
 
 
 def check_readable(file: Path) -> None:

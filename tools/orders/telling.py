@@ -8,11 +8,23 @@ from pathlib import Path
 from typing import TextIO
 
 from outcome import Outcome
-from shared import counted
+from shared import Settings, counted
 from tally import Group, Tally
 from turns import Blocks, parting, text_of, turns_of
 
 SECONDS = 0.5
+# A run of more turns by rounds may come to more states than the explorer expands by itself.
+SHORT = 2000
+
+
+def is_short(settings: Settings, rounds: int) -> bool:
+    """Whether the explorer may answer for all orders: of several processors, without sources, and at rest after few turns by rounds."""
+    return settings.cpus > 1 and not settings.sources and 0 < rounds <= SHORT
+
+
+def for_all(scenario: Path, question: str) -> str:
+    """What to ask where all orders are meant."""
+    return f"orders: of other orders nothing is known; of all, which in so short a run may be few states: ./nova-explore {scenario} {question}"
 
 
 class Progress:

@@ -29,7 +29,7 @@ from exact import Refused as NotAsked
 from history import Wakes
 from naming import Names, Unread, add_words, names_of, selectors
 from order import Order, read_order
-from parsing import Parser
+from parsing import Parser, program_file
 from report import Fault, Report, read_report
 from run_picture import draw_run
 from scenario import read_settings
@@ -73,7 +73,7 @@ def parser() -> argparse.ArgumentParser:
     trace.add_argument("--scenario", type=Path, metavar="FILE", help="the scenario of the run: who acts and who pays in each turn is written")
     for picture in (run, trace):
         program = "what is asked of the scenario's run, if the report doesn't tell it (nova_debug of the repository, if it is built)"
-        picture.add_argument("--program", type=Path, metavar="FILE", help=program)
+        picture.add_argument("--program", type=program_file, metavar="FILE", help=program)
     for picture in (run, trees, trace):
         picture.add_argument("report", type=Path, metavar="REPORT", help="the report of the run")
         picture.add_argument("--from", dest="first", type=int, metavar="TURN", help="the first turn to draw (1)")

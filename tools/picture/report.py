@@ -143,6 +143,23 @@ FORMS: dict[str, re.Pattern[str]] = {
 SECTIONS = {word: rank for rank, word in enumerate(FORMS)}
 
 
+# The first lines of other programs' answers, with what is to be done with them.
+OTHERS = (
+    (re.compile(r"turn \d+"), "this is an answer of nova_policy, which `tools/picture sides` draws"),
+    (
+        re.compile(r"one order|found|cut|never (all|within \d+)|ends \d+ (all|cut|within \d+)"),
+        "this is an answer of nova_explore, and `./nova solo SCENARIO ORDER` makes the report of an order that it tells",
+    ),
+    (re.compile(r"\d+ \d+"), "this is an order, and `./nova solo SCENARIO ORDER` makes its report"),
+    (re.compile(r"cpus .*"), "this is a scenario, and `./nova solo SCENARIO` makes its report"),
+)
+
+
+def otherwise(line: str) -> str:
+    """What a text is whose first line is that of no report, where that is seen."""
+    return next((f"; {said}" for first, said in OTHERS if first.fullmatch(line)), "")
+
+
 def text_lines(text: str) -> Iterator[tuple[int, str]]:
     """The lines of a text with their numbers; each must end with a line feed."""
     lines = text.split("\n")
@@ -157,7 +174,7 @@ def read_report(text: str) -> Report:
     number, line = next(lines, (1, ""))
     head = HEAD.fullmatch(line)
     if head is None:
-        raise Fault(number, "`run quiet N` or `run open N` is wanted")
+        raise Fault(number, f"`run quiet N` or `run open N` is wanted{otherwise(line)}")
     report = Report(head[1] == "quiet", int(head[2]))
     section = 0
     for number, line in lines:

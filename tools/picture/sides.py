@@ -5,7 +5,7 @@ from __future__ import annotations
 import re
 from dataclasses import dataclass, field
 
-from report import Fault
+from report import HEAD, Fault, otherwise
 
 TRUSTED = "trusted"
 # How many numbers a cause has, and the words between them.
@@ -136,7 +136,8 @@ def read_sides(text: str) -> Told:
     """What an answer tells. Raises Fault."""
     first, *rest = text.split("\n")
     if not (turn := re.fullmatch(r"turn (\d+)", first)):
-        raise Fault(1, "`turn N` is wanted")
+        other = "; this is a report, which `tools/picture run` draws" if HEAD.fullmatch(first) else otherwise(first)
+        raise Fault(1, f"`turn N` is wanted{other}")
     if not text.endswith("\n"):
         raise Fault(len(rest) + 1, "the text ends without a line feed")
     told = Told(int(turn[1]), "")

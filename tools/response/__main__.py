@@ -15,7 +15,7 @@ from waits import Terms, Wait, waits_of
 sys.path.append(str(TOP / "tools" / "build"))
 
 from built import Missing, find  # noqa: E402
-from parsing import Parser  # noqa: E402
+from parsing import Parser, program_file  # noqa: E402
 
 MOST, LONGEST, PART = 1_000_000, 10, 10_000
 
@@ -28,7 +28,7 @@ def parser() -> argparse.ArgumentParser:
     words.add_argument("context", type=int, metavar="EC", help="the number of an execution context with a scheduling context")
     words.add_argument("--limit", type=int, default=MOST, metavar="N", help=f"the most turns of the run ({MOST})")
     words.add_argument("--longest", type=int, default=LONGEST, metavar="N", help=f"show this many of the longest waits, 0 for all ({LONGEST})")
-    words.add_argument("--program", type=Path, metavar="FILE", help="another program in place of the repository's")
+    words.add_argument("--program", type=program_file, metavar="FILE", help="another program in place of the repository's")
     return words
 
 

@@ -327,6 +327,11 @@ class Hints(unittest.TestCase):
         for word in ("--at", "--order", "--policy", "0 apart", "1 served", "9 breach", "10 stuck", "11 single", "2 no request", "7 a fault of the policy"):
             self.assertIn(word, told)
 
+    def test_each_program_has_a_help_of_its_own(self) -> None:
+        for words, first in (([], "nova solo "), (["policy"], "./nova-policy SCENARIO "), (["explore"], "./nova-explore SCENARIO QUESTION ")):
+            told = subprocess.run([sys.executable, str(TOOL / "hints.py"), *words, "--help"], capture_output=True, text=True, check=True).stdout
+            self.assertTrue(told.startswith(first), told)
+
     def test_a_text_of_twin(self) -> None:
         with tempfile.TemporaryDirectory() as folder:
             text, scenario, order = Path(folder, "a.twin"), Path(folder, "a.nova"), Path(folder, "a.order")

@@ -9,7 +9,8 @@ if TYPE_CHECKING:
     from outcome import Outcome
     from programs import Tools
 
-FUNCTION = re.compile(r"^static inline [\w *]+?\b(nova_\w+)\(", re.MULTILINE)
+# A function, or a macro that is called as such.
+FUNCTION = re.compile(r"^(?:(?:NOVA_USED )?static inline [\w *]+?\b|#define )(nova_\w+)\(", re.MULTILINE)
 
 
 def functions(text: str) -> list[str]:

@@ -5,13 +5,14 @@
 #include "nova.h"
 
 /* Selectors. DOMAIN is followed by three for nova_give, and each thread by its scheduling context. */
-enum { STARTERS = 32, DOMAIN = 36, HANDLERS = 40, PORTALS = 42, THREAD = 44, OTHER = 46, SEMAPHORE = 48, FULL, WATCH, SPARE, FREE, THERE };
-enum { EVENTS = 64, OTHER_EVENTS = 80, ELSEWHERE = 96, WINDOW = 0x100, NOTHING = 0x77 };
+enum { STARTERS = 32, DOMAIN = 36, HANDLERS = 40, PORTALS = 42, THREAD = 44, OTHER = 46, SEMAPHORE = 48, FULL, WATCH, SPARE, FREE, THERE, FAILING };
+enum { EVENTS = 64, OTHER_EVENTS = 80, LAST_EVENTS = 112, ELSEWHERE = 96, WINDOW = 0x100, NOTHING = 0x77 };
 
 enum { CPUS = 2, SECOND = 1 };
 
 NOVA_STACK(stack, 1024);
 NOVA_STACK(watch_stack, 1024);
+NOVA_STACK(failing_stack, 1024);
 NOVA_STACKS(stacks, CPUS, 1024);
 
 static const struct nova_domain domain = {.pd = DOMAIN, .cpu = 0, .starter = STARTERS};
@@ -19,6 +20,7 @@ static const struct nova_domain elsewhere = {.pd = ELSEWHERE, .cpu = SECOND, .st
 static volatile uint32_t large = 256, null;
 
 NOVA_THREAD(thread_begins, thread);
+NOVA_THREAD(failing_begins, failing);
 NOVA_PORTAL(handler_entry, handle);
 NOVA_PORTAL(watch_entry, watch);
 
@@ -35,6 +37,14 @@ static void tell(const char *what, uint32_t answer, uint32_t value)
 void thread(void)
 {
     nova_up(SEMAPHORE);
+}
+
+void failing(void)
+{
+    nova_assert(nova_failed == 0);
+    tell("assert", nova_failed, 0);
+    nova_assert(nova_failed == 1);
+    tell("assert", NOTHING, NOTHING);
 }
 
 /* The first call sets the window for the next. Each is told of its message, and asked where main has the semaphore. */
@@ -172,6 +182,14 @@ static void threads(void)
         nova_down(SEMAPHORE));
 }
 
+/* The thread goes before main, and is over when main goes on. */
+static void asserts(void)
+{
+    enum nova_status status = nova_start(FAILING, 0, STARTERS, LAST_EVENTS, failing_begins, failing_stack + sizeof failing_stack, 2, 100);
+
+    tell("assert", status, nova_failed);
+}
+
 int main(void)
 {
     ranges();
@@ -181,5 +199,6 @@ int main(void)
     lookups();
     semaphores();
     threads();
+    asserts();
     return 0;
 }

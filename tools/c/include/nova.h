@@ -203,6 +203,7 @@ enum nova_held {
 /* The word of an exit's message that has register x0 to x31. */
 #define nova_register(number) (nova_words[NOVA_EXIT_X0 + (number)])
 
+#include "nova_assert.h"
 #include "nova_checks.h"
 #include "nova_messages.h"
 

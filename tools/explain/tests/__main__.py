@@ -198,6 +198,12 @@ class Guesses(unittest.TestCase):
         for address, stack in ((0xEF70, "x2=0000df70 "), (0x80000000, "x2=0000df70 "), (0x1004, "")):
             self.assertTrue(self.said(4, address, stack=stack).endswith("its domain has no page there that may be written."))
 
+    def test_an_assertion_that_failed(self) -> None:
+        lines = ["run quiet 2", "at 1 0 6 raise 7 0", "at 2 0 6 died 7 0", "ec 1 global dead 00000088", "ec 6 global dead 00001128", "sc 2 0 0", "console 0 -"]
+        for failed, end in (({6: "a.c:2: count == 3"}, ", since an assertion failed: a.c:2: count == 3"), ({7: "a.c:2: count == 3"}, "")):
+            told = account(Run(read_report("\n".join(lines) + "\n"), failed=failed), "")
+            self.assertIn(f"\nEC 6 ended in turn 2, at 0x1128, by `ebreak`{end}.\n", "\n".join(told))
+
     def test_a_return_to_nowhere(self) -> None:
         told = self.said(2, 0, "local")
         self.assertIn("The handler EC 6 died in turn 2, at 0x0, of a fetch fault (0x0): it jumped through a null pointer, or returned from", told)

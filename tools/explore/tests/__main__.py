@@ -23,6 +23,9 @@ from where import EXAMPLES, TOOL, Replayer, asked, ended, find, there
 from answers import Unread, read_answer
 from symbols import NoSymbol, frame_of
 
+# The compiler that the kept scenarios were made with. Another may write other bytes.
+KEPT_BY = "12.2.0"
+
 # How many random scenarios are enumerated in the gate.
 RANDOM = 10
 
@@ -177,8 +180,8 @@ class Ends(unittest.TestCase):
                 self.assertEqual(self.ended(f'exec "$0" {words}'), (9, "never within 30\nstates 67\n", ""))
 
 
-class Tool(unittest.TestCase):
-    """The tool: sentences, tables, and names of a program in C."""
+class Asking(unittest.TestCase):
+    """Runs of the tool."""
 
     def explored(self, *words: str) -> subprocess.CompletedProcess[str]:
         """A run of the tool, in a folder of its own."""
@@ -187,14 +190,20 @@ class Tool(unittest.TestCase):
         means = ["--program", str(Means.program.resolve()), "--nova", str(Means.nova.resolve())]
         return subprocess.run([sys.executable, str(TOOL), *means, *words], cwd=made.name, capture_output=True, text=True, check=False)
 
+
+class Tool(Asking):
+    """The tool: sentences, tables, and what is refused."""
+
     def test_answers_are_told(self) -> None:
         for words, status, said in (
             (("race.nova", "ends"), 0, "2 outcomes; each order that ends a run, however long, ends it in one of them (1,029 states)"),
             (("hello.nova", "ends"), 0, "1 outcome; each order that ends a run, however long, ends it so"),
-            (("race.nova", "text", "0", "1"), 1, "found, after 50 turns in 5 lines: race.orders/found.order"),
-            (("mutex.nova", "text", "0", "1"), 0, "no order leads there, however long"),
-            (("race.nova", "--turns", "30", "text", "0", "1"), 9, "no order of at most 30 turns leads there; nothing is known of longer ones"),
-            (("race.nova", "--turns", "9", "stuck", "99"), 9, "  EC 99 isn't there after a run by rounds\n"),
+            (("race.nova", "text", "0", "1"), 1, "after 50 turns in 5 lines: race.orders/found.order"),
+            (("mutex.nova", "text", "0", "1"), 0, 'console 0 shows "1" first in no order, however long'),
+            (("race.nova", "--turns", "30", "text", "0", "1"), 9, "in no order of at most 30 turns; nothing is known of longer ones"),
+            (("race.nova", "--turns", "9", "stuck", "99"), 9, "\n  EC 99 isn't there after a run by rounds\n"),
+            (("race.nova", "--states", "30", "blocked"), 7, "nothing is known of whether the run ends and an execution context waits: there are more"),
+            (("race.nova", "--turns", "9", "ends"), 9, "the run ends in no order of at most 9 turns; nothing is known of longer ones"),
             (("race.nova", "--states", "30", "ends"), 7, "0 outcomes, and perhaps more: there are more states than --states allows"),
         ):
             with self.subTest(words):
@@ -205,7 +214,14 @@ class Tool(unittest.TestCase):
         for words, said in (
             (("race.nova", "end"), "'end' is no question"),
             (("race.nova", "blocked", "3"), "blocked wants 0 words behind it, and has 1"),
-            (("race.nova", "word", "failed", "1"), "a variable wants one executable"),
+            (("race.nova", "word", "failed", "1"), "a variable wants one executable: --elf FILE"),
+            (("race.nova", "asserts"), "asserts wants one executable: --elf FILE"),
+            (("race.nova", "--elf", "nosuch.elf", "asserts"), "nosuch.elf: No such file or directory"),
+            (("race.nova", "--elf", str(EXAMPLES / "race.nova"), "asserts"), "race.nova is no executable of 32 bits"),
+            (("race.nova", "--turns", "0", "ends"), "--turns: 0 is not from 1 to 10,000,000"),
+            (("race.nova", "--states", "many", "ends"), "--states: 'many' is no number"),
+            (("race.nova", "word", "0", "4093", "1"), "OFFSET: 4,093 is not from 0 to 4,092"),
+            (("race.nova", "word", "0", "0", "1x"), "VALUE: '1x' is no number"),
             (("race.nova", "dies", "adder"), "adder is no number, and names no execution context that is there after a run by rounds"),
             (("race.nova", "word", "77", "0", "1"), "nova_explore: the scenario has no such console or frame"),
             (("nosuch.nova", "ends"), "No such file or directory"),
@@ -214,26 +230,104 @@ class Tool(unittest.TestCase):
                 told = self.explored(str(EXAMPLES / words[0]), *words[1:])
                 self.assertEqual((told.returncode, told.stdout, said in told.stderr), (3, "", True), told.stderr)
 
-    @unittest.skipIf(shutil.which("riscv64-unknown-elf-gcc") is None, "the compiler isn't installed")
-    def test_variables_of_a_program_in_c(self) -> None:
-        made = tempfile.TemporaryDirectory()
-        self.addCleanup(made.cleanup)
-        c, built = TOOL.parent / "c", Path(made.name, "queue.nova")
-        for more, status in ([], 0), (["-DEARLY"], 1):
-            command = [c / "build.sh", "--debug", "-O2", *more, f"-I{c / 'examples'}", "--cpus", "2", EXAMPLES / "explore/queue.c", built, "3"]
+    def test_programs_that_are_missing_are_named(self) -> None:
+        """A tree in which nothing is built: a line for each program says how it is built, and how long that takes."""
+        with tempfile.TemporaryDirectory() as folder:
+            for name in ("build", "draft", "explore", "picture"):
+                shutil.copytree(TOOL.parent / name, Path(folder, "tools", name))
+            shutil.copy(TOOL.parents[1] / "crates.txt", folder)
+            words = [sys.executable, f"{folder}/tools/explore", str(EXAMPLES / "race.nova"), "ends"]
+            told = subprocess.run(words, cwd=folder, capture_output=True, text=True, check=False)
+            self.assertEqual((told.returncode, told.stdout), (3, ""))
+            for line, name in zip(told.stderr.splitlines(), ("nova_explore", "nova"), strict=True):
+                self.assertRegex(line, rf"^explore: {name} is not built: `python3 tools/build.*` builds it, in some \d+ minutes .*`./nova draft")
+
+
+@unittest.skipIf(shutil.which("riscv64-unknown-elf-gcc") is None, "the compiler isn't installed")
+class InC(Asking):
+    """A program in C: its variables and assertions by their names."""
+
+    folder: Path
+
+    @classmethod
+    def setUpClass(cls) -> None:
+        cls.folder = Path(cls.enterClassContext(tempfile.TemporaryDirectory()))
+
+    def built(self, *words: str, source: Path = EXAMPLES / "explore/queue.c") -> tuple[str, list[str]]:
+        """A scenario of a program, and the words that name its executable, where it is built with --debug. It is built once."""
+        c, scenario = TOOL.parent / "c", self.folder / "".join(words) / f"{source.stem}.nova"
+        if not scenario.is_file():
+            scenario.parent.mkdir(exist_ok=True)
+            command = [c / "build.sh", *words, f"-I{c / 'examples'}", "--cpus", "2", source, scenario, "3"]
             subprocess.run([*map(str, command)], check=True, capture_output=True)
-            told = self.explored(str(built), "--elf", str(built.with_suffix(".elf")), "word", "failed", "1")
-            self.assertEqual((told.returncode, told.stderr), (status, ""))
-        told = self.explored(str(built), "--elf", str(built.with_suffix(".elf")), "--turns", "460", "dies", "CONSUMER")
+        return str(scenario), ["--elf", str(scenario.with_suffix(".elf"))]
+
+    def test_kept_scenarios_are_of_this_source(self) -> None:
+        version = subprocess.run(["riscv64-unknown-elf-gcc", "-dumpfullversion"], capture_output=True, text=True, check=True).stdout.strip()
+        if version != KEPT_BY:
+            self.skipTest(f"the compiler is {version}, and they were made with {KEPT_BY}")
+        for name, words in (("queue", []), ("queue_early", ["-DEARLY"])):
+            self.assertEqual(Path(self.built(*words)[0]).read_text(), (EXAMPLES / f"explore/{name}.nova").read_text())
+
+    def test_assertions(self) -> None:
+        scenario, elf = self.built("--debug", "-O2")
+        told = self.explored(scenario, *elf, "asserts")
+        self.assertEqual((told.returncode, told.stderr), (0, ""))
+        self.assertIn("queue.nova: an assertion fails in no order, however long", told.stdout)
+        scenario, elf = self.built("--debug", "-O2", "-DEARLY")
+        told = self.explored(scenario, *elf, "asserts")
+        self.assertEqual((told.returncode, told.stderr), (1, ""))
+        self.assertIn("queue.nova: an assertion fails after ", told.stdout)
+        self.assertIn("\n  EC 12 (CONSUMER): queue.c:62: item == taken + 1\n", told.stdout)
+
+    def test_an_assertion_that_failed_is_explained(self) -> None:
+        """In the kept order, at whose end the thread is to end by ebreak."""
+        scenario, elf = self.built("--debug", "-O2", "-DEARLY")
+        kept, _ = read_kept((EXAMPLES / "explore/queue_early.explore").read_text())
+        with tempfile.TemporaryDirectory() as folder:
+            report = Path(folder, "failed.report")
+            report.write_text(Replayer(Means.nova, None, Path(folder)).report(Path(scenario), read_answer(kept[0].answer).order or ""))
+            told = subprocess.run([sys.executable, TOOL.parent / "explain", report, *elf], capture_output=True, text=True, check=True)
+        self.assertIn("in consumer (queue.c:62), by nova_fail, since an assertion failed: queue.c:62: item == taken + 1.\n", told.stdout)
+
+    def test_names(self) -> None:
+        scenario, elf = self.built("--debug", "-O2")
+        told = self.explored(scenario, *elf, "--words")
+        self.assertEqual((told.returncode, told.stderr), (0, ""))
+        for line in ("taken *4 *2 *0x0", "slots *8 *2 *0xc", "nova_failed *4 *2 *0x14", "12 *dead *CONSUMER"):
+            self.assertRegex(told.stdout, rf"(?m)^  {line}$")
+        self.assertNotIn("stack", told.stdout)
+        told = self.explored(scenario, *elf, "--turns", "460", "dies", "CONSUMER")
         self.assertEqual((told.returncode, told.stderr), (9, ""))
-        elf = built.with_suffix(".elf")
-        first, second = frame_of("slots", elf), frame_of("slots+4", elf)
+
+    def test_what_has_no_name(self) -> None:
+        scenario, (_, elf) = self.built("--debug", "-O2")
+        first, second = frame_of("slots", Path(elf)), frame_of("slots+4", Path(elf))
         self.assertEqual((second[0], second[1]), (first[0], first[1] + 4))
         for words in ("slots+8", "nosuch", "1x"):
             with self.assertRaises(NoSymbol):
-                frame_of(words, elf)
+                frame_of(words, Path(elf))
         with self.assertRaises(NoSymbol):
-            frame_of("failed", built)
+            frame_of("taken", Path(scenario))
+        told = self.explored(scenario, "--elf", elf, "word", "nosuch", "1")
+        self.assertEqual((told.returncode, told.stderr), (3, f"explore: {elf} has no variable nosuch; --words lists those that have names\n"))
+
+    def test_an_executable_of_another_scenario_is_refused(self) -> None:
+        """Its variables may lie elsewhere, and an answer about them would be one about nothing."""
+        scenario, _ = self.built("--debug", "-O2")
+        guest, (_, elf) = self.built("--debug", "--guest", source=TOOL.parent / "c/crc.c")
+        _, (_, other) = self.built("--debug", "-O2", "-DEARLY")
+        for asked, named in ((scenario, other), (guest, elf.replace(".elf", ".guest.elf"))):
+            for words in (["asserts"], ["word", "taken", "1"], ["--words"]):
+                told = self.explored(asked, "--elf", named, *words)
+                self.assertEqual((told.returncode, told.stdout), (3, ""))
+                self.assertIn(f"explore: {named} isn't what {asked} has at 0x1000: ", told.stderr)
+        self.assertEqual(self.explored(guest, "--elf", elf, "--words").returncode, 0)
+
+    def test_a_program_without_assertions(self) -> None:
+        scenario, elf = self.built("--debug", source=TOOL.parent / "c/examples/counter.c")
+        told = self.explored(scenario, *elf, "asserts")
+        self.assertEqual((told.returncode, told.stderr), (3, f"explore: {elf[1]} has no nova_assert that may fail\n"))
 
 
 def main(words: list[str]) -> int:

@@ -103,7 +103,8 @@ class Examples(unittest.TestCase):
         for case in CASES:
             with self.subTest(case.scenario.stem):
                 told = explored(str(case.scenario), "--switches", "2", "--by", case.by)
-                self.assertEqual((told.answer.returncode, told.answer.stderr), (0, ""))
+                for_all = f"orders: of other orders nothing is known; of all, which in so short a run may be few states: ./nova-explore {case.scenario} ends\n"
+                self.assertEqual((told.answer.returncode, told.answer.stderr), (0, for_all))
                 self.assertEqual(told.outcomes, case.outcomes)
 
     def test_at_random_there_are_no_other_outcomes(self) -> None:
@@ -111,6 +112,11 @@ class Examples(unittest.TestCase):
             with self.subTest(case.scenario.stem):
                 told = explored(str(case.scenario), "--random", "20", "--lengths", "1-30", "--by", case.by)
                 self.assertEqual(told.outcomes.keys() - case.outcomes.keys(), set())
+
+    def test_of_all_orders_the_explorer_is_named_where_the_run_is_short(self) -> None:
+        for name, is_named in (("woken.nova", False), ("waits.nova", True)):  # with a source, and without
+            with self.subTest(name):
+                self.assertEqual("nova-explore" in explored(str(HERE / name), "--random", "2").answer.stderr, is_named)
 
     def test_a_firing_lets_a_processor_that_was_left_out_go_on(self) -> None:
         told = explored(str(HERE / "woken.nova"), "--random", "40", "--lengths", "40-60", "--by", "events:irq,died")

@@ -121,7 +121,7 @@ class Cluster(unittest.TestCase):
             for words in ((str(EXAMPLES / "race.nova"), "--random", "400"), (str(HERE / "lost_wakeup.nova"), "--switches", "2")):
                 with self.subTest(words):
                     sent, here = self.explored(*words, "--executor", f"dask:{address}"), explored(*words)
-                    self.assertEqual((sent.answer.returncode, sent.answer.stderr), (0, ""))
+                    self.assertEqual((sent.answer.returncode, sent.answer.stderr), (0, here.answer.stderr))
                     self.assertEqual((sent.counts, sent.outcomes), (here.counts, here.outcomes))
                     self.assertEqual(sent.answer.stdout.splitlines()[:2], here.answer.stdout.splitlines()[:2])
 

@@ -74,6 +74,8 @@ SOURCE = "ec 1 global dead 00000000\nsc 2 0 8\nsm 3 1 0\nsource 0 0 3 1 0\n"
 FAULTS = (
     ("", "line 1: `run quiet N` or `run open N` is wanted"),
     ("run quiet 09\n", "line 1: `run quiet N` or `run open N` is wanted"),
+    ("turn 3\napart\n", "line 1: `run quiet N` or `run open N` is wanted; this is an answer of nova_policy, which `tools/picture sides` draws"),
+    ("0 8\n", "line 1: `run quiet N` or `run open N` is wanted; this is an order, and `./nova solo SCENARIO ORDER` makes its report"),
     ("run quiet 9", "line 1: the text ends without a line feed"),
     (HEAD + EVENT + END.rstrip("\n"), "line 5: the text ends without a line feed"),
     (HEAD + "\n" + END, "line 2: no line of a report begins so"),
@@ -223,7 +225,10 @@ class Pictures(unittest.TestCase):
     def test_what_is_no_answer_is_refused(self) -> None:
         with tempfile.TemporaryDirectory() as folder:
             answer = Path(folder, "a.sides")
-            for text, line in (("turn 3\napart\ntie a:5 b:6 portal\n", "line 3: this is no tie"), ("run quiet 3\n", "line 1: `turn N` is wanted")):
+            for text, line in (
+                ("turn 3\napart\ntie a:5 b:6 portal\n", "line 3: this is no tie"),
+                ("run quiet 3\n", "line 1: `turn N` is wanted; this is a report, which `tools/picture run` draws"),
+            ):
                 answer.write_text(text)
                 done = picture("sides", str(answer))
                 self.assertEqual((done.returncode, done.stderr), (1, f"picture: {answer}: {line}\n"))
