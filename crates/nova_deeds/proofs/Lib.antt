@@ -12,7 +12,6 @@ pub mod Booted
 pub mod Added
 pub mod Calm
 pub mod Stirred
-pub mod Granted
 pub mod Told
 pub mod Bursts
 pub mod Passing

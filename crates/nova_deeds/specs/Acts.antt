@@ -1,5 +1,5 @@
 -- What the parts of a turn answer and leave.
-use Rattle.std.specs.Prelude.{ℕ, ◌≡◌, ◌<◌, ◌≤◌, ◌+◌, ◌^◌, ◌&&◌, Bool, true, false, not, if◌then◌else◌, length, Option, Some, None, Ok, IsSome, IfSome}
+use Rattle.std.specs.Prelude.{ℕ, ◌≡◌, ◌<◌, ◌≤◌, ◌+◌, ◌^◌, ◌&&◌, Bool, true, false, not, length, Option, Some, None, Ok, IsSome, IfSome}
 use Rattle.rv_core.specs.declared.outcome.Outcome.{Outcome}
 use Rattle.rv_core.specs.declared.outcome.Outcome.TheVariants.{Next, Raise}
 use Rattle.rv_model.specs.Step.{Once, Raised, Went}
@@ -7,10 +7,8 @@ use Rattle.nova_utcb.specs.Messages.{has_counts, has_items}
 use Rattle.nova_model.specs.Calls.{admitted, exit_admitted}
 use Rattle.nova_model.specs.Exits.{raised_exit}
 use Rattle.nova_model.specs.Semaphores.{answer_of, semaphore, woken}
-use Rattle.nova_model.specs.Deeds.{done}
-use Rattle.nova_model.specs.Running.{is_busy}
 use Rattle.nova_model.specs.Edges.{caller_in}
-use Rattle.nova_model.specs.State.{KernelState, context, context_at, message, transfer}
+use Rattle.nova_model.specs.State.{KernelState, context, context_at, message}
 use Rattle.nova_model.specs.declared.admit.Admit.TheVariants.{Send, Help}
 use Rattle.nova_model.specs.declared.context.EcState.{EcState}
 use Rattle.nova_model.specs.declared.admit.ExitAdmit.TheVariants as exit
@@ -19,14 +17,13 @@ use Rattle.nova_model.specs.declared.transfer.Delivery.{Delivery}
 use Rattle.nova_model.specs.declared.transfer.ItemWords.{ItemWords}
 use Rattle.nova_model.specs.declared.transfer.Sequel.{Sequel}
 use Rattle.nova_model.specs.declared.transfer.Sequel.TheVariants.{Item, Replied}
-use Rattle.nova_model.specs.Transfers.{Part, next_part, given}
+use Rattle.nova_model.specs.Forest.{IsChildless}
+use Rattle.nova_delegate.specs.Parts.{IsReady}
 use Rattle.nova_range.specs.Ranges.{IsRange}
 pub use Rattle.law_forest.specs.Made.{TakesFree}
 use Rattle.nova_choice.specs.Schedules.{IsPlacedIn, is_ready}
-use Rattle.nova_model.specs.declared.transfer.Job.{Job}
-use Rattle.nova_model.specs.declared.transfer.Transfer.{Transfer}
 use Rattle.nova_model.specs.declared.deed.Deed.{Deed}
-use Rattle.nova_model.specs.declared.deed.Deed.TheVariants.{Rests, Steps, Waits, Sends, Makes, Recalls, Names, Opens, Gives, Skips, Finishes, Calls, Helps, Replies, Aborts, Revokes, Removes, Ups, Downs, Blocks}
+use Rattle.nova_model.specs.declared.deed.Deed.TheVariants.{Steps, Waits, Sends, Makes, Recalls, Names, Opens, Gives, Finishes, Calls, Helps, Replies, Aborts, Revokes, Removes, Ups, Downs, Blocks}
 
 -- the outcome of an instruction
 abbrev pub outcome_of : Once → Outcome
@@ -56,7 +53,7 @@ pub record IsGivenBy (k : KernelState) (ec item : ℕ) (v : Delivery) : Type 0 w
 
 -- what a deed names is there, a selector is one, and what it makes is of a processor that is there; a call is sent or helps as it is admitted, and
 -- with a message that has its counts; a reply goes to the caller that is kept; an exit that is raised is sent or waits as it is admitted; an up and a down
--- come to what the semaphore says; what is revoked is a range
+-- come to what the semaphore says; what is revoked is a range; a child can be added, and a leaf has none
 abbrev pub DeedFits : KernelState → ℕ → Deed → Type 0
 DeedFits k ec (Makes call target new) = (target < 2 ^ 20) × IsPlacedIn k new
 DeedFits k ec (Opens target domain) = (target < 2 ^ 20) × (domain ≡ length k.objects)
@@ -70,21 +67,13 @@ DeedFits k ec (Waits handler reason q0 q1) = exit_admitted k.contexts ec handler
 DeedFits k ec (Sends handler ip identifier mtd reason q0 q1) =
     (exit_admitted k.contexts ec handler ≡ exit.Sends) × (raised_exit (context k ec).state ≡ Some (reason, q0, q1))
 DeedFits k ec (Revokes range own) = IsRange range
+DeedFits k ec (Gives child cursor) = IsReady k.delegations child
+DeedFits k ec (Removes leaf) = IsChildless k.delegations.list leaf.id
 DeedFits k ec (Ups sm whom) = woken (semaphore k.semaphores sm) ≡ Ok whom
 DeedFits k ec (Downs sm) = answer_of (semaphore k.semaphores sm) ≡ Done
 DeedFits k ec (Blocks sm until) = answer_of (semaphore k.semaphores sm) ≡ Blocked
 DeedFits k ec (Finishes item end words after) = (item < 62) × (IsToldThere k words × IsSequel k ec item after)
 DeedFits k ec other = Unit {0}
-
--- nothing is left of a deed when it is decided: it rests, or it is an instruction that goes on, a part of an item or one of a revoke, which are done at
--- once
-abbrev pub is_done_when_decided : Deed → Bool
-is_done_when_decided Rests = true
-is_done_when_decided Steps = true
-is_done_when_decided (Gives child cursor) = true
-is_done_when_decided (Skips reason place cursor) = true
-is_done_when_decided (Removes leaf) = true
-is_done_when_decided other = false
 
 -- an instruction went on
 abbrev pub is_step : Deed → Bool
@@ -105,21 +94,6 @@ changes_actor_only (Blocks sm until) = false
 changes_actor_only (Finishes item end words after) = false
 changes_actor_only other = true
 
--- what is done when a deed is decided: all of it or nothing
-abbrev pub begun : KernelState → ℕ → Deed → KernelState
-begun k ec d = if is_done_when_decided d then done k ec d else k
-
--- what a hypercall asks for fits, and is still to be done
+-- a deed fits, and is to be done: it is no instruction that went on
 abbrev pub IsToBeDone : KernelState → ℕ → Deed → Type 0
-IsToBeDone k ec d = DeedFits k ec d × (is_done_when_decided d ≡ false)
-
--- how far an execution context is with its items
-abbrev pub now_at : KernelState → ℕ → Transfer
-now_at k ec = transfer k ec
-
--- the part of an item that is next, and the state with what it makes
-abbrev pub part_now : KernelState → Job → Option Part
-part_now k j = next_part (is_busy k) k.delegations j
-
-abbrev pub with_part : KernelState → Option Part → KernelState
-with_part k p = record k { delegations = given k.delegations p }
+IsToBeDone k ec d = DeedFits k ec d × (is_step d ≡ false)

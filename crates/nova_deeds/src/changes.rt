@@ -2,7 +2,7 @@ ghost use Rattle.std.specs.Prelude.{not, ◌≡◌, ◌==◌, ◌&&◌, ◌<◌,
 ghost use Rattle.nova_model.specs.Deeds.{actor_after, recall, transfer_after};
 ghost use Rattle.nova_ec.specs.Tables.{with_items};
 ghost use Rattle.nova_model.specs.State.{ec_in, ec_of, with_ec};
-ghost use Rattle.nova_deeds.specs.Acts.{changes_actor_only, is_done_when_decided};
+ghost use Rattle.nova_deeds.specs.Acts.{changes_actor_only};
 
 use crate::births::NO_TRANSFER;
 use nova_ec::Ecs;
@@ -50,16 +50,6 @@ pub fn change(contexts: &mut Ecs, ec: u32, deed: Deed)
         Deed::Returns => contexts.answer(ec, Status::Success, None),
         _ => {}
     }
-}
-
-/// Whether nothing is left of a deed when it is decided.
-pub fn is_done_when_decided(deed: Deed) -> bool
-    ensures { result ≡ is_done_when_decided deed }
-{
-    matches!(
-        deed,
-        Deed::Rests | Deed::Steps | Deed::Gives { .. } | Deed::Skips { .. } | Deed::Removes { .. }
-    )
 }
 
 /// How far an execution context is after an item: at the next, or at no item.

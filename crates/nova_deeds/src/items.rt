@@ -1,4 +1,4 @@
-ghost use Rattle.std.specs.Prelude.{false, ◌≡◌, ◌<◌, ◌^◌, ℕ};
+ghost use Rattle.std.specs.Prelude.{◌≡◌, ◌<◌, ◌^◌, ℕ};
 ghost use Rattle.nova_delegate.specs.Parts.{IsUnderWay};
 ghost use Rattle.nova_range.specs.RangeWords.{meaning_of};
 ghost use Rattle.nova_range.specs.Rights.{IsRights};
@@ -6,7 +6,7 @@ ghost use Rattle.nova_model.specs.Deeds.{gave};
 ghost use Rattle.nova_model.specs.Transfers.{read_as};
 ghost use Rattle.nova_model.specs.Deliveries.{whole_of, told_by, flag, words_for, sequel_of, finished, range_given};
 ghost use Rattle.nova_model.specs.State.{KernelState};
-ghost use Rattle.nova_deeds.specs.Acts.{DeedFits, IsGivenBy, is_done_when_decided};
+ghost use Rattle.nova_deeds.specs.Acts.{IsGivenBy, IsToBeDone};
 
 use nova_ec::Mark;
 use nova_model::{Deed, Delivery, ItemEnd, ItemWords, Job, Sequel, Transfer};
@@ -46,8 +46,7 @@ fn sequel_of(delivery: Delivery, item: u32) -> Sequel
 pub fn finished(delivery: Delivery, item: u32, end: ItemEnd, answer: u32) -> Deed
     requires { item < 62 }
     ensures deed { result ≡ finished delivery item end answer }
-    ensures fits { (k : KernelState) (ec : ℕ) → IsGivenBy k ec item delivery → DeedFits k ec result }
-    ensures later { is_done_when_decided result ≡ false }
+    ensures fits { (k : KernelState) (ec : ℕ) → IsGivenBy k ec item delivery → IsToBeDone k ec result }
 {
     Deed::Finishes {
         item,

@@ -29,17 +29,17 @@ source_found : (f : Delegations) (j : Job) (d : Derivation) → IsForest f → n
 source_found f j d forest is = member_found f.list d forest.rising (next_facts f.list j d is).there
 
 child_ready : (busy : Derivation → Bool) (f : Delegations) (j : Job) (d x : Derivation) → IsSound f → IsUnderWay j → IsPlaced d → next_source f.list j ≡ Some d →
-    judged busy f.list (child_of j f.next d) ≡ Ok x → IsReady f d x
+    judged busy f.list (child_of j f.next d) ≡ Ok x → IsReady f x
 child_ready busy f j d x sound job placed is ok =
     let good = child_fits busy f j d x sound.forest job.source job.dest is ok in
-    subst (IsReady f d) (sym good.0) (record {
+    subst (IsReady f) (sym good.0) (record {
       fits = subst (IsFitting f) good.0 good.1;
       placed = child_placed j f.next d job placed (next_facts f.list j d is).left;
       parent = refl;
     })
 
 pub judged_ready : (busy : Derivation → Bool) (f : Delegations) (j : Job) (d : Derivation) → IsSound f → IsUnderWay j → IsPlaced d → next_source f.list j ≡ Some d →
-    (r : Result Derivation Reason) → r ≡ judged busy f.list (child_of j f.next d) → IfOk r (IsReady f d)
+    (r : Result Derivation Reason) → r ≡ judged busy f.list (child_of j f.next d) → IfOk r (IsReady f)
 judged_ready busy f j d sound job placed is (Ok x) e = child_ready busy f j d x sound job placed is (sym e)
 judged_ready busy f j d sound job placed is (Err reason) e = tt
 

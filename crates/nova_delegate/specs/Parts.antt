@@ -1,15 +1,13 @@
 -- What a part of a transfer needs and answers.
-use Rattle.std.specs.Prelude.{ℕ, ◌==◌, ◌&&◌, Bool, nat_lt, nat_le, List, filter, ◌≡◌, Option, Some, None, IfSome, Result, Ok, Err, IsOk, IfOk}
+use Rattle.std.specs.Prelude.{◌==◌, ◌&&◌, Bool, nat_lt, nat_le, List, filter, Option, IsSome, Result}
 use Rattle.std.specs.List.{list_any}
-use Rattle.nova_model.specs.Delegations.{Delegations, is_same_kind, range_of, base_of, least_by, with_id}
+use Rattle.nova_model.specs.Delegations.{Delegations, is_same_kind, range_of, base_of, least_by}
 use Rattle.nova_model.specs.Revokes.{Revocation, busy}
-use Rattle.nova_model.specs.Transfers.{Part, source_of, dest_of, overlap_base, next_part}
+use Rattle.nova_model.specs.Transfers.{Part, source_of, dest_of, next_part}
 use Rattle.nova_model.specs.declared.delegation.Derivation.{Derivation}
 use Rattle.nova_model.specs.Forest.{IsFitting}
 use Rattle.nova_model.specs.declared.transfer.Job.{Job}
 use Rattle.nova_model.specs.declared.transfer.Reason.{Reason}
-use Rattle.nova_delegate.specs.declared.parts.PartDone.{PartDone}
-use Rattle.nova_delegate.specs.declared.parts.PartDone.TheVariants.{Made, Skipped, Ended}
 use Rattle.nova_nodes.specs.NodesStates.{IsPlaced}
 use Rattle.nova_range.specs.Ranges.{IsRange, end_of}
 
@@ -37,29 +35,8 @@ next_under revoke guards f j = next_part (busy_by revoke guards f.list) f j
 abbrev pub pair_of : Part → Derivation × Result Derivation Reason
 pair_of p = (p.source, p.child)
 
--- a child of a derivation that can be added
-pub record IsReady (f : Delegations) (source x : Derivation) : Type 0 where
+-- a child that can be added: it fits, lies in the space, and has a parent
+pub record IsReady (f : Delegations) (x : Derivation) : Type 0 where
   pub fits : IsFitting f x
   pub placed : IsPlaced x
-  pub parent : x.parent ≡ Some source.id
-
--- what was done: the child's id, or the reason to skip what begins at the place
-abbrev pub done_at : ℕ → Result Derivation Reason → PartDone
-done_at place (Ok x) = Made x.id
-done_at place (Err reason) = Skipped reason place
-
-abbrev pub done_of : Job → Option Part → PartDone
-done_of j None = Ended
-done_of j (Some p) = done_at (overlap_base j p.source) p.child
-
--- a child that was made is found by its id
-abbrev pub IsThere : Delegations → Result Derivation Reason → Type 0
-IsThere f child = IfOk child (λ x. with_id f.list x.id ≡ Some x)
-
-abbrev pub HasChild : Delegations → Option Part → Type 0
-HasChild f p = IfSome p (λ q. IsThere f q.child)
-
--- a child is to be made
-abbrev pub MakesChild : Option Part → Type 0
-MakesChild None = ⊥
-MakesChild (Some p) = IsOk p.child
+  pub parent : IsSome x.parent

@@ -1,5 +1,5 @@
 //! Items of messages. A delegation is cut to the receiver's window, and is then given derivation by
-//! derivation, one part a call; a translation is answered at once.
+//! derivation, of which the next is found by a call; a translation is answered at once.
 #![tactic(auto)]
 
 pub mod jobs;
@@ -9,5 +9,5 @@ pub mod translations;
 
 pub use jobs::job;
 pub use nova_model::{Job, Reason, Skip};
-pub use parts::{PartDone, next_part, part};
+pub use parts::next_part;
 pub use translations::translate;

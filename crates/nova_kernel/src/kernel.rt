@@ -256,12 +256,13 @@ impl Kernel {
 
     /// What the processor's next turn is for a virtual CPU; none where the processor is idle, or where the
     /// turn is nothing for it. Memory can run out only where the turn gives its domain memory with bytes,
-    /// which are copied.
-    pub fn input(&self, alloc: Global, cpu: u32, ec: u32) -> Result<Option<Input>, AllocError>
-        requires cpu { cpu < self.now.state.cpus }
-        requires guest { IsOf self.now.state.objects is_vcpu ec }
-        ensures input { IfOk result (λ i. i ≡ input self.now.state cpu ec) }
-        ensures memory { OnErr result (BringsBytes (input self.now.state cpu ec)) }
+    /// which are copied. The state stays as it was.
+    pub fn input(&mut self, alloc: Global, cpu: u32, ec: u32) -> Result<Option<Input>, AllocError>
+        requires cpu { cpu < self.old.state.cpus }
+        requires guest { IsOf self.old.state.objects is_vcpu ec }
+        ensures input { IfOk result (λ i. i ≡ input self.old.state cpu ec) }
+        ensures memory { OnErr result (BringsBytes (input self.old.state cpu ec)) }
+        ensures kept { self.new ≡ self.old }
     {
         match next_to_act(&self.parts, cpu, &self.known) {
             Some(chosen) => self.parts.input_of(alloc, chosen.actor, ec),

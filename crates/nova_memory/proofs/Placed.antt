@@ -1,21 +1,17 @@
 -- Pages lead to frames: those of a derivation that is found, and those of one that joins. What was found is found again.
-use Rattle.std.proofs.Common.{◌≡◌, ℕ, ◌+◌, ◌-◌, ◌<◌, ◌≤◌, List, [], ◌∷◌, ◌++◌, refl, ap, sym, ◌∙◌, subst, arith}
-use Rattle.std.specs.Prelude.{Bool, true, false, ◌==◌, not, if◌then◌else◌, Option, Some, None, option_map, Result, Ok, Err, IfSome, OnOk, OnErr}
+use Rattle.std.proofs.Common.{◌≡◌, ℕ, ◌+◌, ◌-◌, ◌<◌, ◌≤◌, List, [], ◌∷◌, ◌++◌, refl, ap, ap₂, sym, ◌∙◌, subst, arith}
+use Rattle.std.specs.Prelude.{Bool, true, false, ◌==◌, not, if◌then◌else◌, Option, Some, None, IfSome, IsSome}
 use Rattle.std.specs.List.{AllByRecursion, find}
 use Rattle.nova_range.specs.declared.range.Kind.{Kind}
 use Rattle.nova_range.specs.declared.range.Kind.TheVariants.{Mem}
-use Rattle.nova_range.specs.Ranges.{IsRange}
-use Rattle.nova_model.specs.Delegations.{Delegations, covers, has_place, is_memory, range_of, without}
-use Rattle.nova_model.specs.Revokes.{Revocation, next_leaf, revoked, taken_away}
-use Rattle.nova_model.specs.Forest.{IsAligned, IsForest}
-use Rattle.nova_model.specs.Transfers.{source_of, dest_of, next_source, child_of, judged, Part, part_of, next_part, joined, given}
-use Rattle.nova_model.specs.declared.transfer.Job.{Job}
-use Rattle.nova_model.specs.declared.transfer.Reason.{Reason}
-use Rattle.law_forest.proofs.Members.{IsIn, all_at, all_from, all_more, filtered_in, found_in}
+use Rattle.nova_range.specs.declared.range.Range.{Range}
+use Rattle.nova_delegate.specs.Parts.{IsReady}
+use Rattle.nova_model.specs.Delegations.{Delegations, added, covers, derived, has_place, is_memory, range_of, without}
+use Rattle.nova_model.specs.Forest.{HasParentIn, IsForest}
+use Rattle.law_forest.proofs.Members.{IsIn, all_at, all_from, all_more, filtered_in, found_in, in_from_contains}
 use Rattle.nova_nodes.specs.NodesStates.{IsPlaced, IsSound}
 use Rattle.nova_nodes.proofs.Found.{find_only}
 use Rattle.nova_nodes.proofs.Indexed.{in_space, meeting}
-use Rattle.law_forest.proofs.Transfers.{left_facts, next_facts, judged_facts, child_targets}
 use Rattle.nova_model.specs.declared.delegation.Derivation.{Derivation}
 use Rattle.nova_memory.specs.Reach.{IsFound, LeadsToFrames, LeadToFrames}
 
@@ -43,34 +39,26 @@ page_found frames pd page list o is lead = rw is (by_found (find (covers Mem pd 
     by_found (Some d) h = page_leads frames pd page d h.0 h.1
 
 -- a child leads to frames of its parent's
-child_leads : (frames : ℕ) (busy : Derivation → Bool) (f : Delegations) (j : Job) (d x : Derivation) → IsForest f → IsRange (source_of j) → IsRange (dest_of j) →
-    LeadToFrames frames f.list → next_source f.list j ≡ Some d → judged busy f.list (child_of j f.next d) ≡ Ok x → LeadsToFrames frames x
-child_leads frames busy f j d x forest source dest lead is ok =
-    let next = next_facts f.list j d is in
-    let aligned = all_at IsAligned f.list d forest.aligned next.there in
-    let inside = child_targets j f.next d source dest aligned.base next.left in
-    let kind : d.kind ≡ j.kind = (left_facts j d next.left).kind in
-    subst (LeadsToFrames frames) (sym (judged_facts busy f.list (child_of j f.next d) x ok).same)
-    (λ memory. let leads = all_at (LeadsToFrames frames) f.list d lead.each next.there (ap is_memory kind ∙ memory) in omega arith)
-
--- delegations after a part lead to frames as before
-pub given_leads : (frames : ℕ) (busy : Derivation → Bool) (f : Delegations) (j : Job) → IsForest f → IsRange (source_of j) → IsRange (dest_of j) →
-    LeadToFrames frames f.list → LeadToFrames frames (given f (next_part busy f j)).list
-given_leads frames busy f j forest source dest lead = record { few = lead.few; each = by_source (next_source f.list j) refl }
+child_leads : (frames : ℕ) (f : Delegations) (x : Derivation) → IsReady f x → LeadToFrames frames f.list → LeadsToFrames frames x
+child_leads frames f x ready lead = by_parent x.parent ready.parent ready.fits.parent
   where
-    by_child : (d : Derivation) (r : Result Derivation Reason) → next_source f.list j ≡ Some d → judged busy f.list (child_of j f.next d) ≡ r →
-        AllByRecursion (LeadsToFrames frames) (joined f r).list
-    by_child d (Err reason) is judges = lead.each
-    by_child d (Ok x) is judges = all_more (LeadsToFrames frames) f.list x lead.each (child_leads frames busy f j d x forest source dest lead is judges)
+    by_parent : (o : Option ℕ) → IsSome o → HasParentIn f.list x o → LeadsToFrames frames x
+    by_parent None there has = let no : IsSome {T = ℕ} None = there in absurd (cc)
+    by_parent (Some id) there has = λ memory.
+        let leads = all_at (LeadsToFrames frames) f.list has.0 lead.each (in_from_contains f.list has.0 has.1) (ap is_memory (sym has.3.kind) ∙ memory) in
+        let last = has.3.last in omega (arith, leads, last)
 
-    by_source : (o : Option Derivation) → next_source f.list j ≡ o → AllByRecursion (LeadsToFrames frames) (given f (option_map (part_of busy f j) o)).list
-    by_source None is = lead.each
-    by_source (Some d) is = by_child d (judged busy f.list (child_of j f.next d)) is refl
+pub joined_leads : (frames : ℕ) (f new : Delegations) (x : Derivation) → IsReady f x → new ≡ added f x → LeadToFrames frames f.list → LeadToFrames frames new.list
+joined_leads frames f new x ready is lead =
+    subst (λ (g : Delegations). LeadToFrames frames g.list) (sym is)
+    (record { few = lead.few; each = all_more (LeadsToFrames frames) f.list x lead.each (child_leads frames f x ready lead) })
 
-pub part_leads : {T E : Type 0} (X : Type 0) (r : Result T E) (frames : ℕ) (f g h : Delegations) → OnOk r (g ≡ h) → OnErr r ((g ≡ f) × X) → LeadToFrames frames f.list →
-    LeadToFrames frames h.list → LeadToFrames frames g.list
-part_leads X (Ok x) frames f g h ok err old new = rw ok new
-part_leads X (Err e) frames f g h ok err old new = rw err.0 old
+-- a child is the derivation that is made of its parts
+pub as_derived : (f : Delegations) (x : Derivation) (parent : ℕ) (range : Range) → x.id ≡ f.next → x.parent ≡ Some parent → range ≡ range_of x →
+    derived f.next (Some parent) x.pd range x.rights x.target ≡ x
+as_derived f x parent range id is places =
+    ap (λ (r : Range). derived f.next (Some parent) x.pd r x.rights x.target) places
+    ∙ ap₂ (λ (n : ℕ) (o : Option ℕ). derived n o x.pd (range_of x) x.rights x.target) (sym id) (sym is)
 
 -- in a sound forest a derivation is found at each place that it covers
 one_alone : (kind : Kind) (f : Delegations) (d e : Derivation) (pd place : ℕ) → IsForest f → IsIn f.list e → IsIn f.list d → covers kind pd place e ≡ true →
@@ -116,19 +104,6 @@ AreFoundStill old new = (kind : Kind) (pd place : ℕ) (d : Derivation) → find
 pub more_still : (list : List Derivation) (x : Derivation) → AreFoundStill list (list ++ x ∷ [])
 more_still list x kind pd place d is = find_more (covers kind pd place) list x d is
 
-pub given_still : (f : Delegations) (p : Option Part) → AreFoundStill f.list (given f p).list
-given_still f None = λ kind pd place d is. is
-given_still f (Some p) = by_child p.child
-  where
-    by_child : (r : Result Derivation Reason) → AreFoundStill f.list (joined f r).list
-    by_child (Ok x) = more_still f.list x
-    by_child (Err reason) = λ kind pd place d is. is
-
--- after what changes delegations or leaves them
-pub part_still : {T E : Type 0} (X : Type 0) (r : Result T E) (f g h : Delegations) → OnOk r (g ≡ h) → OnErr r ((g ≡ f) × X) → AreFoundStill f.list h.list → AreFoundStill f.list g.list
-part_still X (Ok x) f g h ok err still = subst (λ (q : Delegations). AreFoundStill f.list q.list) (sym ok) still
-part_still X (Err e) f g h ok err still = λ kind pd place d is. subst (λ (q : Delegations). find (covers kind pd place) q.list ≡ Some d) (sym err.0) is
-
 pub found_still : (kind : Kind) (old new : List Derivation) (o : Option Derivation) → AreFoundStill old new → IfSome o (IsFound kind old) → IfSome o (IsFound kind new)
 found_still kind old new None still found = tt
 found_still kind old new (Some d) still found = record {
@@ -142,14 +117,11 @@ pub page_leads_by : (frames pd page : ℕ) (list : List Derivation) (d : Derivat
     (d.base ≤ page) × (d.target + (page - d.base) < frames)
 page_leads_by frames pd page list d found lead = page_found frames pd page list (Some d) (sym found) lead
 
--- and after a part of a revoke
-without_leads : (frames : ℕ) (f : Delegations) (o : Option Derivation) → LeadToFrames frames f.list → LeadToFrames frames (taken_away f o).list
-without_leads frames f None lead = lead
-without_leads frames f (Some d) lead = record {
-  few = lead.few;
-  each = all_from (LeadsToFrames frames) (without f d.id).list
-      (λ x i. all_at (LeadsToFrames frames) f.list x lead.each (filtered_in (λ (b : Derivation). not (b.id == d.id)) f.list x i).0);
-}
-
-pub revoked_leads : (frames : ℕ) (r : Revocation) (f new : Delegations) → new ≡ revoked r f → LeadToFrames frames f.list → LeadToFrames frames new.list
-revoked_leads frames r f new is lead = subst (λ (g : Delegations). LeadToFrames frames g.list) (sym is) (without_leads frames f (next_leaf r f) lead)
+-- and after a leaf went
+pub without_leads : (frames : ℕ) (f new : Delegations) (id : ℕ) → new ≡ without f id → LeadToFrames frames f.list → LeadToFrames frames new.list
+without_leads frames f new id is lead =
+    subst (λ (g : Delegations). LeadToFrames frames g.list) (sym is) (record {
+      few = lead.few;
+      each = all_from (LeadsToFrames frames) (without f id).list
+          (λ x i. all_at (LeadsToFrames frames) f.list x lead.each (filtered_in (λ (b : Derivation). not (b.id == id)) f.list x i).0);
+    })

@@ -1,9 +1,8 @@
 ghost use Rattle.std.specs.Prelude.{◌≡◌, ◌<◌, ◌+◌, ◌*◌, ◌%◌, ◌^◌, length, option_map, IfOk, IfSome};
-ghost use Rattle.nova_delegate.specs.Parts.{IsUnderWay, pair_of};
+ghost use Rattle.nova_delegate.specs.Parts.{IsReady, IsUnderWay, pair_of};
 ghost use Rattle.nova_model.specs.Delegations.{reach};
 ghost use Rattle.nova_model.specs.Forest.{IsForest};
 ghost use Rattle.nova_model.specs.Memory.{read};
-ghost use Rattle.nova_model.specs.Revokes.{next_leaf};
 ghost use Rattle.nova_model.specs.Transfers.{next_part};
 ghost use Rattle.nova_nodes.specs.NodesStates.{IsPlaced};
 ghost use Rattle.nova_revoke.specs.Runners.{busy_under};
@@ -12,7 +11,7 @@ ghost use Rattle.nova_utcb.specs.Pages.{IsWidth};
 use crate::reach::{Reach, page_in};
 use nova_delegate::next_part;
 use nova_model::{Derivation, Job, Kind, Page, Reason};
-use nova_revoke::{Revoke, Running, next_leaf};
+use nova_revoke::Running;
 
 // What is only looked at.
 impl Reach {
@@ -39,7 +38,7 @@ impl Reach {
     }
 
     /// The next part of an item, while these revokes run: the derivation of the giver that it is of, and
-    /// the child that would be made of it, or the first reason to skip it; nothing where none is left.
+    /// the child that is to be made of it, or the first reason to skip it; nothing where none is left.
     pub fn next_part(
         &self,
         job: &Job,
@@ -48,16 +47,8 @@ impl Reach {
         requires job { IsUnderWay job.now }
         ensures part { result ≡ option_map pair_of (next_part (busy_under revokes.now self.now.nodes.delegations.list) self.now.nodes.delegations job.now) }
         ensures source { IfSome result (λ p. IsPlaced p.0) }
-        ensures child { IfSome result (λ p. IfOk p.1 IsPlaced) }
+        ensures child { IfSome result (λ p. IfOk p.1 (IsReady self.now.nodes.delegations)) }
     {
         next_part(&self.nodes, job, revokes)
-    }
-
-    /// The leaf that the next part of a revoke takes away; nothing where nothing is left of what it takes
-    /// away.
-    pub fn next_leaf(&self, revoke: &Revoke) -> Option<Derivation>
-        ensures { result ≡ next_leaf revoke.now self.now.nodes.delegations }
-    {
-        next_leaf(&self.nodes, revoke)
     }
 }

@@ -1,20 +1,16 @@
-ghost use Rattle.std.specs.Prelude.{false, ◌≡◌, ◌≤◌, ◌-◌, ◌^◌, ◌<◌, ℕ, is_some, None, Some, IfSome, IsOk, OnOk, OnErr, IfOk};
+ghost use Rattle.std.specs.Prelude.{false, ◌≡◌, ◌≤◌, ◌-◌, ◌^◌, ◌<◌, ℕ, is_some, None, Some, IfSome, IsOk, OnOk};
 ghost use Rattle.std.specs.List.{find};
 ghost use Rattle.nova_range.specs.Rights.{IsRights};
 ghost use Rattle.nova_model.specs.Delegations.{added, covers, derived, from_id, with_id};
-ghost use Rattle.nova_model.specs.Forest.{IsForest};
-ghost use Rattle.nova_model.specs.Transfers.{next_part, given, moved};
 ghost use Rattle.nova_model.specs.Translations.{translated};
 ghost use Rattle.nova_nodes.specs.NodesStates.{IsPlaced, room};
-ghost use Rattle.nova_delegate.specs.Parts.{HasChild, IsUnderWay, MakesChild, done_of};
+ghost use Rattle.nova_delegate.specs.Parts.{IsReady};
 ghost use Rattle.nova_memory.specs.Reach.{selector_range};
-ghost use Rattle.nova_revoke.specs.Runners.{busy_under};
 
 use crate::reach::Reach;
-use nova_delegate::{PartDone, part, translate};
-use nova_model::{Derivation, Job, Kind, Rights};
+use nova_delegate::translate;
+use nova_model::{Derivation, Kind, Rights};
 use nova_range::Range;
-use nova_revoke::Running;
 use std::alloc::AllocError;
 
 /// Whether a derivation lies in a space of a protection domain and covers a place.
@@ -151,25 +147,22 @@ impl Reach {
         self.nodes.from_id(id)
     }
 
-    /// Gives the next part of an item, while these revokes run. It refuses for want of memory alone, where a
-    /// child would be made, and then no derivation has changed.
-    pub fn give(&mut self, job: &mut Job, revokes: &[Running]) -> Result<PartDone, AllocError>
+    /// Adds a child, in room that was made for it.
+    pub fn add_child(&mut self, child: &Derivation)
+        requires room { 0 < room self.old.nodes child.now.pd }
         requires next { self.old.nodes.delegations.next < 2 ^ 32 - 1 }
-        requires forest { IsForest self.old.nodes.delegations }
-        requires job { IsUnderWay job.old }
-        ensures done { IfOk result (λ r. r ≡ done_of job.old (next_part (busy_under revokes.now self.old.nodes.delegations.list) self.old.nodes.delegations job.old)) }
-        ensures delegations { OnOk result (self.new.nodes.delegations ≡ given self.old.nodes.delegations (next_part (busy_under revokes.now self.old.nodes.delegations.list) self.old.nodes.delegations job.old)) }
-        ensures job { OnOk result (job.new ≡ moved job.old (next_part (busy_under revokes.now self.old.nodes.delegations.list) self.old.nodes.delegations job.old)) }
-        ensures there { OnOk result (HasChild self.new.nodes.delegations (next_part (busy_under revokes.now self.old.nodes.delegations.list) self.old.nodes.delegations job.old)) }
-        ensures refused { OnErr result (self.new.nodes.delegations ≡ self.old.nodes.delegations) }
-        ensures wanted { OnErr result (MakesChild (next_part (busy_under revokes.now self.old.nodes.delegations.list) self.old.nodes.delegations job.old)) }
+        requires child { IsReady self.old.nodes.delegations child.now }
+        ensures delegations { self.new.nodes.delegations ≡ added self.old.nodes.delegations child.now }
         ensures memory { self.new.memory ≡ self.old.memory }
         ensures messages { self.new.messages ≡ self.old.messages }
         ensures consoles { self.new.consoles ≡ self.old.consoles }
         ensures log { self.new.room ≡ self.old.room }
     {
+        let Some(parent) = child.parent else {
+            unreachable!()
+        };
         self.sights.forget();
-        part(&mut self.nodes, job, revokes)
+        self.nodes.child(parent, child.pd, child.range(), child.rights, child.target);
     }
 
     /// The word that answers a range word of a giver's: the same memory or object as the receiver has it.

@@ -1,6 +1,7 @@
 -- The next part of a delegation, with the revokes that run, is that of the state.
-use Rattle.std.proofs.Common.{◌≡◌, List, refl, ap, ap₂, ◌∙◌}
-use Rattle.std.specs.Prelude.{Option, Some, None, Result, Ok, Err}
+use Rattle.std.proofs.Common.{◌≡◌, List, refl, ap, ap₂, subst, ◌∙◌}
+use Rattle.std.specs.Prelude.{Option, Some, None, Result, Ok, Err, IfOk}
+use Rattle.nova_delegate.specs.Parts.{IsReady}
 use Rattle.nova_memory.specs.Reach.{ReachState}
 use Rattle.nova_model.specs.Delegations.{Delegations}
 use Rattle.nova_model.specs.Deliveries.{delegated, part_deed}
@@ -33,3 +34,8 @@ delegation_told k s runs v t j r are is =
     are.delegations are.running
     ∙ any_cursor v t j (next_part (is_busy k) k.delegations (record j { cursor = t.cursor }))
     ∙ ap (delegated k v t) is
+
+-- a child that can be added can be so in the state
+pub ready_in : (k : KernelState) (s : ReachState) (runs : List Running) (r : Result Derivation Reason) → AreOf k s runs → IfOk r (IsReady s.nodes.delegations) →
+    IfOk r (IsReady k.delegations)
+ready_in k s runs r are ready = subst (λ (f : Delegations). IfOk r (IsReady f)) are.delegations ready

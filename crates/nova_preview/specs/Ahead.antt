@@ -1,5 +1,5 @@
 -- What is found out of a turn by looking alone.
-use Rattle.std.specs.Prelude.{◌≡◌, ◌≤◌, ℕ, ◌&&◌, Bool, nat_lt, List, length, Option, Some, None, option_and_then, if◌then◌else◌}
+use Rattle.std.specs.Prelude.{◌≡◌, ℕ, ◌&&◌, Bool, nat_lt, List, length, Option, Some, None, option_and_then, if◌then◌else◌}
 use Rattle.std.specs.List.{list_any}
 use Rattle.rv_model.specs.Step.{Once}
 use Rattle.nova_guest.specs.declared.input.Input.{Input}
@@ -11,8 +11,6 @@ use Rattle.nova_model.specs.AddressSpaces.{AddressSpace}
 use Rattle.nova_model.specs.Inputs.{leads_to, store_of}
 use Rattle.nova_model.specs.Running.{Running, running}
 use Rattle.nova_model.specs.State.{KernelState}
-use Rattle.nova_model.specs.declared.deed.Deed.{Deed}
-use Rattle.nova_model.specs.declared.deed.Deed.TheVariants.{Gives}
 
 -- what the addresses of an execution context lead to
 abbrev pub space_for : ReachState → ℕ → ℕ → Bool → AddressSpace
@@ -32,8 +30,3 @@ foreign_at s pd w =
 pub record AreOf (k : KernelState) (s : ReachState) (runs : List Running) : Type 0 where
   pub delegations : s.nodes.delegations ≡ k.delegations
   pub running : runs ≡ running k
-
--- a child that is given has the order of a range
-abbrev pub GivesRange : Deed → Type 0
-GivesRange (Gives child cursor) = child.order ≤ 20
-GivesRange other = Unit {0}

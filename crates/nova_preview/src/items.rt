@@ -1,8 +1,8 @@
-ghost use Rattle.std.specs.Prelude.{◌≡◌, ◌<◌, IfOk};
-ghost use Rattle.nova_delegate.specs.Parts.{IsUnderWay};
-ghost use Rattle.nova_preview.specs.Ahead.{AreOf, GivesRange};
+ghost use Rattle.std.specs.Prelude.{◌≡◌, ◌<◌, ℕ, IfOk, IfSome};
+ghost use Rattle.nova_deeds.specs.Acts.{IsGivenBy, IsToBeDone};
+ghost use Rattle.nova_delegate.specs.Parts.{IsReady, IsUnderWay};
+ghost use Rattle.nova_preview.specs.Ahead.{AreOf};
 ghost use Rattle.nova_model.specs.Deliveries.{delegated, delivered, delivers, part_deed, parted};
-ghost use Rattle.nova_model.specs.Forest.{IsForest};
 ghost use Rattle.nova_model.specs.State.{KernelState};
 ghost use Rattle.nova_model.specs.Transfers.{job_of, next_part};
 ghost use Rattle.nova_nodes.specs.NodesStates.{IsPlaced};
@@ -15,12 +15,11 @@ use nova_memory::Reach;
 use nova_model::{Deed, Delivery, Derivation, ItemEnd, Job, Reason, Transfer};
 use nova_revoke::Running;
 
-/// The deed of a part of a derivation: it makes a child, or is skipped.
+/// The deed of a part of a derivation: a child is given, or the part is skipped.
 fn parted(job: &Job, source: &Derivation, child: Result<Derivation, Reason>) -> Deed
     requires source { IsPlaced source.now }
-    requires child { IfOk child IsPlaced }
     ensures deed { result ≡ parted job.now source.now child }
-    ensures order { GivesRange result }
+    ensures fits { (k : KernelState) (ec : ℕ) → IfOk child (IsReady k.delegations) → IsToBeDone k ec result }
 {
     let cursor = source.base + (1 << source.order);
     match child {
@@ -41,12 +40,11 @@ fn part_ahead(
     transfer: Transfer,
     job: Job,
 ) -> Deed
-    requires forest { IsForest reach.now.nodes.delegations }
     requires item { transfer.item < 62 }
     requires job { IsUnderWay job }
     requires rights { IsRights job.rights }
     ensures deed { result ≡ part_deed delivery transfer job (next_part (busy_under revokes.now reach.now.nodes.delegations.list) reach.now.nodes.delegations job) }
-    ensures order { GivesRange result }
+    ensures fits { (k : KernelState) (ec : ℕ) → AreOf k reach.now revokes.now → IsGivenBy k ec transfer.item delivery → IsToBeDone k ec result }
 {
     match reach.next_part(&job, revokes) {
         Some((source, child)) => parted(&job, &source, child),
@@ -69,11 +67,10 @@ fn delegation_ahead(
     delivery: Delivery,
     transfer: Transfer,
 ) -> Deed
-    requires forest { IsForest reach.now.nodes.delegations }
     requires item { transfer.item < 62 }
     ensures deed { (k : KernelState) → AreOf k reach.now revokes.now
         → result ≡ delegated k delivery transfer (job_of delivery.range_word delivery.second_word delivery.delegations delivery.giver delivery.receiver) }
-    ensures order { GivesRange result }
+    ensures fits { (k : KernelState) (ec : ℕ) → AreOf k reach.now revokes.now → IsGivenBy k ec transfer.item delivery → IsToBeDone k ec result }
 {
     let Delivery {
         range_word,
@@ -94,10 +91,9 @@ fn delegation_ahead(
 
 /// The next part of an item, by its flag, or what ends it.
 fn item_ahead(reach: &Reach, revokes: &[Running], delivery: Delivery, transfer: Transfer) -> Deed
-    requires forest { IsForest reach.now.nodes.delegations }
     requires item { transfer.item < 62 }
     ensures deed { (k : KernelState) → AreOf k reach.now revokes.now → result ≡ delivered k delivery transfer }
-    ensures order { GivesRange result }
+    ensures fits { (k : KernelState) (ec : ℕ) → AreOf k reach.now revokes.now → IsGivenBy k ec transfer.item delivery → IsToBeDone k ec result }
 {
     if flag(delivery) == DELEGATES {
         return delegation_ahead(reach, revokes, delivery, transfer);
@@ -119,10 +115,9 @@ pub fn next_deed(
     transfer: Transfer,
     delivery: Option<Delivery>,
 ) -> Deed
-    requires forest { IsForest reach.now.nodes.delegations }
     requires item { transfer.item < 62 }
     ensures deed { (k : KernelState) → AreOf k reach.now revokes.now → result ≡ delivers k transfer delivery }
-    ensures order { GivesRange result }
+    ensures fits { (k : KernelState) (ec : ℕ) → AreOf k reach.now revokes.now → IfSome delivery (IsGivenBy k ec transfer.item) → IsToBeDone k ec result }
 {
     match delivery {
         Some(delivery) => item_ahead(reach, revokes, delivery, transfer),

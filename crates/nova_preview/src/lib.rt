@@ -1,5 +1,5 @@
-//! What the turn that comes next is for a virtual CPU, by looking alone: what an instruction comes to and where it would store, the next part of an
-//! item, and the inputs that deeds are.
+//! What is next of an item and of a revoke, as a deed; what an instruction comes to and where it would store, by looking alone; and the inputs that
+//! deeds are for a virtual CPU.
 #![tactic(auto)]
 
 mod contents;

@@ -1,10 +1,8 @@
-ghost use Rattle.std.specs.Prelude.{◌≡◌, ◌↔◌, ◌≤◌, ℕ, [], Contains, IfSome};
+ghost use Rattle.std.specs.Prelude.{◌≡◌, ◌↔◌, [], Contains, None, IfSome};
+ghost use Rattle.law_forest.specs.Courses.{IsLeaf};
 ghost use Rattle.nova_model.specs.Delegations.{first_from};
-ghost use Rattle.nova_model.specs.Forest.{IsChildless};
-ghost use Rattle.nova_model.specs.Revokes.{scope, newest_in, is_entry, scope_entry, leaf_by, next_leaf, revoked};
-ghost use Rattle.nova_nodes.specs.NodesStates.{IsPlaced, IsSound, room};
-ghost use Rattle.nova_revoke.specs.Done.{done_of, IsPart};
-ghost use Rattle.nova_revoke.specs.declared.leaves.RevokeDone.TheVariants.{Ended};
+ghost use Rattle.nova_model.specs.Revokes.{scope, newest_in, is_entry, scope_entry, leaf_by, next_leaf};
+ghost use Rattle.nova_nodes.specs.NodesStates.{IsPlaced, IsSound};
 
 use crate::revoke::Revoke;
 use crate::scope::{end, in_scope_of};
@@ -12,17 +10,8 @@ use nova_model::Derivation;
 use nova_nodes::Nodes;
 use nova_range::Index;
 
-/// What a part of a revoke did.
-#[derive(Clone, Copy)]
-pub enum RevokeDone {
-    /// It took away this derivation.
-    Removed(Derivation),
-    /// Nothing was left to take.
-    Ended,
-}
-
 /// The newest child in the scope of a derivation.
-pub(crate) fn newest_in<I: Index>(nodes: &Nodes<I>, revoke: &Revoke, id: u32) -> Option<Derivation>
+fn newest_in<I: Index>(nodes: &Nodes<I>, revoke: &Revoke, id: u32) -> Option<Derivation>
     requires sound { IsSound nodes.now.delegations }
     ensures { result ≡ newest_in revoke.now nodes.now.delegations.list id }
 {
@@ -60,7 +49,7 @@ fn next_held<I: Index>(nodes: &Nodes<I>, revoke: &Revoke, place: u32) -> Option<
 }
 
 /// Where the way to the next leaf begins.
-pub(crate) fn scope_entry<I: Index>(nodes: &Nodes<I>, revoke: &Revoke) -> Option<Derivation>
+fn scope_entry<I: Index>(nodes: &Nodes<I>, revoke: &Revoke) -> Option<Derivation>
     ensures found { result ≡ scope_entry revoke.now nodes.now.delegations.list }
     ensures sound { IsSound nodes.now.delegations }
 {
@@ -74,10 +63,9 @@ pub(crate) fn scope_entry<I: Index>(nodes: &Nodes<I>, revoke: &Revoke) -> Option
     None
 }
 
-/// The leaf that goes next.
-fn next_leaf<I: Index>(nodes: &mut Nodes<I>, revoke: &Revoke) -> Option<Derivation>
+/// The search for the leaf that goes next.
+fn find_leaf<I: Index>(nodes: &mut Nodes<I>, revoke: &Revoke) -> Option<Derivation>
     ensures found { result ≡ next_leaf revoke.now nodes.old.delegations }
-    ensures childless { IfSome result (λ d. IsChildless nodes.old.delegations.list d.id) }
     ensures sound { IsSound nodes.old.delegations }
     ensures kept { nodes.new ≡ nodes.old }
 {
@@ -88,23 +76,15 @@ fn next_leaf<I: Index>(nodes: &mut Nodes<I>, revoke: &Revoke) -> Option<Derivati
     }
 }
 
-/// One part of a revoke: it takes away one derivation of the scope that has no child, or answers that
-/// the scope is empty. That derivation is found thus. Of the revoker's derivations that are in the scope
-/// or have a child in it, the way begins at the one of least base, and goes to its newest child in the
-/// scope and on from newest child to newest child; where none of its children is in the scope, it ends
-/// at once. A part takes no memory.
-pub fn part<I: Index>(nodes: &mut Nodes<I>, revoke: &Revoke) -> RevokeDone
-    ensures done { result ≡ done_of (next_leaf revoke.now nodes.old.delegations) }
-    ensures revoked { nodes.new.delegations ≡ revoked revoke.now nodes.old.delegations }
-    ensures part { IsPart revoke.now nodes.old.delegations nodes.new.delegations result }
-    ensures ended { (result ≡ Ended) ↔ (scope revoke.now nodes.old.delegations.list ≡ []) }
-    ensures rooms { (other : ℕ) → room nodes.old other ≤ room nodes.new other }
+/// The leaf of a revoke that goes next: of its scope a derivation without a child; nothing exactly where the scope is empty. It is found
+/// thus. Of the revoker's derivations that are in the scope or have a child in it, the way begins at the one of least base, and goes to
+/// its newest child in the scope and on from newest child to newest child; where none of its children is in the scope, it ends at once.
+/// The next search may be quicker; what is kept stays.
+pub fn next_leaf<I: Index>(nodes: &mut Nodes<I>, revoke: &Revoke) -> Option<Derivation>
+    ensures found { result ≡ next_leaf revoke.now nodes.old.delegations }
+    ensures leaf { IfSome result (IsLeaf revoke.now nodes.old.delegations) }
+    ensures ended { (result ≡ None) ↔ (scope revoke.now nodes.old.delegations.list ≡ []) }
+    ensures kept { nodes.new ≡ nodes.old }
 {
-    match next_leaf(nodes, revoke) {
-        None => RevokeDone::Ended,
-        Some(d) => {
-            nodes.remove_leaf(d.id);
-            RevokeDone::Removed(d)
-        }
-    }
+    find_leaf(nodes, revoke)
 }

@@ -1,5 +1,5 @@
 // What turns are for a guest, as the kernel tells it before they are taken.
-ghost use Rattle.std.specs.Prelude.{◌+◌, ◌^◌, ◌<◌, ◌≤◌};
+ghost use Rattle.std.specs.Prelude.{◌≡◌, ◌+◌, ◌^◌, ◌<◌, ◌≤◌};
 
 use crate::machines::booted;
 use crate::scenarios::{busy, served};
@@ -70,8 +70,9 @@ fn tell(kernel: &Kernel, input: &Input) -> Told {
 }
 
 /// What the next turn of a processor is for the guest, if it is there.
-fn next(rt: &impl Abort, alloc: Global, kernel: &Kernel, cpu: u32) -> Option<Told>
-    requires { cpu < kernel.now.state.cpus }
+fn next(rt: &impl Abort, alloc: Global, kernel: &mut Kernel, cpu: u32) -> Option<Told>
+    requires { cpu < kernel.old.state.cpus }
+    ensures { kernel.new ≡ kernel.old }
 {
     let Some(
         Object::Ec {

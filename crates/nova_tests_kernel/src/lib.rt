@@ -14,8 +14,6 @@ mod inputs;
 #[cfg(test)]
 mod machines;
 #[cfg(test)]
-mod nested;
-#[cfg(test)]
 mod orders;
 #[cfg(test)]
 mod reports;

@@ -1,10 +1,11 @@
 // A long chain of derivations, and its revoke.
 ghost use Rattle.nova_delegate.specs.Parts.{IsUnderWay};
 
-use nova_delegate::{Job, PartDone, job, part as give};
+use crate::parts::{PartDone, give, take};
+use nova_delegate::{Job, job};
 use nova_nodes::Nodes;
 use nova_range::{Kind, Range, Rights};
-use nova_revoke::{Revoke, RevokeDone, part};
+use nova_revoke::Revoke;
 use nova_space::Space;
 use std::alloc::Global;
 use std::process::Abort;
@@ -37,7 +38,7 @@ fn hand_down(rt: &impl Abort, nodes: &mut Nodes<Space>, giver: u32, receiver: u3
     assert!(rt; nodes.next() < DOMAINS);
     let mut item = item(rt, giver, receiver);
     let running: &[Revoke] = &[];
-    match give(nodes, &mut item, running).expect(rt, "ample memory") {
+    match give(rt, nodes, &mut item, running) {
         PartDone::Made(id) => Some(id),
         PartDone::Skipped(..) | PartDone::Ended => None,
     }
@@ -62,10 +63,7 @@ fn taken(nodes: &mut Nodes<Space>) -> Option<(u32, u32)> {
         range: PAGE,
         own: false,
     };
-    match part(nodes, &revoke) {
-        RevokeDone::Removed(leaf) => Some((leaf.id, leaf.pd)),
-        RevokeDone::Ended => None,
-    }
+    take(nodes, &revoke)
 }
 
 #[test]

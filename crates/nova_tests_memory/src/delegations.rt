@@ -1,8 +1,9 @@
 ghost use Rattle.std.specs.Prelude.{◌≤◌};
 ghost use Rattle.nova_delegate.specs.Parts.{IsUnderWay};
 
+use crate::parts::{PartDone, give};
 use bitflags::Flags;
-use nova_delegate::{Job, PartDone, Reason, Skip, job, part};
+use nova_delegate::{Job, Reason, Skip, job};
 use nova_nodes::Nodes;
 use nova_range::{Kind, Range, Rights};
 use nova_revoke::Revoke;
@@ -65,7 +66,7 @@ fn nodes(rt: &impl Abort, alloc: Global) -> Nodes<Space>
     };
     nodes.root(GIVER, range, Rights::from_bits_retain(3), 0);
     let mut item = item(rt, (3, 0, 1), (8, 0, 1));
-    part(&mut nodes, &mut item, &[revoke_of(STRANGER)]).expect(rt, "ample memory");
+    give(rt, &mut nodes, &mut item, &[revoke_of(STRANGER)]);
     nodes
 }
 
@@ -94,11 +95,8 @@ fn a_part_is_made_or_skipped_for_the_first_reason(rt: HostRuntime) {
     for &(sent, window, wanted) in &PARTS {
         let mut nodes = nodes(&rt, rt.alloc());
         let mut item = item(&rt, sent, window);
-        let first = part(&mut nodes, &mut item, &[revoke_of(STRANGER)]).expect(&rt, "ample memory");
-        let second = part(&mut nodes, &mut item, &[revoke_of(STRANGER)]).expect(
-            &rt,
-            "ample memory",
-        );
+        let first = give(&rt, &mut nodes, &mut item, &[revoke_of(STRANGER)]);
+        let second = give(&rt, &mut nodes, &mut item, &[revoke_of(STRANGER)]);
         assert!(rt;
             [told(first), told(second)] == [wanted, ("ended", 0)],
             "{sent:?}"
@@ -112,7 +110,7 @@ fn a_revoke_forbids_a_child(rt: HostRuntime) {
         let mut nodes = nodes(&rt, rt.alloc());
         let mut item = item(&rt, (0, 2, 1), (16, 2, 7));
         let revokes = [revoke_of(STRANGER), revoke_of(revoker)];
-        let done = part(&mut nodes, &mut item, &revokes).expect(&rt, "ample memory");
+        let done = give(&rt, &mut nodes, &mut item, &revokes);
         assert!(rt; told(done) == ("busy", 0), "{revoker}");
     }
 }
@@ -121,7 +119,7 @@ fn a_revoke_forbids_a_child(rt: HostRuntime) {
 fn a_child_lies_where_the_window_says(rt: HostRuntime) {
     let mut nodes = nodes(&rt, rt.alloc());
     let mut item = item(&rt, (0, 2, 1), (16, 2, 7));
-    part(&mut nodes, &mut item, &[revoke_of(STRANGER)]).expect(&rt, "ample memory");
+    give(&rt, &mut nodes, &mut item, &[revoke_of(STRANGER)]);
     let child = nodes.get(2).expect(&rt, "the child");
     let place = (child.pd, child.base, child.order);
     let way = (child.parent, child.rights.bits(), child.target);

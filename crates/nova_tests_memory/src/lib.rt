@@ -13,7 +13,11 @@ mod guests;
 #[cfg(test)]
 mod machine_memory;
 #[cfg(test)]
+mod nested;
+#[cfg(test)]
 mod object_tables;
+#[cfg(test)]
+mod parts;
 #[cfg(test)]
 mod ranges;
 #[cfg(test)]

@@ -2,10 +2,11 @@ ghost use Rattle.std.specs.Prelude.{◌≡◌};
 ghost use Rattle.nova_range.specs.declared.range.Range.{Range};
 ghost use Rattle.nova_range.specs.declared.range.Kind.TheVariants.{Mem};
 
+use crate::parts::take;
 use crate::translations::give;
 use nova_nodes::Nodes;
 use nova_range::{Kind, Range, Rights};
-use nova_revoke::{Revoke, RevokeDone, in_scope, part, would_grow};
+use nova_revoke::{Revoke, in_scope, would_grow};
 use nova_space::Space;
 use std::alloc::Global;
 use std::process::Abort;
@@ -43,14 +44,6 @@ fn of_page(pd: u32, own: bool) -> Revoke {
     }
 }
 
-/// What a part took, as a test compares it: id and domain, or nothing.
-fn told(done: RevokeDone) -> Option<(u32, u32)> {
-    match done {
-        RevokeDone::Removed(d) => Some((d.id, d.pd)),
-        RevokeDone::Ended => None,
-    }
-}
-
 /// Whose part it is, and what it takes.
 static NESTED: [(u32, Option<(u32, u32)>); 5] = [
     (1, Some((3, 3))),
@@ -64,8 +57,8 @@ static NESTED: [(u32, Option<(u32, u32)>); 5] = [
 fn nested_revokes_take_leaf_by_leaf(rt: HostRuntime) {
     let mut nodes = nodes(&rt, rt.alloc());
     for &(pd, wanted) in &NESTED {
-        let done = part(&mut nodes, &of_page(pd, false));
-        assert!(rt; told(done) == wanted, "{pd}");
+        let taken = take(&mut nodes, &of_page(pd, false));
+        assert!(rt; taken == wanted, "{pd}");
     }
     assert!(rt; nodes.get(0).is_some() && nodes.get(4).is_some());
 }
@@ -76,8 +69,8 @@ static WITH_OWN: [Option<(u32, u32)>; 4] = [Some((3, 3)), Some((2, 2)), Some((1,
 fn own_derivations_go_where_the_revoke_says_so(rt: HostRuntime) {
     let mut nodes = nodes(&rt, rt.alloc());
     for &wanted in &WITH_OWN {
-        let done = part(&mut nodes, &of_page(1, true));
-        assert!(rt; told(done) == wanted);
+        let taken = take(&mut nodes, &of_page(1, true));
+        assert!(rt; taken == wanted);
     }
     assert!(rt; nodes.get(0).is_some());
 }
@@ -90,11 +83,11 @@ fn nothing_goes_where_nothing_is_held(rt: HostRuntime) {
         range: pages(8, 3),
         own: true,
     };
-    let done = [
-        told(part(&mut nodes, &revoke)),
-        told(part(&mut nodes, &of_page(5, true))),
+    let taken = [
+        take(&mut nodes, &revoke),
+        take(&mut nodes, &of_page(5, true)),
     ];
-    assert!(rt; done == [None, None]);
+    assert!(rt; taken == [None, None]);
 }
 
 /// Ids, and whether they are in the scope of domain 0's revoke of page 0.

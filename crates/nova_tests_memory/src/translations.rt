@@ -1,8 +1,9 @@
 ghost use Rattle.std.specs.Prelude.{◌≤◌, ◌<◌, ◌+◌, ◌^◌, ◌-◌};
 
 use crate::delegations::{STRANGER, revoke_of};
+use crate::parts;
 use bitflags::Flags;
-use nova_delegate::{job, part, translate};
+use nova_delegate::{job, translate};
 use nova_nodes::Nodes;
 use nova_range::{Kind, Range, Rights};
 use nova_space::Space;
@@ -16,7 +17,7 @@ pub fn give(rt: &impl Abort, nodes: &mut Nodes<Space>, from: u32, to: u32, sent:
 {
     match job(sent, 0, window, from, to) {
         Ok(mut item) => {
-            part(nodes, &mut item, &[revoke_of(STRANGER)]).expect(rt, "ample memory");
+            parts::give(rt, nodes, &mut item, &[revoke_of(STRANGER)]);
         }
         Err(_) => panic!(rt; "{sent:08x} is skipped"),
     }

@@ -1,13 +1,13 @@
 -- What is found out of a turn by looking alone is what the definitions say of it.
 use Rattle.std.proofs.Common.{◌≡◌, ℕ, refl, ap, ap₂, sym, ◌∙◌}
-use Rattle.std.specs.Prelude.{◌&&◌, ◌==◌, Bool, false, true, Option, option_and_then}
+use Rattle.std.specs.Prelude.{◌&&◌, ◌==◌, Bool, true, Option, option_and_then}
 use Rattle.rv_model.specs.Registers.{Registers}
 use Rattle.rv_model.specs.Step.{Once, Raised, Went, environment_call, one}
 use Rattle.rv_core.specs.declared.outcome.Outcome.{Outcome}
 use Rattle.rv_core.specs.declared.outcome.Outcome.TheVariants.{Next, Raise}
-use Rattle.nova_deeds.specs.Acts.{is_executing, is_done_when_decided, outcome_of}
+use Rattle.nova_deeds.specs.Acts.{is_executing, outcome_of}
 use Rattle.nova_deeds.proofs.Steps.{executing-deed}
-use Rattle.nova_preview.specs.Ahead.{GivesRange, foreign_at, space_for, write_by}
+use Rattle.nova_preview.specs.Ahead.{foreign_at, space_for, write_by}
 use Rattle.nova_preview.proofs.Stored.{foreign_told}
 use Rattle.nova_turn.specs.Parts.{state_of}
 use Rattle.nova_turn.specs.declared.parts.Parts.{Parts}
@@ -20,13 +20,8 @@ use Rattle.nova_model.specs.State.{KernelState, context, is_thread, pd_of}
 use Rattle.nova_model.specs.declared.context.State.TheVariants.{Revoking}
 use Rattle.nova_range.specs.declared.range.Range.{Range}
 use Rattle.nova_model.specs.declared.deed.Deed.{Deed}
-use Rattle.nova_model.specs.declared.deed.Deed.TheVariants.{Gives, Steps}
+use Rattle.nova_model.specs.declared.deed.Deed.TheVariants.{Steps}
 use Rattle.nova_guest.specs.declared.input.Input.{Input}
-
--- a deed that is still to be done makes no child
-pub asked_range : (d : Deed) → is_done_when_decided d ≡ false → GivesRange d
-asked_range (Gives child cursor) later = absurd (cc)
-asked_range other later = tt
 
 -- one that revokes takes the next leaf
 pub revoking_deed : (k : KernelState) (ec : ℕ) (range : Range) (own : Bool) → (context k ec).state ≡ Revoking range own →

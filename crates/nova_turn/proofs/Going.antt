@@ -1,6 +1,6 @@
 -- An instruction that goes on, from its outcome.
 use Rattle.std.proofs.Common.{◌≡◌, ℕ, refl, ap, sym, subst, ◌∙◌}
-use Rattle.std.specs.Prelude.{◌&&◌, ◌==◌, true, false, Option, Some, None, IsSome}
+use Rattle.std.specs.Prelude.{◌&&◌, ◌==◌, true, Option, Some, None, IsSome}
 use Rattle.nova_model.specs.Deeds.{deed, done, instruction, signalled}
 use Rattle.nova_model.specs.Edges.{acts}
 use Rattle.nova_model.specs.State.{KernelState, context, context_at, is_thread}
@@ -9,7 +9,7 @@ use Rattle.nova_model.specs.declared.deed.Deed.TheVariants.{Steps}
 use Rattle.rv_core.specs.declared.outcome.Outcome.TheVariants.{Next}
 use Rattle.rv_model.specs.Step.{environment_call}
 use Rattle.nova_choice.specs.Schedules.{AreQueued}
-use Rattle.nova_deeds.specs.Acts.{begun, is_executing, is_done_when_decided, is_step, outcome_of}
+use Rattle.nova_deeds.specs.Acts.{is_executing, outcome_of}
 use Rattle.nova_deeds.specs.Counted.{IsCounted, KeepsCounts}
 use Rattle.nova_deeds.specs.Stirs.{written_frame}
 use Rattle.nova_deeds.proofs.Keeps.{done-keeps}
@@ -23,7 +23,7 @@ use Rattle.nova_turn.specs.declared.act.turn.Progress.TheVariants.{Stayed}
 use Rattle.nova_turn.specs.declared.decide.deciding.Raised.{Raised}
 use Rattle.nova_turn.specs.declared.parts.Parts.{Parts}
 use Rattle.nova_turn.proofs.Foreseen.{goes_on, raises}
-use Rattle.nova_turn.proofs.Ongoing.{IsDecided, over_runs}
+use Rattle.nova_turn.proofs.Ongoing.{IsDecided, stepped_runs}
 
 -- it is the deed
 pub goes_deed : (k : KernelState) (ec : ℕ) → is_executing (context k ec) ≡ true → Next ≡ outcome_of (instruction k ec) → Steps ≡ deed k ec
@@ -43,25 +43,13 @@ went_on p q ec decided counted acting queued running does wrote same still = rec
   kept = subst (λ (s : KernelState). KeepsCounts (state_of p) s) (sym does) (done-keeps (state_of p) ec Steps tt);
   wrote = wrote;
   queued = goes_queued (state_of p) (state_of q) p.queues.all q.queues.all ec counted decided.there acting queued does (ap (λ (x : QueuesState). x.all) same);
-  running = over_runs p q ec Steps decided running tt counted.tables refl does still;
+  running = stepped_runs p q ec decided running counted.tables does still;
 }
 
--- what a raise leads to is the deed, and is still to be done
+-- what a raise leads to is the deed
 pub raised_deed : (k : KernelState) (ec : ℕ) (r : Raised) (d : Deed) → HasRaised k ec (Some r) →
     d ≡ signalled k ec r.reason r.q0 r.q1 ((r.reason == environment_call) && is_thread k ec) → d ≡ deed k ec
 raised_deed k ec r d raised signals = signals ∙ raises k ec r.reason r.q0 r.q1 (instruction k ec) raised.1 ∙ sym (executing-deed k ec raised.0)
-
-pub raised_begun : (k : KernelState) (ec : ℕ) (d : Deed) → is_done_when_decided d ≡ false → k ≡ begun k ec d
-raised_begun k ec d later = rw later refl
-
--- what is still to be done is no instruction that went on, nor is what never was one
-pub later_no_step : (d : Deed) → is_done_when_decided d ≡ false → is_step d ≡ false
-later_no_step Steps later = absurd cc
-later_no_step other later = refl
-
-pub never_step : (d : Deed) → (d ≡ Steps → true ≡ false) → is_step d ≡ false
-never_step Steps never = let so : true ≡ false = never refl in absurd cc
-never_step other never = refl
 
 -- who stayed with one raise stayed with no other
 pub stayed_with : (r s : Option Raised) → Stayed r ≡ Stayed s → r ≡ s

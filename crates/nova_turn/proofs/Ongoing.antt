@@ -1,6 +1,6 @@
--- The list of the revokes that run stays that of the state, along deeds and charges; and what it says of the next part of an item.
+-- The list of the revokes that run stays that of the state, along deeds and charges.
 use Rattle.std.proofs.Common.{◌≡◌, ℕ, ◌<◌, ◌≤◌, List, [], ◌∷◌, ap, ap₂, sym, ◌∙◌, subst, refl, arith}
-use Rattle.std.specs.Prelude.{Bool, true, false, length, slice_get, IsSome, Option, Some, None, Result, Ok, Err, OnOk}
+use Rattle.std.specs.Prelude.{Bool, true, false, length, slice_get, IsSome, Option, Some, None}
 use Rattle.std.proofs.lemmas.Bool.{eq-eqb}
 use Rattle.std.proofs.lemmas.List.{length-append}
 use Rattle.rv_model.specs.Step.{Once, Raised, Went}
@@ -9,12 +9,9 @@ use Rattle.nova_objects.specs.declared.object.Object.TheVariants.{Pd}
 use Rattle.nova_range.specs.declared.range.Range.{Range}
 use Rattle.nova_model.specs.Creation.{object_of}
 use Rattle.nova_model.specs.Deeds.{brought, actor_after, deed, done, followed, instruction, recalled, replied_to, stepped, told, with_context, woken_in}
-use Rattle.nova_model.specs.Delegations.{Delegations}
-use Rattle.nova_model.specs.Memory.{Memory}
 use Rattle.nova_model.specs.Running.{Running, revoke_of, running}
 use Rattle.nova_model.specs.Semaphores.{upped}
 use Rattle.nova_model.specs.State.{KernelState, budget_at, context, context_at, pd_of}
-use Rattle.nova_model.specs.Transfers.{Part, given, next_part}
 use Rattle.nova_model.specs.Turn.{charged, counted, paid_by, quantum_in}
 use Rattle.nova_model.specs.declared.budget.Budget.{Budget}
 use Rattle.nova_model.specs.declared.context.EcState.{EcState}
@@ -23,26 +20,21 @@ use Rattle.nova_model.specs.declared.context.Mark.TheVariants as mark
 use Rattle.nova_model.specs.declared.context.State.TheVariants.{Revoking}
 use Rattle.nova_model.specs.declared.deed.Deed.{Deed}
 use Rattle.nova_model.specs.declared.deed.Deed.TheVariants.{Rests, Steps, Makes, Recalls, Opens, Finishes, Replies, Revokes, Returns, Ups}
-use Rattle.nova_model.specs.declared.delegation.Derivation.{Derivation}
 use Rattle.nova_model.specs.declared.transfer.ItemWords.{ItemWords}
-use Rattle.nova_model.specs.declared.transfer.Job.{Job}
 use Rattle.nova_model.specs.declared.transfer.Sequel.{Sequel}
 use Rattle.nova_model.specs.declared.transfer.Sequel.TheVariants as sequel
 use Rattle.law_turns.specs.Revoking.{AsksRevoke, revoke_after, running_after}
 use Rattle.law_forest.proofs.Running.{revokes_there, revoking_there}
-use Rattle.nova_revoke.specs.Done.{done_of}
-use Rattle.nova_revoke.specs.declared.leaves.RevokeDone.TheVariants.{Removed, Ended}
-use Rattle.nova_deeds.specs.Acts.{DeedFits, begun, is_done_when_decided, part_now, with_part}
+use Rattle.nova_deeds.specs.Acts.{DeedFits}
 use Rattle.nova_deeds.specs.Counted.{AreTables}
 use Rattle.nova_turn.specs.Parts.{HasRoomFor, state_of}
 use Rattle.nova_turn.specs.Revoking.{AreRunning, BeginsWithin, revokes_after}
-use Rattle.nova_revoke.specs.Runners.{RevokesState, busy_under, revoke_in}
+use Rattle.nova_revoke.specs.Runners.{RevokesState, revoke_in}
 use Rattle.nova_deeds.specs.Stirs.{risen_in}
 use Rattle.nova_turn.specs.declared.parts.Parts.{Parts}
 use Rattle.nova_ec.proofs.Changes.{there_at}
 use Rattle.nova_ec.proofs.Tables.{there_below}
 use Rattle.nova_deeds.proofs.Keeps.{done-keeps}
-use Rattle.nova_deeds.proofs.Steps.{begun-over}
 use Rattle.nova_revoke.proofs.Runners.{runs_begun, runs_ended, runs_fewer, runs_found}
 
 -- WHO RUNS ONE
@@ -57,15 +49,6 @@ revoke_found k r ec range own are is =
     let runs = revokes_there k ec range own is in
     let within = revoking_there k ec (record { pd = pd_of k ec; range = range; own = own }) runs in
     ap (revoke_in ec) are.list ∙ runs_found (revoke_of k) 0 (length k.contexts) ec (omega arith) (omega (arith, within.below)) ∙ runs
-
--- a part of it took this leaf, or none was left
-pub leaf_removed : (o : Option Derivation) (leaf : Derivation) → Removed leaf ≡ done_of o → o ≡ Some leaf
-leaf_removed None leaf is = absurd (cc)
-leaf_removed (Some d) leaf is = cc
-
-pub none_removed : (o : Option Derivation) → Ended ≡ done_of o → o ≡ None
-none_removed None is = refl
-none_removed (Some d) is = absurd (cc)
 
 -- AFTER A DEED
 
@@ -166,24 +149,12 @@ places_within k ec domain d p fits tables places same room =
     let few : length k.objects ≤ p.revokes.places = rw (sym tables.contexts) places in
     rw new.contexts (objects_within k ec d 0 domain p few (ap (λ (s : KernelState). s.objects) same) room)
 
--- what is over when it is decided begins no revoke, ends none, and makes no object
-pub over_room : (domain : ℕ) (d : Deed) (p : Parts) → is_done_when_decided d ≡ true → HasRoomFor domain d p
-over_room domain (Makes call target new) p over = absurd (cc)
-over_room domain (Opens target number) p over = absurd (cc)
-over_room domain other p over = tt
-
-pub over_leaves : (pd ec : ℕ) (d : Deed) (list : List Running) → is_done_when_decided d ≡ true → list ≡ revokes_after pd ec d list
-over_leaves pd ec (Revokes range own) list over = absurd (cc)
-over_leaves pd ec Returns list over = absurd (cc)
-over_leaves pd ec other list over = refl
-
--- after a deed that is over when it is decided, and after one that is done in the room that was made
-pub over_runs : (p q : Parts) (ec : ℕ) (d : Deed) → IsDecided (state_of p) ec d → AreRunning (state_of p) p.revokes → DeedFits (state_of p) ec d → AreTables (state_of p) →
-    is_done_when_decided d ≡ true → state_of q ≡ begun (state_of p) ec d → q.revokes ≡ p.revokes → AreRunning (state_of q) q.revokes
-over_runs p q ec d decided are fits tables over begins same =
-    still_running (state_of p) (state_of q) ec d p.revokes q.revokes decided are (begun-over (state_of p) (state_of q) ec d over begins)
-    (ap (λ (r : RevokesState). r.list) same ∙ over_leaves (pd_of (state_of p) ec) ec d p.revokes.list over)
-    (rw same (places_within (state_of p) ec 0 d p fits tables are.places refl (over_room 0 d p over)))
+-- after an instruction that went on, and after a deed that is done in the room that was made
+pub stepped_runs : (p q : Parts) (ec : ℕ) → IsDecided (state_of p) ec Steps → AreRunning (state_of p) p.revokes → AreTables (state_of p) →
+    state_of q ≡ done (state_of p) ec Steps → q.revokes ≡ p.revokes → AreRunning (state_of q) q.revokes
+stepped_runs p q ec decided are tables does same =
+    still_running (state_of p) (state_of q) ec Steps p.revokes q.revokes decided are does (ap (λ (r : RevokesState). r.list) same)
+    (rw same (places_within (state_of p) ec 0 Steps p tt tables are.places refl tt))
 
 pub done_runs : (p mid q : Parts) (ec domain : ℕ) (d : Deed) → IsDecided (state_of p) ec d → AreRunning (state_of p) p.revokes → DeedFits (state_of p) ec d → AreTables (state_of p) →
     state_of mid ≡ state_of p → mid.revokes.list ≡ p.revokes.list → p.revokes.places ≤ mid.revokes.places → HasRoomFor domain d mid → state_of q ≡ done (state_of p) ec d →
@@ -212,16 +183,3 @@ pub settled_runs : (k mid new : KernelState) (rises : ℕ → Bool) (cpu sc : �
 settled_runs k mid new rises cpu sc r noted after are risen same paid still =
     subst (λ (s : KernelState). AreRunning s after) (sym (paid ∙ ap (λ (s : KernelState). charged s cpu sc) risen))
     (subst (AreRunning (charged (risen_in k rises) cpu sc)) (sym (still ∙ same)) (charged_runs (risen_in k rises) cpu sc r (risen_runs k rises r are)))
-
--- PARTS OF ITEMS
-
--- with the revokes of the state
-pub part_of_now : (k : KernelState) (j : Job) (r : RevokesState) → AreRunning k r → next_part (busy_under r.list k.delegations.list) k.delegations j ≡ part_now k j
-part_of_now k j r are = ap (λ (runs : List Running). next_part (busy_under runs k.delegations.list) k.delegations j) are.list
-
--- the state with what a part leaves
-pub given_now : {T E : Type 0} (r : Result T E) (k : KernelState) (d : Delegations) (m : Memory) (words : List (Option (List ℕ))) (consoles : ℕ) (p : Option Part) →
-    OnOk r (d ≡ given k.delegations p) → m ≡ k.memory → words ≡ k.messages → consoles ≡ k.consoles →
-    OnOk r (record k { delegations = d; memory = m; messages = words; consoles = consoles } ≡ with_part k p)
-given_now (Ok x) k d m words consoles p is memory messages log = rw (is, memory, messages, log) refl
-given_now (Err e) k d m words consoles p is memory messages log = is

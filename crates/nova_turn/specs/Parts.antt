@@ -2,7 +2,7 @@
 use Rattle.std.specs.Prelude.{ℕ, ◌<◌, length, vec_len, vec_capacity}
 use Rattle.nova_model.specs.State.{KernelState}
 use Rattle.nova_model.specs.declared.deed.Deed.{Deed}
-use Rattle.nova_model.specs.declared.deed.Deed.TheVariants.{Makes, Opens}
+use Rattle.nova_model.specs.declared.deed.Deed.TheVariants.{Makes, Opens, Gives}
 use Rattle.nova_nodes.specs.NodesStates.{room}
 use Rattle.nova_choice.specs.Schedules.{HasQueue, budgets_of}
 use Rattle.nova_turn.specs.declared.parts.Parts.{Parts}
@@ -41,8 +41,9 @@ pub record HasRoom (pd : ℕ) (p : Parts) : Type 0 where
   pub guests : 0 < p.guests.spare
   pub revokes : length p.objects.items < p.revokes.places
 
--- a deed that makes an object wants it
+-- a deed that makes an object wants it; one that gives a child wants room for a derivation of who receives it
 abbrev pub HasRoomFor : ℕ → Deed → Parts → Type 0
 HasRoomFor pd (Makes call target new) p = HasRoom pd p × HasQueue new (length p.objects.items) p.queues
 HasRoomFor pd (Opens target domain) p = HasRoom pd p
+HasRoomFor pd (Gives child cursor) p = 0 < room p.reach.nodes child.pd
 HasRoomFor pd other p = Unit {0}

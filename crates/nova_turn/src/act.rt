@@ -9,7 +9,6 @@ mod exits;
 mod instructions;
 mod items;
 mod queues;
-mod revoking;
 pub mod seers;
 mod semaphores;
 mod stirs;

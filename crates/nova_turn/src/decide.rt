@@ -1,4 +1,4 @@
-//! What an execution context does next. A part of an item or of a revoke is done while it is decided, and nothing else is.
+//! What an execution context does next, which is decided and not done; and what that is for a virtual CPU.
 
 mod calls;
 pub(crate) mod capabilities;

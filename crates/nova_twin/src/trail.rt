@@ -47,15 +47,16 @@ fn view_of(alloc: Global, kernel: &Kernel, guest: u32) -> Result<Option<Guest>, 
     Ok(Some(kernel.view(alloc, guest)?))
 }
 
-/// What a processor's next turn is for the virtual CPU of a number; nothing where there is none.
+/// What a processor's next turn is for the virtual CPU of a number; nothing where there is none. The kernel's state stays as it was.
 pub(crate) fn input_of(
     alloc: Global,
-    kernel: &Kernel,
+    kernel: &mut Kernel,
     cpu: u32,
     guest: u32,
 ) -> Result<Option<Input>, AllocError>
-    requires { cpu < kernel.now.state.cpus }
-    ensures { IfOk result (λ i. i ≡ met kernel.now.state cpu guest) }
+    requires { cpu < kernel.old.state.cpus }
+    ensures input { IfOk result (λ i. i ≡ met kernel.old.state cpu guest) }
+    ensures kept { kernel.new ≡ kernel.old }
 {
     if !is_virtual(kernel, guest) {
         return Ok(None);

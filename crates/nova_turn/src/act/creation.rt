@@ -92,8 +92,8 @@ impl Parts {
         Ok(())
     }
 
-    /// Makes room for what a deed of an execution context makes, whose protection domain is given: for a protection domain a space
-    /// of its own too, and for a scheduling context a place in the queue of its processor.
+    /// Makes room for what a deed of an execution context makes, whose protection domain is given: for a child, and for an object and
+    /// its capability; for a protection domain a space of its own too, and for a scheduling context a place in the queue of its processor.
     pub(crate) fn make_room(&mut self, domain: u32, deed: Deed) -> Result<(), AllocError>
         requires objects { length (state_of self.old).objects < 2 ^ 32 }
         requires numbers { length (state_of self.old).semaphores < 2 ^ 32 - 1 }
@@ -124,6 +124,7 @@ impl Parts {
                 self.queues.reserve(self.objects.len() as u32, cpu)
             }
             Deed::Makes { .. } => self.reserve(domain),
+            Deed::Gives { child, .. } => self.reach.reserve(child.pd),
             _ => Ok(()),
         }
     }

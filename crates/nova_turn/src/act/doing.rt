@@ -1,9 +1,9 @@
-ghost use Rattle.std.specs.Prelude.{◌≡◌, ◌<◌, ◌≤◌, length, true, false, IsSome};
+ghost use Rattle.std.specs.Prelude.{◌≡◌, ◌^◌, ◌<◌, ◌≤◌, length, true, IsSome};
 ghost use Rattle.nova_model.specs.Deeds.{done, performed, recalled};
 ghost use Rattle.nova_model.specs.Edges.{acts};
 ghost use Rattle.nova_model.specs.State.{context_at, pd_of};
 ghost use Rattle.nova_choice.specs.Schedules.{schedule_after};
-ghost use Rattle.nova_deeds.specs.Acts.{DeedFits, TakesFree, changes_actor_only, is_done_when_decided};
+ghost use Rattle.nova_deeds.specs.Acts.{DeedFits, IsToBeDone, TakesFree, changes_actor_only};
 ghost use Rattle.nova_deeds.specs.Counted.{IsCounted};
 ghost use Rattle.nova_turn.specs.Going.{KeepsRest};
 ghost use Rattle.nova_turn.specs.Parts.{state_of, HasRoomFor};
@@ -64,13 +64,13 @@ impl Parts {
         }
     }
 
-    /// The execution context does a deed that is not over, in the room that was made.
+    /// The execution context does its deed, in the room that was made. An instruction isn't done here.
     pub(crate) fn perform(&mut self, ec: u32, deed: Deed)
         requires there { IsSome (context_at (state_of self.old) ec) }
         requires acts { acts (state_of self.old).contexts ec ≡ true }
         requires counted { IsCounted (state_of self.old) }
-        requires fits { DeedFits (state_of self.old) ec deed }
-        requires left { is_done_when_decided deed ≡ false }
+        requires turns { self.old.turns < 2 ^ 31 }
+        requires fits { IsToBeDone (state_of self.old) ec deed }
         requires free { TakesFree (state_of self.old) (pd_of (state_of self.old) ec) deed }
         requires room { HasRoomFor (pd_of (state_of self.old) ec) deed self.old }
         requires few { length self.old.queues.all.entries ≤ length self.old.objects.items }
@@ -82,6 +82,10 @@ impl Parts {
         ensures log { self.new.reach.room ≡ self.old.reach.room }
     {
         match deed {
+            Deed::Rests => {}
+            Deed::Gives { child, cursor } => self.give(ec, &child, cursor),
+            Deed::Skips { cursor, .. } => self.skip(ec, cursor),
+            Deed::Removes { leaf } => self.reach.remove_leaf(leaf.id),
             Deed::Calls {
                 handler,
                 ip,

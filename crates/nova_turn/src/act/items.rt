@@ -1,18 +1,56 @@
-ghost use Rattle.std.specs.Prelude.{◌≡◌, ◌<◌, IsSome};
-ghost use Rattle.nova_model.specs.Deeds.{after_item, done, followed, told, with_context};
-ghost use Rattle.nova_model.specs.State.{context_at, context};
+ghost use Rattle.std.specs.Prelude.{◌≡◌, ◌^◌, ◌<◌, length, IsSome};
+ghost use Rattle.nova_delegate.specs.Parts.{IsReady};
+ghost use Rattle.nova_model.specs.Deeds.{after_item, done, followed, skipped, told, with_context, with_transfer};
+ghost use Rattle.nova_model.specs.State.{context_at, context, transfer};
 ghost use Rattle.nova_model.specs.declared.transfer.ItemEnd.{ItemEnd};
 ghost use Rattle.nova_deeds.specs.Acts.{IsSequel, IsToldThere};
-ghost use Rattle.nova_deeds.specs.Counted.{AreTables};
+ghost use Rattle.nova_deeds.specs.Counted.{AreTables, IsCounted};
+ghost use Rattle.nova_nodes.specs.NodesStates.{room};
 ghost use Rattle.nova_turn.specs.Going.{KeepsRest};
 ghost use Rattle.nova_turn.specs.Parts.{state_of};
 
 use crate::parts::Parts;
 use nova_deeds::changes::transfer_after;
-use nova_model::{Deed, ItemWords, Sequel, State};
+use nova_deeds::items::gave;
+use nova_model::{Deed, Derivation, ItemWords, Sequel, State, Transfer};
 use nova_range::Status;
 
 impl Parts {
+    /// How far an execution context is with its items changes.
+    fn set_transfer(&mut self, ec: u32, transfer: Transfer)
+        requires { ec < length (state_of self.old).transfers }
+        ensures transfer { state_of self.new ≡ with_transfer (state_of self.old) ec transfer }
+        ensures rest { KeepsRest self.old self.new }
+    {
+        self.transfers[ec as usize] = Some(transfer);
+    }
+
+    /// A child is added, in the room that was made for it, and the item goes on at the cursor.
+    pub(crate) fn give(&mut self, ec: u32, child: &Derivation, cursor: u32)
+        requires there { IsSome (context_at (state_of self.old) ec) }
+        requires counted { IsCounted (state_of self.old) }
+        requires turns { self.old.turns < 2 ^ 31 }
+        requires child { IsReady (state_of self.old).delegations child.now }
+        requires room { 0 < room self.old.reach.nodes child.now.pd }
+        ensures done { state_of self.new ≡ done (state_of self.old) ec (Deed.Gives child.now cursor) }
+        ensures rest { KeepsRest self.old self.new }
+    {
+        let transfer = self.transfer(ec);
+        self.reach.add_child(child);
+        self.set_transfer(ec, gave(transfer, cursor));
+    }
+
+    /// A part is skipped, and the item goes on at the cursor.
+    pub(crate) fn skip(&mut self, ec: u32, cursor: u32)
+        requires there { IsSome (context_at (state_of self.old) ec) }
+        requires tables { AreTables (state_of self.old) }
+        ensures done { state_of self.new ≡ with_transfer (state_of self.old) ec (skipped (transfer (state_of self.old) ec) cursor) }
+        ensures rest { KeepsRest self.old self.new }
+    {
+        let transfer = self.transfer(ec);
+        self.set_transfer(ec, Transfer { cursor, ..transfer });
+    }
+
     /// The words of an item that ended are written where they are to be found.
     fn tell(&mut self, item: u32, words: Option<ItemWords>)
         requires item { item < 62 }

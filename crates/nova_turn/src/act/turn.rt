@@ -21,7 +21,6 @@ ghost use Rattle.nova_deeds.specs.Stirs.{is_stirring, risen_in};
 use crate::decide::deciding::Raised;
 use crate::parts::Parts;
 use nova_choice::{Chosen, moved_by};
-use nova_deeds::changes::is_done_when_decided;
 use nova_deeds::signs::{event, sign_of};
 use nova_model::{Deed, EventKind, Turn};
 use rv_core::outcome::Outcome;
@@ -55,12 +54,10 @@ impl Parts {
         ensures log { self.old.reach.room ≤ self.new.reach.room + 1 }
     {
         law_turns::running_revokes_are_their_runners();
-        let deed = self.decide(ec, raised)?;
-        if !is_done_when_decided(deed) {
-            let domain = self.pd(ec);
-            self.make_room(domain, deed)?;
-            self.perform(ec, deed);
-        }
+        let deed = self.decide(ec, raised);
+        let domain = self.pd(ec);
+        self.make_room(domain, deed)?;
+        self.perform(ec, deed);
         Ok(deed)
     }
 

@@ -1,18 +1,18 @@
-ghost use Rattle.std.specs.Prelude.{◌≡◌, ◌==◌, ◌&&◌, ◌+◌, ◌^◌, ◌<◌, ◌≤◌, true, false, IsSome, IfOk, OnErr};
+ghost use Rattle.std.specs.Prelude.{◌≡◌, ◌==◌, ◌&&◌, false, IsSome};
 ghost use Rattle.rv_model.specs.Step.{environment_call};
-ghost use Rattle.nova_model.specs.Deeds.{signalled, deed, is_making};
+ghost use Rattle.nova_model.specs.Deeds.{signalled, deed};
 ghost use Rattle.nova_model.specs.State.{context_at, context, is_thread};
 ghost use Rattle.nova_turn.specs.Parts.{state_of};
 ghost use Rattle.nova_deeds.specs.Counted.{IsCounted};
-ghost use Rattle.nova_deeds.specs.Acts.{DeedFits, IsToBeDone, begun, is_executing, is_step};
+ghost use Rattle.nova_deeds.specs.Acts.{IsToBeDone, is_executing};
 ghost use Rattle.nova_turn.specs.Going.{HasRaised};
 ghost use Rattle.nova_turn.specs.Revoking.{AreRunning};
 
 use crate::parts::Parts;
 use nova_deeds::changes::RECALL;
 use nova_model::{Deed, State};
+use nova_preview::leaf_deed;
 use rv_core::outcome::ENVIRONMENT_CALL;
-use std::alloc::AllocError;
 
 /// The reason of a startup exit.
 pub(crate) const STARTUP: u32 = 0;
@@ -52,27 +52,20 @@ impl Parts {
         matches!(context.state, State::Ready) && !context.recall
     }
 
-    /// The deed of an execution context of which no instruction is next. A part of an item and one of a
-    /// revoke are done at once, and nothing else is. It refuses as `decide`.
-    #[tactic(auto, using(crate::proofs::Going::later_no_step), unfolding(nova_model::specs::Deeds::deed))]
-    fn decide_in_state(&mut self, ec: u32) -> Result<Deed, AllocError>
+    /// The deed of an execution context of which no instruction is next. The next search of a revoke may be quicker; nothing else has
+    /// changed.
+    #[tactic(auto, unfolding(nova_model::specs::Deeds::deed))]
+    pub(crate) fn decide_in_state(&mut self, ec: u32) -> Deed
         requires there { IsSome (context_at (state_of self.old) ec) }
         requires counted { IsCounted (state_of self.old) }
         requires running { AreRunning (state_of self.old) self.old.revokes }
-        requires turns { self.old.turns < 2 ^ 31 }
         requires next { is_executing (context (state_of self.old) ec) ≡ false }
-        ensures deed { IfOk result (λ d. d ≡ deed (state_of self.old) ec) }
-        ensures begun { IfOk result (λ d. state_of self.new ≡ begun (state_of self.old) ec d) }
-        ensures queues { self.new.queues ≡ self.old.queues }
-        ensures revokes { self.new.revokes ≡ self.old.revokes }
-        ensures fits { IfOk result (DeedFits (state_of self.old) ec) }
-        ensures no_step { IfOk result (λ d. is_step d ≡ false) }
-        ensures log { self.new.reach.room ≡ self.old.reach.room }
-        ensures memory { OnErr result (state_of self.new ≡ state_of self.old) }
-        ensures wanted { OnErr result (is_making (deed (state_of self.old) ec) ≡ true) }
+        ensures deed { result ≡ deed (state_of self.old) ec }
+        ensures fits { IsToBeDone (state_of self.old) ec result }
+        ensures kept { self.new ≡ self.old }
     {
         let context = self.contexts.context(ec);
-        let deed = match context.state {
+        match context.state {
             State::Fresh => Deed::Raises {
                 reason: STARTUP,
                 q0: 0,
@@ -85,39 +78,30 @@ impl Parts {
             },
             State::Exiting(reason, q0, q1) => self.exit(ec, Raised { reason, q0, q1 }),
             State::Sending(reason, q0, q1, _) => self.exit(ec, Raised { reason, q0, q1 }),
-            State::Granting(_) | State::Replying => self.deliver(ec)?,
-            State::Revoking(_, _) => self.take_leaf(ec),
+            State::Granting(_) | State::Replying => self.deliver(ec),
+            State::Revoking(_, _) => leaf_deed(&mut self.reach, &self.revokes, ec),
             State::Calling(handler) => Deed::Aborts {
                 handler,
                 mark: self.mark_of(handler),
             },
             State::Helping(_) => self.hypercall(ec),
             State::Parked | State::Blocked(_) | State::Dead => Deed::Rests,
-        };
-        Ok(deed)
+        }
     }
 
-    /// The deed of an execution context of which no instruction went on: the one that is next raised this, or none is next. A part of
-    /// an item and one of a revoke are done at once, and nothing else is. Memory can run out only where a part makes a child.
-    pub(crate) fn decide(&mut self, ec: u32, raised: Option<Raised>) -> Result<Deed, AllocError>
+    /// The deed of an execution context of which no instruction went on: the one that is next raised this, or none is next. What stays is as
+    /// by `decide_in_state`.
+    pub(crate) fn decide(&mut self, ec: u32, raised: Option<Raised>) -> Deed
         requires there { IsSome (context_at (state_of self.old) ec) }
         requires counted { IsCounted (state_of self.old) }
         requires running { AreRunning (state_of self.old) self.old.revokes }
-        requires turns { self.old.turns < 2 ^ 31 }
         requires raised { HasRaised (state_of self.old) ec raised }
-        ensures deed { IfOk result (λ d. d ≡ deed (state_of self.old) ec) }
-        ensures begun { IfOk result (λ d. state_of self.new ≡ begun (state_of self.old) ec d) }
-        ensures queues { self.new.queues ≡ self.old.queues }
-        ensures revokes { self.new.revokes ≡ self.old.revokes }
-        ensures fits { IfOk result (DeedFits (state_of self.old) ec) }
-        ensures no_step { IfOk result (λ d. is_step d ≡ false) }
-        ensures log { self.old.reach.room ≤ self.new.reach.room + 1 }
-        ensures making { IfOk result (λ d. is_making d ≡ true → self.new.reach.room ≡ self.old.reach.room) }
-        ensures memory { OnErr result ((state_of self.new ≡ state_of self.old) × (self.new.reach.room ≡ self.old.reach.room)) }
-        ensures wanted { OnErr result (is_making (deed (state_of self.old) ec) ≡ true) }
+        ensures deed { result ≡ deed (state_of self.old) ec }
+        ensures fits { IsToBeDone (state_of self.old) ec result }
+        ensures kept { self.new ≡ self.old }
     {
         match raised {
-            Some(raised) => Ok(self.signal(ec, raised)),
+            Some(raised) => self.signal(ec, raised),
             None => self.decide_in_state(ec),
         }
     }

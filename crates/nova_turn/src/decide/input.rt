@@ -1,73 +1,32 @@
-ghost use Rattle.std.specs.Prelude.{◌≡◌, false, IfOk, IsSome, OnErr};
-ghost use Rattle.nova_deeds.specs.Acts.{is_executing};
-ghost use Rattle.nova_preview.specs.Ahead.{GivesRange};
+ghost use Rattle.std.specs.Prelude.{◌≡◌, IfOk, IsSome, OnErr};
+ghost use Rattle.nova_deeds.specs.Acts.{DeedFits};
 ghost use Rattle.nova_preview.specs.Given.{BringsBytes};
 ghost use Rattle.nova_turn.specs.Parts.{state_of};
 ghost use Rattle.nova_turn.specs.Revoking.{AreRunning};
 ghost use Rattle.nova_deeds.specs.Counted.{IsCounted};
 ghost use Rattle.nova_model.specs.Deeds.{deed};
 ghost use Rattle.nova_model.specs.Inputs.{input_of, others_input};
-ghost use Rattle.nova_model.specs.State.{context, context_at};
+ghost use Rattle.nova_model.specs.State.{context_at};
 
-use crate::decide::deciding::{Raised, STARTUP};
+use crate::decide::deciding::Raised;
 use crate::parts::Parts;
-use nova_deeds::changes::RECALL;
 use nova_deeds::inputs::is_memory_of;
 use nova_guest::Input;
-use nova_model::{Deed, Derivation, Mark, Sequel, State};
-use nova_preview::{
-    foreign, given_if, input_if, leaf_deed, next_deed, next_instruction, own_input, reply_if,
-};
+use nova_model::{Deed, Derivation, Mark, Sequel};
+use nova_preview::{foreign, given_if, input_if, next_instruction, own_input, reply_if};
 use rv_core::outcome::Outcome;
 use std::alloc::{AllocError, Global};
 
 impl Parts {
-    /// The deed of an execution context of which no instruction is next, by looking alone.
-    #[tactic(auto, unfolding(nova_model::specs::Deeds::deed))]
-    fn foresee_in_state(&self, ec: u32) -> Deed
-        requires there { IsSome (context_at (state_of self.now) ec) }
-        requires counted { IsCounted (state_of self.now) }
-        requires running { AreRunning (state_of self.now) self.now.revokes }
-        requires next { is_executing (context (state_of self.now) ec) ≡ false }
-        ensures deed { result ≡ deed (state_of self.now) ec }
-        ensures order { GivesRange result }
-    {
-        let context = self.contexts.context(ec);
-        match context.state {
-            State::Fresh => Deed::Raises {
-                reason: STARTUP,
-                q0: 0,
-                q1: 0,
-            },
-            State::Ready => Deed::Raises {
-                reason: RECALL,
-                q0: 0,
-                q1: 0,
-            },
-            State::Exiting(reason, q0, q1) => self.exit(ec, Raised { reason, q0, q1 }),
-            State::Sending(reason, q0, q1, _) => self.exit(ec, Raised { reason, q0, q1 }),
-            State::Granting(_) | State::Replying => {
-                let transfer = self.transfer(ec);
-                let delivery = self.delivery(ec, transfer.item);
-                next_deed(&self.reach, self.revokes.as_slice(), transfer, delivery)
-            }
-            State::Revoking(_, _) => leaf_deed(&self.reach, &self.revokes, ec),
-            State::Calling(handler) => Deed::Aborts {
-                handler,
-                mark: self.mark_of(handler),
-            },
-            State::Helping(_) => self.hypercall(ec),
-            State::Parked | State::Blocked(_) | State::Dead => Deed::Rests,
-        }
-    }
-
-    /// The deed of an execution context, by looking alone.
-    fn foresee(&self, ec: u32) -> Deed
-        requires there { IsSome (context_at (state_of self.now) ec) }
-        requires counted { IsCounted (state_of self.now) }
-        requires running { AreRunning (state_of self.now) self.now.revokes }
-        ensures deed { result ≡ deed (state_of self.now) ec }
-        ensures order { GivesRange result }
+    /// The deed of an execution context, which is decided and not done; an instruction is only looked at. What stays is as by
+    /// `decide_in_state`.
+    fn foresee(&mut self, ec: u32) -> Deed
+        requires there { IsSome (context_at (state_of self.old) ec) }
+        requires counted { IsCounted (state_of self.old) }
+        requires running { AreRunning (state_of self.old) self.old.revokes }
+        ensures deed { result ≡ deed (state_of self.old) ec }
+        ensures fits { DeedFits (state_of self.old) ec result }
+        ensures kept { self.new ≡ self.old }
     {
         if self.is_executing(ec) {
             let regs = &self.contexts.context(ec).regs;
@@ -77,7 +36,7 @@ impl Parts {
                 Outcome::Raise { reason, q0, q1 } => self.signal(ec, Raised { reason, q0, q1 }),
             };
         }
-        self.foresee_in_state(ec)
+        self.decide_in_state(ec)
     }
 
     /// What a deed of another execution context is for a virtual CPU. Memory can run out only where it
@@ -90,7 +49,7 @@ impl Parts {
         deed: Deed,
     ) -> Result<Option<Input>, AllocError>
         requires there { IsSome (context_at (state_of self.now) ec) }
-        requires order { GivesRange deed }
+        requires fits { DeedFits (state_of self.now) ec deed }
         ensures input { IfOk result (λ i. i ≡ others_input (state_of self.now) ec guest deed) }
         ensures memory { OnErr result (BringsBytes (others_input (state_of self.now) ec guest deed)) }
     {
@@ -127,15 +86,21 @@ impl Parts {
         Ok(input)
     }
 
-    /// What the deed of an execution context, which is only looked at, is for a virtual CPU. Memory can run
-    /// out only where it gives the virtual CPU's domain memory with bytes.
+    /// What the deed of an execution context, which isn't done, is for a virtual CPU. Memory can run out only where it gives the virtual
+    /// CPU's domain memory with bytes. What stays is as by `decide_in_state`.
     #[tactic(auto, unfolding(nova_model::specs::Inputs::input_of))]
-    pub fn input_of(&self, alloc: Global, ec: u32, guest: u32) -> Result<Option<Input>, AllocError>
-        requires there { IsSome (context_at (state_of self.now) ec) }
-        requires counted { IsCounted (state_of self.now) }
-        requires running { AreRunning (state_of self.now) self.now.revokes }
-        ensures input { IfOk result (λ i. i ≡ input_of (state_of self.now) ec guest (deed (state_of self.now) ec)) }
-        ensures memory { OnErr result (BringsBytes (input_of (state_of self.now) ec guest (deed (state_of self.now) ec))) }
+    pub fn input_of(
+        &mut self,
+        alloc: Global,
+        ec: u32,
+        guest: u32,
+    ) -> Result<Option<Input>, AllocError>
+        requires there { IsSome (context_at (state_of self.old) ec) }
+        requires counted { IsCounted (state_of self.old) }
+        requires running { AreRunning (state_of self.old) self.old.revokes }
+        ensures input { IfOk result (λ i. i ≡ input_of (state_of self.old) ec guest (deed (state_of self.old) ec)) }
+        ensures memory { OnErr result (BringsBytes (input_of (state_of self.old) ec guest (deed (state_of self.old) ec))) }
+        ensures kept { self.new ≡ self.old }
     {
         let deed = self.foresee(ec);
         if ec == guest {

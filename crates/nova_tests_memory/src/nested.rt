@@ -1,10 +1,11 @@
 // Two callers revoke at a time, one within what the other takes away, while a third domain gives on.
 ghost use Rattle.std.specs.Prelude.{◌≤◌, ◌^◌, ◌<◌};
 
-use nova_delegate::{PartDone, Reason, job, part as give};
+use crate::parts::{PartDone, give, take};
+use nova_delegate::{Reason, job};
 use nova_nodes::Nodes;
 use nova_range::{Kind, Range, Rights};
-use nova_revoke::{Revoke, RevokeDone, part};
+use nova_revoke::Revoke;
 use nova_space::Space;
 use std::alloc::Global;
 use std::process::Abort;
@@ -30,14 +31,6 @@ fn of_page(pd: u32) -> Revoke {
     }
 }
 
-/// What a part took, as a test compares it: id and domain, or nothing.
-fn told(done: RevokeDone) -> Option<(u32, u32)> {
-    match done {
-        RevokeDone::Removed(leaf) => Some((leaf.id, leaf.pd)),
-        RevokeDone::Ended => None,
-    }
-}
-
 /// Gives page 0 of a domain on to the next one, as far as its window goes, while these revokes run.
 fn give_on(
     rt: &impl Abort,
@@ -50,7 +43,7 @@ fn give_on(
     let Ok(mut item) = job(PAGE, 0, window, pd, pd + 1) else {
         panic!(rt; "the item is skipped");
     };
-    give(nodes, &mut item, revokes).expect(rt, "ample memory")
+    give(rt, nodes, &mut item, revokes)
 }
 
 /// Page 0 goes from domain 0 to domain 1, to domain 2 and to domain 3, each time as the derivation of
@@ -68,10 +61,10 @@ fn nodes(rt: &impl Abort, alloc: Global) -> Nodes<Space> {
 /// The parts that follow: domains 0, 1, 0 and 0 revoke.
 fn parts(nodes: &mut Nodes<Space>) -> [Option<(u32, u32)>; 4] {
     [
-        told(part(nodes, &of_page(0))),
-        told(part(nodes, &of_page(1))),
-        told(part(nodes, &of_page(0))),
-        told(part(nodes, &of_page(0))),
+        take(nodes, &of_page(0)),
+        take(nodes, &of_page(1)),
+        take(nodes, &of_page(0)),
+        take(nodes, &of_page(0)),
     ]
 }
 
@@ -81,7 +74,7 @@ static TAKEN: [Option<(u32, u32)>; 4] = [Some((2, 2)), None, Some((1, 1)), None]
 #[test]
 fn nested_revokes_take_leaf_by_leaf_and_nothing_joins(rt: HostRuntime) {
     let mut nodes = nodes(&rt, rt.alloc());
-    let first = told(part(&mut nodes, &of_page(1)));
+    let first = take(&mut nodes, &of_page(1));
     let given = give_on(&rt, &mut nodes, 2, WINDOW, &[of_page(0), of_page(1)]);
     let is_busy = nodes.next() == 4 && matches!(given, PartDone::Skipped(Reason::Busy, 0));
     let rest = parts(&mut nodes);
