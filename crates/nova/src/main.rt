@@ -2,13 +2,13 @@
 #![tactic(auto)]
 
 use nova_io::{FileDepot, StdSink};
-use nova_top::{Exit, Open, nova_main};
+use nova_top::{CommandFault, Exit, Open, nova_main};
 use std::env;
 use std::process::ExitCode;
 
 /// The words after the program's own name, or the end that it makes where they can't be read.
 fn words(rt: HostRuntime) -> Result<Vec<String>, Exit> {
-    let words = env::args(&rt).map_err(|error| Exit::of_words(error.kind()))?;
+    let words = env::args(&rt).map_err(|error| CommandFault::of_words(error.kind()))?;
     Ok(words.skip(1).collect(rt.alloc())?)
 }
 

@@ -1,30 +1,9 @@
 ghost use Rattle.std.specs.Prelude.{◌≡◌, ◌++◌, IfOk, OnOk, string_bytes};
-ghost use Rattle.nova_report.specs.Words.{state_word};
 ghost use Rattle.nova_asking.specs.Outcomes.{outcome, state_lines, state_of};
 
-use nova_kernel::{Kernel, State};
-use nova_report::{write_consoles, write_semaphores};
+use nova_kernel::Kernel;
+use nova_report::{state_word, write_consoles, write_semaphores};
 use std::alloc::{AllocError, Global};
-
-/// The word of a state, as reports have it.
-fn state_word<'a>(state: State) -> &'a str
-    ensures { result.now ≡ state_word state }
-{
-    match state {
-        State::Fresh => "fresh",
-        State::Ready => "ready",
-        State::Parked => "parked",
-        State::Calling(_) => "calling",
-        State::Helping(_) => "helping",
-        State::Exiting(..) => "exiting",
-        State::Sending(..) => "sending",
-        State::Granting(_) => "granting",
-        State::Replying => "replying",
-        State::Revoking(..) => "revoking",
-        State::Blocked(_) => "blocked",
-        State::Dead => "dead",
-    }
-}
 
 /// A line for the execution context of a number, where there is one.
 fn write_state(out: &mut String, kernel: &Kernel, id: u32) -> Result<(), AllocError>

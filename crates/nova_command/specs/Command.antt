@@ -1,7 +1,8 @@
 -- The commands.
 use Rattle.std.specs.Prelude.{ℕ, List, ◌∷◌, codes, Option, Some, None, option_and_then}
-use Rattle.nova_command.specs.Form.{Text, Given, given}
+use Rattle.nova_command.specs.Form.{Given, given}
 use Rattle.nova_command.specs.Limit.{limit_of, size_of, IsLimit, IsSize}
+use Rattle.nova_command.specs.Parsing.{Text}
 use Rattle.nova_command.specs.Verb.{verb_of}
 use Rattle.nova_command.specs.declared.verb.Verb.{Verb}
 use Rattle.nova_command.specs.declared.verb.Verb.TheVariants as verb

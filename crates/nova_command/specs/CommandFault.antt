@@ -1,5 +1,7 @@
 -- What the answer of a reader says.
 use Rattle.std.specs.Prelude.{◌≡◌, ◌≢◌, ℕ, List, codes, Option, Some, None, Result, Ok, Err}
+use Rattle.std.specs.declared.io.ErrorKind.{ErrorKind}
+use Rattle.std.specs.declared.io.ErrorKind.TheVariants.{InvalidData}
 use Rattle.clap.specs.Values.{kind_of}
 use Rattle.clap.specs.declared.error.Error.{Error}
 use Rattle.clap.specs.declared.error.kind.ErrorKind.TheVariants.{OutOfMemory}
@@ -20,6 +22,16 @@ Answers there result = AnswersBy (λ read. read) there result
 abbrev pub IsFaultOf : Error → CommandFault → Type 0
 IsFaultOf error Usage = kind_of error ≢ OutOfMemory
 IsFaultOf error Memory = Unit {0}
+
+-- the words could not be read: one is no text, or memory was refused
+abbrev pub of_words : ErrorKind → CommandFault
+of_words InvalidData = Usage
+of_words _ = Memory
+
+-- what comes of each fault
+abbrev pub by_fault : {E : Type 0} → E → E → CommandFault → E
+by_fault usage memory Usage = usage
+by_fault usage memory Memory = memory
 
 -- the text of a fault
 abbrev pub message_of : CommandFault → List ℕ

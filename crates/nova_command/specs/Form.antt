@@ -1,13 +1,8 @@
 -- The form of the command line, and what words give to it.
-use Rattle.std.specs.Prelude.{ℕ, List, [], ◌∷◌, codes, Option, Some, None, fold}
+use Rattle.std.specs.Prelude.{List, [], ◌∷◌, codes, Option, Some, fold, option_map}
 use Rattle.clap.specs.Walk.{Row, Rule, first_of}
-use Rattle.clap.specs.Simple.{App, matches_of, new_app, new_rule, with_rule}
-use Rattle.clap.specs.Kinds.{Kinds}
-use Rattle.clap.specs.Faults.{fault_of}
-
--- the bytes of a word
-abbrev pub Text : Type 0
-Text = List ℕ
+use Rattle.clap.specs.Simple.{App, new_app, new_rule, with_rule}
+use Rattle.nova_command.specs.Parsing.{Text, rows_given}
 
 -- `--limit N`, one million where it is not given
 abbrev pub limit_option : Rule
@@ -37,11 +32,6 @@ given_in rows = record {
   limit = first_of (codes "limit") rows;
 }
 
--- nothing where there is a fault of some kind, as which a call for help counts too
-abbrev pub unless_fault : Kinds → Given → Option Given
-unless_fault [] given = Some given
-unless_fault (kind ∷ kinds) given = None
-
 -- what words give to the form, where the first of them is the program's name, or nothing
 unfoldable pub given : List Text → Option Given
-given words = unless_fault (fault_of form words) (given_in (matches_of form words))
+given words = option_map given_in (rows_given form words)

@@ -1,6 +1,6 @@
 -- The numbers of a command: the most turns that a run is given, and how many domains a bench makes.
-use Rattle.std.specs.Prelude.{ℕ, ◌≤◌, ◌&&◌, nat_le, List, Option, Some, None, if◌then◌else◌, option_and_then}
-use Rattle.nova_text.specs.Number.{number}
+use Rattle.std.specs.Prelude.{ℕ, ◌≤◌, List, Option}
+use Rattle.nova_command.specs.Number.{number_within}
 
 -- from 1 to 10,000,000 turns
 abbrev pub IsLimit : ℕ → Type 0
@@ -10,14 +10,10 @@ IsLimit n = (1 ≤ n) × (n ≤ 10000000)
 abbrev pub IsSize : ℕ → Type 0
 IsSize n = (1 ≤ n) × (n ≤ 90000)
 
--- a number from 1 to the last one
-abbrev pub within : ℕ → ℕ → Option ℕ
-within last n = if nat_le 1 n && nat_le n last then Some n else None
-
 -- the limit that a text writes
-unfoldable pub limit_of : List ℕ → Option ℕ
-limit_of text = option_and_then (within 10000000) (number text)
+abbrev pub limit_of : List ℕ → Option ℕ
+limit_of = number_within 1 10000000
 
 -- the number of domains that a text writes
-unfoldable pub size_of : List ℕ → Option ℕ
-size_of text = option_and_then (within 90000) (number text)
+abbrev pub size_of : List ℕ → Option ℕ
+size_of = number_within 1 90000

@@ -1,10 +1,11 @@
 ghost use Rattle.std.specs.Prelude.{◌≡◌, Some};
 ghost use Rattle.nova_command.specs.declared.fault.CommandFault.TheVariants.{Memory};
-ghost use Rattle.nova_command.specs.CommandFault.{message_of};
+ghost use Rattle.nova_command.specs.CommandFault.{message_of, of_words};
 
 use std::alloc::AllocError;
 use std::error::Error;
 use std::fmt;
+use std::io::ErrorKind;
 
 /// Why no command was read.
 #[derive(Clone, Copy, Debug, PartialEq, Eq)]
@@ -14,6 +15,18 @@ pub enum CommandFault {
 
     /// Memory was refused.
     Memory,
+}
+
+impl CommandFault {
+    /// Why words could not be read: one that is no text is no command, nor a part of one.
+    pub fn of_words(kind: ErrorKind) -> CommandFault
+        ensures { result ≡ of_words kind }
+    {
+        match kind {
+            ErrorKind::InvalidData => CommandFault::Usage,
+            _ => CommandFault::Memory,
+        }
+    }
 }
 
 impl fmt::Display for CommandFault {

@@ -1,14 +1,14 @@
 // The form of the command line, and what words give to it.
-ghost use Rattle.std.specs.Prelude.{◌≡◌, ◌∷◌, false, codes, map, IfOk, string_bytes, option_map};
+ghost use Rattle.std.specs.Prelude.{◌≡◌, false, map, IfOk};
 ghost use Rattle.clap.specs.Simple.{app_of};
-ghost use Rattle.clap.specs.Walk.{rows_of, first_of, rule_of};
+ghost use Rattle.clap.specs.Walk.{rows_of, rule_of};
 ghost use Rattle.clap.specs.Matches.{found_of};
 ghost use Rattle.nova_command.specs.Form.{form, named, limit_option, given, given_in};
-ghost use Rattle.nova_command.specs.CommandFault.{AnswersBy, IsFaultOf};
+ghost use Rattle.nova_command.specs.CommandFault.{AnswersBy};
 
 use crate::fault::CommandFault;
-use clap::error::ErrorKind;
-use clap::{Arg, ArgMatches, Command, Error};
+use crate::parsing::parse;
+use clap::{Arg, ArgMatches, Command};
 use std::alloc::{AllocError, Global};
 
 /// The limit of turns, which is one million where none is given.
@@ -38,27 +38,6 @@ fn form<'a>(alloc: Global) -> Result<Command<'a>, AllocError>
     named(alloc)?.arg(limit(alloc))
 }
 
-/// The program's name and then the words after it.
-pub(crate) fn with_program_name(alloc: Global, words: &[String]) -> Result<Vec<&str>, AllocError>
-    ensures { IfOk result (λ named. map (λ word. word.now) named.items ≡ codes "nova" ∷ map string_bytes words.now) }
-{
-    let mut named = vec![in alloc; "nova"]?;
-    for word in words {
-        named.push(word.as_str())?;
-    }
-    Ok(named)
-}
-
-/// What failed in a parse: memory, or else the words.
-fn fault_of(error: &Error) -> CommandFault
-    ensures { IsFaultOf error.now result }
-{
-    match error.kind() {
-        ErrorKind::OutOfMemory => CommandFault::Memory,
-        _ => CommandFault::Usage,
-    }
-}
-
 /// What words give to the form, where the first of them is the program's name.
 #[tactic(auto, unfolding(crate::specs::Form::given))]
 pub(crate) fn matches_of<'a>(
@@ -67,15 +46,5 @@ pub(crate) fn matches_of<'a>(
 ) -> Result<ArgMatches<'a>, CommandFault>
     ensures { AnswersBy (λ matches. given_in (rows_of (found_of matches))) (given (map (λ word. word.now) words.now)) result }
 {
-    match form(alloc)?.try_get_matches_from(words) {
-        Ok(matches) => Ok(matches),
-        Err(error) => Err(fault_of(&error)),
-    }
-}
-
-/// The text that was given to an argument.
-pub(crate) fn text_of<'a>(matches: &ArgMatches<'a>, argument: &str) -> Option<&'a str>
-    ensures { option_map (λ text. text.now) result ≡ first_of argument.now (rows_of (found_of matches.now)) }
-{
-    matches.get_str(argument)
+    parse(form(alloc)?, words)
 }

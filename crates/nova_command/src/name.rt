@@ -1,5 +1,6 @@
-ghost use Rattle.std.specs.Prelude.{◌≡◌, string_bytes};
+ghost use Rattle.std.specs.Prelude.{◌≡◌, IfOk, string_bytes};
 
+use std::alloc::{AllocError, Global};
 use std::marker::Model;
 
 /// The name of a file, as it stood on the command line.
@@ -17,6 +18,13 @@ impl Model for Name {
 }
 
 impl Name {
+    /// The name that a text is.
+    pub fn from_text(alloc: Global, text: &str) -> Result<Name, AllocError>
+        ensures { IfOk result (λ name. name ≡ text.now) }
+    {
+        Ok(Name::from(String::from_str(alloc, text)?))
+    }
+
     /// The name as text.
     pub fn as_str(&self) -> &str
         ensures { result.now ≡ self.now }

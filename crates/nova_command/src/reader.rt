@@ -9,12 +9,13 @@ ghost use Rattle.nova_command.specs.CommandFault.{Answers};
 
 use crate::command::Command;
 use crate::fault::CommandFault;
-use crate::form::{matches_of, text_of, with_program_name};
+use crate::form::matches_of;
 use crate::limit::{read_limit, read_size};
 use crate::name::Name;
+use crate::parsing::{text_of, with_program_name};
 use crate::verb::Verb;
 use clap::ArgMatches;
-use std::alloc::{AllocError, Global};
+use std::alloc::Global;
 
 /// Reads the words after the program's own name as a command: `run SCENARIO ORDER`, `solo SCENARIO`, `solo SCENARIO ORDER`,
 /// `check SCENARIO`, `bench NUMBER` or `twin NAME`, with the option `--limit N` anywhere among them.
@@ -27,7 +28,7 @@ pub fn read_command(alloc: Global, words: &[String]) -> Result<Command, CommandF
     ensures exact { Answers (command (map string_bytes words.now)) result }
     ensures bounds { IfOk result HasBounds }
 {
-    let named = with_program_name(alloc, words)?;
+    let named = with_program_name(alloc, "nova", words)?;
     let matches = matches_of(alloc, named.as_slice())?;
     command_of(alloc, &matches)
 }
@@ -59,16 +60,16 @@ fn of_name(alloc: Global, verb: Verb, name: &str, limit: u32) -> Result<Command,
     match verb {
         Verb::Run => Err(CommandFault::Usage),
         Verb::Solo => Ok(Command::Solo {
-            scenario: name_of(alloc, name)?,
+            scenario: Name::from_text(alloc, name)?,
             order: None,
             limit,
         }),
         Verb::Check => Ok(Command::Check {
-            scenario: name_of(alloc, name)?,
+            scenario: Name::from_text(alloc, name)?,
         }),
         Verb::Bench => bench_of(name, limit),
         Verb::Twin => Ok(Command::Twin {
-            subjects: name_of(alloc, name)?,
+            subjects: Name::from_text(alloc, name)?,
             limit,
         }),
     }
@@ -88,13 +89,13 @@ fn of_names(
 {
     match verb {
         Verb::Run => Ok(Command::Run {
-            scenario: name_of(alloc, first)?,
-            order: name_of(alloc, second)?,
+            scenario: Name::from_text(alloc, first)?,
+            order: Name::from_text(alloc, second)?,
             limit,
         }),
         Verb::Solo => Ok(Command::Solo {
-            scenario: name_of(alloc, first)?,
-            order: Some(name_of(alloc, second)?),
+            scenario: Name::from_text(alloc, first)?,
+            order: Some(Name::from_text(alloc, second)?),
             limit,
         }),
         Verb::Check | Verb::Bench | Verb::Twin => Err(CommandFault::Usage),
@@ -111,11 +112,4 @@ fn bench_of(number: &str, limit: u32) -> Result<Command, CommandFault>
         Some(number) => Ok(Command::Bench { number, limit }),
         None => Err(CommandFault::Usage),
     }
-}
-
-/// A text as a name of its own.
-fn name_of(alloc: Global, text: &str) -> Result<Name, AllocError>
-    ensures { IfOk result (λ name. name ≡ text.now) }
-{
-    Ok(Name::from(String::from_str(alloc, text)?))
 }

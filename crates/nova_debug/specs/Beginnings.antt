@@ -1,11 +1,9 @@
 -- How a session begins, by a limit and the files that are named on the command line; and why none does.
-use Rattle.std.specs.Prelude.{◌≡◌, ℕ, ◌+◌, ◌<◌, ◌≤◌, Bool, false, ◌&&◌, if◌then◌else◌, List, [], ◌++◌, codes, length, nat_lt, nat_le, Option, Some, None, IfSome, Result, Ok, Err, is_ok, ⊤}
-use Rattle.std.specs.FinMap.{get}
+use Rattle.std.specs.Prelude.{◌≡◌, ℕ, Bool, false, ◌&&◌, if◌then◌else◌, List, [], ◌++◌, codes, nat_lt, nat_le, Option, Some, None, Result, Ok, Err, is_ok, ⊤}
 use Rattle.std.specs.Option.{option_and_then}
 use Rattle.nova_boot.specs.Boot.{scenario_of}
-use Rattle.nova_io.specs.Faults.{Rose}
-use Rattle.nova_io.specs.Fetched.{Gave, Came, CameWhole}
-use Rattle.nova_io.specs.Files.{Files, bytes_of}
+use Rattle.nova_io.specs.Outside.{Depots, FileCame, HasFailed, TooManyCame}
+use Rattle.nova_loading.specs.Came.{OrderCame, ScenarioCame, most_of_order, most_of_scenario}
 use Rattle.nova_model.specs.Boot.{boot}
 use Rattle.nova_model.specs.Runs.{rounds, trace}
 use Rattle.nova_order.specs.Blocks.{BlockList, turns}
@@ -24,14 +22,6 @@ use Rattle.nova_debug.specs.declared.refusal.Unfit.{Unfit}
 use Rattle.nova_debug.specs.declared.refusal.Unfit.TheVariants.{Unread, TooLong, Wrong}
 use Rattle.nova_debug.specs.declared.serving.Session.{Session}
 
--- the most bytes of a scenario: 16 MiB
-abbrev pub most_of_scenario : ℕ
-most_of_scenario = 16777216
-
--- the most bytes of an order: 64 MiB
-abbrev pub most_of_order : ℕ
-most_of_order = 67108864
-
 -- the most bytes of kept states, until a line says otherwise: 64 MiB
 abbrev pub most_kept : ℕ
 most_kept = 67108864
@@ -45,28 +35,6 @@ limit_of word = option_and_then limit_in (number_of word)
 
 -- FILES
 
--- of a depot: its files, what a fetch gave, and how many fetches of each name failed
-pub record Depots (D : Type 0) : Type 1 where
-  pub files : D → Option Files
-  pub gave : Gave D
-  pub faults : D → List ℕ → ℕ
-
-abbrev pub depots : {D : Type 0} → (D → Option Files) → Gave D → (D → List ℕ → ℕ) → Depots D
-depots files gave faults = record { files = files; gave = gave; faults = faults }
-
--- a file came: these bytes, at most `most`, came whole by the fetches of its name, and where the depot tells its files they are those of the name
-pub record FileCame {D : Type 0} (d : Depots D) (most : ℕ) (name : List ℕ) (old : D) (bytes : List ℕ) (new : D) : Type 0 where
-  pub whole : CameWhole d.gave name old bytes new
-  pub fits : length bytes ≤ most
-  pub held : IfSome (d.files old) (λ files. get files name ≡ Some bytes)
-
--- of a file more than `most` bytes came, and where the depot tells its files the name has more
-pub record TooManyCame {D : Type 0} (d : Depots D) (most : ℕ) (name : List ℕ) (old new : D) : Type 0 where
-  pub bytes : List ℕ
-  pub came : Came d.gave name old bytes new
-  pub number : length bytes ≡ most + 1
-  pub held : IfSome (d.files old) (λ files. most < length (bytes_of files name))
-
 -- a file came, and is no text of its kind
 pub record IsWrong {D : Type 0} (d : Depots D) (most : ℕ) (is_text : List ℕ → Bool) (name : List ℕ) (old new : D) : Type 0 where
   pub bytes : List ℕ
@@ -75,7 +43,7 @@ pub record IsWrong {D : Type 0} (d : Depots D) (most : ℕ) (is_text : List ℕ 
 
 -- why a file doesn't serve
 abbrev pub IsUnfit : {D : Type 0} → Depots D → ℕ → (List ℕ → Bool) → List ℕ → D → D → Unfit → Type 0
-IsUnfit d most is_text name old new Unread = Rose (d.faults old name) (d.faults new name)
+IsUnfit d most is_text name old new Unread = HasFailed d name old new
 IsUnfit d most is_text name old new TooLong = TooManyCame d most name old new
 IsUnfit d most is_text name old new Wrong = IsWrong d most is_text name old new
 
@@ -86,11 +54,6 @@ abbrev pub is_order : ℕ → ℕ → List ℕ → Bool
 is_order cpus most bytes = is_ok (order_of bytes cpus most)
 
 -- a scenario was read, or why it wasn't
-pub record ScenarioCame {D : Type 0} (d : Depots D) (name : List ℕ) (old : D) (from : ScenarioText) (new : D) : Type 0 where
-  pub bytes : List ℕ
-  pub came : FileCame d most_of_scenario name old bytes new
-  pub reads : scenario bytes ≡ Ok from
-
 abbrev pub IsScenarioRead : {D : Type 0} → Depots D → List ℕ → D → D → Result ScenarioText Refusal → Type 0
 IsScenarioRead d name old new (Ok from) = ScenarioCame d name old from new
 IsScenarioRead d name old new (Err (Scenario why)) = IsUnfit d most_of_scenario is_scenario name old new why
@@ -98,11 +61,6 @@ IsScenarioRead d name old new (Err (Run Memory)) = ⊤
 IsScenarioRead d name old new (Err other) = ⊥
 
 -- an order was read, of processors below `cpus` and at most `most` turns, or why it wasn't
-pub record OrderCame {D : Type 0} (d : Depots D) (name : List ℕ) (cpus most : ℕ) (old : D) (blocks : List Block) (new : D) : Type 0 where
-  pub bytes : List ℕ
-  pub came : FileCame d most_of_order name old bytes new
-  pub reads : order_of bytes cpus most ≡ Ok blocks
-
 abbrev pub IsOrderRead : {D : Type 0} → Depots D → List ℕ → ℕ → ℕ → D → D → Result BlockList Refusal → Type 0
 IsOrderRead d name cpus most old new (Ok list) = OrderCame d name cpus most old list.blocks new
 IsOrderRead d name cpus most old new (Err (Order why)) = IsUnfit d most_of_order (is_order cpus most) name old new why

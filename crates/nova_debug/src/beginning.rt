@@ -1,26 +1,22 @@
 ghost use Rattle.std.specs.Prelude.{◌≡◌, ◌≤◌, option_map, IfOk, IsTrue, [], Some};
+ghost use Rattle.nova_io.specs.Outside.{depots};
 ghost use Rattle.nova_order.specs.Blocks.{is_within};
 ghost use Rattle.nova_scenario.specs.Sound.{IsSound};
 ghost use Rattle.nova_recording.specs.Recordings.{IsSameRun};
-ghost use Rattle.nova_debug.specs.Beginnings.{IsBegun, IsBegunAlong, IsBegunOf, IsBegunRound, IsOrderRead, IsScenarioRead, depots, limit_of, most_kept};
+ghost use Rattle.nova_debug.specs.Beginnings.{IsBegun, IsBegunAlong, IsBegunOf, IsBegunRound, IsOrderRead, IsScenarioRead, limit_of, most_kept};
 
 use crate::making::{run_along, run_rounds};
 use crate::orders::MOST_TURNS;
 use crate::refusal::{Refusal, Unfit};
 use crate::serving::Session;
-use nova_io::{Depot, FetchFault, fetch_all};
-use nova_order::{Order, OrderFault};
+use nova_io::Depot;
+use nova_loading::{OrderUnread, ScenarioUnread, load_order, load_scenario};
+use nova_order::Order;
 use nova_recording::{Recording, Search};
 use nova_run::RunFault;
-use nova_scenario::{Scenario, ScenarioFault, read};
+use nova_scenario::Scenario;
 use nova_text::parse_number;
 use std::alloc::Global;
-
-/// The most bytes of a scenario, as of `nova`.
-const MOST_OF_SCENARIO: u64 = 16 * 1024 * 1024;
-
-/// The most bytes of an order, as of `nova`.
-const MOST_OF_ORDER: u64 = 64 * 1024 * 1024;
 
 /// The most bytes of kept states, until a line says otherwise.
 const KEPT: usize = 64 * 1024 * 1024;
@@ -39,20 +35,16 @@ fn limit_of(word: &[u8]) -> Option<u32>
 
 /// Fetches a scenario of at most 16 MiB and reads it.
 fn fetch_scenario<D: Depot>(alloc: Global, depot: &mut D, name: &str) -> Result<Scenario, Refusal>
-    ensures read { IsScenarioRead (depots D.files D.gave D.fetch_faults) name.now depot.old depot.new result }
+    ensures read { IsScenarioRead (depots D.files D.gave D.fetch_failed D.fetch_faults D.took D.append_failed D.append_faults) name.now depot.old depot.new result }
     ensures sound { IfOk result IsSound }
     ensures files { D.files depot.new ≡ D.files depot.old }
 {
-    let bytes = match fetch_all(alloc, depot, name, MOST_OF_SCENARIO) {
-        Ok(bytes) => bytes,
-        Err(FetchFault::Failed) => return Err(Refusal::Scenario(Unfit::Unread)),
-        Err(FetchFault::TooLong) => return Err(Refusal::Scenario(Unfit::TooLong)),
-        Err(FetchFault::Memory) => return Err(Refusal::Run(RunFault::Memory)),
-    };
-    match read(alloc, &bytes) {
+    match load_scenario(alloc, depot, name) {
         Ok(scenario) => Ok(scenario),
-        Err(ScenarioFault::At { .. }) => Err(Refusal::Scenario(Unfit::Wrong)),
-        Err(ScenarioFault::Memory) => Err(Refusal::Run(RunFault::Memory)),
+        Err(ScenarioUnread::Failed) => Err(Refusal::Scenario(Unfit::Unread)),
+        Err(ScenarioUnread::TooLong) => Err(Refusal::Scenario(Unfit::TooLong)),
+        Err(ScenarioUnread::Refused { .. }) => Err(Refusal::Scenario(Unfit::Wrong)),
+        Err(ScenarioUnread::Memory) => Err(Refusal::Run(RunFault::Memory)),
     }
 }
 
@@ -64,26 +56,16 @@ fn fetch_order<D: Depot>(
     cpus: u32,
     most: u64,
 ) -> Result<Order, Refusal>
-    ensures read { IsOrderRead (depots D.files D.gave D.fetch_faults) name.now cpus most depot.old depot.new result }
+    ensures read { IsOrderRead (depots D.files D.gave D.fetch_failed D.fetch_faults D.took D.append_failed D.append_faults) name.now cpus most depot.old depot.new result }
     ensures within { IfOk result (λ order. IsTrue (is_within cpus most order.blocks)) }
     ensures files { D.files depot.new ≡ D.files depot.old }
 {
-    let bytes = match fetch_all(alloc, depot, name, MOST_OF_ORDER) {
-        Ok(bytes) => bytes,
-        Err(FetchFault::Failed) => return Err(Refusal::Order(Unfit::Unread)),
-        Err(FetchFault::TooLong) => return Err(Refusal::Order(Unfit::TooLong)),
-        Err(FetchFault::Memory) => return Err(Refusal::Run(RunFault::Memory)),
-    };
-    match Order::read(alloc, &bytes, cpus, most) {
+    match load_order(alloc, depot, name, cpus, most) {
         Ok(order) => Ok(order),
-        Err(
-            OrderFault::BadLine(_)
-            | OrderFault::BadCpu(_)
-            | OrderFault::ZeroCount(_)
-            | OrderFault::NotMerged(_)
-            | OrderFault::TooMany(_),
-        ) => Err(Refusal::Order(Unfit::Wrong)),
-        Err(OrderFault::Memory) => Err(Refusal::Run(RunFault::Memory)),
+        Err(OrderUnread::Failed) => Err(Refusal::Order(Unfit::Unread)),
+        Err(OrderUnread::TooLong) => Err(Refusal::Order(Unfit::TooLong)),
+        Err(OrderUnread::Refused(_)) => Err(Refusal::Order(Unfit::Wrong)),
+        Err(OrderUnread::Memory) => Err(Refusal::Run(RunFault::Memory)),
     }
 }
 
@@ -114,7 +96,7 @@ fn begin_along<D: Depot>(
 ) -> Result<Session, Refusal>
     requires sound { IsSound scenario.now }
     requires limit { limit ≤ MOST_TURNS }
-    ensures begun { IsBegunAlong (depots D.files D.gave D.fetch_faults) scenario.now order.now limit depot.old depot.new result }
+    ensures begun { IsBegunAlong (depots D.files D.gave D.fetch_failed D.fetch_faults D.took D.append_failed D.append_faults) scenario.now order.now limit depot.old depot.new result }
     ensures files { D.files depot.new ≡ D.files depot.old }
 {
     let order = fetch_order(alloc, depot, order, scenario.cpus, u64::from(limit))?;
@@ -146,7 +128,7 @@ fn begin_of<D: Depot>(
 ) -> Result<Session, Refusal>
     requires sound { IsSound scenario.now }
     requires limit { limit ≤ MOST_TURNS }
-    ensures begun { IsBegunOf (depots D.files D.gave D.fetch_faults) scenario.now limit (option_map (λ name. name.now) order.entry) depot.old depot.new result }
+    ensures begun { IsBegunOf (depots D.files D.gave D.fetch_failed D.fetch_faults D.took D.append_failed D.append_faults) scenario.now limit (option_map (λ name. name.now) order.entry) depot.old depot.new result }
     ensures files { D.files depot.new ≡ D.files depot.old }
 {
     match order {
@@ -164,7 +146,7 @@ pub fn begin<D: Depot>(
     limit: &[u8],
     order: Option<&str>,
 ) -> Result<Session, Refusal>
-    ensures begun { IsBegun (depots D.files D.gave D.fetch_faults) name.now (limit_of limit.now) (option_map (λ name. name.now) order.entry) depot.old depot.new result }
+    ensures begun { IsBegun (depots D.files D.gave D.fetch_failed D.fetch_faults D.took D.append_failed D.append_faults) name.now (limit_of limit.now) (option_map (λ name. name.now) order.entry) depot.old depot.new result }
     ensures files { D.files depot.new ≡ D.files depot.old }
 {
     let Some(limit) = limit_of(limit) else {

@@ -1,14 +1,14 @@
 //! `nova_explore`: whether any order of turns leads a scenario to what is asked for.
 #![tactic(auto)]
 
-use nova_explorer::{Exit, explore_main};
+use nova_explorer::{CommandFault, Exit, explore_main};
 use nova_io::{FileDepot, StdSink};
 use std::env;
 use std::process::ExitCode;
 
 /// The words after the program's own name, or the end that it makes where they can't be read.
 fn words(rt: HostRuntime) -> Result<Vec<String>, Exit> {
-    let words = env::args(&rt).map_err(|error| Exit::of_words(error.kind()))?;
+    let words = env::args(&rt).map_err(|error| CommandFault::of_words(error.kind()))?;
     Ok(words.skip(1).collect(rt.alloc())?)
 }
 

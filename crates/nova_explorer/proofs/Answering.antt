@@ -1,10 +1,13 @@
 -- What is answered, by what came and what was told.
-use Rattle.std.proofs.Common.{◌≡◌, inl, inr, Result, Ok, Err, subst, sym}
+use Rattle.std.proofs.Common.{◌≡◌, ℕ, List, inl, inr, Result, Ok, Err, subst, sym}
 use Rattle.nova_scenario.specs.declared.scenario.Scenario.{Scenario as ScenarioText}
-use Rattle.nova_explorer.specs.Came.{IsScenarioFault, ScenarioCame}
-use Rattle.nova_explorer.specs.Exit.{IsUnwritten}
+use Rattle.nova_explorer.specs.Came.{IsScenarioFault}
+use Rattle.nova_explorer.specs.Exit.{IsUnwritten, of_scenario}
 use Rattle.nova_explorer.specs.Main.{IsAnswer, IsExplored, IsFault, IsPrepared, IsSent, IsToldOf}
-use Rattle.nova_explorer.specs.Outside.{Depots, Sinks}
+use Rattle.nova_io.specs.Outside.{Depots, Sinks}
+use Rattle.nova_loading.specs.Came.{IsScenarioLoaded, ScenarioCame}
+use Rattle.nova_loading.specs.declared.unread.ScenarioUnread.{ScenarioUnread}
+use Rattle.nova_loading.specs.declared.unread.ScenarioUnread.TheVariants as text
 use Rattle.nova_explorer.specs.declared.exit.Exit.{Exit}
 use Rattle.nova_explorer.specs.declared.exit.Exit.TheVariants as exit
 use Rattle.nova_explorer.specs.declared.request.Request.{Request}
@@ -12,14 +15,24 @@ use Rattle.nova_explorer.specs.declared.told.Told.{Told}
 use Rattle.nova_explorer.specs.declared.verdict.Verdict.{Verdict}
 
 module _ {D : Type 0} (d : Depots D) (q : Request) (old new : D) where
-  -- the scenario isn't read
-  pub unread : (e : Exit) (r : Result Told Exit) → r ≡ Err e → IsScenarioFault d q.scenario old new e → IsPrepared d q old new r
-  unread e r is fault = subst (IsPrepared d q old new) (sym is) (inl fault)
+  -- the scenario isn't loaded
+  no_scenario : (u : ScenarioUnread) → IsScenarioLoaded d q.scenario old new (Err u) → IsScenarioFault d q.scenario old new (of_scenario u)
+  no_scenario text.Failed is = is
+  no_scenario text.TooLong is = is
+  no_scenario (text.Refused line why) is = is
+  no_scenario text.Memory is = is
+
+  pub unread : (name : List ℕ) (u : ScenarioUnread) (r : Result Told Exit) → name ≡ q.scenario → r ≡ Err (of_scenario u) → IsScenarioLoaded d name old new (Err u) → IsPrepared d q old new r
+  unread name u r named is fault =
+      subst (IsPrepared d q old new) (sym is) (inl (no_scenario u (subst (λ (n : List ℕ). IsScenarioLoaded d n old new (Err u)) named fault)))
 
   -- it came, and this was answered
-  pub explored : (from : ScenarioText) (r : Result Told Exit) → ScenarioCame d q.scenario old from new → IsExplored from q r → IsPrepared d q old new r
-  explored from (Ok t) came is = record { from = from; came = came; told = is }
-  explored from (Err e) came is = inr (record { from = from; came = came; fault = is })
+  told : (from : ScenarioText) (r : Result Told Exit) → ScenarioCame d q.scenario old from new → IsExplored from q r → IsPrepared d q old new r
+  told from (Ok t) came is = record { from = from; came = came; told = is }
+  told from (Err e) came is = inr (record { from = from; came = came; fault = is })
+
+  pub explored : (name : List ℕ) (from : ScenarioText) (r : Result Told Exit) → name ≡ q.scenario → ScenarioCame d name old from new → IsExplored from q r → IsPrepared d q old new r
+  explored name from r named came is = told from r (subst (λ (n : List ℕ). ScenarioCame d n old from new) named came) is
 
 module _ {D O : Type 0} (d : Depots D) (o : Sinks O) (q : Request) (old new : D) (before after : O) where
   no_fault : IsFault d q old new exit.WriteFault → ⊥

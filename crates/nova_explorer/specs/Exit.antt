@@ -1,13 +1,9 @@
 -- The statuses of the program, and the end that each fault makes.
 use Rattle.std.specs.Prelude.{ℕ}
-use Rattle.std.specs.declared.io.ErrorKind.{ErrorKind}
-use Rattle.std.specs.declared.io.ErrorKind.TheVariants.{InvalidData}
+use Rattle.nova_command.specs.CommandFault.{by_fault}
 use Rattle.nova_command.specs.declared.fault.CommandFault.{CommandFault}
-use Rattle.nova_command.specs.declared.fault.CommandFault.TheVariants as command
-use Rattle.nova_io.specs.declared.faults.FetchFault.{FetchFault}
-use Rattle.nova_io.specs.declared.faults.FetchFault.TheVariants as fetch
-use Rattle.nova_scenario.specs.declared.fault.ScenarioFault.{ScenarioFault}
-use Rattle.nova_scenario.specs.declared.fault.ScenarioFault.TheVariants as text
+use Rattle.nova_loading.specs.declared.unread.ScenarioUnread.{ScenarioUnread}
+use Rattle.nova_loading.specs.declared.unread.ScenarioUnread.TheVariants as text
 use Rattle.nova_explorer.specs.declared.exit.Exit.{Exit}
 use Rattle.nova_explorer.specs.declared.exit.Exit.TheVariants.{Told, Usage, ReadFault, TooLong, Scenario, Absent, WriteFault, Memory}
 use Rattle.nova_explorer.specs.declared.verdict.Verdict.TheVariants.{All, Found, Within, Cut}
@@ -25,23 +21,15 @@ status_of (Told Cut) = 7
 status_of Memory = 8
 status_of (Told Within) = 9
 
--- the words could not be read: one is no text, or memory was refused
-abbrev pub of_words : ErrorKind → Exit
-of_words InvalidData = Usage
-of_words _ = Memory
-
+-- the words are no request, or memory was refused for them
 abbrev pub of_command : CommandFault → Exit
-of_command command.Usage = Usage
-of_command command.Memory = Memory
+of_command = by_fault Usage Memory
 
--- the scenario did not come
-abbrev pub of_fetch : FetchFault → Exit
-of_fetch fetch.Failed = ReadFault
-of_fetch fetch.TooLong = TooLong
-of_fetch fetch.Memory = Memory
-
-abbrev pub of_scenario : ScenarioFault → Exit
-of_scenario (text.At line why) = Scenario line why
+-- the scenario was not loaded
+abbrev pub of_scenario : ScenarioUnread → Exit
+of_scenario text.Failed = ReadFault
+of_scenario text.TooLong = TooLong
+of_scenario (text.Refused line why) = Scenario line why
 of_scenario text.Memory = Memory
 
 -- nothing is written

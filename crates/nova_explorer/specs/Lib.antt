@@ -2,7 +2,6 @@ pub mod Form
 pub mod Numbers
 pub mod Requests
 pub mod Exit
-pub mod Outside
 pub mod Texts
 pub mod Tellings
 pub mod Came

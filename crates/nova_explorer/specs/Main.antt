@@ -1,13 +1,11 @@
 -- What the top call answers to a request, with the cause of each answer and what is written then.
-use Rattle.std.specs.Prelude.{◌≡◌, ◌⊎◌, ℕ, ◌<◌, true, false, List, length, take, Result, Ok, Err}
-use Rattle.std.specs.Io.KnownBytes.{append_known}
+use Rattle.std.specs.Prelude.{◌≡◌, ◌⊎◌, ℕ, true, false, List, Result, Ok, Err}
 use Rattle.nova_boot.specs.Boot.{scenario_of}
-use Rattle.nova_io.specs.Faults.{Rose}
-use Rattle.nova_io.specs.Taken.{WentWhole, WentInPart}
+use Rattle.nova_io.specs.Outside.{Depots, IsOut, IsPartOut, Sinks}
+use Rattle.nova_loading.specs.Came.{ScenarioCame}
 use Rattle.nova_model.specs.Boot.{boot}
 use Rattle.nova_scenario.specs.declared.scenario.Scenario.{Scenario as ScenarioText}
-use Rattle.nova_explorer.specs.Came.{IsScenarioFault, ScenarioCame}
-use Rattle.nova_explorer.specs.Outside.{Depots, Sinks}
+use Rattle.nova_explorer.specs.Came.{IsScenarioFault}
 use Rattle.nova_explorer.specs.Tellings.{IsTold, has_place}
 use Rattle.nova_explorer.specs.declared.exit.Exit.{Exit}
 use Rattle.nova_explorer.specs.declared.exit.Exit.TheVariants as exit
@@ -49,19 +47,6 @@ pub record IsToldOf {D : Type 0} (d : Depots D) (q : Request) (old new : D) (ver
 abbrev pub IsPrepared : {D : Type 0} → Depots D → Request → D → D → Result Told Exit → Type 0
 IsPrepared d q old new (Ok t) = IsToldOf d q old new t.verdict t.text.items
 IsPrepared d q old new (Err exit) = IsFault d q old new exit
-
--- a text is out whole, after what was written before; its writes are all that was done to the sink
-pub record IsOut {O : Type 0} (o : Sinks O) (text : List ℕ) (before after : O) : Type 0 where
-  pub went : WentWhole o.took text before after
-  pub written : o.written after ≡ append_known (o.written before) text
-
--- or a write failed, which was the last, and a part of the text is written, from its first byte on
-pub record IsPartOut {O : Type 0} (o : Sinks O) (text : List ℕ) (before after : O) : Type 0 where
-  pub went : WentInPart o.took o.write_failed text before after
-  pub count : ℕ
-  pub within : count < length text
-  pub written : o.written after ≡ append_known (o.written before) (take count text)
-  pub failed : Rose (o.faults before) (o.faults after)
 
 abbrev pub IsSent : {O : Type 0} → Sinks O → Told → Exit → O → O → Type 0
 IsSent o t (exit.Told verdict) before after = (verdict ≡ t.verdict) × IsOut o t.text.items before after

@@ -1,8 +1,8 @@
 -- The numbers of a request.
-use Rattle.std.specs.Prelude.{ℕ, ◌≤◌, ◌&&◌, ◌^◌, nat_le, nat_lt, List, Option, Some, None, if◌then◌else◌, option_and_then}
+use Rattle.std.specs.Prelude.{ℕ, ◌≤◌, ◌^◌, ◌-◌, List, Option}
 use Rattle.nova_asking.specs.Questions.{IsApt}
+use Rattle.nova_command.specs.Number.{number_within}
 use Rattle.nova_explorer.specs.declared.request.Request.{Request}
-use Rattle.nova_text.specs.Number.{number}
 
 -- from 1 to 10,000,000 turns
 abbrev pub IsTurns : ℕ → Type 0
@@ -22,21 +22,15 @@ pub record HasBounds (r : Request) : Type 0 where
   pub states : IsStates r.states
   pub apt : IsApt r.question
 
--- a number between two others
-abbrev pub between : ℕ → ℕ → ℕ → Option ℕ
-between first last n = if nat_le first n && nat_le n last then Some n else None
+-- what texts write
+abbrev pub number_of : List ℕ → Option ℕ
+number_of = number_within 0 (2 ^ 32 - 1)
 
-abbrev pub below : ℕ → ℕ → Option ℕ
-below end n = if nat_lt n end then Some n else None
+abbrev pub turns_of : List ℕ → Option ℕ
+turns_of = number_within 1 10000000
 
-unfoldable pub number_of : List ℕ → Option ℕ
-number_of text = option_and_then (below (2 ^ 32)) (number text)
+abbrev pub states_of : List ℕ → Option ℕ
+states_of = number_within 1 100000000
 
-unfoldable pub turns_of : List ℕ → Option ℕ
-turns_of text = option_and_then (between 1 10000000) (number text)
-
-unfoldable pub states_of : List ℕ → Option ℕ
-states_of text = option_and_then (between 1 100000000) (number text)
-
-unfoldable pub offset_of : List ℕ → Option ℕ
-offset_of text = option_and_then (between 0 4092) (number text)
+abbrev pub offset_of : List ℕ → Option ℕ
+offset_of = number_within 0 4092

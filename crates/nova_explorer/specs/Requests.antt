@@ -4,7 +4,8 @@ use Rattle.std.specs.Str.{bytes_eq}
 use Rattle.hex.specs.Hex.{decode_of}
 use Rattle.nova_asking.specs.declared.question.Question.{Question}
 use Rattle.nova_asking.specs.declared.question.Question.TheVariants as question
-use Rattle.nova_explorer.specs.Form.{Text, Given, given}
+use Rattle.nova_command.specs.Parsing.{Text}
+use Rattle.nova_explorer.specs.Form.{Given, given}
 use Rattle.nova_explorer.specs.Numbers.{number_of, offset_of, states_of, turns_of}
 use Rattle.nova_explorer.specs.declared.request.Request.{Request}
 use Rattle.nova_explorer.specs.declared.word.Word.{Word}

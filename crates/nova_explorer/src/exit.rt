@@ -1,12 +1,11 @@
 ghost use Rattle.std.specs.Prelude.{◌≡◌};
-ghost use Rattle.nova_explorer.specs.Exit.{of_fetch, of_words, status_of};
+ghost use Rattle.nova_explorer.specs.Exit.{status_of};
 
 use crate::verdict::Verdict;
 use nova_command::CommandFault;
-use nova_io::FetchFault;
-use nova_scenario::{ScenarioFault, Why};
+use nova_loading::ScenarioUnread;
+use nova_scenario::Why;
 use std::alloc::AllocError;
-use std::io::ErrorKind;
 use thiserror::Error;
 
 /// How a call of the program ends.
@@ -58,27 +57,6 @@ fn status_of_verdict(verdict: Verdict) -> u8
 }
 
 impl Exit {
-    /// How a call ends whose words could not be read: with a word that is no text they are no request.
-    pub fn of_words(kind: ErrorKind) -> Exit
-        ensures { result ≡ of_words kind }
-    {
-        match kind {
-            ErrorKind::InvalidData => Exit::Usage,
-            _ => Exit::Memory,
-        }
-    }
-
-    /// How a call ends whose scenario did not come.
-    pub(crate) fn of_fetch(fault: FetchFault) -> Exit
-        ensures { result ≡ of_fetch fault }
-    {
-        match fault {
-            FetchFault::Failed => Exit::ReadFault,
-            FetchFault::TooLong => Exit::TooLong,
-            FetchFault::Memory => Exit::Memory,
-        }
-    }
-
     /// The status that the program ends with.
     pub fn status(self) -> u8
         ensures { result ≡ status_of self }
@@ -118,15 +96,17 @@ impl From<CommandFault> for Exit {
     }
 }
 
-impl From<ScenarioFault> for Exit {
+impl From<ScenarioUnread> for Exit {
     ghost use Rattle.nova_explorer.specs.Exit.{of_scenario};
 
-    ghost from_gives = { λ fault exit. exit ≡ of_scenario fault };
+    ghost from_gives = { λ unread exit. exit ≡ of_scenario unread };
 
-    fn from(fault: ScenarioFault) -> Exit {
-        match fault {
-            ScenarioFault::At { line, why } => Exit::Scenario { line, why },
-            ScenarioFault::Memory => Exit::Memory,
+    fn from(unread: ScenarioUnread) -> Exit {
+        match unread {
+            ScenarioUnread::Failed => Exit::ReadFault,
+            ScenarioUnread::TooLong => Exit::TooLong,
+            ScenarioUnread::Refused { line, why } => Exit::Scenario { line, why },
+            ScenarioUnread::Memory => Exit::Memory,
         }
     }
 }

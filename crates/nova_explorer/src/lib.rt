@@ -2,7 +2,6 @@
 #![tactic(auto)]
 
 mod exit;
-mod fetched;
 mod form;
 mod main_call;
 mod numbers;
@@ -15,4 +14,5 @@ mod word;
 
 pub use exit::Exit;
 pub use main_call::explore_main;
+pub use nova_command::CommandFault;
 pub use verdict::Verdict;

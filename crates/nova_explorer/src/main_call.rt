@@ -2,24 +2,24 @@ ghost use Rattle.std.specs.Prelude.{◌≡◌, ◌⊎◌, IfSome, None, map, str
 ghost use Rattle.nova_explorer.specs.Exit.{IsUnwritten};
 ghost use Rattle.nova_explorer.specs.Main.{IsAnswer, IsPrepared, IsSent};
 ghost use Rattle.nova_explorer.specs.Numbers.{HasBounds};
-ghost use Rattle.nova_explorer.specs.Outside.{depots, sinks};
+ghost use Rattle.nova_io.specs.Outside.{depots, sinks};
 ghost use Rattle.nova_explorer.specs.Requests.{request};
 
 use crate::exit::Exit;
-use crate::fetched::fetch_scenario;
 use crate::reader::read_request;
 use crate::request::Request;
 use crate::told::{Told, tell};
 use nova_io::{Depot, Sink, write_all};
+use nova_loading::load_scenario;
 use std::alloc::Global;
 
 /// Reads the scenario of a request, and answers it.
 fn prepare<D: Depot>(alloc: Global, request: &Request, depot: &mut D) -> Result<Told, Exit>
     requires { HasBounds request.now }
-    ensures prepared { IsPrepared (depots D.files D.gave D.fetch_faults) request.now depot.old depot.new result }
+    ensures prepared { IsPrepared (depots D.files D.gave D.fetch_failed D.fetch_faults D.took D.append_failed D.append_faults) request.now depot.old depot.new result }
     ensures files { D.files depot.new ≡ D.files depot.old }
 {
-    let scenario = fetch_scenario(alloc, depot, &request.scenario)?;
+    let scenario = load_scenario(alloc, depot, request.scenario.as_str())?;
     tell(alloc, &scenario, request)
 }
 
@@ -36,7 +36,7 @@ fn send<O: Sink>(out: &mut O, told: &Told) -> Exit
 /// Answers a request, and writes it.
 fn serve<D: Depot, O: Sink>(alloc: Global, request: &Request, depot: &mut D, out: &mut O) -> Exit
     requires { HasBounds request.now }
-    ensures answer { IsAnswer (depots D.files D.gave D.fetch_faults) (sinks O.written O.took O.write_failed O.faults) request.now result depot.old depot.new out.old out.new }
+    ensures answer { IsAnswer (depots D.files D.gave D.fetch_failed D.fetch_faults D.took D.append_failed D.append_faults) (sinks O.written O.took O.write_failed O.faults) request.now result depot.old depot.new out.old out.new }
     ensures unwritten { IsUnwritten result → out.new ≡ out.old }
     ensures files { D.files depot.new ≡ D.files depot.old }
 {
@@ -86,7 +86,7 @@ pub fn explore_main<D: Depot, O: Sink>(
     ensures untouched { request (map string_bytes words.now) ≡ None → (depot.new ≡ depot.old) × (out.new ≡ out.old) }
     ensures unwritten { IsUnwritten result → out.new ≡ out.old }
     ensures answer { IfSome (request (map string_bytes words.now)) (λ request.
-        IsAnswer (depots D.files D.gave D.fetch_faults) (sinks O.written O.took O.write_failed O.faults) request result depot.old depot.new out.old out.new) }
+        IsAnswer (depots D.files D.gave D.fetch_failed D.fetch_faults D.took D.append_failed D.append_faults) (sinks O.written O.took O.write_failed O.faults) request result depot.old depot.new out.old out.new) }
     ensures files { D.files depot.new ≡ D.files depot.old }
 {
     match read_request(alloc, words) {

@@ -1,7 +1,7 @@
 ghost use Rattle.std.specs.Prelude.{◌≡◌, IfSome};
 ghost use Rattle.nova_explorer.specs.Numbers.{number_of, offset_of, states_of, turns_of, IsStates, IsTurns, IsOffset};
 
-use nova_text::parse_number;
+use nova_command::number_within;
 
 /// The most turns of an order.
 const MOST_TURNS: u32 = 10_000_000;
@@ -13,42 +13,32 @@ const MOST_STATES: u32 = 100_000_000;
 const LAST_OFFSET: u32 = 4092;
 
 /// The number that a text writes, below 2^32.
-#[tactic(auto, unfolding(crate::specs::Numbers::number_of))]
 pub(crate) fn read_number(text: &str) -> Option<u32>
     ensures { result ≡ number_of text.now }
 {
-    parse_number(text.as_bytes()).ok()
+    number_within(text, 0, u32::MAX)
 }
 
 /// The most turns that a text writes.
-#[tactic(auto, unfolding(crate::specs::Numbers::turns_of))]
 pub(crate) fn read_turns(text: &str) -> Option<u32>
     ensures exact { result ≡ turns_of text.now }
     ensures range { IfSome result IsTurns }
 {
-    parse_number(text.as_bytes())
-        .ok()
-        .filter(|turns| (1..=MOST_TURNS).contains(turns))
+    number_within(text, 1, MOST_TURNS)
 }
 
 /// The most states that a text writes.
-#[tactic(auto, unfolding(crate::specs::Numbers::states_of))]
 pub(crate) fn read_states(text: &str) -> Option<u32>
     ensures exact { result ≡ states_of text.now }
     ensures range { IfSome result IsStates }
 {
-    parse_number(text.as_bytes())
-        .ok()
-        .filter(|states| (1..=MOST_STATES).contains(states))
+    number_within(text, 1, MOST_STATES)
 }
 
 /// The offset of a word that a text writes.
-#[tactic(auto, unfolding(crate::specs::Numbers::offset_of))]
 pub(crate) fn read_offset(text: &str) -> Option<u32>
     ensures exact { result ≡ offset_of text.now }
     ensures range { IfSome result IsOffset }
 {
-    parse_number(text.as_bytes())
-        .ok()
-        .filter(|offset| (0..=LAST_OFFSET).contains(offset))
+    number_within(text, 0, LAST_OFFSET)
 }

@@ -6,17 +6,17 @@ ghost use Rattle.nova_asking.specs.Questions.{IsApt};
 ghost use Rattle.nova_command.specs.CommandFault.{Answers, AnswersBy};
 ghost use Rattle.nova_explorer.specs.Form.{given_in};
 ghost use Rattle.nova_explorer.specs.Numbers.{HasBounds, number_of, offset_of};
-ghost use Rattle.nova_explorer.specs.Requests.{asked, bytes_of, of_word, on_console, question_in, request, request_with};
+ghost use Rattle.nova_explorer.specs.Requests.{asked, bytes_of, of_word, on_console, question_in, request, request_of, request_with};
 
-use crate::form::{matches_of, text_of, with_program_name};
+use crate::form::matches_of;
 use crate::numbers::{read_number, read_offset, read_states, read_turns};
 use crate::request::Request;
 use crate::word::Word;
 use clap::ArgMatches;
 use hex::FromHexError;
 use nova_asking::{Bytes, Question};
-use nova_command::{CommandFault, Name};
-use std::alloc::{AllocError, Global};
+use nova_command::{CommandFault, Name, text_of, with_program_name};
+use std::alloc::Global;
 
 /// Bytes of a console, as a question.
 fn on_console(console: &str, bytes: Vec<u8>) -> Result<Question, CommandFault>
@@ -151,7 +151,7 @@ fn request_of(
     let states = text_of(matches, "states").and_then(read_states);
     match (scenario, turns, states) {
         (Some(scenario), Some(turns), Some(states)) => Ok(Request {
-            scenario: name_of(alloc, scenario)?,
+            scenario: Name::from_text(alloc, scenario)?,
             turns,
             states,
             question,
@@ -160,11 +160,13 @@ fn request_of(
     }
 }
 
-/// A text as a name of its own.
-fn name_of(alloc: Global, text: &str) -> Result<Name, AllocError>
-    ensures { IfOk result (λ name. name ≡ text.now) }
+/// The question that was given, and the request with it.
+fn request_in(alloc: Global, matches: &ArgMatches) -> Result<Request, CommandFault>
+    ensures exact { Answers (request_of (given_in (rows_of (found_of matches.now)))) result }
+    ensures bounds { IfOk result HasBounds }
 {
-    Ok(Name::from(String::from_str(alloc, text)?))
+    let question = question_of(alloc, matches)?;
+    request_of(alloc, matches, question)
 }
 
 /// Reads the words after the program's own name as a request: SCENARIO and a question, with the options `--turns N` and `--states N`
@@ -174,8 +176,7 @@ pub(crate) fn read_request(alloc: Global, words: &[String]) -> Result<Request, C
     ensures exact { Answers (request (map string_bytes words.now)) result }
     ensures bounds { IfOk result HasBounds }
 {
-    let named = with_program_name(alloc, words)?;
+    let named = with_program_name(alloc, "nova_explore", words)?;
     let matches = matches_of(alloc, named.as_slice())?;
-    let question = question_of(alloc, &matches)?;
-    request_of(alloc, &matches, question)
+    request_in(alloc, &matches)
 }

@@ -2,6 +2,7 @@ pub mod Faults
 pub mod Files
 pub mod Fetched
 pub mod Taken
+pub mod Outside
 pub mod Memory
 pub mod MemCalls
 pub mod Held

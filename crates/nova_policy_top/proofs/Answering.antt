@@ -3,23 +3,37 @@ use Rattle.std.proofs.Common.{◌≡◌, ℕ, Option, Some, None, List, inl, inr
 use Rattle.nova_boot.specs.Boot.{scenario_of}
 use Rattle.nova_judging.specs.declared.answer.Answer.{Answer}
 use Rattle.nova_judging.specs.declared.answer.Told.{Told}
+use Rattle.nova_loading.specs.Came.{IsScenarioLoaded, ScenarioCame}
+use Rattle.nova_loading.specs.declared.unread.ScenarioUnread.{ScenarioUnread}
+use Rattle.nova_loading.specs.declared.unread.ScenarioUnread.TheVariants as text
 use Rattle.nova_model.specs.Boot.{boot}
 use Rattle.nova_naming.specs.Statements.{Stated}
 use Rattle.nova_order.specs.Blocks.{BlockList}
 use Rattle.nova_scenario.specs.declared.scenario.Scenario.{Scenario as ScenarioText}
-use Rattle.nova_policy_top.specs.Came.{IsOrderFaultIfNamed, IsPolicyFaultIfNamed, IsScenarioFault, OrderCameIfNamed, PolicyCameIfNamed, ScenarioCame}
+use Rattle.nova_policy_top.specs.Came.{IsOrderFaultIfNamed, IsPolicyFaultIfNamed, IsScenarioFault, OrderCameIfNamed, PolicyCameIfNamed}
 use Rattle.nova_policy_top.specs.Main.{IsAnswer, IsFault, IsPrepared, IsSent, IsToldOf}
-use Rattle.nova_policy_top.specs.Exit.{IsUnwritten}
-use Rattle.nova_policy_top.specs.Outside.{Depots, Sinks}
+use Rattle.nova_policy_top.specs.Exit.{IsUnwritten, of_scenario}
+use Rattle.nova_io.specs.Outside.{Depots, Sinks}
 use Rattle.nova_policy_top.specs.Runs.{IsDecided}
 use Rattle.nova_policy_top.specs.declared.exit.Exit.{Exit}
 use Rattle.nova_policy_top.specs.declared.exit.Exit.TheVariants as exit
 use Rattle.nova_policy_top.specs.declared.request.Request.{Request}
 
 module _ {D : Type 0} (d : Depots D) (q : Request) (old : D) where
-  -- the scenario isn't read, the order isn't, or the policy isn't
-  pub scenario_unread : (new : D) (e : Exit) (r : Result Told Exit) → r ≡ Err e → IsScenarioFault d q.scenario old new e → IsPrepared d q old new r
-  scenario_unread new e r is fault = subst (IsPrepared d q old new) (sym is) (inl fault)
+  -- the scenario isn't loaded, the order isn't read, or the policy isn't
+  no_scenario : (new : D) (u : ScenarioUnread) → IsScenarioLoaded d q.scenario old new (Err u) → IsScenarioFault d q.scenario old new (of_scenario u)
+  no_scenario new text.Failed is = is
+  no_scenario new text.TooLong is = is
+  no_scenario new (text.Refused line why) is = is
+  no_scenario new text.Memory is = is
+
+  pub scenario_unread : (new : D) (name : List ℕ) (u : ScenarioUnread) (r : Result Told Exit) → name ≡ q.scenario → r ≡ Err (of_scenario u) → IsScenarioLoaded d name old new (Err u)
+      → IsPrepared d q old new r
+  scenario_unread new name u r named is fault =
+      subst (IsPrepared d q old new) (sym is) (inl (no_scenario new u (subst (λ (n : List ℕ). IsScenarioLoaded d n old new (Err u)) named fault)))
+
+  pub scenario_came : (new : D) (name : List ℕ) (from : ScenarioText) → name ≡ q.scenario → ScenarioCame d name old from new → ScenarioCame d q.scenario old from new
+  scenario_came new name from named came = subst (λ (n : List ℕ). ScenarioCame d n old from new) named came
 
   pub order_unread : (first new : D) (from : ScenarioText) (e : Exit) (r : Result Told Exit) → r ≡ Err e → ScenarioCame d q.scenario old from first
       → IsOrderFaultIfNamed d q.order from.cpus first new e → IsPrepared d q old new r

@@ -1,3 +1,4 @@
 pub mod FirstTurns
 pub mod Ran
 pub mod Answering
+pub mod Loaded

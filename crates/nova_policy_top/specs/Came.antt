@@ -1,55 +1,22 @@
 -- What comes of the files that are named.
 use Rattle.std.specs.Prelude.{◌≡◌, ℕ, List, Option, Some, None, Result, Ok, Err}
+use Rattle.nova_io.specs.Outside.{Depots, FileCame, HasFailed, TooManyCame}
+use Rattle.nova_loading.specs.Came.{NoOrderCame, NoScenarioCame, OrderCame, most_of_order, most_of_scenario}
 use Rattle.nova_naming.specs.Policy.{policy_of}
 use Rattle.nova_naming.specs.Statements.{Stated}
 use Rattle.nova_naming.specs.declared.fault.PolicyWhy.{PolicyWhy}
 use Rattle.nova_order.specs.Blocks.{BlockList}
-use Rattle.nova_order.specs.Read.{order_of}
-use Rattle.nova_order.specs.declared.block.Block.{Block}
-use Rattle.nova_order.specs.declared.fault.OrderFault.{OrderFault}
-use Rattle.nova_scenario.specs.Scenario.{scenario}
-use Rattle.nova_scenario.specs.declared.fault.Why.{Why}
-use Rattle.nova_scenario.specs.declared.scenario.Scenario.{Scenario as ScenarioText}
-use Rattle.nova_policy_top.specs.Outside.{Depots, FileCame, HasFailed, TooManyCame}
 use Rattle.nova_policy_top.specs.declared.exit.Exit.{Exit}
 use Rattle.nova_policy_top.specs.declared.exit.Exit.TheVariants.{ReadFault, TooLong, Scenario, Order, Policy, Memory}
 use Rattle.nova_policy_top.specs.declared.exit.Input.TheVariants as input
 
--- the most bytes: of a scenario 16 MiB, of an order 64 MiB, of a policy 1 MiB
-abbrev pub most_of_scenario : ℕ
-most_of_scenario = 16777216
-
-abbrev pub most_of_order : ℕ
-most_of_order = 67108864
-
+-- the most bytes of a policy: 1 MiB
 abbrev pub most_of_policy : ℕ
 most_of_policy = 1048576
 
 -- the most turns of an order
 abbrev pub most_turns : ℕ
 most_turns = 10000000
-
--- a file came whose bytes are the text of a scenario; or are none, with the first line at fault and why
-pub record ScenarioCame {D : Type 0} (d : Depots D) (name : List ℕ) (old : D) (from : ScenarioText) (new : D) : Type 0 where
-  pub bytes : List ℕ
-  pub came : FileCame d most_of_scenario name old bytes new
-  pub valid : scenario bytes ≡ Ok from
-
-pub record NoScenarioCame {D : Type 0} (d : Depots D) (name : List ℕ) (line : ℕ) (why : Why) (old new : D) : Type 0 where
-  pub bytes : List ℕ
-  pub came : FileCame d most_of_scenario name old bytes new
-  pub invalid : scenario bytes ≡ Err (record { line = line; why = why })
-
--- a file came whose bytes are the text of an order of processors below `cpus`; or are none
-pub record OrderCame {D : Type 0} (d : Depots D) (name : List ℕ) (cpus : ℕ) (old : D) (blocks : List Block) (new : D) : Type 0 where
-  pub bytes : List ℕ
-  pub came : FileCame d most_of_order name old bytes new
-  pub reads : order_of bytes cpus most_turns ≡ Ok blocks
-
-pub record NoOrderCame {D : Type 0} (d : Depots D) (name : List ℕ) (cpus : ℕ) (fault : OrderFault) (old new : D) : Type 0 where
-  pub bytes : List ℕ
-  pub came : FileCame d most_of_order name old bytes new
-  pub faulty : order_of bytes cpus most_turns ≡ Err fault
 
 -- a file came whose bytes are a policy; or are none, with the first line at fault and why
 pub record PolicyCame {D : Type 0} (d : Depots D) (name : List ℕ) (old : D) (policy : List Stated) (new : D) : Type 0 where
@@ -67,7 +34,7 @@ abbrev pub OrderCameIfNamed : {D : Type 0} → Depots D → Option (List ℕ) �
 OrderCameIfNamed d None cpus old None new = new ≡ old
 OrderCameIfNamed d None cpus old (Some order) new = ⊥
 OrderCameIfNamed d (Some name) cpus old None new = ⊥
-OrderCameIfNamed d (Some name) cpus old (Some order) new = OrderCame d name cpus old order.blocks new
+OrderCameIfNamed d (Some name) cpus old (Some order) new = OrderCame d name cpus most_turns old order.blocks new
 
 abbrev pub PolicyCameIfNamed : {D : Type 0} → Depots D → Option (List ℕ) → D → Option (List Stated) → D → Type 0
 PolicyCameIfNamed d None old None new = new ≡ old
@@ -84,19 +51,15 @@ IsScenarioFault d name old new (Scenario line why) = NoScenarioCame d name line 
 IsScenarioFault d name old new Memory = Unit {0}
 IsScenarioFault d name old new _ = ⊥
 
-abbrev pub IsScenarioRead : {D : Type 0} → Depots D → List ℕ → D → D → Result ScenarioText Exit → Type 0
-IsScenarioRead d name old new (Ok from) = ScenarioCame d name old from new
-IsScenarioRead d name old new (Err exit) = IsScenarioFault d name old new exit
-
 abbrev pub IsOrderFault : {D : Type 0} → Depots D → List ℕ → ℕ → D → D → Exit → Type 0
 IsOrderFault d name cpus old new ReadFault = HasFailed d name old new
 IsOrderFault d name cpus old new (TooLong input.Order) = TooManyCame d most_of_order name old new
-IsOrderFault d name cpus old new (Order fault) = NoOrderCame d name cpus fault old new
+IsOrderFault d name cpus old new (Order fault) = NoOrderCame d name cpus most_turns fault old new
 IsOrderFault d name cpus old new Memory = Unit {0}
 IsOrderFault d name cpus old new _ = ⊥
 
 abbrev pub IsOrderRead : {D : Type 0} → Depots D → List ℕ → ℕ → D → D → Result BlockList Exit → Type 0
-IsOrderRead d name cpus old new (Ok order) = OrderCame d name cpus old order.blocks new
+IsOrderRead d name cpus old new (Ok order) = OrderCame d name cpus most_turns old order.blocks new
 IsOrderRead d name cpus old new (Err exit) = IsOrderFault d name cpus old new exit
 
 abbrev pub IsPolicyFault : {D : Type 0} → Depots D → List ℕ → D → D → Exit → Type 0

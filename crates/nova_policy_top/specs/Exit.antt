@@ -1,23 +1,20 @@
 -- The statuses of the program, and the end that each fault makes.
 use Rattle.std.specs.Prelude.{ℕ}
-use Rattle.std.specs.declared.io.ErrorKind.{ErrorKind}
-use Rattle.std.specs.declared.io.ErrorKind.TheVariants.{InvalidData}
+use Rattle.nova_command.specs.CommandFault.{by_fault}
 use Rattle.nova_command.specs.declared.fault.CommandFault.{CommandFault}
-use Rattle.nova_command.specs.declared.fault.CommandFault.TheVariants as command
 use Rattle.nova_io.specs.declared.faults.FetchFault.{FetchFault}
 use Rattle.nova_io.specs.declared.faults.FetchFault.TheVariants as fetch
 use Rattle.nova_judging.specs.declared.answer.Answer.TheVariants.{Apart, Served, Single, Breach, Stuck}
+use Rattle.nova_loading.specs.declared.unread.OrderUnread.{OrderUnread}
+use Rattle.nova_loading.specs.declared.unread.OrderUnread.TheVariants as order
+use Rattle.nova_loading.specs.declared.unread.ScenarioUnread.{ScenarioUnread}
+use Rattle.nova_loading.specs.declared.unread.ScenarioUnread.TheVariants as text
 use Rattle.nova_naming.specs.declared.fault.PolicyFault.{PolicyFault}
 use Rattle.nova_naming.specs.declared.fault.PolicyFault.TheVariants as policy
-use Rattle.nova_order.specs.declared.fault.OrderFault.{OrderFault}
-use Rattle.nova_order.specs.declared.fault.OrderFault.TheVariants as order
-use Rattle.nova_scenario.specs.declared.fault.ScenarioFault.{ScenarioFault}
-use Rattle.nova_scenario.specs.declared.fault.ScenarioFault.TheVariants as text
 use Rattle.nova_shared.specs.declared.fault.RunFault.{RunFault}
 use Rattle.nova_shared.specs.declared.fault.RunFault.TheVariants as turn
 use Rattle.nova_policy_top.specs.declared.exit.Exit.{Exit}
 use Rattle.nova_policy_top.specs.declared.exit.Exit.TheVariants.{Told, Usage, ReadFault, TooLong, Scenario, Order, Idle, Policy, NoDomain, WriteFault, Memory}
-use Rattle.nova_policy_top.specs.declared.exit.Input.{Input}
 use Rattle.nova_policy_top.specs.declared.exit.Input.TheVariants as input
 
 abbrev pub status_of : Exit → ℕ
@@ -39,32 +36,28 @@ status_of (Policy line why) = 7
 status_of (NoDomain line domain) = 7
 status_of Memory = 8
 
--- the words could not be read: one is no text, or memory was refused
-abbrev pub of_words : ErrorKind → Exit
-of_words InvalidData = Usage
-of_words _ = Memory
-
+-- the words ask for nothing, or memory was refused for them
 abbrev pub of_command : CommandFault → Exit
-of_command command.Usage = Usage
-of_command command.Memory = Memory
+of_command = by_fault Usage Memory
 
--- a file did not come
-abbrev pub of_fetch : Input → FetchFault → Exit
-of_fetch i fetch.Failed = ReadFault
-of_fetch i fetch.TooLong = TooLong i
-of_fetch i fetch.Memory = Memory
-
-abbrev pub of_scenario : ScenarioFault → Exit
-of_scenario (text.At line why) = Scenario line why
+-- the scenario was not loaded, or the order
+abbrev pub of_scenario : ScenarioUnread → Exit
+of_scenario text.Failed = ReadFault
+of_scenario text.TooLong = TooLong input.Scenario
+of_scenario (text.Refused line why) = Scenario line why
 of_scenario text.Memory = Memory
 
-abbrev pub of_order : OrderFault → Exit
-of_order (order.BadLine line) = Order (order.BadLine line)
-of_order (order.BadCpu line) = Order (order.BadCpu line)
-of_order (order.ZeroCount line) = Order (order.ZeroCount line)
-of_order (order.NotMerged line) = Order (order.NotMerged line)
-of_order (order.TooMany line) = Order (order.TooMany line)
+abbrev pub of_order : OrderUnread → Exit
+of_order order.Failed = ReadFault
+of_order order.TooLong = TooLong input.Order
+of_order (order.Refused fault) = Order fault
 of_order order.Memory = Memory
+
+-- the policy did not come, or is none
+abbrev pub of_policy_fetch : FetchFault → Exit
+of_policy_fetch fetch.Failed = ReadFault
+of_policy_fetch fetch.TooLong = TooLong input.Policy
+of_policy_fetch fetch.Memory = Memory
 
 abbrev pub of_policy : PolicyFault → Exit
 of_policy (policy.At line why) = Policy line why

@@ -1,9 +1,8 @@
 -- The form of the command line, and what words give to it.
-use Rattle.std.specs.Prelude.{ℕ, List, [], ◌∷◌, codes, Option, Some, None}
+use Rattle.std.specs.Prelude.{List, codes, Option, Some, option_map}
 use Rattle.clap.specs.Walk.{Row, Rule, first_of}
-use Rattle.clap.specs.Simple.{App, matches_of, new_app, new_rule, with_rule}
-use Rattle.clap.specs.Kinds.{Kinds}
-use Rattle.clap.specs.Faults.{fault_of}
+use Rattle.clap.specs.Simple.{App, new_app, new_rule, with_rule}
+use Rattle.nova_command.specs.Parsing.{Text, rows_given}
 
 -- `--order ORDER`, `--at TURN`, `--until TURN` and `--policy POLICY`
 abbrev pub order_option : Rule
@@ -24,11 +23,11 @@ form = with_rule (with_rule (with_rule (with_rule (with_rule (new_app (codes "no
 
 -- what words give to each of the five
 pub record Given : Type 0 where
-  pub scenario : Option (List ℕ)
-  pub order : Option (List ℕ)
-  pub at : Option (List ℕ)
-  pub until : Option (List ℕ)
-  pub policy : Option (List ℕ)
+  pub scenario : Option Text
+  pub order : Option Text
+  pub at : Option Text
+  pub until : Option Text
+  pub policy : Option Text
 
 abbrev pub given_in : List Row → Given
 given_in rows = record {
@@ -39,11 +38,6 @@ given_in rows = record {
   policy = first_of (codes "policy") rows;
 }
 
--- nothing where there is a fault of some kind, as which a call for help counts too
-abbrev pub unless_fault : Kinds → Given → Option Given
-unless_fault [] given = Some given
-unless_fault (kind ∷ kinds) given = None
-
 -- what words give to the form, where the first of them is the program's name, or nothing
-unfoldable pub given : List (List ℕ) → Option Given
-given words = unless_fault (fault_of form words) (given_in (matches_of form words))
+unfoldable pub given : List Text → Option Given
+given words = option_map given_in (rows_given form words)

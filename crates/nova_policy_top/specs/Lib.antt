@@ -2,7 +2,6 @@ pub use Rattle.nova_judging.specs.Answers
 pub mod Form
 pub mod Words
 pub mod Exit
-pub mod Outside
 pub mod Came
 pub mod Runs
 pub mod Main

@@ -1,17 +1,15 @@
 -- What the top call answers to a request, with the cause of each answer and what is written then.
-use Rattle.std.specs.Prelude.{◌≡◌, ◌⊎◌, ℕ, ◌<◌, List, length, take, Option, Result, Ok, Err, string_bytes}
-use Rattle.std.specs.Io.KnownBytes.{append_known}
+use Rattle.std.specs.Prelude.{◌≡◌, ◌⊎◌, ℕ, List, Option, Result, Ok, Err, string_bytes}
 use Rattle.nova_boot.specs.Boot.{scenario_of}
-use Rattle.nova_io.specs.Faults.{Rose}
-use Rattle.nova_io.specs.Taken.{WentWhole, WentInPart}
+use Rattle.nova_io.specs.Outside.{Depots, IsOut, IsPartOut, Sinks}
 use Rattle.nova_judging.specs.declared.answer.Answer.{Answer}
 use Rattle.nova_judging.specs.declared.answer.Told.{Told}
+use Rattle.nova_loading.specs.Came.{ScenarioCame}
 use Rattle.nova_model.specs.Boot.{boot}
 use Rattle.nova_naming.specs.Statements.{Stated}
 use Rattle.nova_order.specs.Blocks.{BlockList}
 use Rattle.nova_scenario.specs.declared.scenario.Scenario.{Scenario as ScenarioText}
-use Rattle.nova_policy_top.specs.Came.{IsOrderFaultIfNamed, IsPolicyFaultIfNamed, IsScenarioFault, OrderCameIfNamed, PolicyCameIfNamed, ScenarioCame}
-use Rattle.nova_policy_top.specs.Outside.{Depots, Sinks}
+use Rattle.nova_policy_top.specs.Came.{IsOrderFaultIfNamed, IsPolicyFaultIfNamed, IsScenarioFault, OrderCameIfNamed, PolicyCameIfNamed}
 use Rattle.nova_policy_top.specs.Runs.{IsToldIn, IsUndecided}
 use Rattle.nova_policy_top.specs.declared.exit.Exit.{Exit}
 use Rattle.nova_policy_top.specs.declared.exit.Exit.TheVariants as exit
@@ -64,19 +62,6 @@ pub record IsToldOf {D : Type 0} (d : Depots D) (q : Request) (old new : D) (ans
 abbrev pub IsPrepared : {D : Type 0} → Depots D → Request → D → D → Result Told Exit → Type 0
 IsPrepared d q old new (Ok t) = IsToldOf d q old new t.answer (string_bytes t.text)
 IsPrepared d q old new (Err exit) = IsFault d q old new exit
-
--- a text is out whole, after what was written before; its writes are all that was done to the sink
-pub record IsOut {O : Type 0} (o : Sinks O) (text : List ℕ) (before after : O) : Type 0 where
-  pub went : WentWhole o.took text before after
-  pub written : o.written after ≡ append_known (o.written before) text
-
--- or a write failed, which was the last, and a part of the text is written, from its first byte on
-pub record IsPartOut {O : Type 0} (o : Sinks O) (text : List ℕ) (before after : O) : Type 0 where
-  pub went : WentInPart o.took o.write_failed text before after
-  pub count : ℕ
-  pub within : count < length text
-  pub written : o.written after ≡ append_known (o.written before) (take count text)
-  pub failed : Rose (o.faults before) (o.faults after)
 
 abbrev pub IsSent : {O : Type 0} → Sinks O → Told → Exit → O → O → Type 0
 IsSent o t (exit.Told answer) before after = (answer ≡ t.answer) × IsOut o (string_bytes t.text) before after

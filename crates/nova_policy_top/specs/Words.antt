@@ -1,16 +1,13 @@
 -- What words ask for.
 use Rattle.std.specs.Prelude.{ℕ, List, ◌∷◌, codes, nat_le, if◌then◌else◌, Option, Some, None, option_and_then}
-use Rattle.nova_text.specs.Number.{number}
+use Rattle.nova_command.specs.Number.{number_within}
 use Rattle.nova_policy_top.specs.Form.{Given, given}
 use Rattle.nova_policy_top.specs.declared.request.Request.{Request}
 use Rattle.nova_policy_top.specs.declared.request.Span.{Span}
 
 -- the turn that a text writes: from 0 to 10,000,000; where there is no text, another one
-abbrev pub up_to : ℕ → ℕ → Option ℕ
-up_to last n = if nat_le n last then Some n else None
-
-unfoldable pub turn_of : List ℕ → Option ℕ
-turn_of text = option_and_then (up_to 10000000) (number text)
+abbrev pub turn_of : List ℕ → Option ℕ
+turn_of = number_within 0 10000000
 
 abbrev pub turn_or : ℕ → Option (List ℕ) → Option ℕ
 turn_or turn None = Some turn

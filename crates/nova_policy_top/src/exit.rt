@@ -1,15 +1,15 @@
 ghost use Rattle.std.specs.Prelude.{◌≡◌};
-ghost use Rattle.nova_policy_top.specs.Exit.{of_fetch, of_words, status_of};
+ghost use Rattle.nova_policy_top.specs.Exit.{of_policy_fetch, status_of};
 
 use nova_command::CommandFault;
 use nova_io::FetchFault;
 use nova_judging::Answer;
+use nova_loading::{OrderUnread, ScenarioUnread};
 use nova_naming::{PolicyFault, PolicyWhy};
 use nova_order::OrderFault;
 use nova_run::RunFault;
-use nova_scenario::{ScenarioFault, Why};
+use nova_scenario::Why;
 use std::alloc::AllocError;
-use std::io::ErrorKind;
 use thiserror::Error;
 
 /// A file that is read.
@@ -101,23 +101,13 @@ fn status_of_input(input: Input) -> u8
 }
 
 impl Exit {
-    /// How a call ends whose words could not be read: with a word that is no text they ask for nothing.
-    pub fn of_words(kind: ErrorKind) -> Exit
-        ensures { result ≡ of_words kind }
-    {
-        match kind {
-            ErrorKind::InvalidData => Exit::Usage,
-            _ => Exit::Memory,
-        }
-    }
-
-    /// How a call ends where a file did not come.
-    pub(crate) fn of_fetch(input: Input, fault: FetchFault) -> Exit
-        ensures { result ≡ of_fetch input fault }
+    /// How a call ends where a policy did not come.
+    pub(crate) fn of_policy_fetch(fault: FetchFault) -> Exit
+        ensures { result ≡ of_policy_fetch fault }
     {
         match fault {
             FetchFault::Failed => Exit::ReadFault,
-            FetchFault::TooLong => Exit::TooLong(input),
+            FetchFault::TooLong => Exit::TooLong(Input::Policy),
             FetchFault::Memory => Exit::Memory,
         }
     }
@@ -163,32 +153,32 @@ impl From<CommandFault> for Exit {
     }
 }
 
-impl From<ScenarioFault> for Exit {
+impl From<ScenarioUnread> for Exit {
     ghost use Rattle.nova_policy_top.specs.Exit.{of_scenario};
 
-    ghost from_gives = { λ fault exit. exit ≡ of_scenario fault };
+    ghost from_gives = { λ unread exit. exit ≡ of_scenario unread };
 
-    fn from(fault: ScenarioFault) -> Exit {
-        match fault {
-            ScenarioFault::At { line, why } => Exit::Scenario { line, why },
-            ScenarioFault::Memory => Exit::Memory,
+    fn from(unread: ScenarioUnread) -> Exit {
+        match unread {
+            ScenarioUnread::Failed => Exit::ReadFault,
+            ScenarioUnread::TooLong => Exit::TooLong(Input::Scenario),
+            ScenarioUnread::Refused { line, why } => Exit::Scenario { line, why },
+            ScenarioUnread::Memory => Exit::Memory,
         }
     }
 }
 
-impl From<OrderFault> for Exit {
+impl From<OrderUnread> for Exit {
     ghost use Rattle.nova_policy_top.specs.Exit.{of_order};
 
-    ghost from_gives = { λ fault exit. exit ≡ of_order fault };
+    ghost from_gives = { λ unread exit. exit ≡ of_order unread };
 
-    fn from(fault: OrderFault) -> Exit {
-        match fault {
-            OrderFault::BadLine(line) => Exit::Order(OrderFault::BadLine(line)),
-            OrderFault::BadCpu(line) => Exit::Order(OrderFault::BadCpu(line)),
-            OrderFault::ZeroCount(line) => Exit::Order(OrderFault::ZeroCount(line)),
-            OrderFault::NotMerged(line) => Exit::Order(OrderFault::NotMerged(line)),
-            OrderFault::TooMany(line) => Exit::Order(OrderFault::TooMany(line)),
-            OrderFault::Memory => Exit::Memory,
+    fn from(unread: OrderUnread) -> Exit {
+        match unread {
+            OrderUnread::Failed => Exit::ReadFault,
+            OrderUnread::TooLong => Exit::TooLong(Input::Order),
+            OrderUnread::Refused(fault) => Exit::Order(fault),
+            OrderUnread::Memory => Exit::Memory,
         }
     }
 }

@@ -12,4 +12,5 @@ mod running;
 
 pub use exit::{Exit, Input};
 pub use main_call::policy_main;
+pub use nova_command::CommandFault;
 pub use nova_judging::Answer;

@@ -1,23 +1,24 @@
 ghost use Rattle.std.specs.Prelude.{◌≡◌, ◌≤◌, ◌⊎◌, IfSome, None, map, string_bytes};
 ghost use Rattle.nova_policy_top.specs.Exit.{IsUnwritten};
 ghost use Rattle.nova_policy_top.specs.Main.{IsAnswer, IsPrepared, IsSent};
-ghost use Rattle.nova_policy_top.specs.Outside.{depots, sinks};
+ghost use Rattle.nova_io.specs.Outside.{depots, sinks};
 ghost use Rattle.nova_policy_top.specs.Words.{asked};
 
 use crate::decided::decide;
 use crate::exit::Exit;
-use crate::fetched::{fetch_order_if_named, fetch_policy_if_named, fetch_scenario};
+use crate::fetched::{fetch_order_if_named, fetch_policy_if_named};
 use crate::request::{Request, read_request};
 use nova_io::{Depot, Sink, write_all};
 use nova_judging::Told;
+use nova_loading::load_scenario;
 use std::alloc::Global;
 
 /// Reads what is asked for, and decides it.
 fn prepare<D: Depot>(alloc: Global, request: &Request, depot: &mut D) -> Result<Told, Exit>
     requires last { request.now.span.until ≤ 10000000 }
-    ensures { IsPrepared (depots D.files D.gave D.fetch_faults) request.now depot.old depot.new result }
+    ensures { IsPrepared (depots D.files D.gave D.fetch_failed D.fetch_faults D.took D.append_failed D.append_faults) request.now depot.old depot.new result }
 {
-    let scenario = fetch_scenario(alloc, depot, &request.scenario)?;
+    let scenario = load_scenario(alloc, depot, request.scenario.as_str())?;
     let order = fetch_order_if_named(alloc, depot, &request.order, scenario.cpus)?;
     let policy = fetch_policy_if_named(alloc, depot, &request.policy)?;
     decide(alloc, &scenario, &order, &policy, request.span)
@@ -36,7 +37,7 @@ fn send<O: Sink>(out: &mut O, told: &Told) -> Exit
 /// Decides what is asked for, and writes it.
 fn serve<D: Depot, O: Sink>(alloc: Global, request: &Request, depot: &mut D, out: &mut O) -> Exit
     requires last { request.now.span.until ≤ 10000000 }
-    ensures answer { IsAnswer (depots D.files D.gave D.fetch_faults) (sinks O.written O.took O.write_failed O.faults) request.now result depot.old depot.new out.old out.new }
+    ensures answer { IsAnswer (depots D.files D.gave D.fetch_failed D.fetch_faults D.took D.append_failed D.append_faults) (sinks O.written O.took O.write_failed O.faults) request.now result depot.old depot.new out.old out.new }
     ensures unwritten { IsUnwritten result → out.new ≡ out.old }
 {
     match prepare(alloc, request, depot) {
@@ -74,7 +75,7 @@ pub fn policy_main<D: Depot, O: Sink>(
     ensures untouched { asked (map string_bytes words.now) ≡ None → (depot.new ≡ depot.old) × (out.new ≡ out.old) }
     ensures unwritten { IsUnwritten result → out.new ≡ out.old }
     ensures answer { IfSome (asked (map string_bytes words.now)) (λ request.
-        IsAnswer (depots D.files D.gave D.fetch_faults) (sinks O.written O.took O.write_failed O.faults) request result depot.old depot.new out.old out.new) }
+        IsAnswer (depots D.files D.gave D.fetch_failed D.fetch_faults D.took D.append_failed D.append_faults) (sinks O.written O.took O.write_failed O.faults) request result depot.old depot.new out.old out.new) }
 {
     match read_request(alloc, words) {
         Ok(request) => serve(alloc, &request, depot, out),

@@ -6,10 +6,9 @@ ghost use Rattle.nova_command.specs.CommandFault.{Answers};
 ghost use Rattle.nova_policy_top.specs.Form.{given_in};
 ghost use Rattle.nova_policy_top.specs.Words.{asked, asked_of, between, spanned, turn_of, turn_or};
 
-use crate::form::{matches_of, text_of, with_program_name};
+use crate::form::matches_of;
 use clap::ArgMatches;
-use nova_command::{CommandFault, Name};
-use nova_text::parse_number;
+use nova_command::{CommandFault, Name, number_within, text_of, with_program_name};
 use std::alloc::{AllocError, Global};
 
 /// Turns of a run: the last, and the first whose state is asked for, from 0 to 10,000,000 and not after it.
@@ -39,14 +38,11 @@ pub struct Request {
 const LAST_TURN: u32 = 10_000_000;
 
 /// The turn that a text writes.
-#[tactic(auto, unfolding(crate::specs::Words::turn_of))]
 fn read_turn(text: &str) -> Option<u32>
     ensures exact { result ≡ turn_of text.now }
     ensures last { IfSome result (λ turn. turn ≤ 10000000) }
 {
-    parse_number(text.as_bytes())
-        .ok()
-        .filter(|turn| *turn <= LAST_TURN)
+    number_within(text, 0, LAST_TURN)
 }
 
 /// The turn that a text writes, or another one where there is no text.
@@ -103,19 +99,12 @@ fn spanned(at: Option<&str>, until: Option<&str>) -> Option<Span>
     }
 }
 
-/// A text as a name of its own.
-fn name_of(alloc: Global, text: &str) -> Result<Name, AllocError>
-    ensures { IfOk result (λ name. name ≡ text.now) }
-{
-    Ok(Name::from(String::from_str(alloc, text)?))
-}
-
-/// The same of a text that may be there.
+/// The name that a text is, where there is a text.
 fn name_if_any(alloc: Global, text: Option<&str>) -> Result<Option<Name>, AllocError>
     ensures { IfOk result (λ name. name ≡ option_map (λ t. t.now) text.entry) }
 {
     match text {
-        Some(text) => Ok(Some(name_of(alloc, text)?)),
+        Some(text) => Ok(Some(Name::from_text(alloc, text)?)),
         None => Ok(None),
     }
 }
@@ -134,7 +123,7 @@ fn request_for(
       policy = (given_in (rows_of (found_of matches.now))).policy;
     }) }
 {
-    let scenario = name_of(alloc, scenario)?;
+    let scenario = Name::from_text(alloc, scenario)?;
     let order = name_if_any(alloc, text_of(matches, "order"))?;
     let policy = name_if_any(alloc, text_of(matches, "policy"))?;
     Ok(Request {
@@ -169,7 +158,7 @@ pub fn read_request(alloc: Global, words: &[String]) -> Result<Request, CommandF
     ensures exact { Answers (asked (map string_bytes words.now)) result }
     ensures last { IfOk result (λ request. request.span.until ≤ 10000000) }
 {
-    let named = with_program_name(alloc, words)?;
+    let named = with_program_name(alloc, "nova_policy", words)?;
     let matches = matches_of(alloc, named.as_slice())?;
     request_of(alloc, &matches)
 }

@@ -4,6 +4,7 @@ use Rattle.nova_model.specs.declared.event.Event.{Event}
 use Rattle.nova_trace.specs.Traces.{events_of}
 use Rattle.nova_trace.specs.declared.trace.Repeated.{Repeated}
 use Rattle.nova_trace.proofs.Left.{events_at, none_left}
+use Rattle.std.proofs.lemmas.List.{append-nil}
 
 -- once more
 pub once_more : (n : ℕ) (x : Event) → replicate (n + 1) x ≡ replicate n x ++ x ∷ []
@@ -21,9 +22,5 @@ entry_next events es i d more =
     let e = slice_index_or es i d in
     append_assoc events (replicate e.count e.event) (events_of (drop (i + 1) es)) ∙ ap (λ xs. events ++ xs) (sym (events_at es i d more))
 
-append_nil : (xs : List Event) → xs ++ [] ≡ xs
-append_nil [] = refl
-append_nil (x ∷ xs) = ap (λ ys. x ∷ ys) (append_nil xs)
-
 pub all_listed : (events : List Event) (es : List Repeated) (i : ℕ) → length es ≤ i → events ++ events_of (drop i es) ≡ events
-all_listed events es i most = ap (λ xs. events ++ xs) (none_left es i most) ∙ append_nil events
+all_listed events es i most = ap (λ xs. events ++ xs) (none_left es i most) ∙ append-nil events

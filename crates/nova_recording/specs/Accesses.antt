@@ -1,7 +1,5 @@
 -- What the next instruction loads or stores, by the model's own instruction: one that goes on alone does either, with its right and alignment.
 use Rattle.std.specs.Prelude.{ℕ, ◌%◌, ◌==◌, Bool, true, false, if◌then◌else◌, Option, Some, None, option_map}
-use Rattle.rv_core.specs.declared.outcome.Outcome.{Outcome}
-use Rattle.rv_core.specs.declared.outcome.Outcome.TheVariants.{Next, Raise}
 use Rattle.rv_model.specs.Step.{Space, Store, Once, Raised, Went, one, load_fault}
 use Rattle.nova_model.specs.Numbers.{EcId}
 use Rattle.nova_model.specs.AddressSpaces.{AddressSpace, frame_for, space}
@@ -12,6 +10,7 @@ use Rattle.nova_model.specs.State.{KernelState, context, context_at}
 use Rattle.nova_model.specs.declared.context.EcState.{EcState}
 use Rattle.nova_range.specs.Rights.{read_right, write_right}
 use Rattle.nova_kernel.specs.Views.{KernelView}
+pub use Rattle.nova_deeds.specs.Acts.{outcome_of}
 use Rattle.nova_recording.specs.declared.preview.Access.{Access}
 
 -- a store, and a load, with the frame that the address leads to
@@ -96,11 +95,6 @@ noted store s = record s { stored = Some (store_at (seen s) store) }
 -- an instruction begins, and nothing is stored yet
 abbrev pub begun : PreviewState → EcId → Bool → PreviewState
 begun s ec hides_loads = record s { ec = ec; hides_loads = hides_loads; stored = None }
-
--- the outcome of an instruction
-abbrev pub outcome_of : Once → Outcome
-outcome_of (Raised reason q0 q1) = Raise reason q0 q1
-outcome_of (Went regs store) = Next
 
 -- the store of an instruction
 abbrev pub stored_by : AddressSpace → Once → Option Access

@@ -1,12 +1,12 @@
 -- Which turns are wanted: by what the one that acts in them is about to do.
-use Rattle.std.specs.Prelude.{◌≡◌, ℕ, ◌+◌, ◌<◌, ◌≤◌, ◌==◌, ◌&&◌, ◌||◌, Bool, true, false, not, if◌then◌else◌, List, Option, Some, None, slice_get, option_and_then}
+use Rattle.std.specs.Prelude.{◌≡◌, ℕ, ◌+◌, ◌<◌, ◌≤◌, ◌==◌, ◌&&◌, ◌||◌, Bool, true, false, if◌then◌else◌, List, Option, Some, None, slice_get, option_and_then}
 use Rattle.std.specs.List.{list_any}
 use Rattle.law_forest.specs.Turns.{is_passing}
 use Rattle.nova_model.specs.State.{KernelState, context, pd_of}
 use Rattle.nova_model.specs.declared.context.EcState.{EcState}
-use Rattle.nova_model.specs.declared.context.State.{State}
-use Rattle.nova_model.specs.declared.context.State.TheVariants.{Ready}
 use Rattle.nova_model.specs.declared.event.Event.{Event}
+pub use Rattle.nova_deeds.specs.Acts.{is_executing as is_going}
+pub use Rattle.nova_choice.specs.Schedules.{is_ready}
 use Rattle.nova_recording.specs.Recordings.{RecordingView, at_turn}
 use Rattle.nova_recording.specs.Accesses.{accessed}
 use Rattle.nova_recording.specs.Watches.{is_seen_by}
@@ -15,14 +15,6 @@ use Rattle.nova_recording.specs.declared.wants.Next.{Next}
 use Rattle.nova_recording.specs.declared.wants.Search.{Search}
 use Rattle.nova_recording.specs.declared.wants.Want.{Want}
 use Rattle.nova_recording.specs.declared.wants.Want.TheVariants.{At, By}
-
-abbrev pub is_ready : State → Bool
-is_ready Ready = true
-is_ready other = false
-
--- it is about to execute an instruction: it is ready, and no recall is asked for
-abbrev pub is_going : EcState → Bool
-is_going x = is_ready x.state && not x.recall
 
 -- the instruction that an execution context of a domain is about to execute, by its address
 abbrev pub next_in : EcState → ℕ → ℕ → Option Next

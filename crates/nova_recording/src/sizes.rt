@@ -1,7 +1,8 @@
-ghost use Rattle.std.specs.Prelude.{◌≡◌, ◌<◌, length, IfSome};
+ghost use Rattle.std.specs.Prelude.{◌≡◌, ◌<◌, IfSome};
 ghost use Rattle.nova_recording.specs.Copies.{size_of};
 
 use nova_kernel::Kernel;
+use nova_report::count_derivations;
 
 /// What a state takes beside what follows, in bytes.
 const STATE: usize = 16_384;
@@ -17,19 +18,6 @@ const DERIVATION: usize = 128;
 
 /// A byte in the console log.
 const LOGGED: usize = 8;
-
-/// How many derivations there are.
-fn count_derivations(kernel: &Kernel) -> u32
-    ensures { result ≡ length kernel.now.state.delegations.list }
-{
-    let mut count = 0;
-    let mut id = 0;
-    while let Some(derivation) = kernel.derivation_from(id) {
-        count += 1;
-        id = derivation.id + 1;
-    }
-    count
-}
 
 /// The bytes that a state takes where it is kept, by how much it has of what grows; none where a `usize` is too small. An estimate: nothing is
 /// measured.

@@ -47,8 +47,8 @@ fn count_all(trace: &Trace, counted: Counted) -> u64
     count
 }
 
-/// How many derivations there are.
-fn count_derivations(kernel: &Kernel) -> u32
+/// How many derivations a kernel has.
+pub fn count_derivations(kernel: &Kernel) -> u32
     ensures { result ≡ length kernel.now.state.delegations.list }
 {
     let mut count = 0;

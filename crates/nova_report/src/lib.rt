@@ -11,10 +11,10 @@ mod objects;
 mod run;
 mod sources;
 
-pub use bench::summary;
+pub use bench::{count_derivations, summary};
 pub use consoles::write_consoles;
 pub use derivations::write_derivations;
 pub use events::event_word;
 pub use hex::{write_byte, write_word};
-pub use objects::{write_contexts, write_semaphores};
+pub use objects::{state_word, write_contexts, write_semaphores};
 pub use run::report;

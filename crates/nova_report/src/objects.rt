@@ -19,7 +19,8 @@ fn context_word<'a>(kind: EcKind) -> &'a str
     }
 }
 
-fn state_word<'a>(state: State) -> &'a str
+/// The word of a state of an execution context.
+pub fn state_word<'a>(state: State) -> &'a str
     ensures { result.now ≡ state_word state }
 {
     match state {

@@ -10,7 +10,7 @@ use Rattle.nova_top.specs.Fetches.{AllOthersStay, Appends, Calls, Fetches, Fetch
 use Rattle.nova_top.specs.Made.{IsOutcome}
 use Rattle.nova_top.specs.Main.{IsAnswer, HasOrderFailed, IsOrderOut, IsOrderCut}
 use Rattle.nova_top.specs.Names.{appended_names, names_of, names_in}
-use Rattle.nova_top.specs.Outside.{Depots, Sinks}
+use Rattle.nova_io.specs.Outside.{Depots, Sinks}
 use Rattle.nova_top.specs.Sent.{IsSent}
 use Rattle.nova_top.specs.Servable.{IsServable, IsDoneOrStopped}
 use Rattle.nova_top.specs.declared.exit.Exit.{Exit}

@@ -17,12 +17,12 @@ use Rattle.nova_order.specs.declared.fault.OrderFault.{OrderFault}
 use Rattle.nova_scenario.specs.Scenario.{scenario}
 use Rattle.nova_scenario.specs.declared.scenario.Scenario.{Scenario as ScenarioText}
 use Rattle.nova_shared.proofs.Idle.{no_idle_line}
-use Rattle.nova_top.specs.Causes.{ScenarioRefused, OrderRefused, NoOrderCame, IsRefusedAfter, IsReadFault, IsScenarioFault, IsOrderFault, IsTried, IsUnfollowed, SubjectsRefused, LineUnread, IsTwinFault}
+use Rattle.nova_top.specs.Causes.{ScenarioRefused, OrderRefused, IsRefusedAfter, IsReadFault, IsScenarioFault, IsOrderFault, IsTried, IsUnfollowed, SubjectsRefused, LineUnread, IsTwinFault}
 use Rattle.nova_top.specs.Prepared.{IsPrepared}
-use Rattle.nova_top.specs.Came.{Followed, IsFoundBy, ScenarioCame, SubjectsCame}
-use Rattle.nova_top.specs.Names.{most_of_order, most_of_scenario, most_of_subjects, names_in}
-use Rattle.nova_top.specs.Orders.{OrderCame}
-use Rattle.nova_top.specs.Outside.{Depots, Sinks, HasFailed}
+use Rattle.nova_top.specs.Came.{Followed, IsFoundBy, SubjectsCame}
+use Rattle.nova_top.specs.Names.{most_of_subjects, names_in}
+use Rattle.nova_io.specs.Outside.{Depots, Sinks, HasFailed}
+use Rattle.nova_loading.specs.Came.{NoOrderCame, OrderCame, ScenarioCame, most_of_order, most_of_scenario}
 use Rattle.nova_top.specs.Subjects.{subjects_of}
 use Rattle.nova_top.specs.Servable.{HasScenario, HasOrder, HasGuest, HasGuests, IsGuest, IsServable, IsDoneOrStopped, names_read}
 use Rattle.nova_top.specs.declared.exit.Exit.{Exit}
@@ -59,8 +59,8 @@ module _ {D : Type 0} (d : Depots D) (held : Files) where
   no_scenario_fault name from line TooLong old new told has refused =
       few_bytes (d.files old) held name has.bytes most_of_scenario told has.there has.fits refused.1.held
   no_scenario_fault name from line (Text w) old new told has refused =
-      let same = same_bytes (d.files old) held name has.bytes refused.0 told has.there refused.1.held in
-      fault_is_none (scenario has.bytes) from _ has.valid (ap scenario (sym same) ∙ refused.2)
+      let same = same_bytes (d.files old) held name has.bytes refused.bytes told has.there refused.came.held in
+      fault_is_none (scenario has.bytes) from _ has.valid (ap scenario (sym same) ∙ refused.invalid)
 
   same_scenario : (name : List ℕ) (from other : ScenarioText) (old new : D) → d.files old ≡ Some held → HasScenario held name from → ScenarioCame d name old other new →
       other ≡ from
@@ -71,8 +71,8 @@ module _ {D : Type 0} (d : Depots D) (held : Files) where
   no_text_fault : (name : List ℕ) (k : KernelState) (most : ℕ) (fault : OrderFault) (old new : D) → d.files old ≡ Some held → HasOrder held name k most →
       NoOrderCame d name k.cpus most fault old new → ⊥
   no_text_fault name k most fault old new told has none =
-      let same = same_bytes (d.files old) held name has.bytes none.0 told has.there none.1.held in
-      fault_is_none (order_of has.bytes k.cpus most) has.blocks fault has.reads (ap (λ (b : List ℕ). order_of b k.cpus most) (sym same) ∙ none.2)
+      let same = same_bytes (d.files old) held name has.bytes none.bytes told has.there none.came.held in
+      fault_is_none (order_of has.bytes k.cpus most) has.blocks fault has.reads (ap (λ (b : List ℕ). order_of b k.cpus most) (sym same) ∙ none.faulty)
 
   same_order : (name : List ℕ) (k : KernelState) (most : ℕ) (blocks : List Block) (old new : D) → d.files old ≡ Some held → (has : HasOrder held name k most) →
       OrderCame d name k.cpus most old blocks new → blocks ≡ has.blocks

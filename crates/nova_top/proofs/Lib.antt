@@ -11,3 +11,4 @@ pub mod Twins
 pub mod Single
 pub mod Replays
 pub mod Repeated
+pub mod Loaded

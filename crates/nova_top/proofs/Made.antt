@@ -21,9 +21,7 @@ use Rattle.nova_scenario.specs.declared.scenario.Scenario.{Scenario as ScenarioT
 use Rattle.nova_scenario.proofs.SoundLemmas.{scenario_sound}
 use Rattle.nova_top.proofs.Sourced.{HasSourceLaws, told}
 use Rattle.nova_top.specs.Causes.{OrderRefused, TextRefused}
-use Rattle.nova_top.specs.Came.{ScenarioCame}
-use Rattle.nova_top.specs.Orders.{OrderCame}
-use Rattle.nova_top.specs.Outside.{Depots}
+use Rattle.nova_io.specs.Outside.{Depots}
 use Rattle.nova_guest.specs.declared.input.Input.{Input}
 use Rattle.law_integrity.specs.Integrity.{IsAuthorised}
 use Rattle.law_origins.specs.Lives.{AreGuestsAlone}
@@ -32,6 +30,7 @@ use Rattle.law_origins.proofs.Reachable.{reached}
 use Rattle.law_origins.specs.Whose.{HasRight, IsInputBy}
 use Rattle.law_response.specs.Served.{ServesInRounds}
 use Rattle.law_revocation.specs.Called.{HasEndedAsCalled}
+use Rattle.nova_loading.specs.Came.{OrderCame, ScenarioCame}
 use Rattle.nova_top.specs.Runs.{IsReturned}
 use Rattle.nova_top.specs.Prepared.{IsOrderReadBy, IsReportOf, IsTogether, IsIdleFault, IsPrepared}
 use Rattle.nova_top.specs.declared.exit.Exit.{Exit}

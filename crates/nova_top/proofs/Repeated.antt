@@ -24,11 +24,10 @@ use Rattle.nova_scenario.specs.Scenario.{scenario}
 use Rattle.nova_scenario.specs.declared.scenario.Scenario.{Scenario as ScenarioText}
 use Rattle.nova_scenario.proofs.SoundLemmas.{scenario_sound}
 use Rattle.nova_shared.proofs.Idle.{no_idle_line}
-use Rattle.nova_top.specs.Causes.{ScenarioRefused, OrderRefused, NoOrderCame, IsRefusedAfter, IsUnread}
+use Rattle.nova_top.specs.Causes.{ScenarioRefused, OrderRefused, IsRefusedAfter, IsUnread}
 use Rattle.nova_top.specs.Main.{IsAnswer, IsWritten, IsTextCut, IsCut}
-use Rattle.nova_top.specs.Names.{most_of_order, most_of_scenario}
-use Rattle.nova_top.specs.Orders.{OrderCame}
-use Rattle.nova_top.specs.Outside.{Depots, Sinks, FileCame}
+use Rattle.nova_io.specs.Outside.{Depots, Sinks, FileCame}
+use Rattle.nova_loading.specs.Came.{NoOrderCame, OrderCame, most_of_order, most_of_scenario}
 use Rattle.nova_top.specs.Replayed.{IsTakenAgain}
 use Rattle.nova_top.specs.Repeated.{exit_of_run, AreGiven, IsUndisturbed, IsRepeated, WroteTheSame, AreShort, AreRepeated, AreRepeatedFromFiles}
 use Rattle.nova_top.specs.Runs.{IsRun}
@@ -93,8 +92,8 @@ module _ {D O : Type 0} (d : Depots D) (o : Sinks O) (name order name_again orde
   no_scenario_fault line TooLong refused =
       too_many (length ran.made.came.bytes) most_of_scenario ran.made.came.came.fits (given.scenario_cut new_again refused.1)
   no_scenario_fault line (Text w) refused =
-      let same = given.scenario_whole refused.0 new_again refused.1 in
-      fault_is_none (scenario ran.made.came.bytes) from _ ran.made.came.valid (ap scenario (sym same) ∙ refused.2)
+      let same = given.scenario_whole refused.bytes new_again refused.came in
+      fault_is_none (scenario ran.made.came.bytes) from _ ran.made.came.valid (ap scenario (sym same) ∙ refused.invalid)
 
   same_scenario : (other : ScenarioText) (between : D) (bytes : List ℕ) → FileCame d most_of_scenario name_again old_again bytes between → scenario bytes ≡ Ok other → other ≡ from
   same_scenario other between bytes came valid =
@@ -107,8 +106,8 @@ module _ {D O : Type 0} (d : Depots D) (o : Sinks O) (name order name_again orde
 
     no_text_fault : (fault : OrderFault) → NoOrderCame d order_again k.cpus most fault between new_again → ⊥
     no_text_fault fault none =
-        let same = given.order_whole first none.0 between came_first none.1 in
-        fault_is_none (order_of ran.bytes k.cpus most) again.blocks fault again.reads (ap (λ (b : List ℕ). order_of b k.cpus most) (sym same) ∙ none.2)
+        let same = given.order_whole first none.bytes between came_first none.came in
+        fault_is_none (order_of ran.bytes k.cpus most) again.blocks fault again.reads (ap (λ (b : List ℕ). order_of b k.cpus most) (sym same) ∙ none.faulty)
 
     same_order : (blocks : List Block) → OrderCame d order_again k.cpus most between blocks new_again → blocks ≡ again.blocks
     same_order blocks came =

@@ -16,7 +16,7 @@ use Rattle.nova_order.proofs.TurnLemmas.{within_turns}
 use Rattle.nova_report.specs.Report.{report}
 use Rattle.nova_scenario.specs.declared.scenario.Scenario.{Scenario}
 use Rattle.nova_scenario.proofs.SoundLemmas.{scenario_sound}
-use Rattle.nova_top.specs.Outside.{Depots}
+use Rattle.nova_io.specs.Outside.{Depots}
 use Rattle.nova_top.specs.Runs.{IsRun}
 use Rattle.nova_top.specs.Replayed.{AreTakenAgain, AreSameAgain}
 use Rattle.nova_top.proofs.Results.{same_ok}

@@ -19,13 +19,13 @@ use Rattle.nova_shared.specs.declared.fault.RunFault.TheVariants as fault
 use Rattle.nova_twin.specs.Comparison.{said, ram_of, Holds, EndsSo}
 use Rattle.nova_twin.specs.Sides.{IsAlone, IsBeginning, IsFound, IsSide, IsSideOf}
 use Rattle.nova_twin.specs.declared.side.Side.{Side}
-use Rattle.nova_top.specs.Came.{Followed, IsFoundBy, ScenarioCame, SubjectsCame}
+use Rattle.nova_top.specs.Came.{Followed, IsFoundBy, SubjectsCame}
 use Rattle.nova_top.specs.Causes.{IsTried, IsUnread}
 use Rattle.nova_top.specs.Exit.{at_line, of_run}
 use Rattle.nova_top.specs.Fetches.{CameBefore, Fetches, FetchesOf, FetchesOfRun}
 use Rattle.nova_top.specs.Names.{most_of_subjects}
-use Rattle.nova_top.specs.Orders.{OrderCame}
-use Rattle.nova_top.specs.Outside.{Depots, HasFailed}
+use Rattle.nova_io.specs.Outside.{Depots, HasFailed}
+use Rattle.nova_loading.specs.Came.{OrderCame, ScenarioCame}
 use Rattle.nova_top.specs.Prepared.{AreSubjectsRead, IsComparison, IsFollowed, IsFollowedAt, IsIdleFault, IsOrderReadBy, IsPrepared, exit_of}
 use Rattle.nova_top.specs.declared.exit.Exit.{Exit}
 use Rattle.nova_top.specs.declared.exit.Exit.TheVariants as exit

@@ -11,8 +11,9 @@ use Rattle.nova_io.specs.Files.{Files, with_appended}
 use Rattle.nova_io.specs.Taken.{Nothing as Nothing_taken}
 use Rattle.nova_top.specs.Exit.{of_command}
 use Rattle.nova_top.specs.Fetches.{Appends, Calls, HasFiles, AllOthersStay, Fetches, FetchesOf, FetchesOfRun, FetchesSecond, OtherFetchesStay, CameBefore}
-use Rattle.nova_top.specs.Names.{most_of_order, most_of_scenario, most_of_subjects, names_of}
-use Rattle.nova_top.specs.Outside.{Depots}
+use Rattle.nova_top.specs.Names.{most_of_subjects, names_of}
+use Rattle.nova_io.specs.Outside.{Depots}
+use Rattle.nova_loading.specs.Came.{most_of_order, most_of_scenario}
 use Rattle.nova_top.specs.declared.exit.Exit.{Exit}
 use Rattle.nova_top.specs.declared.exit.Exit.TheVariants.{Done, Memory}
 use Rattle.nova_top.specs.declared.subjects.Subjects.{Subjects}

@@ -6,22 +6,15 @@ use Rattle.nova_model.specs.Runs.{IsFreeOfIdle}
 use Rattle.nova_boot.specs.Boot.{scenario_of}
 use Rattle.nova_order.specs.Blocks.{turns}
 use Rattle.nova_order.specs.declared.block.Block.{Block}
-use Rattle.nova_scenario.specs.Scenario.{scenario}
 use Rattle.nova_scenario.specs.declared.scenario.Scenario.{Scenario}
 use Rattle.nova_twin.specs.Sides.{IsAlone, IsFound}
 use Rattle.nova_twin.specs.declared.side.Side.{Side}
-use Rattle.nova_top.specs.Names.{most_of_scenario, most_of_subjects}
-use Rattle.nova_top.specs.Orders.{OrderCame}
-use Rattle.nova_top.specs.Outside.{Depots, FileCame}
+use Rattle.nova_top.specs.Names.{most_of_subjects}
+use Rattle.nova_io.specs.Outside.{Depots, FileCame}
+use Rattle.nova_loading.specs.Came.{OrderCame, ScenarioCame}
 use Rattle.nova_top.specs.Subjects.{subjects_of}
 use Rattle.nova_top.specs.declared.subjects.Subject.{Subject}
 use Rattle.nova_top.specs.declared.subjects.Subjects.{Subjects}
-
--- a scenario was read: a file came, and its bytes are the text of this scenario
-pub record ScenarioCame {D : Type 0} (d : Depots D) (name : List ℕ) (old : D) (from : Scenario) (new : D) : Type 0 where
-  pub bytes : List ℕ
-  pub came : FileCame d most_of_scenario name old bytes new
-  pub valid : scenario bytes ≡ Ok from
 
 -- a text was read: a file came, and its bytes name these two guests
 pub record SubjectsCame {D : Type 0} (d : Depots D) (name : List ℕ) (old : D) (subjects : Subjects) (new : D) : Type 0 where

@@ -11,10 +11,10 @@ use Rattle.nova_order.specs.declared.fault.OrderFault.{OrderFault}
 use Rattle.nova_order.specs.declared.fault.OrderFault.TheVariants as fault
 use Rattle.nova_scenario.specs.Scenario.{scenario}
 use Rattle.nova_scenario.specs.declared.scenario.Scenario.{Scenario}
-use Rattle.nova_top.specs.Came.{Followed, ScenarioCame, SubjectsCame}
-use Rattle.nova_top.specs.Names.{most_of_order, most_of_scenario, most_of_subjects}
-use Rattle.nova_top.specs.Orders.{OrderCame}
-use Rattle.nova_top.specs.Outside.{Depots, HasFailed, FileCame, TooManyCame}
+use Rattle.nova_top.specs.Came.{Followed, SubjectsCame}
+use Rattle.nova_top.specs.Names.{most_of_subjects}
+use Rattle.nova_io.specs.Outside.{Depots, HasFailed, FileCame, TooManyCame}
+use Rattle.nova_loading.specs.Came.{NoOrderCame, NoScenarioCame, OrderCame, ScenarioCame, most_of_order, most_of_scenario}
 use Rattle.nova_top.specs.Subjects.{subjects_of}
 use Rattle.nova_run.specs.Finished.{IsIdleLine}
 use Rattle.nova_top.specs.declared.exit.OrderWhy.{OrderWhy}
@@ -77,8 +77,7 @@ IsReadFault d (Twin name most) old new = HasFailed d name old new ⊎ LineUnread
 -- a file came whose bytes are no scenario, with the line and the cause that the grammar gives; or too many came, and then the line is 0
 abbrev pub ScenarioRefused : {D : Type 0} → Depots D → List ℕ → ℕ → ScenarioWhy → D → D → Type 0
 ScenarioRefused d name line TooLong old new = (line ≡ 0) × TooManyCame d most_of_scenario name old new
-ScenarioRefused d name line (Text why) old new =
-    (bytes : List ℕ) × FileCame d most_of_scenario name old bytes new × (scenario bytes ≡ Err (record { line = line; why = why }))
+ScenarioRefused d name line (Text why) old new = NoScenarioCame d name line why old new
 
 abbrev pub IsScenarioFault : {D : Type 0} → Depots D → Command → ℕ → ScenarioWhy → D → D → Type 0
 IsScenarioFault d (Run name order most) line why old new = ScenarioRefused d name line why old new
@@ -86,10 +85,6 @@ IsScenarioFault d (Solo name order most) line why old new = ScenarioRefused d na
 IsScenarioFault d (Check name) line why old new = ScenarioRefused d name line why old new
 IsScenarioFault d (Bench number most) line why old new = ⊥
 IsScenarioFault d (Twin name most) line why old new = ⊥
-
--- a file came whose bytes are no order of these processors and of at most so many turns, with this fault
-abbrev pub NoOrderCame : {D : Type 0} → Depots D → List ℕ → ℕ → ℕ → OrderFault → D → D → Type 0
-NoOrderCame d name cpus most fault old new = (bytes : List ℕ) × FileCame d most_of_order name old bytes new × (order_of bytes cpus most ≡ Err fault)
 
 -- why a text is refused at a line: it is at fault there; or too many bytes came, and then the line is 0. An idle turn is no fault of a text.
 abbrev pub TextRefused : {D : Type 0} → Depots D → List ℕ → ℕ → ℕ → ℕ → OrderWhy → D → D → Type 0

@@ -9,7 +9,7 @@ use Rattle.nova_twin.specs.declared.side.Side.{Side}
 use Rattle.nova_twin.specs.declared.verdict.Verdict.{Verdict}
 use Rattle.nova_twin.specs.declared.verdict.Verdict.TheVariants.{Equal, Views, Differ}
 use Rattle.nova_top.specs.Came.{Followed, SubjectsCame}
-use Rattle.nova_top.specs.Outside.{Depots}
+use Rattle.nova_io.specs.Outside.{Depots}
 use Rattle.nova_top.specs.declared.subjects.Subjects.{Subjects}
 
 -- the line of a verdict

@@ -1,15 +1,15 @@
 -- The statuses of the program, and the end that each fault makes.
 use Rattle.std.specs.Prelude.{ℕ}
-use Rattle.std.specs.declared.io.ErrorKind.{ErrorKind}
-use Rattle.std.specs.declared.io.ErrorKind.TheVariants.{InvalidData}
+use Rattle.nova_command.specs.CommandFault.{by_fault}
 use Rattle.nova_command.specs.declared.fault.CommandFault.{CommandFault}
-use Rattle.nova_command.specs.declared.fault.CommandFault.TheVariants as command
 use Rattle.nova_io.specs.declared.faults.FetchFault.{FetchFault}
 use Rattle.nova_io.specs.declared.faults.FetchFault.TheVariants as fetch
+use Rattle.nova_loading.specs.declared.unread.OrderUnread.{OrderUnread}
+use Rattle.nova_loading.specs.declared.unread.OrderUnread.TheVariants as order
+use Rattle.nova_loading.specs.declared.unread.ScenarioUnread.{ScenarioUnread}
+use Rattle.nova_loading.specs.declared.unread.ScenarioUnread.TheVariants as text
 use Rattle.nova_order.specs.declared.fault.OrderFault.{OrderFault as OrderTextFault}
-use Rattle.nova_order.specs.declared.fault.OrderFault.TheVariants as order
-use Rattle.nova_scenario.specs.declared.fault.ScenarioFault.{ScenarioFault}
-use Rattle.nova_scenario.specs.declared.fault.ScenarioFault.TheVariants as text
+use Rattle.nova_order.specs.declared.fault.OrderFault.TheVariants as fault
 use Rattle.nova_top.specs.declared.exit.Exit.{Exit}
 use Rattle.nova_top.specs.declared.exit.Exit.TheVariants.{Done, Usage, ReadFault, Scenario, OrderFault, Twin, WriteFault, Limit, Memory}
 use Rattle.nova_top.specs.declared.exit.OrderWhy.TheVariants.{BadLine, BadCpu, ZeroCount, NotMerged, TooMany, Idle, TooLong as OrderTooLong}
@@ -31,37 +31,30 @@ status_of Limit = 7
 status_of Memory = 8
 status_of (Twin line why) = 10
 
--- the words could not be read: one is no text, or memory was refused
-abbrev pub of_words : ErrorKind → Exit
-of_words InvalidData = Usage
-of_words _ = Memory
-
+-- the words are no command, or memory was refused for them
 abbrev pub of_command : CommandFault → Exit
-of_command command.Usage = Usage
-of_command command.Memory = Memory
+of_command = by_fault Usage Memory
 
--- the scenario did not come
-abbrev pub of_scenario_fetch : FetchFault → Exit
-of_scenario_fetch fetch.Failed = ReadFault
-of_scenario_fetch fetch.TooLong = Scenario 0 TooLong
-of_scenario_fetch fetch.Memory = Memory
-
-abbrev pub of_scenario : ScenarioFault → Exit
-of_scenario (text.At line why) = Scenario line (Text why)
+-- the scenario was not loaded
+abbrev pub of_scenario : ScenarioUnread → Exit
+of_scenario text.Failed = ReadFault
+of_scenario text.TooLong = Scenario 0 TooLong
+of_scenario (text.Refused line why) = Scenario line (Text why)
 of_scenario text.Memory = Memory
 
--- the order did not come
-abbrev pub of_order_fetch : FetchFault → Exit
-of_order_fetch fetch.Failed = ReadFault
-of_order_fetch fetch.TooLong = OrderFault 0 OrderTooLong
-of_order_fetch fetch.Memory = Memory
+-- the order was not
+abbrev pub of_order_text : OrderTextFault → Exit
+of_order_text (fault.BadLine line) = OrderFault line BadLine
+of_order_text (fault.BadCpu line) = OrderFault line BadCpu
+of_order_text (fault.ZeroCount line) = OrderFault line ZeroCount
+of_order_text (fault.NotMerged line) = OrderFault line NotMerged
+of_order_text (fault.TooMany line) = OrderFault line TooMany
+of_order_text fault.Memory = Memory
 
-abbrev pub of_order : OrderTextFault → Exit
-of_order (order.BadLine line) = OrderFault line BadLine
-of_order (order.BadCpu line) = OrderFault line BadCpu
-of_order (order.ZeroCount line) = OrderFault line ZeroCount
-of_order (order.NotMerged line) = OrderFault line NotMerged
-of_order (order.TooMany line) = OrderFault line TooMany
+abbrev pub of_order : OrderUnread → Exit
+of_order order.Failed = ReadFault
+of_order order.TooLong = OrderFault 0 OrderTooLong
+of_order (order.Refused fault) = of_order_text fault
 of_order order.Memory = Memory
 
 abbrev pub of_run : RunFault → Exit

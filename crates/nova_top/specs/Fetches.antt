@@ -1,15 +1,16 @@
 -- What a call does to the depot: the fetches of which names, the appends to which one, and which counts may change.
-use Rattle.std.specs.Prelude.{◌≡◌, ◌⊎◌, ℕ, ◌+◌, ◌≤◌, List, [], ◌∷◌, length, Some, None}
+use Rattle.std.specs.Prelude.{◌≡◌, ◌⊎◌, ℕ, Bool, true, false, List, [], ◌∷◌, Some, None}
 use Rattle.nova_command.specs.declared.command.Command.{Command}
 use Rattle.nova_command.specs.declared.command.Command.TheVariants.{Run, Solo, Check, Bench, Twin}
 use Rattle.nova_io.specs.Faults.{IsShared, OthersStay}
-use Rattle.nova_io.specs.Fetched.{Came, CameWhole, CameInPart}
 use Rattle.nova_io.specs.Files.{with_appended}
 use Rattle.nova_io.specs.Taken.{WentWhole, WentInPart}
+use Rattle.nova_loading.specs.Fetches.{CameBy, IsFetched}
 use Rattle.nova_scenario.specs.declared.scenario.Scenario.{Scenario as ScenarioText}
-use Rattle.nova_top.specs.Came.{Followed, ScenarioCame, SubjectsCame}
-use Rattle.nova_top.specs.Names.{most_of_order, most_of_scenario, most_of_subjects, names_of, names_in, appended_names}
-use Rattle.nova_top.specs.Outside.{Depots}
+use Rattle.nova_top.specs.Came.{Followed, SubjectsCame}
+use Rattle.nova_top.specs.Names.{most_of_subjects, names_of, names_in, appended_names}
+use Rattle.nova_io.specs.Outside.{Depots}
+use Rattle.nova_loading.specs.Came.{ScenarioCame, most_of_order, most_of_scenario}
 use Rattle.nova_top.specs.Exit.{IsUnwritten}
 use Rattle.nova_top.specs.declared.exit.Exit.{Exit}
 use Rattle.nova_top.specs.declared.exit.Exit.TheVariants.{Done, Usage, ReadFault, Scenario, OrderFault, Twin as TwinFault, WriteFault, Limit, Memory}
@@ -25,17 +26,18 @@ IsSharedByAny counts (name ∷ names) other = IsShared counts name other ⊎ IsS
 abbrev pub AllOthersStay : {D : Type 0} → (D → List ℕ → ℕ) → List (List ℕ) → D → D → Type 0
 AllOthersStay counts names old new = (other : List ℕ) → IsSharedByAny counts names other ⊎ (counts new other ≡ counts old other)
 
--- bytes that came by fetches of a name, each from the place after the bytes before it. Before ReadFault the last of them failed.
+-- before ReadFault the last fetch failed
+abbrev pub is_read_fault : Exit → Bool
+is_read_fault ReadFault = true
+is_read_fault _ = false
+
+-- bytes that came by fetches of a name, each from the place after the bytes before it
 abbrev pub CameBefore : {D : Type 0} → Exit → Depots D → List ℕ → D → List ℕ → D → Type 0
-CameBefore ReadFault d name old bytes new = CameInPart d.gave d.fetch_failed name old bytes new
-CameBefore _ d name old bytes new = Came d.gave name old bytes new ⊎ CameWhole d.gave name old bytes new
+CameBefore exit d name old bytes new = CameBy (is_read_fault exit) d name old bytes new
 
 -- fetches of one name alone: no byte comes after the first one too many, and no other name's count changes
-pub record FetchesOf {D : Type 0} (d : Depots D) (most : ℕ) (name : List ℕ) (exit : Exit) (old new : D) : Type 0 where
-  pub bytes : List ℕ
-  pub few : length bytes ≤ most + 1
-  pub came : CameBefore exit d name old bytes new
-  pub others : OthersStay d.fetch_faults name old new
+abbrev pub FetchesOf : {D : Type 0} → Depots D → ℕ → List ℕ → Exit → D → D → Type 0
+FetchesOf d most name exit old new = IsFetched d most name (is_read_fault exit) old new
 
 -- the scenario came, and after it the order was fetched
 pub record FetchesBoth {D : Type 0} (d : Depots D) (scenario_name order_name : List ℕ) (exit : Exit) (old new : D) : Type 0 where

@@ -1,5 +1,4 @@
 pub mod Exit
-pub mod Outside
 pub mod Subjects
 pub mod Names
 pub mod Orders

@@ -7,9 +7,9 @@ use Rattle.nova_command.specs.declared.command.Command.TheVariants.{Run, Solo, C
 use Rattle.nova_gen.specs.Generated.{generated}
 use Rattle.nova_scenario.specs.Scenario.{scenario}
 use Rattle.nova_scenario.specs.declared.scenario.Scenario.{Scenario}
-use Rattle.nova_top.specs.Came.{ScenarioCame}
 use Rattle.nova_top.specs.Compared.{AreCompared}
-use Rattle.nova_top.specs.Outside.{Depots}
+use Rattle.nova_io.specs.Outside.{Depots}
+use Rattle.nova_loading.specs.Came.{ScenarioCame}
 use Rattle.nova_top.specs.Runs.{IsOutcomeFrom}
 
 -- the scenario of a command: it was read, or is that of a bench

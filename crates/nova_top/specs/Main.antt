@@ -7,7 +7,7 @@ use Rattle.nova_io.specs.Faults.{Rose}
 use Rattle.nova_io.specs.Taken.{WentWhole, WentInPart}
 use Rattle.nova_top.specs.Causes.{IsReadFault, IsScenarioFault, IsOrderFault, IsTwinFault}
 use Rattle.nova_top.specs.Made.{IsOutcome}
-use Rattle.nova_top.specs.Outside.{Depots, Sinks, HasFailedToAppend, WereAppended, WereCut}
+use Rattle.nova_io.specs.Outside.{Depots, Sinks, HasFailedToAppend, WereAppended, WereCut}
 use Rattle.nova_top.specs.declared.exit.Exit.{Exit}
 use Rattle.nova_top.specs.declared.exit.Exit.TheVariants.{Done, Usage, ReadFault, Scenario, OrderFault, Twin as TwinFault, WriteFault, Limit, Memory}
 

@@ -4,14 +4,6 @@ use Rattle.nova_command.specs.declared.command.Command.{Command}
 use Rattle.nova_top.specs.declared.subjects.Subjects.{Subjects}
 use Rattle.nova_command.specs.declared.command.Command.TheVariants.{Run, Solo, Check, Bench, Twin}
 
--- the most bytes of a scenario: 16 MiB
-abbrev pub most_of_scenario : ℕ
-most_of_scenario = 16777216
-
--- the most bytes of an order: 64 MiB
-abbrev pub most_of_order : ℕ
-most_of_order = 67108864
-
 -- the most bytes of a text that names two guests
 abbrev pub most_of_subjects : ℕ
 most_of_subjects = 4096

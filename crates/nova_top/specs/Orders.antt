@@ -5,19 +5,12 @@ use Rattle.nova_model.specs.Runs.{rounds}
 use Rattle.nova_command.specs.declared.command.Command.{Command}
 use Rattle.nova_command.specs.declared.command.Command.TheVariants.{Run, Solo, Check, Bench, Twin}
 use Rattle.nova_order.specs.Blocks.{IsOrder, turns}
-use Rattle.nova_order.specs.Read.{order_of}
 use Rattle.nova_order.specs.Text.{text_of}
 use Rattle.nova_order.specs.declared.block.Block.{Block}
-use Rattle.nova_top.specs.Names.{most_of_order}
-use Rattle.nova_top.specs.Outside.{Depots, FileCame}
+use Rattle.nova_io.specs.Outside.{Depots}
+use Rattle.nova_loading.specs.Came.{OrderCame}
 
--- an order was read: a file came, and its bytes are the text of these blocks, of processors that are there and of at most so many turns
-pub record OrderCame {D : Type 0} (d : Depots D) (name : List ℕ) (cpus most : ℕ) (old : D) (blocks : List Block) (new : D) : Type 0 where
-  pub bytes : List ℕ
-  pub came : FileCame d most_of_order name old bytes new
-  pub reads : order_of bytes cpus most ≡ Ok blocks
-
--- and these are its turns
+-- an order was read, and these are its turns
 pub record IsOrderRead {D : Type 0} (d : Depots D) (name : List ℕ) (cpus most : ℕ) (old new : D) (order : List ℕ) : Type 0 where
   pub blocks : List Block
   pub came : OrderCame d name cpus most old blocks new

@@ -12,12 +12,12 @@ use Rattle.nova_order.specs.declared.block.Block.{Block}
 use Rattle.nova_model.specs.declared.event.Event.{Event}
 use Rattle.nova_report.specs.Report.{report}
 use Rattle.nova_scenario.specs.declared.scenario.Scenario.{Scenario as ScenarioText}
-use Rattle.nova_top.specs.Came.{Followed, ScenarioCame, SubjectsCame}
+use Rattle.nova_top.specs.Came.{Followed, SubjectsCame}
 use Rattle.nova_top.specs.Causes.{IsReadFault, IsScenarioFault, IsOrderFault, IsTwinFault, IsUnread, IsUnfollowed, IsRefusedAfter, ScenarioRefused, SubjectsRefused, TextRefused}
 use Rattle.nova_top.specs.Compared.{line_of}
 use Rattle.nova_top.specs.Made.{IsOutcome}
-use Rattle.nova_top.specs.Orders.{OrderCame}
-use Rattle.nova_top.specs.Outside.{Depots, HasFailed}
+use Rattle.nova_io.specs.Outside.{Depots, HasFailed}
+use Rattle.nova_loading.specs.Came.{OrderCame, ScenarioCame}
 use Rattle.nova_run.specs.Finished.{IsIdleLine}
 use Rattle.nova_top.specs.declared.exit.Exit.{Exit}
 use Rattle.nova_top.specs.declared.exit.Exit.TheVariants.{Done, Usage, ReadFault, Scenario, OrderFault, Twin, WriteFault, Limit, Memory}

@@ -7,8 +7,8 @@ use Rattle.nova_io.specs.Faults.{Rose}
 use Rattle.nova_io.specs.Files.{Files, bytes_of}
 use Rattle.nova_top.specs.Main.{IsAnswer, IsWritten}
 use Rattle.nova_top.specs.Made.{IsOutcome}
-use Rattle.nova_top.specs.Names.{most_of_order, most_of_scenario}
-use Rattle.nova_top.specs.Outside.{Depots, Sinks, HasFailed, FileCame, TooManyCame}
+use Rattle.nova_io.specs.Outside.{Depots, Sinks, HasFailed, FileCame, TooManyCame}
+use Rattle.nova_loading.specs.Came.{most_of_order, most_of_scenario}
 use Rattle.nova_top.specs.declared.exit.Exit.{Exit}
 use Rattle.nova_top.specs.declared.exit.Exit.TheVariants.{Done, Limit, Memory}
 

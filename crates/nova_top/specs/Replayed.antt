@@ -10,7 +10,7 @@ use Rattle.nova_order.specs.Read.{order_of}
 use Rattle.nova_order.specs.declared.block.Block.{Block}
 use Rattle.nova_scenario.specs.declared.scenario.Scenario.{Scenario}
 use Rattle.nova_top.specs.Made.{IsOutcome}
-use Rattle.nova_top.specs.Outside.{Depots}
+use Rattle.nova_io.specs.Outside.{Depots}
 
 -- bytes are read as an order of a scenario, and none of its turns is idle: an order that `solo` does not refuse
 pub record IsTakenAgain (from : Scenario) (most : ℕ) (bytes : List ℕ) : Type 0 where

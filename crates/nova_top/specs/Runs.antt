@@ -25,7 +25,7 @@ use Rattle.nova_model.specs.declared.event.Event.{Event}
 use Rattle.nova_report.specs.Report.{report}
 use Rattle.nova_report.specs.Summary.{summary}
 use Rattle.nova_top.specs.Orders.{IsByRounds, IsOrderOf, IsSpent, most_turns}
-use Rattle.nova_top.specs.Outside.{Depots}
+use Rattle.nova_io.specs.Outside.{Depots}
 use Rattle.nova_top.specs.Sourced.{AreSourcesTold}
 
 -- in the turn of the processor a revoke of this execution context is answered SUCCESS

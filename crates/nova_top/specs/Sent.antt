@@ -5,7 +5,7 @@ use Rattle.nova_command.specs.declared.command.Command.{Command}
 use Rattle.nova_io.specs.Faults.{Rose}
 use Rattle.nova_io.specs.Taken.{WentWhole, WentInPart}
 use Rattle.nova_top.specs.Main.{IsOrderOut, IsOrderCut, HasOrderFailed}
-use Rattle.nova_top.specs.Outside.{Depots, Sinks}
+use Rattle.nova_io.specs.Outside.{Depots, Sinks}
 use Rattle.nova_top.specs.declared.exit.Exit.{Exit}
 use Rattle.nova_top.specs.declared.exit.Exit.TheVariants.{Done, Usage, ReadFault, Scenario, OrderFault, Twin, WriteFault, Limit, Memory}
 use Rattle.nova_top.specs.declared.outcome.Outcome.{Outcome}

@@ -16,8 +16,9 @@ use Rattle.nova_order.specs.Read.{order_of}
 use Rattle.nova_order.specs.declared.block.Block.{Block}
 use Rattle.nova_scenario.specs.Scenario.{scenario}
 use Rattle.nova_scenario.specs.declared.scenario.Scenario.{Scenario}
-use Rattle.nova_top.specs.Names.{most_of_order, most_of_scenario, most_of_subjects, names_of, names_in, appended_names}
-use Rattle.nova_top.specs.Outside.{Depots, Sinks, HasFailed, HasFailedToAppend}
+use Rattle.nova_top.specs.Names.{most_of_subjects, names_of, names_in, appended_names}
+use Rattle.nova_io.specs.Outside.{Depots, Sinks, HasFailed, HasFailedToAppend}
+use Rattle.nova_loading.specs.Came.{most_of_order, most_of_scenario}
 use Rattle.nova_top.specs.Subjects.{subjects_of}
 use Rattle.nova_top.specs.declared.subjects.Subject.{Subject}
 use Rattle.nova_top.specs.declared.subjects.Subjects.{Subjects}

@@ -1,14 +1,14 @@
 ghost use Rattle.std.specs.Prelude.{◌≡◌};
-ghost use Rattle.nova_top.specs.Exit.{status_of, of_words, of_scenario_fetch, of_order_fetch, of_subjects_fetch, at_line};
+ghost use Rattle.nova_top.specs.Exit.{status_of, of_subjects_fetch, at_line};
 
 use crate::subjects::SubjectsFault;
 use nova_command::CommandFault;
 use nova_io::FetchFault;
+use nova_loading::{OrderUnread, ScenarioUnread};
 use nova_order::OrderFault;
 use nova_run::RunFault;
-use nova_scenario::{ScenarioFault, Why};
+use nova_scenario::Why;
 use std::alloc::AllocError;
-use std::io::ErrorKind;
 use thiserror::Error;
 
 /// Why a scenario is refused.
@@ -121,44 +121,6 @@ pub enum Exit {
 }
 
 impl Exit {
-    /// How a call ends whose words could not be read: with a word that is no text they are no command.
-    pub fn of_words(kind: ErrorKind) -> Exit
-        ensures { result ≡ of_words kind }
-    {
-        match kind {
-            ErrorKind::InvalidData => Exit::Usage,
-            _ => Exit::Memory,
-        }
-    }
-
-    /// How a call ends whose scenario did not come.
-    pub(crate) fn of_scenario_fetch(fault: FetchFault) -> Exit
-        ensures { result ≡ of_scenario_fetch fault }
-    {
-        match fault {
-            FetchFault::Failed => Exit::ReadFault,
-            FetchFault::TooLong => Exit::Scenario {
-                line: 0,
-                why: ScenarioWhy::TooLong,
-            },
-            FetchFault::Memory => Exit::Memory,
-        }
-    }
-
-    /// How a call ends whose order did not come.
-    pub(crate) fn of_order_fetch(fault: FetchFault) -> Exit
-        ensures { result ≡ of_order_fetch fault }
-    {
-        match fault {
-            FetchFault::Failed => Exit::ReadFault,
-            FetchFault::TooLong => Exit::OrderFault {
-                line: 0,
-                why: OrderWhy::TooLong,
-            },
-            FetchFault::Memory => Exit::Memory,
-        }
-    }
-
     /// How a call ends whose text of two guests did not come.
     pub(crate) fn of_subjects_fetch(fault: FetchFault) -> Exit
         ensures { result ≡ of_subjects_fetch fault }
@@ -226,26 +188,31 @@ impl From<CommandFault> for Exit {
     }
 }
 
-impl From<ScenarioFault> for Exit {
+impl From<ScenarioUnread> for Exit {
     ghost use Rattle.nova_top.specs.Exit.{of_scenario};
 
-    ghost from_gives = { λ fault exit. exit ≡ of_scenario fault };
+    ghost from_gives = { λ unread exit. exit ≡ of_scenario unread };
 
-    fn from(fault: ScenarioFault) -> Exit {
-        match fault {
-            ScenarioFault::At { line, why } => Exit::Scenario {
+    fn from(unread: ScenarioUnread) -> Exit {
+        match unread {
+            ScenarioUnread::Failed => Exit::ReadFault,
+            ScenarioUnread::TooLong => Exit::Scenario {
+                line: 0,
+                why: ScenarioWhy::TooLong,
+            },
+            ScenarioUnread::Refused { line, why } => Exit::Scenario {
                 line,
                 why: ScenarioWhy::Text(why),
             },
-            ScenarioFault::Memory => Exit::Memory,
+            ScenarioUnread::Memory => Exit::Memory,
         }
     }
 }
 
 impl From<OrderFault> for Exit {
-    ghost use Rattle.nova_top.specs.Exit.{of_order};
+    ghost use Rattle.nova_top.specs.Exit.{of_order_text};
 
-    ghost from_gives = { λ fault exit. exit ≡ of_order fault };
+    ghost from_gives = { λ fault exit. exit ≡ of_order_text fault };
 
     fn from(fault: OrderFault) -> Exit {
         let (line, why) = match fault {
@@ -257,6 +224,24 @@ impl From<OrderFault> for Exit {
             OrderFault::Memory => return Exit::Memory,
         };
         Exit::OrderFault { line, why }
+    }
+}
+
+impl From<OrderUnread> for Exit {
+    ghost use Rattle.nova_top.specs.Exit.{of_order};
+
+    ghost from_gives = { λ unread exit. exit ≡ of_order unread };
+
+    fn from(unread: OrderUnread) -> Exit {
+        match unread {
+            OrderUnread::Failed => Exit::ReadFault,
+            OrderUnread::TooLong => Exit::OrderFault {
+                line: 0,
+                why: OrderWhy::TooLong,
+            },
+            OrderUnread::Refused(fault) => Exit::from(fault),
+            OrderUnread::Memory => Exit::Memory,
+        }
     }
 }
 

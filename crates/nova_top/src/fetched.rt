@@ -3,23 +3,19 @@ ghost use Rattle.nova_io.specs.Faults.{NeverFalls, Stay};
 ghost use Rattle.nova_order.specs.Blocks.{is_within};
 ghost use Rattle.nova_scenario.specs.Sound.{IsSound};
 ghost use Rattle.nova_top.specs.Fetches.{FetchesOf};
-ghost use Rattle.nova_top.specs.Names.{most_of_scenario, most_of_order, most_of_subjects};
-ghost use Rattle.nova_top.specs.Outside.{depots};
+ghost use Rattle.nova_top.specs.Names.{most_of_subjects};
+ghost use Rattle.nova_io.specs.Outside.{depots};
+ghost use Rattle.nova_loading.specs.Came.{most_of_order, most_of_scenario};
 ghost use Rattle.nova_top.specs.Prepared.{IsScenarioRead, IsOrderReadBy, AreSubjectsRead, exit_of};
 
 use crate::exit::Exit;
 use crate::subjects::{Subjects, read_subjects};
 use nova_command::Name;
 use nova_io::{Depot, fetch_all};
+use nova_loading::{load_order, load_scenario};
 use nova_order::Order;
-use nova_scenario::{Scenario, read};
+use nova_scenario::Scenario;
 use std::alloc::Global;
-
-/// The most bytes of a scenario.
-const MOST_OF_SCENARIO: u64 = 16 * 1024 * 1024;
-
-/// The most bytes of an order.
-const MOST_OF_ORDER: u64 = 64 * 1024 * 1024;
 
 /// The most bytes of a text that names two guests.
 const MOST_OF_SUBJECTS: u64 = 4096;
@@ -33,11 +29,10 @@ pub fn fetch_scenario<D: Depot>(alloc: Global, depot: &mut D, name: &Name) -> Re
     ensures appends { Stay (D.append_faults depot.old) (D.append_faults depot.new) }
     ensures files { D.files depot.new ≡ D.files depot.old }
 {
-    let bytes = match fetch_all(alloc, depot, name.as_str(), MOST_OF_SCENARIO) {
-        Ok(bytes) => bytes,
-        Err(fault) => return Err(Exit::of_scenario_fetch(fault)),
-    };
-    Ok(read(alloc, &bytes)?)
+    match load_scenario(alloc, depot, name.as_str()) {
+        Ok(scenario) => Ok(scenario),
+        Err(unread) => Err(Exit::from(unread)),
+    }
 }
 
 /// Fetches an order of processors below `cpus` and of at most `most` turns, and reads it.
@@ -55,11 +50,10 @@ pub fn fetch_order<D: Depot>(
     ensures appends { Stay (D.append_faults depot.old) (D.append_faults depot.new) }
     ensures files { D.files depot.new ≡ D.files depot.old }
 {
-    let bytes = match fetch_all(alloc, depot, name.as_str(), MOST_OF_ORDER) {
-        Ok(bytes) => bytes,
-        Err(fault) => return Err(Exit::of_order_fetch(fault)),
-    };
-    Ok(Order::read(alloc, &bytes, cpus, most)?)
+    match load_order(alloc, depot, name.as_str(), cpus, most) {
+        Ok(order) => Ok(order),
+        Err(unread) => Err(Exit::from(unread)),
+    }
 }
 
 /// Fetches a text that names two guests, and reads it.

@@ -13,7 +13,7 @@ ghost use Rattle.nova_top.specs.Came.{IsFoundBy, SubjectsCame};
 ghost use Rattle.nova_top.specs.Compared.{line_of};
 ghost use Rattle.nova_top.specs.Fetches.{Fetches, FetchesOf};
 ghost use Rattle.nova_top.specs.Names.{most_of_subjects};
-ghost use Rattle.nova_top.specs.Outside.{depots};
+ghost use Rattle.nova_io.specs.Outside.{depots};
 ghost use Rattle.nova_top.specs.Prepared.{IsComparison, IsFollowed, IsFollowedAt, IsIdleFault, IsPrepared, exit_of};
 ghost use Rattle.nova_top.specs.declared.exit.Exit.TheVariants.{Done, Memory};
 ghost use Rattle.nova_twin.specs.Comparison.{said, ram_of, Holds, EndsSo};

@@ -15,5 +15,6 @@ mod subjects;
 
 pub use exit::{Exit, OrderWhy, ScenarioWhy, TwinWhy};
 pub use main_call::nova_main;
+pub use nova_command::CommandFault;
 pub use nova_run::{Gate, Open};
 pub use replay::{a_written_order_gives_the_same_report, one_thread_repeats_a_run};

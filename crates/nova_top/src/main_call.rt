@@ -3,7 +3,7 @@ ghost use Rattle.nova_command.specs.Command.{command, HasBounds};
 ghost use Rattle.nova_top.specs.Exit.{IsUnwritten};
 ghost use Rattle.nova_top.specs.Fetches.{Calls, HasFiles, AllOthersStay, OtherFetchesStay, appended_before};
 ghost use Rattle.nova_top.specs.Main.{IsAnswer};
-ghost use Rattle.nova_top.specs.Outside.{depots, sinks};
+ghost use Rattle.nova_io.specs.Outside.{depots, sinks};
 ghost use Rattle.nova_top.specs.Servable.{IsServable, IsDoneOrStopped};
 
 use crate::exit::Exit;

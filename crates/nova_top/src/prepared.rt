@@ -3,7 +3,7 @@ ghost use Rattle.nova_command.specs.Command.{HasBounds};
 ghost use Rattle.nova_command.specs.Limit.{IsLimit, IsSize};
 ghost use Rattle.nova_io.specs.Faults.{Stay};
 ghost use Rattle.nova_top.specs.Fetches.{Fetches};
-ghost use Rattle.nova_top.specs.Outside.{depots};
+ghost use Rattle.nova_io.specs.Outside.{depots};
 ghost use Rattle.nova_top.specs.Prepared.{IsPrepared, exit_of};
 
 use crate::bench::bench_scenario;

@@ -1,4 +1,4 @@
-ghost use Rattle.nova_top.specs.Outside.{depots, sinks};
+ghost use Rattle.nova_io.specs.Outside.{depots, sinks};
 ghost use Rattle.nova_top.specs.Repeated.{AreShort, AreRepeated, AreRepeatedFromFiles};
 ghost use Rattle.nova_top.specs.Replayed.{AreTakenAgain, AreSameAgain};
 

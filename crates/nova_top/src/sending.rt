@@ -3,7 +3,7 @@ ghost use Rattle.nova_io.specs.Faults.{Stay, NeverFalls};
 ghost use Rattle.nova_top.specs.Fetches.{AllOthersStay};
 ghost use Rattle.nova_top.specs.Main.{IsOrderOut, IsOrderCut, HasOrderFailed};
 ghost use Rattle.nova_top.specs.Names.{appended_names};
-ghost use Rattle.nova_top.specs.Outside.{depots, sinks};
+ghost use Rattle.nova_io.specs.Outside.{depots, sinks};
 ghost use Rattle.nova_top.specs.Sent.{IsSent};
 
 use crate::exit::Exit;

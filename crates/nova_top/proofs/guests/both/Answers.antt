@@ -1,5 +1,5 @@
 use Rattle.std.proofs.Common.{◌≡◌, ap, Result, Err, rules}
-use Rattle.nova_top.specs.Outside.{depots}
+use Rattle.nova_io.specs.Outside.{depots}
 use Rattle.nova_top.specs.Prepared.{exit_of}
 use Rattle.nova_top.specs.declared.exit.Exit.{Exit}
 use Rattle.nova_top.specs.declared.outcome.Outcome.{Outcome}

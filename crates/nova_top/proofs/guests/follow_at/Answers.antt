@@ -2,7 +2,7 @@ use Rattle.std.proofs.Common.{subst}
 use Rattle.std.specs.Prelude.{Option}
 use Rattle.nova_twin.specs.declared.side.Side.{Side}
 use Rattle.nova_top.specs.Came.{Followed}
-use Rattle.nova_top.specs.Outside.{depots}
+use Rattle.nova_io.specs.Outside.{depots}
 use Rattle.nova_top.specs.declared.exit.TwinWhy.TheVariants.{Guest}
 use Rattle.nova_top.proofs.Twins.{is_side, fetched_but_missing}
 use Rattle.nova_top.proofs.guests.follow_at.Goals as goal

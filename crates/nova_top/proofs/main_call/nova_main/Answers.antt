@@ -1,4 +1,4 @@
-use Rattle.nova_top.specs.Outside.{depots}
+use Rattle.nova_io.specs.Outside.{depots}
 use Rattle.nova_top.proofs.Unread.{unread, unread_files, unread_others}
 use Rattle.nova_top.proofs.main_call.nova_main.Goals as goal
 

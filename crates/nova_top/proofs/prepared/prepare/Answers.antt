@@ -1,7 +1,7 @@
 use Rattle.std.proofs.Common.{[], sym, subst}
 use Rattle.nova_command.specs.declared.command.Command.{Command}
 use Rattle.nova_top.specs.Fetches.{Fetches}
-use Rattle.nova_top.specs.Outside.{depots}
+use Rattle.nova_io.specs.Outside.{depots}
 use Rattle.nova_top.specs.Prepared.{IsPrepared, exit_of}
 use Rattle.nova_top.proofs.prepared.prepare.Goals as goal
 

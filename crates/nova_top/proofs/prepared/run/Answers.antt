@@ -1,4 +1,4 @@
-use Rattle.nova_top.specs.Outside.{depots}
+use Rattle.nova_io.specs.Outside.{depots}
 use Rattle.nova_top.proofs.Made.{together_by}
 use Rattle.nova_top.proofs.prepared.run.Goals as goal
 

@@ -1,6 +1,6 @@
 use Rattle.std.proofs.Common.{◌≡◌, ℕ, subst, Err, rules}
-use Rattle.nova_top.specs.Outside.{depots}
-use Rattle.nova_top.specs.Orders.{OrderCame}
+use Rattle.nova_io.specs.Outside.{depots}
+use Rattle.nova_loading.specs.Came.{OrderCame}
 use Rattle.nova_top.specs.Prepared.{IsOrderReadBy}
 use Rattle.nova_top.proofs.Made.{unread_by, order_by}
 use Rattle.nova_top.proofs.prepared.solo_in_order.Goals as goal

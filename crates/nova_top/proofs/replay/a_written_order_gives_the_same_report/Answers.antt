@@ -1,4 +1,4 @@
-use Rattle.nova_top.specs.Outside.{depots}
+use Rattle.nova_io.specs.Outside.{depots}
 use Rattle.nova_top.proofs.Replays.{taken, same}
 use Rattle.nova_top.proofs.replay.a_written_order_gives_the_same_report.Goals as goal
 

@@ -1,4 +1,4 @@
-use Rattle.nova_top.specs.Outside.{depots, sinks}
+use Rattle.nova_io.specs.Outside.{depots, sinks}
 use Rattle.nova_top.proofs.Repeated.{short, repeated_all, repeated_from_files}
 use Rattle.nova_top.proofs.replay.one_thread_repeats_a_run.Goals as goal
 

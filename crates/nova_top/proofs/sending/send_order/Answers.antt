@@ -5,7 +5,7 @@ use Rattle.nova_io.specs.Files.{with_appended}
 use Rattle.nova_io.specs.Taken.{WentWhole, WentInPart}
 use Rattle.nova_io.specs.declared.faults.Failed.{Failed}
 use Rattle.nova_top.specs.Main.{IsOrderOut, IsOrderCut}
-use Rattle.nova_top.specs.Outside.{Depots, depots, WereAppended, WereCut}
+use Rattle.nova_io.specs.Outside.{Depots, depots, WereAppended, WereCut}
 use Rattle.nova_top.proofs.sending.send_order.Goals as goal
 
 whole_of : {D : Type 0} (d : Depots D) (command : Command) (scenario name n bytes : List ℕ) (limit : ℕ) (old new : D) (r : Result (Unit {0}) Failed) →

@@ -1,6 +1,7 @@
--- What is told of the depot and of the sink that a call is handed, how a file comes, and how bytes go to one.
+-- What is told of the depot and of the sink that a call is handed, how a file comes, and how bytes go out.
 use Rattle.std.specs.Prelude.{◌≡◌, ℕ, ◌+◌, ◌<◌, ◌≤◌, List, length, take, Option, Some, IfSome}
 use Rattle.std.specs.FinMap.{get}
+use Rattle.std.specs.Io.KnownBytes.{append_known}
 use Rattle.nova_io.specs.Faults.{Rose}
 use Rattle.nova_io.specs.Fetched.{Gave, FetchFailed, Came, CameWhole}
 use Rattle.nova_io.specs.Files.{Files, bytes_of, with_appended}
@@ -71,3 +72,16 @@ pub record WereCut {D : Type 0} (d : Depots D) (name bytes : List ℕ) (old new 
   pub count : ℕ
   pub within : count < length bytes
   pub held : d.files new ≡ with_appended (d.files old) name (take count bytes)
+
+-- a text is out whole, after what was written before; its writes are all that was done to the sink
+pub record IsOut {O : Type 0} (o : Sinks O) (text : List ℕ) (before after : O) : Type 0 where
+  pub went : WentWhole o.took text before after
+  pub written : o.written after ≡ append_known (o.written before) text
+
+-- or a write failed, which was the last, and a part of the text is written, from its first byte on
+pub record IsPartOut {O : Type 0} (o : Sinks O) (text : List ℕ) (before after : O) : Type 0 where
+  pub went : WentInPart o.took o.write_failed text before after
+  pub count : ℕ
+  pub within : count < length text
+  pub written : o.written after ≡ append_known (o.written before) (take count text)
+  pub failed : Rose (o.faults before) (o.faults after)

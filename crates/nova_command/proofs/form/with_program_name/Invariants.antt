@@ -1,6 +1,0 @@
-use Rattle.std.proofs.Common.{◌≡◌, ◌∷◌, codes, map, string_bytes, take}
-use Rattle.nova_command.proofs.form.with_program_name.Given as goal
-
--- the name and the words so far
-abbrev pub invariant-loop-word : goal.invariant-loop-word
-invariant-loop-word l = map (λ word. word.now) l.named.items ≡ codes "nova" ∷ map string_bytes (take l.word-index l.words)

@@ -1,0 +1,3 @@
+pub mod Fetches
+pub mod Came
+pub mod Unread
