@@ -6,9 +6,9 @@ python3 tools/definitions [--write] [FOLDER]
 Fails where a definition of the model is missing from the table of docs/PINS.md, where the table has a name that no definition has, where it
 credits a law or a clause that isn't there, or a law of another crate; and where a row of docs/THEOREMS.md links to a function that isn't in
 the file, or names a clause that the function's contract hasn't, or an edit that no crate has, or where no row has a clause of a top call, a
-line isn't the first sentence of its comment, or the list of other laws isn't that of those without a row; where a row of
+line isn't the first sentence of its comment, or the table of other laws isn't what those without a row above say; where a row of
 docs/DEFINITIONS.md isn't what its file says, or a file has none; and where a scenario of a specification isn't word for word the text of its
-name. `--write` writes these lines, that list and the rows of docs/DEFINITIONS.md anew.
+name. `--write` writes these lines, that table and the rows of docs/DEFINITIONS.md anew.
 """
 
 from __future__ import annotations

@@ -55,11 +55,11 @@ def summary(text: str, mark: str) -> str:
     return (f"{short} {source[0]}" if source else short).replace("|", r"\|")
 
 
-def shortened(sentence: str) -> str:
-    """A sentence, up to its first colon where it is long and that is neither a mere heading nor a command."""
+def shortened(sentence: str, long: int = LONG, few: int = FEW) -> str:
+    """A sentence, up to its first colon where it has more than `long` words, at least `few` of them before it, and no command there."""
     before = sentence.partition(": ")[0]
-    is_said = len(before.split()) >= FEW and not before.startswith("`")
-    is_cut = is_said and before != sentence and len(sentence.split()) > LONG
+    is_said = len(before.split()) >= few and not before.startswith("`")
+    is_cut = is_said and before != sentence and len(sentence.split()) > long
     return f"{before}." if is_cut else sentence
 
 

@@ -35,9 +35,9 @@ pub fn a_part_takes_a_leaf()
     ensures one { (r : Revocation) (f : Delegations) (d : Derivation) → IsForest f → next_leaf r f ≡ Some d → length f.list ≡ length (revoked r f).list + 1 }
 {}
 
-/// Whatever comes between, derivations that fit and are not busy, ones without children that go, and
-/// parts of the revoke: the forest holds, the scope is among that at the start, and the leaves that
-/// parts took are with what is left at most as many as were in it at the start.
+/// Over a revoke's parts, and whatever comes between, the forest holds and the scope only shrinks:
+/// derivations that fit and are not busy may come, ones without children may go. The scope is among that at
+/// the start, and the leaves that parts took are with what is left at most as many as were in it then.
 pub fn a_revoke_comes_to_its_end()
     ensures { (r : Revocation) (f : Delegations) (steps : List Step) → IsForest f → AreAllowed r f steps → IsKept r f (after r f steps) (taken r f steps) }
 {}

@@ -97,9 +97,9 @@ pub fn views_and_inputs_are_admitted()
     ensures inputs { (k : KernelState) (cpu g : ℕ) → IsSound k → AreRanges k → IfSome (input k cpu g) IsInput }
 {}
 
-/// So it is along every list of turns from every boot state of at most 2^14 RAM frames, 16 consoles and 2^20 - 3 sources:
-/// each view is one that the guest alone takes, and each input of a list of turns from there is one that it
-/// takes too, so that a caller may chain them.
+/// The guest alone takes all views and inputs, along every list of turns from every boot state of at most 2^14
+/// RAM frames, 16 consoles and 2^20 - 3 sources: each view is one that it takes, and each input of a list of
+/// turns from there is one that it takes too, so that a caller may chain them.
 pub fn views_and_inputs_of_runs_are_admitted()
     ensures ranges { (scenario : Scenario) (turns : List ℕ) → scenario.ram ≤ 14 → scenario.consoles ≤ 16 → length scenario.sources ≤ 2 ^ 20 - 3 → AreRanges (run (boot scenario) turns) }
     ensures views { (scenario : Scenario) (turns : List ℕ) (g : ℕ) → scenario.ram ≤ 14 → scenario.consoles ≤ 16 → length scenario.sources ≤ 2 ^ 20 - 3

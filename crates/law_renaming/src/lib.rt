@@ -45,7 +45,8 @@ pub fn renamed_inputs_end_renamed()
     ensures fit { (i : Input) → IsInput i → InputFits i }
 {}
 
-/// What turns are for a virtual CPU fits.
+/// Whatever turns are taken, each input that they are for a virtual CPU fits: a map that is given comes with
+/// the bytes of no more frames than it has.
 pub fn inputs_of_turns_fit()
     ensures { (k : KernelState) (turns : List ℕ) (g : ℕ) → IsSound k → All InputFits (inputs k turns g) }
 {}

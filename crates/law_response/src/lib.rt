@@ -142,9 +142,10 @@ pub fn nothing_is_made_without_the_right_to_create()
         NobodyCreates (run (run (boot scenario) before) turns) }
 {}
 
-/// An execution context whose scheduling context outranks all others of its processor, and beside which nobody may create, acts within as
-/// many turns of the processor from the moment of its deadline on as rings come there by then and deadlines stood; and so does the first
-/// that waits at the semaphore of an alarm, from the alarm's moment on. All premises but the last are on the state at that moment.
+/// A driver acts within as many turns of its processor, from its moment on, as rings come there by then and deadlines stood: an execution
+/// context whose scheduling context outranks all others of the processor, and beside which nobody may create, from the moment of its
+/// deadline on, and such a context that is the first to wait at the semaphore of an alarm, from the alarm's moment on. All premises but the
+/// last are on the state at that moment.
 pub fn a_driver_acts_in_time()
     ensures deadline { (scenario : Scenario) (before turns : List ℕ) (sc ec priority quantum : ℕ) (b : Budget) (d : Deadline) →
         IsSchedule (run (boot scenario) before) sc ec d.cpu priority quantum b →
@@ -225,10 +226,10 @@ pub fn a_chain_of_calls_never_closes_to_a_circle()
     ensures { (scenario : Scenario) (turns : List ℕ) (ec n : ℕ) → after_edges (n + 1) (edge (run (boot scenario) turns).contexts) ec ≢ Some ec }
 {}
 
-/// Response-time analysis. If at most `demand n` of the first n turns of a processor are due or of a greater priority, a job of `own` turns
-/// of `sc`, which stays runnable, is done after `response` turns of the processor, where these are enough for the demand of that many, what
-/// is ahead of `sc` in its ring, and the job (`once`: one that is within what is left of the quantum); or for these and the full quanta of
-/// its peers once for each of `rounds` renewals, where nobody may create and `own` is at most `rounds` full quanta and 1 (`rounds`).
+/// A job of `own` turns of `sc` is done after `response` turns of its processor, by response-time analysis: `sc` stays runnable, at most
+/// `demand n` of the first n turns are due or of a greater priority, and `response` is enough for the demand of that many, what is ahead of
+/// `sc` in its ring, and the job (`once`: one that is within what is left of the quantum); or for these and the full quanta of its peers
+/// once for each of `rounds` renewals, where nobody may create and `own` is at most `rounds` full quanta and 1 (`rounds`).
 pub fn a_job_ends_within_its_response_time()
     ensures once { (scenario : Scenario) (before turns : List ℕ) (sc ec cpu priority quantum own response : ℕ) (b : Budget) (demand : ℕ → ℕ) →
         IsSchedule (run (boot scenario) before) sc ec cpu priority quantum b →

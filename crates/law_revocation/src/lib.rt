@@ -34,12 +34,12 @@ pub fn what_revokes_stand_on_is_kept()
     ensures reached { (k : KernelState) → IsReachable k → IsKeptForest k }
 {}
 
-/// A derivation is in the scope of a revoke exactly where it is there, and it or one that it comes from is
-/// a child of a derivation of the revoker's, of the range's kind, and leads to a target to which that one
-/// leads from a place of the range; or, where the revoker's own go too, is one of the revoker's that lies
-/// in the range. The scope is empty exactly where nothing is left of it: no derivation leads to what an
-/// ancestor of it, of the revoker's, leads to from a place of the range; and, where the revoker's own go too,
-/// the revoker has none that lies in the range.
+/// A derivation is in the scope of a revoke exactly where it comes of the range or, where the revoker's own go
+/// too, is one of these in it: it is there, and it or one that it comes from is a child of a derivation of the
+/// revoker's, of the range's kind, and leads to a target to which that one leads from a place of the range; or,
+/// where the revoker's own go too, is one of the revoker's that lies in the range. The scope is empty exactly
+/// where nothing is left of it: no derivation leads to what an ancestor of it, of the revoker's, leads to from
+/// a place of the range; and, where the revoker's own go too, the revoker has none that lies in the range.
 pub fn a_scope_is_what_comes_from_the_range()
     ensures members { (r : Revocation) (f : Delegations) (d : Derivation) → IsForest f →
         Contains (scope r f.list) d ↔ (Contains f.list d × IsRemoved r f.list d) }
@@ -53,9 +53,9 @@ pub fn what_a_revoke_would_take_is_busy()
         (busy r f.list x ≡ true) ↔ (IsRemoved r (added f x).list x ⊎ (IsRevokers r x × SharesPlace (range_of x) r.range)) }
 {}
 
-/// A turn in which an execution context comes to run a revoke is its own. Its registers read as the
-/// hypercall that asks for that revoke, the revoke is of its protection domain, and the turn's event tells that it
-/// begins. Delegations stay: the scope with which the revoke begins is that of the state before the call.
+/// A revoke begins in a turn of the execution context that runs it, with the scope of the state before the
+/// call, since delegations stay. The registers of that context read as the hypercall that asks for that
+/// revoke, the revoke is of its protection domain, and the turn's event tells that it begins.
 pub fn a_revoke_begins_with_its_scope()
     ensures { (k : KernelState) (cpu ec : ℕ) (r : Revocation) → IsKeptForest k → RevokeBegins k cpu ec r → BeginsAsAsked k cpu ec r }
 {}

@@ -19,14 +19,15 @@ pub fn the_root_begins_so()
         ∷ (5, None, 0, false, 2, 0, 1, 2) ∷ [] }
 {}
 
-/// A run of 63 turns: what they tell, and what is left. A thread calls a handler that is at work for the root; it helps, so that the handler
-/// finishes the root's call in turns that the thread's scheduling context pays, and then takes the thread's.
+/// A thread that helps a handler pays for its work, by a run of 63 turns: what they tell, and what is left. A thread calls a handler that
+/// is at work for the root; it helps, so that the handler finishes the root's call in turns that the thread's scheduling context pays, and
+/// then takes the thread's.
 pub fn who_helps_pays()
     ensures shows { shown (trace (boot helping) (replicate 63 0)) ≡ helping_shows }
     ensures leaves { left (1 ∷ 3 ∷ 7 ∷ []) (2 ∷ 8 ∷ []) (6 ∷ []) (run (boot helping) (replicate 63 0)) ≡ helping_leaves }
 {}
 
-/// A run of 73 turns of a guest and its monitor: what they tell, and what is left.
+/// A guest is served by its monitor, by a run of 73 turns of both: what they tell, and what is left.
 pub fn a_guest_is_served_by_its_monitor()
     ensures shows { shown (trace (boot watching) (replicate 73 0)) ≡ watching_shows }
     ensures leaves { left (1 ∷ 3 ∷ 8 ∷ []) (2 ∷ 9 ∷ []) [] (run (boot watching) (replicate 73 0)) ≡ watching_leaves }

@@ -35,7 +35,7 @@ pub fn new_words_are_all_zero()
         slice_index (message (with_object k domain target (new.Ec pd cpu Global sp event)) (length k.objects)) n ≡ 0 }
 {}
 
-/// A source's semaphore is the next object. The root's domain, 0, holds it without a parent, with both rights, at the selector of its
+/// A source's semaphore is the next object, which the root's domain, 0, holds without a parent, with both rights, at the selector of its
 /// number.
 pub fn a_source_is_a_semaphore_of_the_roots()
     ensures { (k : KernelState) (s : Source) → (with_source k s).delegations.list ≡ k.delegations.list ++ record {

@@ -64,12 +64,13 @@ pub fn inputs_say_what_was_done()
     ensures died { (k : KernelState) (cpu ec g : ℕ) → Acts k cpu ec → input k cpu g ≡ Some Died → IsOwnTurn k ec g Died }
 {}
 
-/// What is done is told. Where the virtual CPU acts itself and is fresh or ready, that is Own, even
-/// where it changes nothing; where its exit is sent, Sent, and where it ends, Died; and nothing else of
-/// what it does is an input. A store of another to a RAM frame that its view covers is that store, even
-/// of bytes that are there already. A recall of it is a recall, even while one is asked for. A reply to
-/// its exit that completes is that reply, even where it changes no register. A memory derivation that is
-/// made in its protection domain or taken from it is that one. A turn in which nobody acts is no input.
+/// What a virtual CPU does, and what others do to it, is told by inputs. Where it acts itself and is
+/// fresh or ready, that is Own, even where it changes nothing; where its exit is sent, Sent, and where
+/// it ends, Died; and nothing else of what it does is an input. A store of another to a RAM frame that
+/// its view covers is that store, even of bytes that are there already. A recall of it is a recall, even
+/// while one is asked for. A reply to its exit that completes is that reply, even where it changes no
+/// register. A memory derivation that is made in its protection domain or taken from it is that one. A
+/// turn in which nobody acts is no input.
 pub fn what_is_done_is_told()
     ensures own { (k : KernelState) (cpu g : ℕ) → IsSound k → IsVirtual k g → Acts k cpu g
         → acts (view k g).state ≡ true → input k cpu g ≡ Some Own }

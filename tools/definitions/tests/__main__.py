@@ -109,15 +109,19 @@ Not a row: [`edges_end`](../crates/nova_a/src/laws.rt): `third`.
 | a line ends | [`Line::end`](../crates/nova_a/src/line.rt): `exact`, [`Line`](../crates/nova_a/src/line.rt): `end`, `few`, `first` |
 """
 
-# The list of other laws, with one that has a row and one that is gone.
+# The table of other laws, with one that has a row and one that is gone.
 OTHERS = (
     THEOREMS
     + """
-### Other laws
+## Other laws
 
-By source:
+By crate:
 
-- [`nova_a/src/laws.rt`](../crates/nova_a/src/laws.rt): `edges_end`, `gone`
+| law | what it says |
+|---|---|
+| **nova_a** | Edges. |
+| [`edges_end`](../crates/nova_a/src/laws.rt) | It is. |
+| [`gone`](../crates/nova_a/src/laws.rt) | It was. |
 
 ## Behind
 
@@ -442,21 +446,45 @@ class Theorems(unittest.TestCase):
         self.assertEqual([(link.name, link.behind) for link in told(TOLD)], [
             ("Line", ()), ("Line::begin", ("first",)), ("Part::begin", ()), ("end", ())])
 
-    def test_laws_without_a_row_are_listed(self) -> None:
+    def with_other_laws(self, comment: str) -> None:
+        """Gives the crate a subject, and its second law a comment."""
         (self.top / "crates.txt").write_text("# The first.\nnova_a:\n", "utf-8")
+        (self.top / "crates/nova_a/src/lib.rt").write_text("//! Edges. More.\n", "utf-8")
+        text = SOURCE.replace("pub fn turns_end", f"{comment}pub fn turns_end")
+        (self.top / "crates/nova_a/src/laws.rt").write_text(text, "utf-8")
+
+    def test_laws_without_a_row_have_one_in_the_table(self) -> None:
+        self.with_other_laws("/// Turns `a|b` end. More.\n")
         laws = laws_of(self.top)
         page = with_laws(OTHERS, laws, self.top)
-        self.assertEqual(page, OTHERS.replace("edges_end`, `gone", "turns_end"))
+        rows = OTHERS.replace("| [`edges_end`](../crates/nova_a/src/laws.rt) | It is. |\n", "")
+        self.assertEqual(page, rows.replace("gone", "turns_end").replace("It was.", r"Turns `a\|b` end."))
         self.assertEqual(with_laws(page, laws, self.top), page)
         self.assertEqual(stale_laws(page, laws, self.top), [])
 
-    def test_a_stale_list_of_laws_is_found(self) -> None:
-        (self.top / "crates.txt").write_text("# The first.\nnova_a:\n", "utf-8")
-        line = "- [`nova_a/src/laws.rt`](../crates/nova_a/src/laws.rt)"
-        self.assertEqual(stale_laws(OTHERS, laws_of(self.top), self.top), [
-            f'"Other laws" lacks this line: {line}: `turns_end`',
-            f'"Other laws" has a line of no law without a row: {line}: `edges_end`, `gone`',
+    def test_a_long_sentence_of_a_law_ends_at_its_colon(self) -> None:
+        before, behind = "Each of the turns of a run ends in its time", f"{'soon and ' * 13}late."
+        self.with_other_laws(f"/// {before}: {behind}\n/// So they do.\n")
+        self.assertIn(f"laws.rt) | {before}. |\n", with_laws(OTHERS, laws_of(self.top), self.top))
+        self.with_other_laws(f"/// What ends: {behind}\n/// So they do.\n")
+        self.assertIn(f"laws.rt) | What ends: {behind} |\n", with_laws(OTHERS, laws_of(self.top), self.top))
+
+    def test_stale_rows_of_laws_are_found(self) -> None:
+        self.with_other_laws("/// Turns end.\n")
+        laws, link = laws_of(self.top), "(../crates/nova_a/src/laws.rt)"
+        self.assertEqual(stale_laws(OTHERS, laws, self.top), [
+            f'"Other laws" lacks this row: | [`turns_end`]{link} | Turns end. |',
+            f'"Other laws" has a row that no law without one above is to have: | [`edges_end`]{link} | It is. |',
+            f'"Other laws" has a row that no law without one above is to have: | [`gone`]{link} | It was. |',
         ])
+        (self.top / "crates/nova_a/src/lib.rt").write_text("//! Ends.\n", "utf-8")
+        self.assertIn('"Other laws" lacks this row: | **nova_a** | Ends. |', stale_laws(OTHERS, laws, self.top))
+
+    def test_a_law_without_a_comment_is_found(self) -> None:
+        self.with_other_laws("")
+        laws = laws_of(self.top)
+        page = with_laws(OTHERS, laws, self.top)
+        self.assertEqual(stale_laws(page, laws, self.top), ["crates/nova_a/src/laws.rt says nothing of turns_end"])
 
 
 if __name__ == "__main__":
