@@ -94,8 +94,9 @@ pub fn noninterference_at_home()
         → AreAlikeAtHome (run (boot a) before) (run (boot b) since) turns others S P C }
 {}
 
-/// So it is, by conditions of the two states but for being at work, where the processors are divided between the side and the others,
-/// and the others hold no right to create: whatever they do, they never come to the side's processors.
+/// A side whose processors are its own, where the others hold no right to create, is the same whatever the others do. Its premises are
+/// conditions of the two states, but for being at work: the processors are divided between the side and the others, which never come to the
+/// side's.
 pub fn noninterference_on_divided_processors()
     ensures { (a b : Scenario) (before since turns others : List ℕ) (S T U P C : ℕ → Bool)
         → IsPartitioned (run (boot a) before) (Of S) (Of T) (Of P) → IsPartitioned (run (boot b) since) (Of S) (Of U) (Of P)
@@ -107,10 +108,10 @@ pub fn noninterference_on_divided_processors()
         → AreAlikeAtHome (run (boot a) before) (run (boot b) since) turns others S P C }
 {}
 
-/// The premises are met, by a run of 65 turns from a boot state. A root makes two guests on a processor each, a virtual
-/// CPU with a scheduling context, and a monitor for each, with a page, a handler and a portal to it that the guest
-/// holds, and dies. Then the first guest and its monitor are partitioned off, without alarms and deadlines; the
-/// processors are divided; and the guest has the next turn of the first one.
+/// A run of 65 turns from a boot state meets the premises of noninterference. A root makes two guests on a processor each, a virtual CPU with a
+/// scheduling context, and a monitor for each, with a page, a handler and a portal to it that the guest holds, and dies. Then the first guest
+/// and its monitor are partitioned off, without alarms and deadlines; the processors are divided; and the guest has the next turn of the first
+/// one.
 pub fn a_run_comes_to_the_premises()
     ensures partitioned { IsPartitioned (run (boot two_homes) (replicate 65 0)) (Of first_domains) (Of other_domains) (Of first_objects) }
     ensures timeless { IsTimeless (run (boot two_homes) (replicate 65 0)) (Of first_objects) }

@@ -27,10 +27,10 @@ pub fn deadlines_were_set_by_right()
         → HasSet (boot scenario) turns waiter deadline }
 {}
 
-/// Take any list of turns from any boot state, and a turn that is then an input of a virtual CPU. Where its
-/// exit is sent in it, that goes to the handler of the portal that its domain holds at event base + reason,
-/// with the right to send exits. Where its exit ends it, no handler of such a portal takes it, or the handler
-/// for which it waits has ended.
+/// A virtual CPU's exit is sent to the handler of its domain's own portal, or ends it where no such handler takes it. Take any list of turns
+/// from any boot state, and a turn that is then an input of a virtual CPU. Where its exit is sent in it, that goes to the handler of the portal
+/// that its domain holds at event base + reason, with the right to send exits. Where its exit ends it, no handler of such a portal takes it, or
+/// the handler for which it waits has ended.
 pub fn exits_of_virtual_cpus_end_by_right()
     ensures sent { (scenario : Scenario) (turns : List ℕ) (cpu ec g : ℕ) → IsInputBy scenario turns cpu ec g Sent
         → IsSentOn (run (boot scenario) turns) g }

@@ -8,17 +8,16 @@ ghost use Rattle.law_origins.specs.Giving.{Acts};
 ghost use Rattle.law_integrity.specs.Confined.{AreSetsApart, AreSeparate, Holds, IsClosed, IsMadeAlong, IsMember, LeavesTo, Of, OnlyOf, Reach, ReachAny, ShareNothing, Side, grown};
 ghost use Rattle.law_integrity.specs.Secrecy.{with_bytes};
 
-/// Take any reachable state, and two sets of protection domains that are separate in it: what their capabilities
-/// lead to is their own, nobody outside waits for their handlers by a call, a help or an exit, they have no domain
-/// in common, and whoever is of neither is parked, dead, or blocked for good: at a semaphore that neither may raise
-/// and no alarm rings, without a deadline. Whatever turns follow, the two sets, each with the domains that are made
-/// of it, are separate still, and whoever acts is of one of them. So a set comes to reach no frame, by no right,
-/// that it didn't reach at first; and it comes to hold no right to an object, but to objects that it made since. A
-/// turn of one set leaves of the other: registers, states and deadlines, message words, identifiers of portals,
-/// budgets of the scheduling contexts that are bound to it, semaphores to which the first holds neither up nor
-/// down, and the frames that the first doesn't reach with write. It gives the other nothing, and takes only what
-/// has an ancestor of its own; and one that waits at a semaphore that it may raise may be woken. At boot the root's
-/// domain is such a set, beside an empty one; and two closed sets are one.
+/// Two sets of protection domains that are separate stay so, and neither reaches what it didn't reach. Take any reachable state, and two sets
+/// of protection domains that are separate in it: what their capabilities lead to is their own, nobody outside waits for their handlers by a
+/// call, a help or an exit, they have no domain in common, and whoever is of neither is parked, dead, or blocked for good: at a semaphore that
+/// neither may raise and no alarm rings, without a deadline. Whatever turns follow, the two sets, each with the domains that are made of it,
+/// are separate still, and whoever acts is of one of them. So a set comes to reach no frame, by no right, that it didn't reach at first; and it
+/// comes to hold no right to an object, but to objects that it made since. A turn of one set leaves of the other: registers, states and
+/// deadlines, message words, identifiers of portals, budgets of the scheduling contexts that are bound to it, semaphores to which the first
+/// holds neither up nor down, and the frames that the first doesn't reach with write. It gives the other nothing, and takes only what has an
+/// ancestor of its own; and one that waits at a semaphore that it may raise may be woken. At boot the root's domain is such a set, beside an
+/// empty one; and two closed sets are one.
 pub fn closed_sets_stay_confined()
     ensures separate { (k : KernelState) (turns : List ℕ) (S T : ℕ → Bool)
         → IsReachable k
@@ -52,9 +51,9 @@ pub fn closed_sets_stay_confined()
     ensures flipped { (k : KernelState) (S T : ℕ → Bool) → AreSeparate k (Of S) (Of T) → AreSeparate k (Of T) (Of S) }
 {}
 
-/// Take two separate sets again, and a frame that no domain of the first reaches. Whatever turns follow, a turn in
-/// which one of the first set acts is the same whatever the bytes of that frame are: it leaves the same state but for
-/// these bytes, which stay. So over any turns in which only the first set's act.
+/// A turn of one of two separate sets is the same whatever bytes a frame has that this set doesn't reach. Take two separate sets again, and a
+/// frame that no domain of the first reaches. Whatever turns follow, a turn in which one of the first set acts is the same whatever the bytes
+/// of that frame are: it leaves the same state but for these bytes, which stay. So over any turns in which only the first set's act.
 pub fn closed_sets_are_blind_to_the_rest()
     ensures turn { (k : KernelState) (turns : List ℕ) (S T : ℕ → Bool) (cpu ec frame : ℕ) (bytes : List ℕ)
         → IsReachable k

@@ -14,19 +14,18 @@ ghost use Rattle.law_integrity.specs.Rights.{PageLeadsTo};
 ghost use Rattle.law_integrity.specs.Confined.{AreSeparate, IsMember, Of, ShareNothing, Side, grown};
 ghost use Rattle.law_integrity.specs.Disclosure.{AreSecretsOf, AreUnseen, Differ, Secret, DifferByExit, DifferByInstruction, DifferInRegisters, DifferInWords, IsAtInstruction, AreWordsUnread, AreWordsUnreadAlong, IsUntold, IsUntoldAlong};
 
-/// Take two states that differ in nothing but the registers of an execution context. A turn of the same processor in
-/// both leaves two states that differ in nothing else, and has the same event, where that execution context doesn't
-/// act, or where its turn tells the same of both: of an exit that is raised, the groups that its portal's descriptor
-/// names; of a hypercall, x10 to x14 and x17; of a first range that it gives, x12; of any other turn that is no
-/// instruction, nothing. So over any list of such turns, and the events of these turns are the same.
+/// An execution context's registers make no difference to others but by its exits, hypercalls and stores. Take two states that differ in
+/// nothing but the registers of an execution context. A turn of the same processor in both leaves two states that differ in nothing else, and
+/// has the same event, where that execution context doesn't act, or where its turn tells the same of both: of an exit that is raised, the
+/// groups that its portal's descriptor names; of a hypercall, x10 to x14 and x17; of a first range that it gives, x12; of any other turn that
+/// is no instruction, nothing. So over any list of such turns, and the events of these turns are the same.
 ///
-/// Where an exit of it is raised, for which its domain holds a portal, the states after differ in nothing but its
-/// registers and the message words of that portal's handler.
+/// Where an exit of it is raised, for which its domain holds a portal, the states after differ in nothing but its registers and the message
+/// words of that portal's handler.
 ///
-/// Where its turn is an instruction in both, and no hypercall, the states after differ in nothing but itself, its
-/// message words, bytes and log, and stir counts. Message words only where it is a thread; bytes, log and counts only
-/// where the two instructions store differently; and no bytes of a frame that its domain reaches by no page with the
-/// right to write.
+/// Where its turn is an instruction in both, and no hypercall, the states after differ in nothing but itself, its message words, bytes and log,
+/// and stir counts. Message words only where it is a thread; bytes, log and counts only where the two instructions store differently; and no
+/// bytes of a frame that its domain reaches by no page with the right to write.
 pub fn registers_are_told_by_exits_calls_and_stores()
     ensures turn { (k l : KernelState) (cpu g : ℕ) → DifferInRegisters k l g → IsUntold k l cpu g
         → DifferInRegisters (after k cpu) (after l cpu) g }
@@ -53,10 +52,10 @@ pub fn registers_are_told_by_exits_calls_and_stores()
         → slice_get (after l cpu).memory.ram frame ≡ slice_get (after k cpu).memory.ram frame }
 {}
 
-/// Take two states that differ in nothing but the message words of a thread. A turn of the same processor in both
-/// leaves two states that differ in nothing else, and has the same event, unless the thread itself acts, or a handler
-/// that takes the items of its call, or gives it those of a reply. So over any list of such turns, and the events of
-/// these turns are the same.
+/// A thread's message words make no difference to turns of others than itself and a handler that takes or gives its items. Take two states that
+/// differ in nothing but the message words of a thread. A turn of the same processor in both leaves two states that differ in nothing else, and
+/// has the same event, unless the thread itself acts, or a handler that takes the items of its call, or gives it those of a reply. So over any
+/// list of such turns, and the events of these turns are the same.
 pub fn message_words_are_read_by_their_thread_and_its_handler()
     ensures turn { (k l : KernelState) (cpu m : ℕ) → DifferInWords k l m → AreWordsUnread k cpu m
         → DifferInWords (after k cpu) (after l cpu) m }
@@ -68,9 +67,9 @@ pub fn message_words_are_read_by_their_thread_and_its_handler()
         → AreWordsUnreadAlong k turns m → trace l turns ≡ trace k turns }
 {}
 
-/// Take two separate sets of domains, as in `closed_sets_stay_confined`. Whatever turns follow, a turn in which one of the
-/// first set's acts looks at no registers and no message words of any execution context that isn't the set's: over two
-/// states that differ in these alone it leaves two that differ in these alone.
+/// A turn of one of two separate sets looks at no registers and no message words outside that set. Take two separate sets of domains, as in
+/// `closed_sets_stay_confined`. Whatever turns follow, a turn in which one of the first set's acts looks at no registers and no message words
+/// of any execution context that isn't the set's: over two states that differ in these alone it leaves two that differ in these alone.
 pub fn closed_sets_are_blind_to_registers_and_words()
     ensures registers { (k : KernelState) (turns : List ℕ) (S T : ℕ → Bool) (cpu ec n : ℕ) (l : KernelState)
         → IsReachable k
@@ -90,10 +89,10 @@ pub fn closed_sets_are_blind_to_registers_and_words()
         → DifferInWords (after (run k turns) cpu) (after l cpu) n }
 {}
 
-/// Take any state, and another that differs in several things at once that who acts doesn't see: registers of others,
-/// message words that it doesn't read, bytes of frames to which no page of its domain leads. Its turn has the same event
-/// in both, and leaves two states that differ in these alone. So of two guests with their monitors that share nothing: a
-/// turn of one side is the same whatever all registers, message words and frames of the other side are.
+/// A turn is the same whatever registers, message words and frames its actor doesn't see are. Take any state, and another that differs in
+/// several things at once that who acts doesn't see: registers of others, message words that it doesn't read, bytes of frames to which no page
+/// of its domain leads. Its turn has the same event in both, and leaves two states that differ in these alone. So of two guests with their
+/// monitors that share nothing: a turn of one side is the same whatever all registers, message words and frames of the other side are.
 pub fn a_turn_is_the_same_over_what_it_doesnt_see()
     ensures turn { (secrets : List Secret) (k l : KernelState) (cpu ec : ℕ) → Acts k cpu ec → AreUnseen k ec secrets
         → Differ secrets k l → Differ secrets (after k cpu) (after l cpu) }

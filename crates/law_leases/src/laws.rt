@@ -33,8 +33,8 @@ pub fn own_inputs_without_output_are_turns()
         → outputs (view k c.actor) (replicate n Own) ≡ [] → trace k (replicate n cpu) ≡ replicate n (step_of cpu c) }
 {}
 
-/// Registers, the bytes of the frames that are stored to and the numbers of stores there say all that such
-/// turns change of memory, and of the stir counts of others.
+/// Plain steps of a virtual CPU are told by its registers, the bytes of the frames that it stores to and the numbers of stores there: these say all
+/// that such turns change of memory, and of the stir counts of others.
 pub fn steps_with_their_pages_are_turns()
     ensures { (k : KernelState) (cpu : ℕ) (c : Candidate) (b : Budget) (s : Steps) → IsSound k → IsLeasable k cpu c b → s.count ≤ b.left → IsEarly k.times cpu s.count
         → IsStepping (view k c.actor) s → run k (replicate s.count cpu) ≡ advanced_to k cpu c b s }

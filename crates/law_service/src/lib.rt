@@ -90,10 +90,10 @@ pub fn noninterference_beside_servers()
         → AreAlikeAlong (run (boot a) before) (run (boot b) since) turns others S P }
 {}
 
-/// The premises are met, by a run of 59 turns from a boot state and 4 more of its first processor. A root makes a server
-/// with a handler for each of two tenants, virtual CPUs on a processor each, and dies. The first tenant raises its
-/// startup exit and sends it to its handler; the server computes, which leaves the tenant's part alone, and replies,
-/// which is the entry. So it is with a turn of the other tenant's between, who is a stranger.
+/// A run of 59 turns from a boot state meets the premises beside servers, and so do 4 more of its first processor. A root makes a server with a
+/// handler for each of two tenants, virtual CPUs on a processor each, and dies. The first tenant raises its startup exit and sends it to its
+/// handler; the server computes, which leaves the tenant's part alone, and replies, which is the entry. So it is with a turn of the other
+/// tenant's between, who is a stranger.
 pub fn a_served_run_comes_to_the_premises()
     ensures part { IsSide (run (boot served_tenants) (replicate 59 0)) (Of tenant_domain) (Of tenant_objects) }
     ensures admitted { AreAdmitted tenant_domain tenant_objects (run (boot served_tenants) (replicate 59 0)) (replicate 4 0) }

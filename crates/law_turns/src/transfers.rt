@@ -116,15 +116,14 @@ pub fn items_are_given_in_order()
         → message (after (run (boot scenario) turns) cpu) thread ≡ message (run (boot scenario) turns) thread }
 {}
 
-/// Item i is two words of a message, words 126 - 2i and 127 - 2i. A handler that takes items takes those
-/// of its caller's message, and one that replies gives those of its own, from the sender's protection
-/// domain to the receiver's. Where the receiver is a thread, translations go to the window in word 1 of its
-/// message, and delegations to that in word 2. A virtual CPU has no window for translations, and for
-/// delegations the whole space of the item's own type. The receiver is told what came of each, where it
-/// takes the items or called. Who came by an exit is told nothing of the items of the reply. After the last
-/// item the handler goes on, or the reply completes. A creator delegates one range, that of the word in its
-/// x12, to that range itself, and nobody is told. Whatever list of turns is taken from whatever boot state,
-/// whoever is told is a thread: nobody is told at a virtual CPU.
+/// An item of a message goes from the sender's protection domain to the receiver's, within the receiver's window of the item's kind. Item i is
+/// two words of a message, words 126 - 2i and 127 - 2i. A handler that takes items takes those of its caller's message, and one that replies
+/// gives those of its own, from the sender's protection domain to the receiver's. Where the receiver is a thread, translations go to the window
+/// in word 1 of its message, and delegations to that in word 2. A virtual CPU has no window for translations, and for delegations the whole
+/// space of the item's own type. The receiver is told what came of each, where it takes the items or called. Who came by an exit is told
+/// nothing of the items of the reply. After the last item the handler goes on, or the reply completes. A creator delegates one range, that of
+/// the word in its x12, to that range itself, and nobody is told. Whatever list of turns is taken from whatever boot state, whoever is told is
+/// a thread: nobody is told at a virtual CPU.
 pub fn items_go_to_the_windows_of_the_receiver()
     ensures taken { (k : KernelState) (ec caller : ℕ) (mark : Mark)
         → (context k ec).state ≡ Granting None

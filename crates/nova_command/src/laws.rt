@@ -42,7 +42,7 @@ pub fn commands()
     ensures dashes { command (typed "solo -- --limit") ≡ Some (Command.Solo (codes "--limit") None 1000000) }
 {}
 
-/// Words that are no command.
+/// Words with a name too few or too many, a number out of range, an option twice or an unknown word are no command.
 pub fn no_commands()
     ensures no_words { command [] ≡ None }
     ensures no_name { command (typed "solo") ≡ None }

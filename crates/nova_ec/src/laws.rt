@@ -49,7 +49,7 @@ pub fn changes_keep()
     ensures resuming { ResumingKeeps }
 {}
 
-/// So they do where a call or an exit is sent, and where a reply completes.
+/// Edges, callers and numbers stay sound where a call or an exit is sent, and where a reply completes.
 pub fn calls_keep()
     ensures sending { SendingKeeps }
     ensures completing { CompletingKeeps }
