@@ -74,7 +74,7 @@ def number(text: str, least: int, most: int, what: str) -> str:
 
 
 def value_of(text: str) -> str:
-    """The value of a word, which may be negative."""
+    """The value of a word, below 2^32 where it is given as a negative number."""
     return str(-number_of(number(text[1:], 0, WORD_END // 2, "VALUE")) % WORD_END) if text.startswith("-") else text
 
 
@@ -94,7 +94,8 @@ def question_of(words: Sequence[str], naming: Naming, rounds: Callable[[], str])
     if name in ("dies", "stuck") and given:
         given = [naming.context(given[0], rounds())]
     if name == "word":
-        given = [number(given[0], 0, WORD_END - 1, "FRAME"), number(given[1], 0, PAGE - WORD, "OFFSET"), number(value_of(given[2]), 0, WORD_END - 1, "VALUE")]
+        most = (WORD_END - 1, PAGE - WORD, WORD_END - 1)
+        given = [number(value_of(text), 0, *rest) for text, *rest in zip(given, most, ("FRAME", "OFFSET", "VALUE"), strict=True)]
     elif name in ("text", "console"):
         number(given[0], 0, WORD_END - 1, f"the console of {name}")
     return Question((name, *given))

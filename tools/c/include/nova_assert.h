@@ -10,7 +10,8 @@
 #define NOVA_TEXT(number) NOVA_TEXT_OF(number)
 #define NOVA_TEXT_OF(number) #number
 
-/* Whether an assertion failed. It is defined where a condition may fail, once for all sources, and begins with 0. */
+/* Whether an assertion failed. It is defined where a condition may fail, once for all sources, and begins with 0. In a domain that doesn't hold its
+   page a failure is a store fault, which `asserts` doesn't find. */
 extern volatile uint32_t nova_failed;
 
 /* What a failure does: its text is in x10 when nova_failed becomes 1. It is put where it is called, so that the pc is of the line that failed. */

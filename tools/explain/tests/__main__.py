@@ -199,7 +199,8 @@ class Guesses(unittest.TestCase):
             self.assertTrue(self.said(4, address, stack=stack).endswith("its domain has no page there that may be written."))
 
     def test_an_assertion_that_failed(self) -> None:
-        lines = ["run quiet 2", "at 1 0 6 raise 7 0", "at 2 0 6 died 7 0", "ec 1 global dead 00000088", "ec 6 global dead 00001128", "sc 2 0 0", "console 0 -"]
+        lines = ["run quiet 2", "at 1 0 6 raise 7 0", "at 2 0 6 died 7 0"]
+        lines += ["ec 1 global dead 00000088", "ec 6 global dead 00001128", "sc 2 0 0", "console 0 -"]
         for failed, end in (({6: "a.c:2: count == 3"}, ", since an assertion failed: a.c:2: count == 3"), ({7: "a.c:2: count == 3"}, "")):
             told = account(Run(read_report("\n".join(lines) + "\n"), failed=failed), "")
             self.assertIn(f"\nEC 6 ended in turn 2, at 0x1128, by `ebreak`{end}.\n", "\n".join(told))
