@@ -14,7 +14,7 @@ import sys
 from collections.abc import Iterable
 from pathlib import Path
 
-sys.path += [str(Path(__file__).resolve().parents[1] / name) for name in ("picture", "explore")]
+sys.path.append(str(Path(__file__).resolve().parents[1] / "picture"))
 
 from account import Run, account  # noqa: E402
 from exact import Exact, Refused, ended, there  # noqa: E402
@@ -24,7 +24,7 @@ from parsing import Parser, program_file  # noqa: E402
 from places import Place, places_of  # noqa: E402
 from report import Context, Fault, Report, read_report  # noqa: E402
 from scenario import read_settings  # noqa: E402
-from symbols import NoSymbol  # noqa: E402
+from variables import NoSymbol  # noqa: E402
 
 
 class Trouble(Exception):

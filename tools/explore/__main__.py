@@ -22,11 +22,9 @@ from pathlib import Path
 
 from answers import Answer
 from answers import Unread as NoAnswer
-from failures import failures
-from program import Missing, Parser, Refused, Replayer, Unread, add_words, asked, ended, find, program_file, there, unread
+from program import Missing, NoSymbol, Parser, Refused, Replayer, Unread, add_words, asked, ended, failures, find, program_file, there, unread
 from questions import Question, number_of, states_in
 from resolving import LIMITS, Naming, listed, number, question_of
-from symbols import NoSymbol
 from telling import Telling
 from wording import clause_of
 

@@ -6,8 +6,8 @@ import struct
 from collections.abc import Iterator
 from pathlib import Path
 
+from program import EXECUTE, LOADED, NO_BYTES, Executable, NoSymbol, read_executable
 from questions import number_of
-from symbols import EXECUTE, LOADED, NO_BYTES, Executable, NoSymbol, read_executable
 
 LOAD = 1
 

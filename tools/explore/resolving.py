@@ -6,11 +6,9 @@ from collections.abc import Callable, Iterator, Sequence
 from dataclasses import dataclass
 from pathlib import Path
 
-from failures import FAILED, mark_of
 from images import check
-from program import Fault, Names, Refused, Report, names_of, read_report, selectors
+from program import FAILED, PAGE, WORD, Fault, Names, Refused, Report, frame_of, mark_of, names_of, read_report, selectors, variables
 from questions import FORMS, OWN, Question, number_of, states_in
-from symbols import PAGE, WORD, frame_of, variables
 from telling import table
 
 # Behind the greatest number of a question; and what the options may be.

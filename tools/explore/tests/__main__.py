@@ -21,7 +21,7 @@ from small import Scenario
 from where import EXAMPLES, TOOL, Replayer, asked, ended, find, there
 
 from answers import Unread, read_answer
-from symbols import NoSymbol, frame_of
+from variables import NoSymbol, frame_of
 
 # The compiler that the kept scenarios were made with. Another may write other bytes.
 KEPT_BY = "12.2.0"

@@ -6,7 +6,7 @@ import re
 from collections.abc import Iterator
 from pathlib import Path
 
-from symbols import NoSymbol, frame_of, read_executable, read_symbols, text_at
+from variables import NoSymbol, frame_of, read_executable, read_symbols, text_at
 
 # What nova_assert.h does at a failure: this word has this value, and x10 the address of the text.
 MARK, FAILED = "nova_failed", 1
