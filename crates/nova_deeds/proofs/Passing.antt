@@ -5,15 +5,14 @@ use Rattle.std.proofs.lemmas.List.{length-set}
 use Rattle.nova_range.specs.declared.status.Status.{Status}
 use Rattle.nova_range.specs.declared.status.Status.TheVariants.{Success, Timeout}
 use Rattle.nova_model.specs.Deeds.{answered, ended_wait, with_context, woken_in}
-use Rattle.nova_model.specs.Edges.{AreEdges, acts}
+use Rattle.nova_model.specs.Edges.{AreEdges}
 use Rattle.nova_model.specs.Forest.{IsForest}
 use Rattle.nova_model.specs.Runs.{after}
 use Rattle.nova_model.specs.Semaphores.{left, raised, semaphore, upped, without_one, woken}
-use Rattle.nova_model.specs.State.{Contexts, KernelState, Semaphore, budget_at, context, context_at, deadline_of, ec_of, entry, with_ec}
-use Rattle.nova_model.specs.Times.{Times, alarm_sm, deadline_sm, due_on, next_moment, rung, with_deadline}
-use Rattle.nova_model.specs.Turn.{Step, counted, expires, paid_by, rings_at, state_after, ticking, turn, turn_by, what_is_due, whom_of}
+use Rattle.nova_model.specs.State.{KernelState, Semaphore, context, context_at, deadline_of, entry, with_ec}
+use Rattle.nova_model.specs.Times.{Times, alarm_sm, deadline_sm, due_on, rung}
+use Rattle.nova_model.specs.Turn.{counted, expires, state_after, what_is_due, whom_of}
 use Rattle.nova_model.specs.declared.budget.Budget.{Budget}
-use Rattle.nova_model.specs.declared.context.EcState.{EcState}
 use Rattle.nova_model.specs.declared.semaphore.Overflow.{Overflow}
 use Rattle.nova_model.specs.declared.times.Due.{Due}
 use Rattle.nova_model.specs.declared.times.Due.TheVariants as due
@@ -24,7 +23,7 @@ use Rattle.nova_choice.specs.Schedules.{AreQueued, AreQueuedAfter, AreQueuedBut,
 use Rattle.nova_choice.proofs.Choosing.{turn_due}
 use Rattle.nova_choice.proofs.Avoiding.{one_moved}
 use Rattle.nova_choice.proofs.Waits.{KeepsQueued, cpu_of, moved, queued_kept, same_state}
-use Rattle.nova_deeds.specs.Counted.{AreTables, IsCharged, IsCounted, IsNumbered, IsToBeCharged, IsToBeStirred, KeepsCounts}
+use Rattle.nova_deeds.specs.Counted.{IsCounted, IsToBeCharged, IsToBeStirred, KeepsCounts}
 use Rattle.nova_deeds.specs.Passing.{fallen}
 use Rattle.nova_deeds.proofs.Bursts.{one_later}
 use Rattle.nova_deeds.proofs.Counts.{AreTables-paid, IsCharged-kept, IsCharged-paid, IsNumbered-kept, IsNumbered-paid, children-kept, children-paid, items-paid}
