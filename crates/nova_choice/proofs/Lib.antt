@@ -8,3 +8,4 @@ pub mod Joins
 pub mod Marks
 pub mod Named
 pub mod Started
+pub mod Handlers

@@ -11,7 +11,7 @@ use Rattle.nova_model.specs.declared.budget.Budget.{Budget}
 use Rattle.nova_model.specs.declared.context.EcState.{EcState}
 use Rattle.nova_model.specs.declared.context.Mark.TheVariants.{Exit}
 use Rattle.nova_model.specs.declared.context.State.{State}
-use Rattle.nova_model.specs.declared.context.State.TheVariants.{Ready}
+use Rattle.nova_model.specs.declared.context.State.TheVariants.{Ready, Calling}
 use Rattle.nova_model.specs.declared.deed.Deed.{Deed}
 use Rattle.nova_model.specs.declared.deed.Deed.TheVariants.{Dies, Waits, Makes, Helps, Aborts, Ups, Blocks}
 use Rattle.nova_model.specs.declared.new_object.NewObject.{NewObject}
@@ -33,6 +33,15 @@ is_ready other = false
 abbrev pub is_ready_at : Option EcState → Bool
 is_ready_at (Some x) = is_ready x.state
 is_ready_at None = false
+
+-- the handler that it called, where it waits for a reply
+abbrev pub called_of : State → Option ℕ
+called_of (Calling handler) = Some handler
+called_of other = None
+
+abbrev pub called_at : Option EcState → Option ℕ
+called_at (Some x) = called_of x.state
+called_at None = None
 
 -- the turns that an execution context is given lead to one that acts
 abbrev pub leads : Contexts → ℕ → Bool

@@ -1,7 +1,7 @@
 ghost use Rattle.std.specs.Prelude.{◌≡◌, slice_get, IsSome, IfSome};
 ghost use Rattle.nova_model.specs.State.{ec_in};
 ghost use Rattle.nova_ec.specs.Tables.{actor_in};
-ghost use Rattle.nova_choice.specs.Schedules.{actor_of, is_ready_at};
+ghost use Rattle.nova_choice.specs.Schedules.{actor_of, called_at, is_ready_at};
 
 use nova_ec::Ecs;
 use nova_model::{Object, State};
@@ -24,6 +24,16 @@ fn is_ready(contexts: &Ecs, ec: u32) -> bool
     }
 }
 
+/// The handler that an execution context called, where it waits for a reply.
+fn called(contexts: &Ecs, ec: u32) -> Option<u32>
+    ensures { result ≡ called_at (ec_in contexts.now.items ec) }
+{
+    match contexts.get(ec)?.state {
+        State::Calling(handler) => Some(handler),
+        _ => None,
+    }
+}
+
 /// The execution context that acts in the turns of one that is not ready: the end of its chase, where that one acts. Few turns
 /// need it, so that it stays out of the code of each choice.
 #[inline(never)]
@@ -32,6 +42,22 @@ fn chased_actor(contexts: &Ecs, ec: u32) -> Option<u32>
     ensures there { IfSome result (λ actor. IsSome (ec_in contexts.now.items actor)) }
 {
     contexts.actor(ec)
+}
+
+/// The same, where most that aren't ready wait for the reply of a handler that is.
+#[inline(always)]
+#[tactic(auto, using(crate::proofs::Handlers::handler_acts))]
+fn donee(contexts: &Ecs, ec: u32) -> Option<u32>
+    ensures actor { result ≡ actor_in contexts.now.items ec }
+    ensures there { IfSome result (λ actor. IsSome (ec_in contexts.now.items actor)) }
+{
+    contexts.keeps_edges();
+    if let Some(handler) = called(contexts, ec)
+        && is_ready(contexts, handler)
+    {
+        return Some(handler);
+    }
+    chased_actor(contexts, ec)
 }
 
 /// The execution context that acts in the turns of a scheduling context; none where none acts, and of
@@ -43,7 +69,7 @@ pub fn actor_of(objects: &Objects, contexts: &Ecs, sc: u32) -> Option<u32>
 {
     match objects.get(sc) {
         Some(Object::Sc { ec, .. }) if is_ready(contexts, *ec) => Some(*ec),
-        Some(Object::Sc { ec, .. }) => chased_actor(contexts, *ec),
+        Some(Object::Sc { ec, .. }) => donee(contexts, *ec),
         _ => None,
     }
 }
