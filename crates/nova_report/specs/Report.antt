@@ -32,9 +32,13 @@ is_silent other = false
 abbrev pub is_told : ℕ × Event → Bool
 is_told (place, e) = not (is_silent e.kind)
 
+-- the line of an event, behind its place and as a whole
+abbrev pub event_rest : Event → List ℕ
+event_rest e = codes " " ++ (decimal e.cpu ++ (codes " " ++ (decimal e.ec ++ (codes " "
+    ++ (event_word e.kind ++ (codes " " ++ (decimal e.a ++ (codes " " ++ (decimal e.b ++ line_feed)))))))))
+
 abbrev pub event_line : ℕ × Event → List ℕ
-event_line (place, e) = codes "at " ++ (decimal place ++ (codes " " ++ (decimal e.cpu ++ (codes " " ++ (decimal e.ec ++ (codes " "
-    ++ (event_word e.kind ++ (codes " " ++ (decimal e.a ++ (codes " " ++ (decimal e.b ++ line_feed)))))))))))
+event_line (place, e) = codes "at " ++ (decimal place ++ event_rest e)
 
 abbrev pub lines_from : ℕ → List Event → List ℕ
 lines_from n events = flat_map event_line (filter is_told (enumerate_from n events))

@@ -1,8 +1,8 @@
 ghost use Rattle.std.specs.Prelude.{◌≡◌, ◌+◌, ◌<◌, ◌≤◌, ◌^◌, ◌++◌, false, length, replicate, OnOk};
 ghost use Rattle.nova_report.specs.Words.{event_word};
-ghost use Rattle.nova_report.specs.Report.{event_line, event_lines, is_silent, lines_from};
+ghost use Rattle.nova_report.specs.Report.{event_lines, is_silent, lines_from};
 
-use crate::line::Line;
+use crate::told::{Told, none_told, write_line};
 use nova_model::{Event, EventKind};
 use nova_trace::{Repeated, Trace};
 use std::alloc::AllocError;
@@ -38,46 +38,38 @@ pub fn event_word<'a>(kind: EventKind) -> &'a str
     }
 }
 
-fn write_event(out: &mut Vec<u8>, place: u64, event: Event) -> Result<(), AllocError>
-    ensures { OnOk result (out.new.items ≡ out.old.items ++ event_line (place, event)) }
-{
-    let mut line = Line::new();
-    line.put_number(u64::from(event.b));
-    line.put(b" ");
-    line.put_number(u64::from(event.a));
-    line.put(b" ");
-    line.put(event_word(event.kind).as_bytes());
-    line.put(b" ");
-    line.put_number(u64::from(event.ec));
-    line.put(b" ");
-    line.put_number(u64::from(event.cpu));
-    line.put(b" ");
-    line.put_number(place);
-    line.put(b"at ");
-    out.extend_from_slice(line.text())
-}
-
 /// The lines of an event that has one and comes so many times, after a place.
-fn write_times(out: &mut Vec<u8>, place: u64, event: Event, count: u64) -> Result<(), AllocError>
+fn write_times(
+    out: &mut Vec<u8>,
+    told: &mut [Told; 4],
+    place: u64,
+    event: Event,
+    count: u64,
+) -> Result<(), AllocError>
     requires told { is_silent event.kind ≡ false }
     requires few { place + count < 2 ^ 64 }
     ensures { OnOk result (out.new.items ≡ out.old.items ++ lines_from (place + 1) (replicate count event)) }
 {
     for i in 0..count {
-        write_event(out, place + i + 1, event)?;
+        write_line(out, told, place + i + 1, event)?;
     }
     Ok(())
 }
 
 /// The lines of an event that comes so many times, after a place: none where it is silent.
-fn write_entry(out: &mut Vec<u8>, place: u64, entry: &Repeated) -> Result<(), AllocError>
+fn write_entry(
+    out: &mut Vec<u8>,
+    told: &mut [Told; 4],
+    place: u64,
+    entry: &Repeated,
+) -> Result<(), AllocError>
     requires few { place + entry.now.count < 2 ^ 64 }
     ensures { OnOk result (out.new.items ≡ out.old.items ++ lines_from (place + 1) (replicate entry.now.count entry.now.event)) }
 {
     if is_silent(entry.event.kind) {
         return Ok(());
     }
-    write_times(out, place, entry.event, entry.count)
+    write_times(out, told, place, entry.event, entry.count)
 }
 
 /// A line for each event but step and tick, by place from 1.
@@ -85,9 +77,10 @@ pub fn write_events(out: &mut Vec<u8>, trace: &Trace) -> Result<(), AllocError>
     ensures { OnOk result (out.new.items ≡ out.old.items ++ event_lines trace.now.items) }
 {
     let entries = trace.entries();
+    let mut told = none_told();
     let mut place = 0;
     for entry in entries {
-        write_entry(out, place, entry)?;
+        write_entry(out, &mut told, place, entry)?;
         place += entry.count;
     }
     Ok(())

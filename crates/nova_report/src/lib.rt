@@ -10,6 +10,7 @@ mod line;
 mod objects;
 mod run;
 mod sources;
+mod told;
 
 pub use bench::{count_derivations, summary};
 pub use consoles::write_consoles;

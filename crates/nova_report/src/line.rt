@@ -1,4 +1,4 @@
-ghost use Rattle.std.specs.Prelude.{◌≡◌, ◌+◌, ◌≤◌, ◌++◌, length, decimal};
+ghost use Rattle.std.specs.Prelude.{◌≡◌, ◌+◌, ◌-◌, ◌≤◌, ◌++◌, length, drop, decimal};
 ghost use Rattle.nova_report.specs.Words.{line_feed};
 
 use itoa::write_digits;
@@ -39,6 +39,24 @@ impl Line {
         }
     }
 
+    /// For how many bytes there is room before it.
+    pub(crate) fn room(&self) -> usize
+        ensures room { result ≡ self.now.room }
+        ensures most { result ≤ 128 }
+    {
+        self.start
+    }
+
+    /// So much is taken away in front that there is this room again.
+    #[tactic(auto, using(crate::proofs::Again::further))]
+    pub(crate) fn back_to(&mut self, room: usize)
+        requires { (self.old.room ≤ room) × (room ≤ 128) }
+        ensures text { self.new.text ≡ drop (room - self.old.room) self.old.text }
+        ensures room { self.new.room ≡ room }
+    {
+        self.start = room;
+    }
+
     /// The line as far as it is written.
     pub(crate) fn text(&self) -> &[u8]
         ensures { result.now ≡ self.now.text }
@@ -63,7 +81,8 @@ impl Line {
     pub(crate) fn put_number(&mut self, number: u64)
         requires { 20 ≤ self.old.room }
         ensures text { self.new.text ≡ decimal number ++ self.old.text }
-        ensures room { self.old.room ≤ self.new.room + 20 }
+        ensures room { self.new.room + length (decimal number) ≡ self.old.room }
+        ensures most { self.old.room ≤ self.new.room + 20 }
     {
         self.start = write_digits(number, &mut self.bytes, self.start);
     }
