@@ -15,6 +15,7 @@ CAUSES = {
     "waits": ("cap", "ec"),
     "queue": ("ec", "ec"),
     "serves": ("ec", "ec"),
+    "takes": ("ec", "ec"),
     "gives": ("ec",),
 }
 PLACE = re.compile(r"(trusted|[A-Za-z0-9_-]+):(\d+)")

@@ -14,8 +14,9 @@ use Rattle.nova_model.specs.Runs.{after, run}
 use Rattle.nova_model.specs.Semaphores.{has, semaphore_in}
 use Rattle.nova_model.specs.State.{KernelState, Semaphore, context, context_at, context_in, entry, pd_in, pd_of}
 use Rattle.nova_model.specs.declared.context.EcState.{EcState}
+use Rattle.nova_model.specs.declared.context.Mark.{Mark}
 use Rattle.nova_model.specs.declared.context.State.{State}
-use Rattle.nova_model.specs.declared.context.State.TheVariants.{Blocked}
+use Rattle.nova_model.specs.declared.context.State.TheVariants.{Blocked, Granting}
 use Rattle.law_isolation.specs.Sound.{IsSound}
 use Rattle.law_isolation.proofs.Runs.{reached_sound}
 use Rattle.law_turns.specs.Tables.{HasTables, IsOf, Refers}
@@ -27,7 +28,7 @@ use Rattle.law_integrity.specs.Confined.{IsMember, IsOwned}
 use Rattle.law_integrity.specs.Rightful.{IsRightful}
 use Rattle.law_integrity.specs.Trusted.{OrTrusted, labels_after, labels_by}
 use Rattle.law_integrity.specs.Waits.{HasLocalEdges}
-use Rattle.law_integrity.proofs.Blocked.{BlockedBy, blocked_came}
+use Rattle.law_integrity.proofs.Blocked.{BlockedBy, TakesBy, blocked_came, taking_came}
 use Rattle.law_integrity.proofs.Confining.{object_kept}
 use Rattle.law_integrity.proofs.Edges.{at_index, local_edges, reached_rightful}
 use Rattle.law_integrity.proofs.Homes.{AreHomed, reached_homed}
@@ -160,6 +161,7 @@ pub record IsTaken (k : KernelState) (cpu : ℕ) : Type 0 where
   pub rightful : (ec : ℕ) → IsRightful k ec (deed k ec)
   pub local : HasLocalEdges k
   pub came : (n sm : ℕ) → (context (after k cpu) n).state ≡ Blocked sm → BlockedBy k cpu n sm
+  pub taking : (n caller : ℕ) (mark : Mark) → (context (after k cpu) n).state ≡ Granting None → (context (after k cpu) n).caller ≡ Some (caller, mark) → TakesBy k cpu n caller mark
   pub queue : (n sm : ℕ) → (context (after k cpu) n).state ≡ Blocked sm → slice_get (after k cpu).objects sm ≡ Some Sm
 
 pub turn_taken : (s : Scenario) (before : List ℕ) (cpu : ℕ) → IsTaken (run (boot s) before) cpu
@@ -170,6 +172,7 @@ turn_taken s before cpu = record {
   rightful = λ ec. reached_rightful s before ec;
   local = local_edges s before;
   came = λ n sm is. blocked_came s before cpu n sm is;
+  taking = λ n caller mark is keeps. taking_came s before cpu n caller mark is keeps;
   queue = λ n sm is. blocked_object (after (run (boot s) before) cpu) n sm (later_fits s before cpu) is;
 }
   where

@@ -74,5 +74,8 @@ no_state {A} k n s calm alive never is = by_entry (context_at k n) (calm n) is
 pub no_first : {A : Type 0} (k : KernelState) (n new : ℕ) → AreCalm k → (context k n).state ≡ Granting (Some new) → A
 no_first k n new calm is = no_state k n (Granting (Some new)) calm (λ same. cc) (λ c. c) is
 
+pub no_taking : {A : Type 0} (k : KernelState) (n : ℕ) → AreCalm k → (context k n).state ≡ Granting None → A
+no_taking k n calm is = no_state k n (Granting None) calm (λ same. cc) (λ c. c) is
+
 pub no_wait : {A : Type 0} (k : KernelState) (n sm : ℕ) → AreCalm k → (context k n).state ≡ Blocked sm → A
 no_wait k n sm calm is = no_state k n (Blocked sm) calm (λ same. cc) (λ c. c) is

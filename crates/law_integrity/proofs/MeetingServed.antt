@@ -25,7 +25,7 @@ use Rattle.law_origins.specs.Giving.{Acts}
 use Rattle.law_integrity.specs.Confined.{IsMember, IsOwned}
 use Rattle.law_integrity.specs.Examples.{served, sides_served}
 use Rattle.law_integrity.specs.Trusted.{IsWithinPolicy, MayHold, OrTrusted}
-use Rattle.law_integrity.proofs.Meeting.{AreCalm, Shows, all_calm, no_edge, no_first, no_wait}
+use Rattle.law_integrity.proofs.Meeting.{AreCalm, Shows, all_calm, no_edge, no_first, no_taking, no_wait}
 
 -- objects, derivations and states after turn 127
 abbrev objects : List Object
@@ -113,6 +113,7 @@ module _ (k : KernelState) (shows : Shows k objects list states) where
   meets_policy = record {
     capabilities = λ d has kind some. by_holder d kind some (held_as d has);
     edges = λ waiter handler is some. no_edge k calm waiter handler is;
+    takes = λ handler caller mark is keeps some. no_taking k handler calm is;
     firsts = λ ec new is some. no_first k ec new calm is;
     queues = λ n m sm first second some. no_wait k n sm calm first;
   }

@@ -1,19 +1,25 @@
 -- A policy of sides and trusted domains after a turn: it holds on, and a side touches nothing of another side.
 use Rattle.std.proofs.Common.{◌≡◌, ◌<◌, ℕ, ◌⊎◌, zero, suc, length, refl, sym, ap, ◌∙◌, subst, inl, inr, arith}
-use Rattle.std.specs.Prelude.{◌≢◌, true, Contains, is_some, slice_get, Option, Some, None, option_and_then}
+use Rattle.std.specs.Prelude.{◌≢◌, true, false, Contains, is_some, slice_get, Option, Some, None, option_and_then, option_map}
 use Rattle.std.proofs.lemmas.Option.{same_Some, slice_get_within}
+use Rattle.nova_objects.specs.declared.object.EcKind.TheVariants.{Global, Local, Vcpu}
 use Rattle.nova_objects.specs.declared.object.Object.{Object}
 use Rattle.nova_objects.specs.declared.object.Object.TheVariants.{Pd, Ec, Sc, Pt, Sm}
 use Rattle.nova_range.specs.declared.range.Kind.TheVariants.{Obj}
-use Rattle.nova_model.specs.Edges.{after_edges, edge}
+use Rattle.nova_model.specs.Edges.{after_edges, edge, is_dead}
 use Rattle.nova_model.specs.Forest.{IsWithin}
 use Rattle.nova_model.specs.Runs.{after}
-use Rattle.nova_model.specs.State.{KernelState, context, context_at, context_in, pd_of}
+use Rattle.nova_model.specs.State.{KernelState, context, context_at, context_in, is_local_in, is_local_thread, pd_of}
 use Rattle.nova_model.specs.declared.context.EcState.{EcState}
-use Rattle.nova_model.specs.declared.context.State.TheVariants.{Blocked, Granting}
+use Rattle.nova_model.specs.declared.context.Mark.{Mark}
+use Rattle.nova_model.specs.declared.context.State.{State}
+use Rattle.nova_model.specs.declared.context.State.TheVariants.{Blocked, Calling, Dead, Granting}
 use Rattle.nova_model.specs.declared.delegation.Derivation.{Derivation}
 use Rattle.law_forest.specs.Made.{IsFirstCapability}
 use Rattle.law_isolation.specs.Sound.{IsSound}
+use Rattle.nova_model.specs.Capabilities.{is_local}
+use Rattle.law_turns.specs.Tables.{IsOf}
+use Rattle.law_turns.specs.Links.{caller_at, state_at}
 use Rattle.law_turns.proofs.Links.{place}
 use Rattle.law_turns.proofs.Serving.{IsActor, awaited}
 use Rattle.law_origins.specs.Giving.{Acts}
@@ -21,8 +27,9 @@ use Rattle.law_origins.proofs.Coming.{came}
 use Rattle.law_origins.proofs.Origins.{opened_now}
 use Rattle.law_integrity.specs.Confined.{IsMember, IsOwned}
 use Rattle.law_integrity.specs.Rights.{AsksDown, CallsAt, ExitsAt, GivesFirst, GivesTo, Names, RepliesWith, TakesOfCaller}
-use Rattle.law_integrity.specs.Trusted.{IsWithinPolicy, Labelled, MayHold, MayTakeTurn, OrTrusted, labels_after}
-use Rattle.law_integrity.proofs.Blocked.{Before, BlockedBy, Now}
+use Rattle.law_integrity.specs.Trusted.{IsWithinPolicy, Labelled, MayHold, MayTakeTurn, MayWait, OrTrusted, labels_after}
+use Rattle.law_integrity.specs.Waits.{HasLocalEdges}
+use Rattle.law_integrity.proofs.Blocked.{Before, Begins, BlockedBy, Now, TakesBy, Took}
 use Rattle.law_integrity.proofs.Confining.{Child, Newest, Old, Whence, acting_one, acts_one, child_target, local_member, member_pd, newest_object, object_kept, order_none, schedulable_member, waits_edge, whence}
 use Rattle.law_integrity.proofs.Edges.{edge_came, handler_local}
 use Rattle.law_integrity.proofs.Homes.{receiver_there}
@@ -50,15 +57,23 @@ called_by k label ec handler policy side (inl c) =
 called_by k label ec handler policy side (inr c) =
     held_owned k label ec c.held.capability c.portal (Pt handler c.mtd c.ip) policy side c.held.held.there c.held.held.kind c.held.held.holder c.held.leads c.object
 
+-- whom one of a side serves is of the side, or trusted
+served_label : (k : KernelState) (label : ℕ → ℕ) (ec caller : ℕ) (mark : Mark) → IsSound k → IsWithinPolicy k label → IsActor k.contexts ec → label (pd_of k ec) ≢ 0 →
+    (context k ec).caller ≡ Some (caller, mark) → OrTrusted label (label (pd_of k ec)) (pd_of k caller)
+served_label k label ec caller mark sound policy actor side serves =
+    by_waits (policy.edges caller ec (waits_edge k caller ec (awaited _ k.contexts ec caller mark actor serves sound.kept.served).waits) side)
+  where
+    by_waits : MayWait k label (label (pd_of k ec)) caller → OrTrusted label (label (pd_of k ec)) (pd_of k caller)
+    by_waits (inl same) = inl same
+    by_waits (inr client) = inr client.0
+
 pub side_gives : (k : KernelState) (label : ℕ → ℕ) (ec giver receiver : ℕ) → IsSound k → IsWithinPolicy k label → IsActor k.contexts ec → label (pd_of k ec) ≢ 0 → GivesTo k ec giver receiver →
-    (label giver ≡ label (pd_of k ec)) × (label receiver ≡ label (pd_of k ec))
+    (label giver ≡ label (pd_of k ec)) × OrTrusted label (label (pd_of k ec)) receiver
 side_gives k label ec giver receiver sound policy actor side (TakesOfCaller caller mark state serves g r) =
-    let c = policy.edges caller ec (waits_edge k caller ec (awaited _ k.contexts ec caller mark actor serves sound.kept.served).waits) side in
-    (ap label (sym g) ∙ c, ap label (sym r))
+    (ap label (sym g) ∙ policy.takes ec caller mark state serves side, inl (ap label (sym r)))
 side_gives k label ec giver receiver sound policy actor side (RepliesWith caller mark state serves g r) =
-    let c = policy.edges caller ec (waits_edge k caller ec (awaited _ k.contexts ec caller mark actor serves sound.kept.served).waits) side in
-    (ap label (sym g), ap label (sym r) ∙ c)
-side_gives k label ec giver receiver sound policy actor side (GivesFirst state g) = (ap label (sym g), policy.firsts ec receiver state side)
+    (ap label (sym g), subst (OrTrusted label (label (pd_of k ec))) r (served_label k label ec caller mark sound policy actor side serves))
+side_gives k label ec giver receiver sound policy actor side (GivesFirst state g) = (ap label (sym g), inl (policy.firsts ec receiver state side))
 
 -- CAPABILITIES
 
@@ -122,11 +137,15 @@ old_may k label cpu d t policy take still there kind side = record { leads = lea
         source.kind ≡ Obj → source.target ≡ d.target → GivesTo k ec source.pd e.pd → OrTrusted (labels_after k label cpu) (label d.pd) e.pd
     passed sm e source ec acts_ other below has its same gives = by_alone (may.alone sm source has its same)
       where
-        labelled : (label source.pd ≡ label (pd_of k ec)) × (label e.pd ≡ label (pd_of k ec))
+        labelled : (label source.pd ≡ label (pd_of k ec)) × OrTrusted label (label (pd_of k ec)) e.pd
         labelled = side_gives k label ec source.pd e.pd t.sound policy (acting_one k cpu ec acts_) other gives
 
+        by_receiver : label source.pd ≡ label d.pd → OrTrusted label (label (pd_of k ec)) e.pd → OrTrusted (labels_after k label cpu) (label d.pd) e.pd
+        by_receiver its (inl own) = inl (labels_old k label cpu e.pd below ∙ own ∙ sym labelled.0 ∙ its)
+        by_receiver its (inr none) = inr (labels_old k label cpu e.pd below ∙ none)
+
         by_alone : OrTrusted label (label d.pd) source.pd → OrTrusted (labels_after k label cpu) (label d.pd) e.pd
-        by_alone (inl is) = inl (labels_old k label cpu e.pd below ∙ labelled.1 ∙ sym labelled.0 ∙ is)
+        by_alone (inl is) = by_receiver is labelled.1
         by_alone (inr none) = absurd (other (sym labelled.0 ∙ none))
 
     alone : slice_get (after k cpu).objects d.target ≡ Some Sm → (e : Derivation) → Contains (after k cpu).delegations.list e → e.kind ≡ Obj → e.target ≡ d.target →
@@ -242,6 +261,10 @@ capabilities_after k label cpu t policy take d now kind side = by_whence (whence
         source_kind : source.kind ≡ Obj
         source_kind = sym within.kind ∙ kind
 
+        own_label : OrTrusted label (label (pd_of k ec)) d.pd → label d.pd ≢ 0 → label d.pd ≡ label (pd_of k ec)
+        own_label (inl same) some = same
+        own_label (inr none) some = absurd (some none)
+
         by_label : d.pd < length k.objects → (label (pd_of k ec) ≡ 0) ⊎ (label (pd_of k ec) ≢ 0) → Its (labels_after k label cpu d.pd)
         by_label below (inl trusted) = elim ((take ec acts_ trusted).gives d now kind (was_side below)) [
           | inl there ↦ by_old there
@@ -249,7 +272,7 @@ capabilities_after k label cpu t policy take d now kind side = by_whence (whence
         ]
         by_label below (inr other) =
             let labelled = side_gives k label ec source.pd d.pd t.sound policy (acting_one k cpu ec acts_) other gives in
-            let its : label source.pd ≡ labels_after k label cpu d.pd = labelled.0 ∙ sym labelled.1 ∙ sym (labels_old k label cpu d.pd below) in
+            let its : label source.pd ≡ labels_after k label cpu d.pd = labelled.0 ∙ sym (own_label labelled.1 (was_side below)) ∙ sym (labels_old k label cpu d.pd below) in
             subst Its its (subst (λ (n : ℕ). MayHold (after k cpu) (labels_after k label cpu) (label source.pd) n) (sym (child_same k cpu d source t was source_kind within))
             (old_may k label cpu source t policy take (inr (λ e its_acts. subst (λ (n : ℕ). label (pd_of k n) ≢ 0) (acts_one k cpu ec e acts_ its_acts) other)) was source_kind
             (λ none. other (sym labelled.0 ∙ none))))
@@ -260,32 +283,101 @@ handler_ec : (k : KernelState) (cpu ec handler : ℕ) → IsTaken k cpu → Call
 handler_ec k cpu ec handler t (inl c) = local_ec k handler (handler_local k c.portal handler c.mtd c.ip t.fits.tables c.object)
 handler_ec k cpu ec handler t (inr c) = local_ec k handler (handler_local k c.portal handler c.mtd c.ip t.fits.tables c.object)
 
+-- a thread that is no handler is none after the turn
+local_same : (k : KernelState) (cpu n : ℕ) → IsEc k n → is_local_thread k n ≡ false → is_local_thread (after k cpu) n ≡ false
+local_same k cpu n m none =
+    ap is_local_in (object_kept k cpu n (Ec m.domain m.cpu m.kind m.event) m.object) ∙ sym (ap is_local_in m.object) ∙ none
+
 edges_after : (k : KernelState) (label : ℕ → ℕ) (cpu : ℕ) → IsTaken k cpu → IsWithinPolicy k label → MayTakeTurn k label cpu → (waiter handler : ℕ) → edge (after k cpu).contexts waiter ≡ Some handler →
-    labels_after k label cpu (pd_of (after k cpu) handler) ≢ 0 → labels_after k label cpu (pd_of (after k cpu) waiter) ≡ labels_after k label cpu (pd_of (after k cpu) handler)
+    labels_after k label cpu (pd_of (after k cpu) handler) ≢ 0 → MayWait (after k cpu) (labels_after k label cpu) (labels_after k label cpu (pd_of (after k cpu) handler)) waiter
 edges_after k label cpu t policy take waiter handler is side = elim (edge_came k cpu waiter handler t.rightful is) [
   | inl before ↦ kept (edge_ec k waiter handler t.fits.tables before) (local_ec k handler (t.local waiter handler before)) (λ its. policy.edges waiter handler before its)
   | inr now ↦ by_now now.0 now.1
 ]
   where
-    kept : IsEc k waiter → (h : IsEc k handler) → (label (pd_of k handler) ≢ 0 → label (pd_of k waiter) ≡ label (pd_of k handler)) →
-        labels_after k label cpu (pd_of (after k cpu) waiter) ≡ labels_after k label cpu (pd_of (after k cpu) handler)
-    kept w h same =
-        let its = label_kept k label cpu handler t.fits.tables h in
-        label_kept k label cpu waiter t.fits.tables w ∙ same (λ none. side (its ∙ none)) ∙ sym its
+    Goal : Type 0
+    Goal = MayWait (after k cpu) (labels_after k label cpu) (labels_after k label cpu (pd_of (after k cpu) handler)) waiter
 
-    by_called : OrTrusted label (label (pd_of k waiter)) (pd_of k handler) → label (pd_of k handler) ≢ 0 → label (pd_of k waiter) ≡ label (pd_of k handler)
-    by_called (inl same) its = sym same
+    kept : IsEc k waiter → (h : IsEc k handler) → (label (pd_of k handler) ≢ 0 → MayWait k label (label (pd_of k handler)) waiter) → Goal
+    kept w h may = by_may (may (λ none. side (its ∙ none)))
+      where
+        its : labels_after k label cpu (pd_of (after k cpu) handler) ≡ label (pd_of k handler)
+        its = label_kept k label cpu handler t.fits.tables h
+
+        by_may : MayWait k label (label (pd_of k handler)) waiter → Goal
+        by_may (inl same) = inl (label_kept k label cpu waiter t.fits.tables w ∙ same ∙ sym its)
+        by_may (inr client) = inr (label_kept k label cpu waiter t.fits.tables w ∙ client.0, local_same k cpu waiter w client.1)
+
+    by_called : OrTrusted label (label (pd_of k waiter)) (pd_of k handler) → label (pd_of k handler) ≢ 0 → MayWait k label (label (pd_of k handler)) waiter
+    by_called (inl same) its = inl (sym same)
     by_called (inr none) its = absurd (its none)
 
-    by_now : Acts k cpu waiter → CallsAt k waiter handler ⊎ ExitsAt k waiter handler → labels_after k label cpu (pd_of (after k cpu) waiter) ≡ labels_after k label cpu (pd_of (after k cpu) handler)
+    by_now : Acts k cpu waiter → CallsAt k waiter handler ⊎ ExitsAt k waiter handler → Goal
     by_now acts_ by =
         let w = context_ec k waiter t.fits.tables (ap (λ (o : Option EcState). is_some o) (acting_one k cpu waiter acts_).there) in
         kept w (handler_ec k cpu waiter handler t by) (λ its. by_label its (place (label (pd_of k waiter)) 0))
       where
-        by_label : label (pd_of k handler) ≢ 0 → (label (pd_of k waiter) ≡ 0) ⊎ (label (pd_of k waiter) ≢ 0) → label (pd_of k waiter) ≡ label (pd_of k handler)
-        by_label its (inl trusted) = absurd (its ((take waiter acts_ trusted).calls handler is))
+        by_careful : label (pd_of k waiter) ≡ 0 → label (pd_of k handler) ≢ 0 → (label (pd_of k handler) ≡ 0) ⊎ (is_local_thread k waiter ≡ false) → MayWait k label (label (pd_of k handler)) waiter
+        by_careful trusted its (inl none) = absurd (its none)
+        by_careful trusted its (inr client) = inr (trusted, client)
+
+        by_label : label (pd_of k handler) ≢ 0 → (label (pd_of k waiter) ≡ 0) ⊎ (label (pd_of k waiter) ≢ 0) → MayWait k label (label (pd_of k handler)) waiter
+        by_label its (inl trusted) = by_careful trusted its ((take waiter acts_ trusted).calls handler is)
         by_label its (inr other) =
             by_called (member_pd k (OrTrusted label (label (pd_of k waiter))) handler (called_by k label waiter handler policy other by)) its
+
+-- whom a handler that takes items serves waits for it
+pub served_waits : (k : KernelState) (handler caller : ℕ) (mark : Mark) → IsSound k → (context k handler).state ≡ Granting None → (context k handler).caller ≡ Some (caller, mark) →
+    (context k caller).state ≡ Calling handler
+served_waits k handler caller mark sound taking serves = by_handler (context_at k handler) refl taking serves
+  where
+    by_caller : (o : Option EcState) → option_map (λ (x : EcState). x.state) o ≡ Some (Calling handler) → (context_in o).state ≡ Calling handler
+    by_caller None is = absurd (cc)
+    by_caller (Some x) is = same_Some x.state (Calling handler) is
+
+    by_handler : (o : Option EcState) → context_at k handler ≡ o → (context_in o).state ≡ Granting None → (context_in o).caller ≡ Some (caller, mark) → (context k caller).state ≡ Calling handler
+    by_handler None at is keeps = absurd (cc)
+    by_handler (Some y) at is keeps =
+        by_caller (context_at k caller)
+        ((sound.kept.served.linked caller handler).waits mark (ap caller_at at ∙ keeps) (ap (λ (q : Option EcState). is_dead (state_at q)) at ∙ ap (λ (t : State). is_dead (Some t)) is))
+
+takes_after : (k : KernelState) (label : ℕ → ℕ) (cpu : ℕ) → IsTaken k cpu → IsWithinPolicy k label → MayTakeTurn k label cpu → (handler caller : ℕ) (mark : Mark) →
+    (context (after k cpu) handler).state ≡ Granting None → (context (after k cpu) handler).caller ≡ Some (caller, mark) → labels_after k label cpu (pd_of (after k cpu) handler) ≢ 0 →
+    labels_after k label cpu (pd_of (after k cpu) caller) ≡ labels_after k label cpu (pd_of (after k cpu) handler)
+takes_after k label cpu t policy take handler caller mark state keeps side = by_came (t.taking handler caller mark state keeps)
+  where
+    Goal : Type 0
+    Goal = labels_after k label cpu (pd_of (after k cpu) caller) ≡ labels_after k label cpu (pd_of (after k cpu) handler)
+
+    kept : IsEc k caller → IsEc k handler → (label (pd_of k handler) ≢ 0 → label (pd_of k caller) ≡ label (pd_of k handler)) → Goal
+    kept c h same =
+        let its = label_kept k label cpu handler t.fits.tables h in
+        label_kept k label cpu caller t.fits.tables c ∙ same (λ none. side (its ∙ none)) ∙ sym its
+
+    there : (n : ℕ) (s : State) → s ≢ Dead → (context k n).state ≡ s → IsEc k n
+    there n s alive is = by_entry (context_at k n) refl is
+      where
+        by_entry : (o : Option EcState) → context_at k n ≡ o → (context_in o).state ≡ s → IsEc k n
+        by_entry None at dead = absurd (alive (sym dead))
+        by_entry (Some x) at dead = context_ec k n t.fits.tables (ap (λ (o : Option EcState). is_some o) at)
+
+    by_called : OrTrusted label (label (pd_of k caller)) (pd_of k handler) → label (pd_of k handler) ≢ 0 → label (pd_of k caller) ≡ label (pd_of k handler)
+    by_called (inl same) its = sym same
+    by_called (inr none) its = absurd (its none)
+
+    by_label : Acts k cpu caller → CallsAt k caller handler → label (pd_of k handler) ≢ 0 → (label (pd_of k caller) ≡ 0) ⊎ (label (pd_of k caller) ≢ 0) → label (pd_of k caller) ≡ label (pd_of k handler)
+    by_label acts_ by its (inl trusted) = absurd (its ((take caller acts_ trusted).sends handler mark state keeps))
+    by_label acts_ by its (inr other) =
+        by_called (member_pd k (OrTrusted label (label (pd_of k caller))) handler (called_by k label caller handler policy other (inl by))) its
+
+    by_came : TakesBy k cpu handler caller mark → Goal
+    by_came (Took was serves) =
+        let h = there handler (Granting None) (λ same. cc) was in
+        let waits = (served_waits k handler caller mark t.sound was serves) in
+        kept (there caller (Calling handler) (λ same. cc) waits) h (λ its. policy.takes handler caller mark was serves its)
+    by_came (Begins acts_ by) =
+        kept (context_ec k caller t.fits.tables (ap (λ (o : Option EcState). is_some o) (acting_one k cpu caller acts_).there)) (handler_ec k cpu caller handler t (inl by))
+        (λ its. by_label acts_ by its (place (label (pd_of k caller)) 0))
 
 firsts_after : (k : KernelState) (label : ℕ → ℕ) (cpu : ℕ) → IsTaken k cpu → IsWithinPolicy k label → (ec new : ℕ) → (context (after k cpu) ec).state ≡ Granting (Some new) →
     labels_after k label cpu (pd_of (after k cpu) ec) ≢ 0 → labels_after k label cpu new ≡ labels_after k label cpu (pd_of (after k cpu) ec)
@@ -344,41 +436,64 @@ pub policy_after : (k : KernelState) (label : ℕ → ℕ) (cpu : ℕ) → IsTak
 policy_after k label cpu t policy take = record {
   capabilities = capabilities_after k label cpu t policy take;
   edges = edges_after k label cpu t policy take;
+  takes = takes_after k label cpu t policy take;
   firsts = firsts_after k label cpu t policy;
   queues = λ n m sm first second side. queues_after k label cpu n m sm t policy first second side;
 }
 
 -- A SIDE TOUCHES NOTHING OF ANOTHER SIDE
 
--- whoever leads along edges to one of a side is of the side
-led_label : (k : KernelState) (label : ℕ → ℕ) (ec n edges : ℕ) → IsWithinPolicy k label → label (pd_of k ec) ≢ 0 → after_edges edges (edge k.contexts) n ≡ Some ec → label (pd_of k n) ≡ label (pd_of k ec)
-led_label k label ec n zero policy side is = ap (λ (m : ℕ). label (pd_of k m)) (same_Some n ec is)
-led_label k label ec n (suc edges) policy side is = by_edge (edge k.contexts n) refl is (λ h leads. led_label k label ec h edges policy side leads)
+-- whoever leads along edges to one of a side is of the side, or a client that is trusted
+led_label : (k : KernelState) (label : ℕ → ℕ) (ec n edges : ℕ) → HasLocalEdges k → IsWithinPolicy k label → label (pd_of k ec) ≢ 0 → after_edges edges (edge k.contexts) n ≡ Some ec →
+    MayWait k label (label (pd_of k ec)) n
+led_label k label ec n zero local policy side is = inl (ap (λ (m : ℕ). label (pd_of k m)) (same_Some n ec is))
+led_label k label ec n (suc edges) local policy side is = by_edge (edge k.contexts n) refl is (λ h leads. led_label k label ec h edges local policy side leads)
   where
-    by_edge : (o : Option ℕ) → edge k.contexts n ≡ o → option_and_then (after_edges edges (edge k.contexts)) o ≡ Some ec →
-        ((h : ℕ) → after_edges edges (edge k.contexts) h ≡ Some ec → label (pd_of k h) ≡ label (pd_of k ec)) → label (pd_of k n) ≡ label (pd_of k ec)
-    by_edge None at leads later = absurd (cc)
-    by_edge (Some h) at leads later = let its = later h leads in policy.edges n h at (λ none. side (sym its ∙ none)) ∙ its
+    -- a handler is no client
+    handles : (h : ℕ) → IsOf k.objects is_local h → is_local_thread k h ≡ false → ⊥
+    handles h of none = by_object (slice_get k.objects h) of none
+      where
+        by_object : (o : Option Object) → option_map is_local o ≡ Some true → is_local_in o ≡ false → ⊥
+        by_object None a b = absurd (cc)
+        by_object (Some (Ec pd cpu Local event)) a b = absurd (cc)
+        by_object (Some (Ec pd cpu Global event)) a b = absurd (cc)
+        by_object (Some (Ec pd cpu Vcpu event)) a b = absurd (cc)
+        by_object (Some Pd) a b = absurd (cc)
+        by_object (Some (Sc e cpu priority quantum)) a b = absurd (cc)
+        by_object (Some (Pt e mtd ip)) a b = absurd (cc)
+        by_object (Some Sm) a b = absurd (cc)
 
-pub policy_clear : (k : KernelState) (label : ℕ → ℕ) (ec side : ℕ) → IsSound k → IsWithinPolicy k label → IsActor k.contexts ec → label (pd_of k ec) ≢ 0 → side ≢ 0 → side ≢ label (pd_of k ec) →
+    by_handler : (h : ℕ) → edge k.contexts n ≡ Some h → MayWait k label (label (pd_of k ec)) h → MayWait k label (label (pd_of k ec)) n
+    by_handler h at (inl its) = subst (λ (s : ℕ). MayWait k label s n) its (policy.edges n h at (λ none. side (sym its ∙ none)))
+    by_handler h at (inr client) = absurd (handles h (local n h at) client.1)
+
+    by_edge : (o : Option ℕ) → edge k.contexts n ≡ o → option_and_then (after_edges edges (edge k.contexts)) o ≡ Some ec →
+        ((h : ℕ) → after_edges edges (edge k.contexts) h ≡ Some ec → MayWait k label (label (pd_of k ec)) h) → MayWait k label (label (pd_of k ec)) n
+    by_edge None at leads later = absurd (cc)
+    by_edge (Some h) at leads later = by_handler h at (later h leads)
+
+pub policy_clear : (k : KernelState) (label : ℕ → ℕ) (ec side : ℕ) → IsSound k → HasLocalEdges k → IsWithinPolicy k label → IsActor k.contexts ec → label (pd_of k ec) ≢ 0 → side ≢ 0 → side ≢ label (pd_of k ec) →
     IsClear k (Labelled label side) ec
-policy_clear k label ec side sound policy actor own some other = record {
+policy_clear k label ec side sound local policy actor own some other = record {
   away = record {
     out = λ same. other (sym same);
     calls = λ handler by theirs. apart (pd_of k handler) (member_pd k (OrTrusted label (label (pd_of k ec))) handler (called_by k label ec handler policy own by)) (member_pd k (Labelled label side) handler theirs);
-    gives = λ giver receiver g theirs. other (sym theirs ∙ (side_gives k label ec giver receiver sound policy actor own g).1);
+    gives = λ giver receiver g theirs. apart receiver (side_gives k label ec giver receiver sound policy actor own g).1 theirs;
   };
-  serves = λ caller mark serves theirs.
-      other (sym (member_pd k (Labelled label side) caller theirs) ∙ policy.edges caller ec (waits_edge k caller ec (awaited _ k.contexts ec caller mark actor serves sound.kept.served).waits) own);
+  serves = λ caller mark serves theirs. apart (pd_of k caller) (served_label k label ec caller mark sound policy actor own serves) (member_pd k (Labelled label side) caller theirs);
   controls = λ n call right names theirs. apart theirs.domain (named n call right names (Ec theirs.domain theirs.cpu theirs.kind theirs.event) theirs.object) theirs.of;
   portals = λ n call right handler mtd ip names is theirs.
       apart (pd_of k handler) (member_pd k (OrTrusted label (label (pd_of k ec))) handler (named n call right names (Pt handler mtd ip) is)) (member_pd k (Labelled label side) handler theirs);
-  leads = λ donor edges way theirs. other (sym (member_pd k (Labelled label side) donor theirs) ∙ led_label k label ec donor edges policy own way);
+  leads = λ donor edges way theirs. led donor (led_label k label ec donor edges local policy own way) (member_pd k (Labelled label side) donor theirs);
 }
   where
     apart : (n : ℕ) → OrTrusted label (label (pd_of k ec)) n → label n ≡ side → ⊥
     apart n (inl same) is = other (sym is ∙ same)
     apart n (inr none) is = some (sym is ∙ none)
+
+    led : (n : ℕ) → MayWait k label (label (pd_of k ec)) n → label (pd_of k n) ≡ side → ⊥
+    led n (inl same) is = other (sym is ∙ same)
+    led n (inr client) is = some (sym is ∙ client.0)
 
     named : (n call right : ℕ) → Names k ec call right n → (o : Object) → slice_get k.objects n ≡ Some o → IsOwned k (OrTrusted label (label (pd_of k ec))) n (Some o)
     named n call right names o is =

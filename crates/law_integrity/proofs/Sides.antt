@@ -56,7 +56,7 @@ pub side_leaves : (s : Scenario) (turns : List ℕ) (label : ℕ → ℕ) (cpu e
     LeavesTo (run (boot s) turns) (after (run (boot s) turns) cpu) (Labelled label (label (pd_of (run (boot s) turns) ec))) (Labelled label side)
 side_leaves s turns label cpu ec side policy acts_ own some other =
     let k = run (boot s) turns in
-    leaves_clear s turns (Labelled label side) (Labelled label (label (pd_of k ec))) cpu ec (policy_clear k label ec side (reached_sound s turns) policy (acting_one k cpu ec acts_) own some other) acts_
+    leaves_clear s turns (Labelled label side) (Labelled label (label (pd_of k ec))) cpu ec (policy_clear k label ec side (reached_sound s turns) (turn_taken s turns cpu).local policy (acting_one k cpu ec acts_) own some other) acts_
     (acts_for k label cpu ec (turn_taken s turns cpu) acts_)
 
 pub side_stays : (s : Scenario) (turns : List ℕ) (label : ℕ → ℕ) (cpu ec side n : ℕ) → IsWithinPolicy (run (boot s) turns) label → Acts (run (boot s) turns) cpu ec →
@@ -141,7 +141,11 @@ provenance k label cpu side d t policy some now of = by_whence (whence k cpu d t
         by_label (inl trusted) = Gives ec acts_ trusted source there (given trusted gives) within
         by_label (inr other) =
             let labelled = side_gives k label ec source.pd d.pd t.sound policy (acting_one k cpu ec acts_) other gives in
-            Passes source there (labelled.0 ∙ sym labelled.1 ∙ its) within
+            by_receiver labelled.0 labelled.1
+          where
+            by_receiver : label source.pd ≡ label (pd_of k ec) → OrTrusted label (label (pd_of k ec)) d.pd → Provenance k label cpu side d
+            by_receiver own (inl same) = Passes source there (own ∙ sym same ∙ its) within
+            by_receiver own (inr none) = absurd (some (sym its ∙ none))
 
 -- what a child reaches and holds its source does
 reach_within : (k : KernelState) (S : ℕ → Type 0) (right frame : ℕ) (d source : Derivation) → Contains k.delegations.list source → S source.pd → IsWithin d source → d.kind ≡ Mem → Covers d frame →

@@ -1,12 +1,13 @@
 -- Sides beside domains that are trusted: what no program of a side does to another side, while what is trusted serves both.
 -- A label says of each protection domain whose it is: 0 is trusted, and any other number is a side.
-use Rattle.std.specs.Prelude.{◌≡◌, ◌≢◌, ◌⊎◌, ◌==◌, ℕ, Contains, List, [], ◌∷◌, ◌++◌, if◌then◌else◌, length, slice_get, Option, Some, None, option_map}
+use Rattle.std.specs.Prelude.{◌≡◌, ◌≢◌, ◌⊎◌, ◌==◌, ℕ, false, Contains, List, [], ◌∷◌, ◌++◌, if◌then◌else◌, length, slice_get, Option, Some, None, option_map}
 use Rattle.nova_objects.specs.declared.object.Object.TheVariants.{Sm}
 use Rattle.nova_range.specs.declared.range.Kind.TheVariants.{Obj}
 use Rattle.nova_model.specs.Choice.{next_to_act}
 use Rattle.nova_model.specs.Edges.{edge}
 use Rattle.nova_model.specs.Runs.{after, run}
-use Rattle.nova_model.specs.State.{KernelState, context, pd_of}
+use Rattle.nova_model.specs.State.{KernelState, context, is_local_thread, pd_of}
+use Rattle.nova_model.specs.declared.context.Mark.{Mark}
 use Rattle.nova_model.specs.declared.context.State.TheVariants.{Blocked, Granting}
 use Rattle.nova_model.specs.declared.delegation.Derivation.{Derivation}
 use Rattle.law_origins.specs.Giving.{Acts}
@@ -28,11 +29,17 @@ pub record MayHold (k : KernelState) (label : ℕ → ℕ) (side object : ℕ) :
   pub alone : slice_get k.objects object ≡ Some Sm → (d : Derivation) → Contains k.delegations.list d → d.kind ≡ Obj → d.target ≡ object → OrTrusted label side d.pd
   pub waits : (n : ℕ) → (context k n).state ≡ Blocked object → OrTrusted label side (pd_of k n)
 
--- each side holds only what it may; who waits for a handler of a side, by a call, a help or an exit, is of that side; and so is a domain to which one of a side gives a first range; and whoever waits
--- at a semaphore where one of a side waits is of that side, or trusted. What is trusted may hold what it likes.
+-- One that waits for a handler of a side, by a call, a help or an exit, is of that side; or it is trusted and no handler itself, so that nobody waits for it: a client.
+abbrev pub MayWait : KernelState → (ℕ → ℕ) → ℕ → ℕ → Type 0
+MayWait k label side waiter = (label (pd_of k waiter) ≡ side) ⊎ ((label (pd_of k waiter) ≡ 0) × (is_local_thread k waiter ≡ false))
+
+-- each side holds only what it may; for its handlers wait only those that may, and a handler that takes the items of a call takes them of that side; a domain to which one of a side gives a first range is of that
+-- side; and whoever waits at a semaphore where one of a side waits is of that side, or trusted. What is trusted may hold what it likes.
 pub record IsWithinPolicy (k : KernelState) (label : ℕ → ℕ) : Type 0 where
   pub capabilities : (d : Derivation) → Contains k.delegations.list d → d.kind ≡ Obj → label d.pd ≢ 0 → MayHold k label (label d.pd) d.target
-  pub edges : (waiter handler : ℕ) → edge k.contexts waiter ≡ Some handler → label (pd_of k handler) ≢ 0 → label (pd_of k waiter) ≡ label (pd_of k handler)
+  pub edges : (waiter handler : ℕ) → edge k.contexts waiter ≡ Some handler → label (pd_of k handler) ≢ 0 → MayWait k label (label (pd_of k handler)) waiter
+  pub takes : (handler caller : ℕ) (mark : Mark) → (context k handler).state ≡ Granting None → (context k handler).caller ≡ Some (caller, mark) → label (pd_of k handler) ≢ 0 →
+      label (pd_of k caller) ≡ label (pd_of k handler)
   pub firsts : (ec new : ℕ) → (context k ec).state ≡ Granting (Some new) → label (pd_of k ec) ≢ 0 → label new ≡ label (pd_of k ec)
   pub queues : (n m sm : ℕ) → (context k n).state ≡ Blocked sm → (context k m).state ≡ Blocked sm → label (pd_of k n) ≢ 0 → OrTrusted label (label (pd_of k n)) (pd_of k m)
 
@@ -50,11 +57,13 @@ abbrev pub labels : KernelState → (ℕ → ℕ) → List ℕ → ℕ → ℕ
 labels k label [] = label
 labels k label (cpu ∷ turns) = labels (after k cpu) (labels_after k label cpu) turns
 
--- what one that is trusted has to see to in a turn of its own: each capability that a side has then is one that it had, or one that it may hold; and it doesn't come to wait for a handler of a side
+-- what one that is trusted has to see to in a turn of its own: each capability that a side has then is one that it had, or one that it may hold; it doesn't come to wait for a handler of a side, but as a client; and
+-- no handler of a side takes items of its
 pub record IsCareful (k : KernelState) (label : ℕ → ℕ) (cpu ec : ℕ) : Type 0 where
   pub gives : (d : Derivation) → Contains (after k cpu).delegations.list d → d.kind ≡ Obj → label d.pd ≢ 0 →
       Contains k.delegations.list d ⊎ MayHold (after k cpu) (labels_after k label cpu) (label d.pd) d.target
-  pub calls : (handler : ℕ) → edge (after k cpu).contexts ec ≡ Some handler → label (pd_of k handler) ≡ 0
+  pub calls : (handler : ℕ) → edge (after k cpu).contexts ec ≡ Some handler → (label (pd_of k handler) ≡ 0) ⊎ (is_local_thread k ec ≡ false)
+  pub sends : (handler : ℕ) (mark : Mark) → (context (after k cpu) handler).state ≡ Granting None → (context (after k cpu) handler).caller ≡ Some (ec, mark) → label (pd_of k handler) ≡ 0
 
 -- whoever acts in this turn is of a side, or careful
 abbrev pub MayTakeTurn : KernelState → (ℕ → ℕ) → ℕ → Type 0

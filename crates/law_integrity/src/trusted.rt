@@ -11,9 +11,10 @@ ghost use Rattle.law_integrity.specs.Trusted.{HoldsSince, IsGivenFrame, IsGivenO
 /// Take any reachable state, and a label for each protection domain: 0 is trusted, any other number is a side. Let
 /// the state be within the policy: a side's capabilities lead to domains, execution contexts, portals and
 /// scheduling contexts of its own or of what is trusted, and to no semaphore that another side holds; nobody of
-/// another side waits at what it holds or where one of its own waits; and nobody but its own waits for its
-/// handlers. Whatever turns follow, so it stays, if each one that is trusted sees to it in its own turns that it
-/// gives a side no other capability and doesn't come to wait for a side's handler. Of what sides do nothing is
+/// another side waits at what it holds or where one of its own waits; for its handlers waits nobody but its own, or
+/// who is trusted and no handler; and they take no items but of its own. Whatever turns follow, so it stays, if each
+/// one that is trusted sees to it in its own turns that it gives a side no other capability, that no handler of a side
+/// takes items of it, and that it doesn't come to wait for one where it is a handler itself. Of what sides do nothing is
 /// assumed. A domain that is made has the label of its maker's. A turn of one side leaves each execution context of
 /// another side as it is, with its deadline, message words and place in items, the identifiers of its portals, the
 /// budgets of the scheduling contexts that are bound to it, the semaphores to which the first holds neither up nor

@@ -38,13 +38,15 @@ use Rattle.law_integrity.specs.Integrity.{Called, ContextBy, ContextByTime, Exit
 use Rattle.law_integrity.specs.Rights.{CallsAt, ExitsAt, GivesFirst, GivesTo, RepliesWith, TakesOfCaller}
 use Rattle.law_integrity.specs.Trusted.{labels_after}
 use Rattle.law_integrity.proofs.Authorised.{authorised_by}
-use Rattle.law_integrity.proofs.Confining.{Child, Newest, Old, Whence, acting_one, calls_in, child_target, gives_in, member_pd, newest_object, not_next, object_kept, order_none, waits_edge, whence}
+use Rattle.law_integrity.proofs.Confining.{Child, Newest, Old, Whence, acting_one, child_target, gives_in, member_pd, newest_object, not_next, object_kept, order_none, waits_edge, whence}
 use Rattle.law_integrity.proofs.Edges.{at_index, edge_came}
 use Rattle.law_integrity.proofs.Homes.{receiver_there}
 use Rattle.law_integrity.proofs.Labels.{IsEc, IsTaken, context_ec, edge_ec, labels_made, labels_old, local_ec}
 use Rattle.law_integrity.proofs.Passing.{due_in, turned_by_time}
 use Rattle.law_integrity.proofs.Resting.{acts_in}
-use Rattle.law_sides.proofs.Parted.{grant_there}
+use Rattle.law_sides.proofs.Entries.{as_member, grant_there}
+use Rattle.law_sides.proofs.Muted.{AreMute, calls_own, gift_out}
+
 
 -- WHAT IS MADE
 
@@ -141,10 +143,10 @@ IsWeak k B rights n (Some (Ec pd cpu kind event)) = B pd → allows rights bind_
 IsWeak k B rights n (Some (Pt handler mtd ip)) = B (pd_of k handler) → allows rights call_right ≡ false
 IsWeak k B rights n other = Unit {0}
 
--- the domains of B are bare, beside the sides and bare domains S, and the mute ones T
-pub record AreBare (k : KernelState) (label : ℕ → ℕ) (S T B : ℕ → Type 0) : Type 0 where
-  pub sides : (n : ℕ) → S n → (label n ≢ 0) ⊎ B n
-  pub mutes : (n : ℕ) → T n → label n ≡ 0
+-- the domains of B are bare: of those S that may act all others are sides, or mute, M
+pub record AreBare (k : KernelState) (label : ℕ → ℕ) (S M B : ℕ → Type 0) : Type 0 where
+  pub sides : (n : ℕ) → S n → (label n ≢ 0) ⊎ (B n ⊎ M n)
+  pub apart : (n : ℕ) → B n → M n → ⊥
   pub there : (n : ℕ) → B n → slice_get k.objects n ≡ Some Pd
   pub within : (n : ℕ) → B n → S n
   pub trusted : (n : ℕ) → B n → label n ≡ 0
@@ -155,14 +157,14 @@ pub record AreBare (k : KernelState) (label : ℕ → ℕ) (S T B : ℕ → Type
   pub given : (ec new : ℕ) → (context k ec).state ≡ Granting (Some new) → B new → ⊥
   pub callers : (ec caller : ℕ) → (context k ec).caller ≡ Some (caller, Call) → B (pd_of k ec) → ⊥
 
-module _ (s : Scenario) (before : List ℕ) (label : ℕ → ℕ) (S T B : ℕ → Type 0) (cpu : ℕ) where
+module _ (s : Scenario) (before : List ℕ) (label : ℕ → ℕ) (S T M B : ℕ → Type 0) (cpu : ℕ) where
   abbrev pub k : KernelState
   k = run (boot s) before
 
   abbrev pub new : KernelState
   new = after (run (boot s) before) cpu
 
-  module _ (t : IsTaken k cpu) (apart : AreSeparate k S T) (bare : AreBare k label S T B) where
+  module _ (t : IsTaken k cpu) (apart : AreSeparate k S T) (none : (n : ℕ) → T n → ⊥) (bare : AreBare k label S M B) (mute : AreMute k label S M) where
     -- a domain, an execution context and a holder that were there
     below : (n : ℕ) → B n → n < length k.objects
     below n b = slice_get_within k.objects n Pd (bare.there n b)
@@ -261,9 +263,14 @@ module _ (s : Scenario) (before : List ℕ) (label : ℕ → ℕ) (S T B : ℕ �
     giver_sided : (ec giver receiver : ℕ) → Acts k cpu ec → GivesTo k ec giver receiver → label receiver ≢ 0 → (label giver ≢ 0) ⊎ B giver
     giver_sided ec giver receiver acts_ gives some = by_side (acts_in k S T cpu ec apart acts_)
       where
+        by_giver : (label giver ≢ 0) ⊎ (B giver ⊎ M giver) → (label giver ≢ 0) ⊎ B giver
+        by_giver (inl its) = inl its
+        by_giver (inr (inl b)) = inr b
+        by_giver (inr (inr m)) = absurd (some (mute.trusted receiver (gift_out s before label S T M B cpu t mute ec giver receiver acts_ gives m)))
+
         by_side : IsMember k S ec ⊎ IsMember k T ec → (label giver ≢ 0) ⊎ B giver
-        by_side (inl m) = bare.sides giver (gives_in k S ec giver receiver t.sound apart.first (acting_one k cpu ec acts_) m gives).0
-        by_side (inr m) = absurd (some (bare.mutes receiver (gives_in k T ec giver receiver t.sound apart.second (acting_one k cpu ec acts_) m gives).1))
+        by_side (inl m) = by_giver (bare.sides giver (gives_in k S ec giver receiver t.sound apart.first (acting_one k cpu ec acts_) m gives).0)
+        by_side (inr m) = absurd (none m.domain m.of)
 
     weak_after : (d : Derivation) → Contains new.delegations.list d → d.kind ≡ Obj → labels_after k label cpu d.pd ≢ 0 → IsWeak new B d.rights d.target (slice_get new.objects d.target)
     weak_after d there kind some = by_whence (whence k cpu d t.sound.forest there)
@@ -325,15 +332,16 @@ module _ (s : Scenario) (before : List ℕ) (label : ℕ → ℕ) (S T B : ℕ �
         capability : Derivation
         capability = by.held.at.capability
 
-        by_label : (label (pd_of k c) ≢ 0) ⊎ B (pd_of k c) → ⊥
+        by_label : (label (pd_of k c) ≢ 0) ⊎ (B (pd_of k c) ⊎ M (pd_of k c)) → ⊥
         by_label (inl some) =
             not_both capability.rights call_right by.held.at.allowed
             (weak_at capability by.portal (Pt ec by.mtd by.ip) by.held.at.held.there by.held.at.held.kind (λ none. some (ap label (sym by.held.at.held.holder) ∙ none)) by.held.at.leads by.object b)
-        by_label (inr its) = no_portal c ec (inl by) its
+        by_label (inr (inl its)) = no_portal c ec (inl by) its
+        by_label (inr (inr m)) = bare.apart (pd_of k ec) b (calls_own s before label S T M B cpu t mute c ec (inl by) m)
 
         by_side : IsMember k S c ⊎ IsMember k T c → ⊥
         by_side (inl m) = by_label (bare.sides (pd_of k c) (member_pd k S c m))
-        by_side (inr m) = apart.disjoint (pd_of k ec) (bare.within (pd_of k ec) b) (member_pd k T ec (calls_in k T c ec apart.second m by))
+        by_side (inr m) = none m.domain m.of
 
     caller_there : (ec c : ℕ) → (context k ec).caller ≡ Some (c, Call) → is_some (context_at k ec) ≡ true
     caller_there ec c is = by_entry (context_at k ec) is
@@ -349,10 +357,10 @@ module _ (s : Scenario) (before : List ℕ) (label : ℕ → ℕ) (S T B : ℕ �
           (was_bare ec (local_ec k ec (at_index (Refers k.objects) k.objects now.1.portal (Pt ec now.1.mtd now.1.ip) t.fits.tables.refer now.1.object)) b)
     ]
 
-    pub bare_after : AreBare new (labels_after k label cpu) (more k S cpu) (more k T cpu) B
+    pub bare_after : AreBare new (labels_after k label cpu) (more k S cpu) (more k M cpu) B
     bare_after = record {
       sides = λ n m. sides n m;
-      mutes = λ n m. mutes n m;
+      apart = apart_after;
       there = λ n b. object_kept k cpu n Pd (bare.there n b);
       within = λ n b. inl (bare.within n b);
       trusted = λ n b. labels_old k label cpu n (below n b) ∙ bare.trusted n b;
@@ -364,16 +372,22 @@ module _ (s : Scenario) (before : List ℕ) (label : ℕ → ℕ) (S T B : ℕ �
       callers = callers_after;
     }
       where
-        sides : (n : ℕ) → more k S cpu n → (labels_after k label cpu n ≢ 0) ⊎ B n
+        sides : (n : ℕ) → more k S cpu n → (labels_after k label cpu n ≢ 0) ⊎ (B n ⊎ more k M cpu n)
         sides n (inl m) = elim (bare.sides n m) [
-          | inl some ↦ inl (λ none. some (sym (labels_old k label cpu n (slice_get_within k.objects n Pd (apart.first.there n m))) ∙ none))
-          | inr b ↦ inr b
+          | inl some ↦ inl (λ none_. some (sym (labels_old k label cpu n (slice_get_within k.objects n Pd (apart.first.there n m))) ∙ none_))
+          | inr trusted ↦ elim trusted [
+            | inl b ↦ inr (inl b)
+            | inr its ↦ inr (inr (inl its))
+          ]
         ]
         sides n (inr made) = elim (bare.sides (pd_of k made.maker) (member_pd k S made.maker made.of)) [
-          | inl some ↦ inl (λ none. some (sym (labels_made k label cpu made.maker made.acts) ∙ sym (ap (labels_after k label cpu) made.number) ∙ none))
-          | inr b ↦ absurd (no_maker made.maker (made_by k cpu made.maker Pd made.acts (ap (slice_get new.objects) (sym made.number) ∙ made.made)) b)
+          | inl some ↦ inl (λ none_. some (sym (labels_made k label cpu made.maker made.acts) ∙ sym (ap (labels_after k label cpu) made.number) ∙ none_))
+          | inr trusted ↦ elim trusted [
+            | inl b ↦ absurd (no_maker made.maker (made_by k cpu made.maker Pd made.acts (ap (slice_get new.objects) (sym made.number) ∙ made.made)) b)
+            | inr its ↦ inr (inr (inr (record { maker = made.maker; acts = made.acts; of = as_member k M made.maker (actor_ec made.maker made.acts) its; number = made.number; made = made.made })))
+          ]
         ]
 
-        mutes : (n : ℕ) → more k T cpu n → labels_after k label cpu n ≡ 0
-        mutes n (inl m) = labels_old k label cpu n (slice_get_within k.objects n Pd (apart.second.there n m)) ∙ bare.mutes n m
-        mutes n (inr made) = ap (labels_after k label cpu) made.number ∙ labels_made k label cpu made.maker made.acts ∙ bare.mutes (pd_of k made.maker) (member_pd k T made.maker made.of)
+        apart_after : (n : ℕ) → B n → more k M cpu n → ⊥
+        apart_after n b (inl m) = bare.apart n b m
+        apart_after n b (inr made) = not_next k n (bare.there n b) made.number

@@ -1,20 +1,23 @@
 -- What is trusted was careful in a turn if the sides are isolated after it: so careful turns are found by judging states.
-use Rattle.std.proofs.Common.{◌≡◌, ◌≢◌, ◌⊎◌, ◌<◌, ◌++◌, ℕ, List, [], ◌∷◌, length, sym, ap, ◌∙◌, subst, inl, inr}
-use Rattle.std.specs.Prelude.{Contains, is_some, Option, Some}
+use Rattle.std.proofs.Common.{◌≡◌, ◌≢◌, ◌⊎◌, ◌<◌, ◌++◌, ℕ, List, [], ◌∷◌, length, refl, sym, ap, ◌∙◌, subst, inl, inr}
+use Rattle.std.specs.Prelude.{true, false, Contains, is_some, Option, Some, None}
 use Rattle.std.proofs.lemmas.Bool.{cases_eq}
 use Rattle.std.proofs.lemmas.Option.{slice_get_within}
-use Rattle.nova_objects.specs.declared.object.Object.TheVariants.{Pd}
+use Rattle.nova_objects.specs.declared.object.Object.TheVariants.{Pd, Ec}
 use Rattle.nova_range.specs.declared.range.Kind.TheVariants.{Obj}
 use Rattle.nova_model.specs.Boot.{Scenario, boot}
 use Rattle.nova_model.specs.Edges.{edge}
 use Rattle.nova_model.specs.Runs.{after, run}
-use Rattle.nova_model.specs.State.{KernelState, pd_of}
+use Rattle.nova_model.specs.State.{KernelState, context, context_at, context_in, is_local_in, is_local_thread, pd_of}
 use Rattle.nova_model.specs.declared.context.EcState.{EcState}
+use Rattle.nova_model.specs.declared.context.Mark.{Mark}
+use Rattle.nova_model.specs.declared.context.State.TheVariants.{Granting}
 use Rattle.nova_model.specs.declared.delegation.Derivation.{Derivation}
 use Rattle.law_origins.proofs.Lists.{run_append}
 use Rattle.law_integrity.specs.Rights.{CallsAt, ExitsAt}
-use Rattle.law_integrity.specs.Trusted.{IsWithinPolicy, MayHold, MayTakeTurn, MayTakeTurns, labels_after}
-use Rattle.law_integrity.proofs.Confining.{Child, Newest, Old, Whence, acting_one, whence}
+use Rattle.law_integrity.specs.Trusted.{IsWithinPolicy, MayHold, MayTakeTurn, MayTakeTurns, MayWait, labels_after}
+use Rattle.law_integrity.proofs.Blocked.{Begins, TakesBy, Took}
+use Rattle.law_integrity.proofs.Confining.{Child, Newest, Old, Whence, acting_one, object_kept, whence}
 use Rattle.law_integrity.proofs.Edges.{edge_came, handler_local}
 use Rattle.law_integrity.proofs.Homes.{receiver_there}
 use Rattle.law_integrity.proofs.Labels.{IsEc, IsTaken, context_ec, label_kept, labels_old, local_ec, turn_taken}
@@ -30,6 +33,19 @@ handler_there k cpu ec handler t is = elim (edge_came k cpu ec handler t.rightfu
     by_portal : CallsAt k ec handler ⊎ ExitsAt k ec handler → IsEc k handler
     by_portal (inl c) = local_ec k handler (handler_local k c.portal handler c.mtd c.ip t.fits.tables c.object)
     by_portal (inr c) = local_ec k handler (handler_local k c.portal handler c.mtd c.ip t.fits.tables c.object)
+
+-- and so was a handler that takes items after it
+taker_ec : (k : KernelState) (cpu handler caller : ℕ) (mark : Mark) → IsTaken k cpu → (context (after k cpu) handler).state ≡ Granting None → (context (after k cpu) handler).caller ≡ Some (caller, mark) →
+    IsEc k handler
+taker_ec k cpu handler caller mark t is keeps = by_came (t.taking handler caller mark is keeps)
+  where
+    there : (o : Option EcState) → (context_in o).state ≡ Granting None → is_some o ≡ true
+    there None at = absurd (cc)
+    there (Some x) at = refl
+
+    by_came : TakesBy k cpu handler caller mark → IsEc k handler
+    by_came (Took was serves) = context_ec k handler t.fits.tables (there (context_at k handler) was)
+    by_came (Begins acts_ c) = local_ec k handler (handler_local k c.portal handler c.mtd c.ip t.fits.tables c.object)
 
 -- who holds a derivation after a turn was there before it
 holder_before : (k : KernelState) (cpu : ℕ) (d : Derivation) → IsTaken k cpu → Contains (after k cpu).delegations.list d → d.pd < length k.objects
@@ -47,20 +63,39 @@ pub careful_from : (k : KernelState) (label : ℕ → ℕ) (cpu : ℕ) → IsTak
 careful_from k label cpu t policy ec acts_ trusted = record {
   gives = λ d there kind some. inr (held d there some kind);
   calls = λ handler is. called handler is (handler_there k cpu ec handler t is) (cases_eq (label (pd_of k handler)) 0);
+  sends = λ handler mark is keeps. sent handler mark is keeps (cases_eq (label (pd_of k handler)) 0);
 }
   where
+    actor : IsEc k ec
+    actor = context_ec k ec t.fits.tables (ap (λ (o : Option EcState). is_some o) (acting_one k cpu ec acts_).there)
+
     held : (d : Derivation) → Contains (after k cpu).delegations.list d → label d.pd ≢ 0 → d.kind ≡ Obj → MayHold (after k cpu) (labels_after k label cpu) (label d.pd) d.target
     held d there some kind =
         let its = labels_old k label cpu d.pd (holder_before k cpu d t there) in
         subst (λ (s : ℕ). MayHold (after k cpu) (labels_after k label cpu) s d.target) its (policy.capabilities d there kind (λ none. some (sym its ∙ none)))
 
-    called : (handler : ℕ) → edge (after k cpu).contexts ec ≡ Some handler → IsEc k handler → (label (pd_of k handler) ≡ 0) ⊎ (label (pd_of k handler) ≢ 0) → label (pd_of k handler) ≡ 0
-    called handler is h (inl none) = none
-    called handler is h (inr some) =
-        let its = label_kept k label cpu handler t.fits.tables h in
-        let own = label_kept k label cpu ec t.fits.tables (context_ec k ec t.fits.tables (ap (λ (o : Option EcState). is_some o) (acting_one k cpu ec acts_).there)) in
-        let one = policy.edges ec handler is (λ none. some (sym its ∙ none)) in
-        absurd (some (sym its ∙ sym one ∙ own ∙ trusted))
+    own : labels_after k label cpu (pd_of (after k cpu) ec) ≡ label (pd_of k ec)
+    own = label_kept k label cpu ec t.fits.tables actor
+
+    called : (handler : ℕ) → edge (after k cpu).contexts ec ≡ Some handler → IsEc k handler → (label (pd_of k handler) ≡ 0) ⊎ (label (pd_of k handler) ≢ 0) →
+        (label (pd_of k handler) ≡ 0) ⊎ (is_local_thread k ec ≡ false)
+    called handler is h (inl none) = inl none
+    called handler is h (inr some) = by_waits (policy.edges ec handler is (λ none. some (sym its ∙ none)))
+      where
+        its : labels_after k label cpu (pd_of (after k cpu) handler) ≡ label (pd_of k handler)
+        its = label_kept k label cpu handler t.fits.tables h
+
+        by_waits : MayWait (after k cpu) (labels_after k label cpu) (labels_after k label cpu (pd_of (after k cpu) handler)) ec → (label (pd_of k handler) ≡ 0) ⊎ (is_local_thread k ec ≡ false)
+        by_waits (inl one) = absurd (some (sym its ∙ sym one ∙ own ∙ trusted))
+        by_waits (inr client) =
+            inr (ap is_local_in actor.object ∙ sym (ap is_local_in (object_kept k cpu ec (Ec actor.domain actor.cpu actor.kind actor.event) actor.object)) ∙ client.1)
+
+    sent : (handler : ℕ) (mark : Mark) → (context (after k cpu) handler).state ≡ Granting None → (context (after k cpu) handler).caller ≡ Some (ec, mark) →
+        (label (pd_of k handler) ≡ 0) ⊎ (label (pd_of k handler) ≢ 0) → label (pd_of k handler) ≡ 0
+    sent handler mark is keeps (inl none) = none
+    sent handler mark is keeps (inr some) =
+        let its = label_kept k label cpu handler t.fits.tables (taker_ec k cpu handler ec mark t is keeps) in
+        absurd (some (sym its ∙ sym (policy.takes handler ec mark is keeps (λ none. some (sym its ∙ none))) ∙ own ∙ trusted))
 
 pub careful_along : (s : Scenario) (before turns : List ℕ) (label : ℕ → ℕ) → StayIsolated (run (boot s) before) label turns → MayTakeTurns (run (boot s) before) label turns
 careful_along s before [] label within = tt

@@ -1,6 +1,6 @@
 -- Sides whose labels respect the ties of the state are isolated.
-use Rattle.std.proofs.Common.{◌≡◌, ◌≢◌, ◌++◌, ℕ, refl, sym, ap, ◌∙◌, subst, inl, inr}
-use Rattle.std.specs.Prelude.{Bool, true, if◌then◌else◌, flat_map, is_some, Contains, slice_get, Option, Some, None, option_map, option_and_then, option_to_list}
+use Rattle.std.proofs.Common.{◌≡◌, ◌≢◌, ◌⊎◌, ◌++◌, ℕ, refl, sym, ap, ◌∙◌, subst, inl, inr}
+use Rattle.std.specs.Prelude.{Bool, true, false, if◌then◌else◌, flat_map, is_some, Contains, slice_get, Option, Some, None, option_map, option_and_then, option_to_list}
 use Rattle.std.specs.List.{AllByRecursion, enumerate_from}
 use Rattle.std.proofs.lemmas.Bool.{eq-eqb}
 use Rattle.nova_objects.specs.declared.object.Object.{Object}
@@ -9,21 +9,22 @@ use Rattle.nova_range.specs.Rights.{allows, write_right}
 use Rattle.nova_range.specs.declared.range.Kind.{Kind}
 use Rattle.nova_range.specs.declared.range.Kind.TheVariants.{Obj}
 use Rattle.nova_model.specs.Edges.{edge, edge_of}
-use Rattle.nova_model.specs.State.{KernelState, context, context_at, context_in, pd_in, pd_of}
+use Rattle.nova_model.specs.State.{KernelState, context, context_at, context_in, is_local_thread, pd_in, pd_of}
 use Rattle.nova_model.specs.declared.context.EcState.{EcState}
+use Rattle.nova_model.specs.declared.context.Mark.{Mark}
 use Rattle.nova_model.specs.declared.context.State.{State}
 use Rattle.nova_model.specs.declared.context.State.TheVariants.{Blocked, Granting}
 use Rattle.nova_model.specs.declared.delegation.Derivation.{Derivation}
 use Rattle.law_forest.proofs.Members.{in_from_contains}
 use Rattle.law_turns.specs.Tables.{HasTables, Refers}
 use Rattle.law_integrity.specs.Confined.{IsMember, IsOwned, Reach, ReachAny}
-use Rattle.law_integrity.specs.Trusted.{Labelled, OrTrusted}
+use Rattle.law_integrity.specs.Trusted.{Labelled, MayWait, OrTrusted}
 use Rattle.law_integrity.proofs.Edges.{at_index}
 use Rattle.law_integrity.proofs.Labels.{IsEc, context_ec, edge_ec, local_ec}
 use Rattle.nova_ties.specs.Ties.{AreRespected, Respects}
 use Rattle.nova_ties.specs.declared.tie.Cause.TheVariants as cause
 use Rattle.law_sides.specs.Isolated.{AreIsolated, commands_any}
-use Rattle.law_sides.specs.Tied.{beside_at, beside_in, gives_of, lead_of, overlaps, overlaps_all, overlaps_by, queue_of, serves_by, serves_of, shares, shares_all, shares_by, strict, ties, ties_at, ties_by, ties_in, ties_of_kind, waits_all, waits_at, waits_in, weak}
+use Rattle.law_sides.specs.Tied.{beside_at, beside_in, gives_of, lead_of, overlaps, overlaps_all, overlaps_by, queue_of, served, serves_by, serves_of, shares, shares_all, shares_by, strict, takes_by, takes_of, ties, ties_at, ties_by, ties_in, ties_of_kind, waits_all, waits_at, waits_in, weak}
 use Rattle.law_sides.proofs.Frames.{frame_meets}
 use Rattle.law_sides.proofs.Lists.{all_left, all_right, flat_all, numbered_all, some_all}
 use Rattle.law_sides.proofs.Words.{weak_to, strict_to, leads_may, leads_own, donor_ec, sm_at}
@@ -141,16 +142,21 @@ module _ (k : KernelState) (label : ℕ → ℕ) (tables : HasTables k)
 
   -- the ties of an execution context
   here_ties : (n : ℕ) (m : IsMember k (λ i. Unit {0}) n) (x : EcState) → context_at k n ≡ Some x →
-      AllByRecursion (Respects label) (option_to_list (serves_of k n m.domain x.state) ++ (option_to_list (gives_of n m.domain x.state) ++ queue_of k n m.domain x.state))
+      AllByRecursion (Respects label) (option_to_list (serves_of k n m.domain x.state) ++ (option_to_list (takes_of k n m.domain x.state x.caller) ++ (option_to_list (gives_of n m.domain x.state) ++ queue_of k n m.domain x.state)))
   here_ties n m x at =
       let here : AllByRecursion (Respects label) (ties_in k n m.domain (context_at k n)) =
       numbered_all (Respects label) (ties_at k) k.objects n (Ec m.domain m.cpu m.kind m.event) waiting m.object in
       subst (λ (o : Option EcState). AllByRecursion (Respects label) (ties_in k n m.domain o)) at here
 
+  taking_ties : (n : ℕ) (m : IsMember k (λ i. Unit {0}) n) (x : EcState) → context_at k n ≡ Some x →
+      AllByRecursion (Respects label) (option_to_list (takes_of k n m.domain x.state x.caller) ++ (option_to_list (gives_of n m.domain x.state) ++ queue_of k n m.domain x.state))
+  taking_ties n m x at =
+      all_right (Respects label) (option_to_list (serves_of k n m.domain x.state)) (option_to_list (takes_of k n m.domain x.state x.caller) ++ (option_to_list (gives_of n m.domain x.state) ++ queue_of k n m.domain x.state)) (here_ties n m x at)
+
   later_ties : (n : ℕ) (m : IsMember k (λ i. Unit {0}) n) (x : EcState) → context_at k n ≡ Some x →
       AllByRecursion (Respects label) (option_to_list (gives_of n m.domain x.state) ++ queue_of k n m.domain x.state)
   later_ties n m x at =
-      all_right (Respects label) (option_to_list (serves_of k n m.domain x.state)) (option_to_list (gives_of n m.domain x.state) ++ queue_of k n m.domain x.state) (here_ties n m x at)
+      all_right (Respects label) (option_to_list (takes_of k n m.domain x.state x.caller)) (option_to_list (gives_of n m.domain x.state) ++ queue_of k n m.domain x.state) (taking_ties n m x at)
 
   its_queues : (n m sm : ℕ) → (context k n).state ≡ Blocked sm → (context k m).state ≡ Blocked sm → label (pd_of k n) ≢ 0 → OrTrusted label (label (pd_of k n)) (pd_of k m)
   its_queues n m sm is waits some = by_contexts (context_at k n) (context_at k m) refl refl is waits
@@ -177,18 +183,39 @@ module _ (k : KernelState) (label : ℕ → ℕ) (tables : HasTables k)
       by_contexts (Some x) (Some y) at there first second =
           by_members x y at there first second (context_ec k n tables (ap (λ (o : Option EcState). is_some o) at)) (context_ec k m tables (ap (λ (o : Option EcState). is_some o) there))
 
-  its_edges : (waiter handler : ℕ) → edge k.contexts waiter ≡ Some handler → label (pd_of k handler) ≢ 0 → label (pd_of k waiter) ≡ label (pd_of k handler)
+  its_edges : (waiter handler : ℕ) → edge k.contexts waiter ≡ Some handler → label (pd_of k handler) ≢ 0 → MayWait k label (label (pd_of k handler)) waiter
   its_edges waiter handler is some = by_context (edge_ec k waiter handler tables is) (context_at k waiter) refl is
     where
+      by_respect : (pd : ℕ) → pd_of k waiter ≡ pd → (label pd ≡ label (pd_of k handler)) ⊎ ((is_local_thread k waiter ≡ false) × (label pd ≡ 0)) → MayWait k label (label (pd_of k handler)) waiter
+      by_respect pd its (inl same) = inl (ap label its ∙ same)
+      by_respect pd its (inr client) = inr (ap label its ∙ client.1, client.0)
+
       by_context : IsMember k (λ m. Unit {0}) waiter → (o : Option EcState) → context_at k waiter ≡ o → option_and_then edge_of (option_map (λ x. x.state) o) ≡ Some handler →
-          label (pd_of k waiter) ≡ label (pd_of k handler)
+          MayWait k label (label (pd_of k handler)) waiter
       by_context m None at e = absurd (cc)
       by_context m (Some x) at e =
-          ap label (ap pd_in m.object)
-          ∙ strict_to label (pd_of k handler) m.domain (cause.Serves handler waiter)
-          (some_all (Respects label) (serves_of k waiter m.domain x.state) (strict (pd_of k handler) m.domain (cause.Serves handler waiter))
-          (all_left (Respects label) (option_to_list (serves_of k waiter m.domain x.state)) (option_to_list (gives_of waiter m.domain x.state) ++ queue_of k waiter m.domain x.state) (here_ties waiter m x at))
-          (ap (serves_by k waiter m.domain) e)) some
+          by_respect m.domain (ap pd_in m.object)
+          (some_all (Respects label) (serves_of k waiter m.domain x.state) (served k handler waiter m.domain)
+          (all_left (Respects label) (option_to_list (serves_of k waiter m.domain x.state))
+              (option_to_list (takes_of k waiter m.domain x.state x.caller) ++ (option_to_list (gives_of waiter m.domain x.state) ++ queue_of k waiter m.domain x.state)) (here_ties waiter m x at))
+          (ap (serves_by k waiter m.domain) e) some)
+
+  its_takes : (handler caller : ℕ) (mark : Mark) → (context k handler).state ≡ Granting None → (context k handler).caller ≡ Some (caller, mark) → label (pd_of k handler) ≢ 0 →
+      label (pd_of k caller) ≡ label (pd_of k handler)
+  its_takes handler caller mark is keeps some = by_context (context_at k handler) refl is keeps
+    where
+      by_member : (x : EcState) → context_at k handler ≡ Some x → x.state ≡ Granting None → x.caller ≡ Some (caller, mark) → IsMember k (λ m. Unit {0}) handler → label (pd_of k caller) ≡ label (pd_of k handler)
+      by_member x at s c m =
+          let its : pd_of k handler ≡ m.domain = ap pd_in m.object in
+          strict_to label m.domain (pd_of k caller) (cause.Takes handler caller)
+          (some_all (Respects label) (takes_of k handler m.domain x.state x.caller) (strict m.domain (pd_of k caller) (cause.Takes handler caller))
+          (all_left (Respects label) (option_to_list (takes_of k handler m.domain x.state x.caller)) (option_to_list (gives_of handler m.domain x.state) ++ queue_of k handler m.domain x.state) (taking_ties handler m x at))
+          (ap (λ (t : State). takes_of k handler m.domain t x.caller) s ∙ ap (takes_by k handler m.domain) c)) (λ none. some (ap label its ∙ none))
+          ∙ sym (ap label its)
+
+      by_context : (o : Option EcState) → context_at k handler ≡ o → (context_in o).state ≡ Granting None → (context_in o).caller ≡ Some (caller, mark) → label (pd_of k caller) ≡ label (pd_of k handler)
+      by_context None at s c = absurd (cc)
+      by_context (Some x) at s c = by_member x at s c (context_ec k handler tables (ap (λ (o : Option EcState). is_some o) at))
 
   its_firsts : (ec new : ℕ) → (context k ec).state ≡ Granting (Some new) → label (pd_of k ec) ≢ 0 → label new ≡ label (pd_of k ec)
   its_firsts ec new is some = by_context (context_at k ec) refl is
@@ -215,6 +242,7 @@ module _ (k : KernelState) (label : ℕ → ℕ) (tables : HasTables k)
         waits = λ n blocked. its_waits d there kind some n blocked;
       };
       edges = its_edges;
+      takes = its_takes;
       firsts = its_firsts;
       queues = its_queues;
     };

@@ -27,7 +27,8 @@ use Rattle.law_integrity.proofs.Homes.{reached_homed}
 use Rattle.law_integrity.proofs.Labels.{context_ec, labels_made, labels_old}
 use Rattle.law_sides.specs.Isolated.{AreIsolated}
 use Rattle.law_sides.specs.Resting.{IsAtRest, Sided}
-use Rattle.law_sides.proofs.Rest.{Nowhere, first_sided, resting_reach, resting_within, separate_here, sided_along}
+use Rattle.law_sides.proofs.Stuck.{Nowhere}
+use Rattle.law_sides.proofs.Rest.{first_sided, resting_reach, resting_within, separate_here, sided_along}
 
 -- DOMAINS WITH A LABEL ARE OF THE SET
 

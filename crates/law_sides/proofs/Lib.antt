@@ -1,13 +1,16 @@
 pub mod Bare
 pub mod Careful
+pub mod Entries
 pub mod Frames
 pub mod Harmless
 pub mod Isolating
 pub mod Lasting
 pub mod Lists
+pub mod Muted
 pub mod Respecting
 pub mod Parted
 pub mod Rest
 pub mod Roles
+pub mod Stuck
 pub mod Untouched
 pub mod Words

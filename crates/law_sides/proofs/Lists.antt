@@ -1,10 +1,11 @@
 -- What holds of all that lists of lists have.
 use Rattle.std.proofs.Common.{◌≡◌, ◌++◌, ◌+◌, ◌<◌, ℕ, zero, suc, List, length, drop, get_or, sym, [], ◌∷◌, refl, ap, ◌∙◌, subst, inl, inr, arith}
-use Rattle.std.specs.Prelude.{Bool, true, false, if◌then◌else◌, find, flat_map, option_map, slice_get, Option, Some, None, option_to_list}
-use Rattle.std.specs.List.{AllByRecursion, enumerate_from}
+use Rattle.std.specs.Prelude.{Bool, Contains, true, false, if◌then◌else◌, find, flat_map, option_map, slice_get, Option, Some, None, option_to_list}
+use Rattle.std.specs.List.{AllByRecursion, enumerate_from, list_all}
+use Rattle.std.proofs.lemmas.Bool.{and_parts}
 use Rattle.std.proofs.lemmas.List.{drop_more}
 use Rattle.std.proofs.lemmas.Option.{same_Some}
-use Rattle.law_forest.proofs.Members.{IsIn}
+use Rattle.law_forest.proofs.Members.{IsIn, all_at, in_from_contains}
 
 module _ {Y : Type 0} (P : Y → Type 0) where
   pub all_append : (xs ys : List Y) → AllByRecursion P xs → AllByRecursion P ys → AllByRecursion P (xs ++ ys)
@@ -99,3 +100,17 @@ pub numbered_found : {X : Type 0} (p : ℕ × X → Bool) (xs : List X) (i : ℕ
     Some i ≡ option_map (λ (e : ℕ × X). e.0) all
 numbered_found {X} p xs i d below all left it =
     ap (option_map (λ (e : ℕ × X). e.0)) (sym (ap (λ (b : Bool). if b then Some (i, get_or xs i d) else find p (enumerate_from (i + 1) (drop (i + 1) xs))) it) ∙ numbered_here p xs i d below all left)
+
+-- WHAT A TEST OF ALL SAYS OF ONE
+
+pub all_of : {T : Type 0} (p : T → Bool) (xs : List T) → list_all p xs ≡ true → AllByRecursion (λ (x : T). p x ≡ true) xs
+all_of p [] h = tt
+all_of p (x ∷ xs) h = let two = and_parts (p x) (list_all p xs) h in (two.0, all_of p xs two.1)
+
+pub of_one : {T : Type 0} (p : T → Bool) (xs : List T) (x : T) → list_all p xs ≡ true → Contains xs x → p x ≡ true
+of_one p xs x h there = all_at (λ y. p y ≡ true) xs x (all_of p xs h) (in_from_contains xs x there)
+
+pub at_of_all : {T : Type 0} (p : T → Bool) (xs : List T) → list_all p xs ≡ true → (i : ℕ) (x : T) → slice_get xs i ≡ Some x → p x ≡ true
+at_of_all p [] h i x at = absurd (cc)
+at_of_all p (y ∷ ys) h zero x at = subst (λ z. p z ≡ true) (same_Some y x at) (and_parts (p y) (list_all p ys) h).0
+at_of_all p (y ∷ ys) h (suc i) x at = at_of_all p ys (and_parts (p y) (list_all p ys) h).1 i x at

@@ -1,5 +1,5 @@
 -- Labels of isolated sides respect the ties of the state.
-use Rattle.std.proofs.Common.{◌≡◌, ◌≢◌, ◌++◌, ℕ, refl, sym, ap, ◌∙◌, subst, inl, inr}
+use Rattle.std.proofs.Common.{◌≡◌, ◌≢◌, ◌⊎◌, ◌++◌, ℕ, refl, sym, ap, ◌∙◌, subst, inl, inr}
 use Rattle.std.specs.Prelude.{◌==◌, Bool, true, false, if◌then◌else◌, flat_map, slice_get, Option, Some, None, option_map, option_and_then, option_to_list}
 use Rattle.std.specs.List.{AllByRecursion, enumerate_from}
 use Rattle.std.proofs.lemmas.Bool.{cases_eq, eqb-true}
@@ -10,20 +10,21 @@ use Rattle.nova_range.specs.Rights.{allows, write_right}
 use Rattle.nova_range.specs.declared.range.Kind.{Kind}
 use Rattle.nova_range.specs.declared.range.Kind.TheVariants.{Mem, Obj}
 use Rattle.nova_model.specs.Edges.{edge_of}
-use Rattle.nova_model.specs.State.{KernelState, context, context_at, pd_in, pd_of}
+use Rattle.nova_model.specs.State.{KernelState, context, context_at, context_in, is_local_thread, pd_in, pd_of}
 use Rattle.nova_model.specs.declared.context.EcState.{EcState}
+use Rattle.nova_model.specs.declared.context.Mark.{Mark}
 use Rattle.nova_model.specs.declared.context.State.{State}
 use Rattle.nova_model.specs.declared.context.State.TheVariants.{Blocked, Granting}
 use Rattle.nova_model.specs.declared.delegation.Derivation.{Derivation}
 use Rattle.law_forest.proofs.Members.{IsIn, contains_from_in}
 use Rattle.law_integrity.specs.Confined.{IsOwned}
-use Rattle.law_integrity.specs.Trusted.{IsWithinPolicy, Labelled, MayHold, OrTrusted}
+use Rattle.law_integrity.specs.Trusted.{IsWithinPolicy, Labelled, MayHold, MayWait, OrTrusted}
 use Rattle.law_integrity.proofs.Confining.{member_pd}
 use Rattle.nova_ties.specs.Ties.{AreRespected, Respects}
 use Rattle.nova_ties.specs.declared.tie.Cause.TheVariants as cause
 use Rattle.nova_ties.specs.declared.tie.Tie.{Tie}
 use Rattle.law_sides.specs.Isolated.{AreIsolated, commands_any}
-use Rattle.law_sides.specs.Tied.{beside_at, beside_in, gives_of, is_blocked_at, lead_of, meets, overlaps, overlaps_all, overlaps_by, queue_of, serves_by, serves_of, shares, shares_all, shares_by, strict, ties, ties_at, ties_by, ties_in, ties_of_kind, waits_all, waits_at, waits_in, weak}
+use Rattle.law_sides.specs.Tied.{beside_at, beside_in, gives_of, is_blocked_at, lead_of, meets, overlaps, overlaps_all, overlaps_by, queue_of, serves_by, serves_of, shares, shares_all, shares_by, strict, takes_of, ties, ties_at, ties_by, ties_in, ties_of_kind, waits_all, waits_at, waits_in, weak}
 use Rattle.law_sides.proofs.Frames.{meets_frame}
 use Rattle.law_sides.proofs.Lists.{all_append, all_flat, all_numbered, all_some}
 use Rattle.law_sides.proofs.Words.{weak_from, strict_from, leads_respected, state_at, at_sm}
@@ -144,10 +145,25 @@ module _ (k : KernelState) (label : ℕ → ℕ) (isolated : AreIsolated k label
       by_edge : (o : Option ℕ) → edge_of x.state ≡ o → AllByRecursion R (option_to_list (serves_by k n pd o))
       by_edge None is = tt
       by_edge (Some handler) is = (
-        strict_from label (pd_of k handler) pd (cause.Serves handler n)
-            (λ some. sym (ap label its) ∙ policy.edges n handler (ap (λ (o : Option EcState). option_and_then edge_of (option_map (λ y. y.state) o)) at ∙ is) some),
+        (λ some. by_waits handler (policy.edges n handler (ap (λ (o : Option EcState). option_and_then edge_of (option_map (λ y. y.state) o)) at ∙ is) some)),
         tt,
       )
+        where
+          by_waits : (h : ℕ) → MayWait k label (label (pd_of k h)) n → (label pd ≡ label (pd_of k h)) ⊎ ((is_local_thread k n ≡ false) × (label pd ≡ 0))
+          by_waits h (inl same) = inl (sym (ap label its) ∙ same)
+          by_waits h (inr client) = inr (client.1, sym (ap label its) ∙ client.0)
+
+  takes : (n pd : ℕ) (x : EcState) → pd_of k n ≡ pd → context_at k n ≡ Some x → AllByRecursion R (option_to_list (takes_of k n pd x.state x.caller))
+  takes n pd x its at = by_state x.state x.caller (state_at (context_at k n) x at) (ap (λ (o : Option EcState). (context_in o).caller) at)
+    where
+      by_state : (s : State) (c : Option (ℕ × Mark)) → (context k n).state ≡ s → (context k n).caller ≡ c → AllByRecursion R (option_to_list (takes_of k n pd s c))
+      by_state (Granting None) None is keeps = tt
+      by_state (Granting None) (Some (caller, mark)) is keeps = (
+        strict_from label pd (pd_of k caller) (cause.Takes n caller)
+            (λ some. policy.takes n caller mark is keeps (λ none. some (sym (ap label its) ∙ none)) ∙ ap label its),
+        tt,
+      )
+      by_state other c is keeps = tt
 
   gives : (n pd : ℕ) (x : EcState) → pd_of k n ≡ pd → context_at k n ≡ Some x → AllByRecursion R (option_to_list (gives_of n pd x.state))
   gives n pd x its at = all_some R (gives_of n pd x.state) (λ t is. by_state x.state (state_at (context_at k n) x at) t is)
@@ -192,8 +208,9 @@ module _ (k : KernelState) (label : ℕ → ℕ) (isolated : AreIsolated k label
       by_state : (x : Option EcState) → context_at k n ≡ x → AllByRecursion R (ties_in k n pd x)
       by_state None is = tt
       by_state (Some x) is =
-          all_append R (option_to_list (serves_of k n pd x.state)) (option_to_list (gives_of n pd x.state) ++ queue_of k n pd x.state) (serves n pd x (ap pd_in at) is)
-          (all_append R (option_to_list (gives_of n pd x.state)) (queue_of k n pd x.state) (gives n pd x (ap pd_in at) is) (queues n pd x (ap pd_in at) is))
+          all_append R (option_to_list (serves_of k n pd x.state)) (option_to_list (takes_of k n pd x.state x.caller) ++ (option_to_list (gives_of n pd x.state) ++ queue_of k n pd x.state)) (serves n pd x (ap pd_in at) is)
+          (all_append R (option_to_list (takes_of k n pd x.state x.caller)) (option_to_list (gives_of n pd x.state) ++ queue_of k n pd x.state) (takes n pd x (ap pd_in at) is)
+          (all_append R (option_to_list (gives_of n pd x.state)) (queue_of k n pd x.state) (gives n pd x (ap pd_in at) is) (queues n pd x (ap pd_in at) is)))
   by_context n (Pt handler mtd ip) at = tt
   by_context n (Sc e cpu priority quantum) at = tt
   by_context n Sm at = tt

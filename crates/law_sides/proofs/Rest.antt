@@ -1,64 +1,61 @@
 -- Where all that is trusted is at rest nobody acts that is trusted, whatever turns follow.
 use Rattle.std.proofs.Common.{◌≡◌, ◌≢◌, ◌⊎◌, ◌++◌, ℕ, List, [], ◌∷◌, sym, ap, ◌∙◌, subst, inl, inr}
-use Rattle.std.specs.Prelude.{true, is_some, slice_get, Option, Some}
-use Rattle.std.proofs.lemmas.Bool.{cases_eq}
+use Rattle.std.specs.Prelude.{is_some, not, slice_get, Option, Some}
+use Rattle.std.proofs.lemmas.Bool.{cases_eq, ne_eqb}
 use Rattle.nova_objects.specs.declared.object.Object.TheVariants.{Pd}
 use Rattle.nova_model.specs.Boot.{Scenario, boot}
+use Rattle.nova_model.specs.Edges.{edge}
 use Rattle.nova_model.specs.Runs.{after, run}
 use Rattle.nova_model.specs.State.{KernelState, pd_in, pd_of}
 use Rattle.nova_model.specs.declared.context.EcState.{EcState}
-use Rattle.nova_model.specs.declared.context.State.{State}
-use Rattle.nova_model.specs.declared.context.State.TheVariants.{Dead, Parked}
-use Rattle.law_turns.specs.Tables.{HasTables}
-use Rattle.law_isolation.proofs.Runs.{reached_sound}
+use Rattle.law_turns.proofs.TablesFit.{TablesFit, boot_run_fits}
 use Rattle.law_origins.specs.Giving.{Acts}
 use Rattle.law_origins.proofs.Lists.{run_append}
-use Rattle.law_integrity.specs.Confined.{AreSeparate, Holds, IsIdle, IsMember, Reach, grown, more}
-use Rattle.law_integrity.specs.Trusted.{HoldsSince, IsGivenFrame, IsGivenObject, IsMadeBySide, IsWithinPolicy, Labelled, MayTakeTurns, ReachesSince, labels, labels_after}
+use Rattle.law_integrity.specs.Confined.{AreSeparate, Holds, IsMember, Reach, grown, more}
+use Rattle.law_integrity.specs.Trusted.{HoldsSince, IsGivenFrame, IsGivenObject, IsMadeBySide, IsWithinPolicy, Labelled, MayTakeTurns, MayWait, ReachesSince, labels, labels_after}
 use Rattle.law_integrity.proofs.Confined.{acts_along, separate_after}
 use Rattle.law_integrity.proofs.Confining.{member_pd, object_kept}
 use Rattle.law_integrity.proofs.Labels.{context_ec, edge_ec, labels_made, labels_old}
 use Rattle.law_integrity.proofs.Resting.{acts_in}
 use Rattle.law_integrity.proofs.Sides.{side_holds, side_reaches, within_along}
 use Rattle.std.proofs.lemmas.Option.{slice_get_within}
-use Rattle.law_sides.specs.Resting.{IsAtRest, Sided, is_resting}
-
--- no domain
-abbrev pub Nowhere : ℕ → Type 0
-Nowhere n = ⊥
+use Rattle.law_sides.specs.Resting.{IsAtRest, Sided, is_sided}
+use Rattle.law_sides.proofs.Entries.{edge_there}
+use Rattle.law_sides.proofs.Parted.{resting_waits}
+use Rattle.law_sides.proofs.Stuck.{Nowhere, RaisesByActing, idle_from, nowhere_closed}
 
 -- the sides together, beside nothing
-separate_from : (k : KernelState) (label : ℕ → ℕ) → HasTables k → IsWithinPolicy k label → IsAtRest k label → AreSeparate k (Sided label) Nowhere
-separate_from k label tables policy at_rest = record {
+separate_from : (k : KernelState) (label : ℕ → ℕ) → TablesFit k → IsWithinPolicy k label → IsAtRest k label → AreSeparate k (Sided label) Nowhere
+separate_from k label fits policy at_rest = record {
   first = record {
     there = λ n some. at_rest.domains n some;
     capabilities = λ d has some kind. at_rest.capabilities d has kind some;
     edges = λ waiter handler is m.
         let its = member_pd k (Sided label) handler m in
-        let one = policy.edges waiter handler is its in
-        member waiter (edge_ec k waiter handler tables is) (λ none. its (sym one ∙ none));
+        waits waiter handler is (edge_ec k waiter handler fits.tables is) its (policy.edges waiter handler is its);
     firsts = λ ec new is m. let its = member_pd k (Sided label) ec m in let one = policy.firsts ec new is its in λ none. its (sym one ∙ none);
   };
-  second = record {
-    there = λ n none. absurd none;
-    capabilities = λ d has none kind. absurd none;
-    edges = λ waiter handler is m. absurd m.of;
-    firsts = λ ec new is m. m.of;
-  };
+  second = nowhere_closed k;
   disjoint = λ n some none. none;
   rest = λ ec x at. elim (cases_eq (label (pd_of k ec)) 0) [
-    | inl trusted ↦ inl (idle ec x.state (at_rest.rest ec x at trusted))
-    | inr some ↦ inr (inl (member ec (context_ec k ec tables (ap (λ (o : Option EcState). is_some o) at)) some))
+    | inl trusted ↦ inl (idle_from k (is_sided label) fits ec x at (Sided label) Nowhere by_side (λ sm h. absurd h.of) (at_rest.rest ec x at trusted))
+    | inr some ↦ inr (inl (member ec (context_ec k ec fits.tables (ap (λ (o : Option EcState). is_some o) at)) some))
   ];
 }
   where
     member : (n : ℕ) → IsMember k (λ m. Unit {0}) n → label (pd_of k n) ≢ 0 → IsMember k (Sided label) n
     member n m some = record { domain = m.domain; cpu = m.cpu; kind = m.kind; event = m.event; object = m.object; of = λ none. some (ap label (ap pd_in m.object) ∙ none) }
 
-    idle : (n : ℕ) (s : State) → is_resting s ≡ true → IsIdle k (Sided label) Nowhere n s
-    idle n Parked is = tt
-    idle n Dead is = tt
-    idle n other is = absurd (cc)
+    -- what is trusted waits for no handler
+    waits : (waiter handler : ℕ) → edge k.contexts waiter ≡ Some handler → IsMember k (λ m. Unit {0}) waiter → label (pd_of k handler) ≢ 0 → MayWait k label (label (pd_of k handler)) waiter →
+        IsMember k (Sided label) waiter
+    waits waiter handler is m its (inl one) = member waiter m (λ none. its (sym one ∙ none))
+    waits waiter handler is m its (inr client) =
+        let x = edge_there k waiter handler is in
+        absurd (resting_waits k (is_sided label) x.0.cpu x.0.state handler (at_rest.rest waiter x.0 x.1 client.0) x.2)
+
+    by_side : RaisesByActing k (is_sided label) (Sided label)
+    by_side sm h = ap not (ne_eqb (label h.capability.pd) 0 h.of)
 
 -- each domain of the set is there, and its label isn't 0
 abbrev pub AreSided : KernelState → (ℕ → ℕ) → (ℕ → Type 0) → Type 0
@@ -72,7 +69,7 @@ sided_after k label S cpu of n (inr made) =
     let its = of (pd_of k made.maker) (member_pd k S made.maker made.of) in
     (λ none. its.0 (sym (labels_made k label cpu made.maker made.acts) ∙ sym (ap (labels_after k label cpu) made.number) ∙ none), made.made)
 
-none_after : (k : KernelState) (T : ℕ → Type 0) (cpu : ℕ) → ((n : ℕ) → T n → ⊥) → (n : ℕ) → more k T cpu n → ⊥
+pub none_after : (k : KernelState) (T : ℕ → Type 0) (cpu : ℕ) → ((n : ℕ) → T n → ⊥) → (n : ℕ) → more k T cpu n → ⊥
 none_after k T cpu none n (inl is) = none n is
 none_after k T cpu none n (inr made) = none made.of.domain made.of.of
 
@@ -105,7 +102,7 @@ pub first_sided : (k : KernelState) (label : ℕ → ℕ) → IsAtRest k label �
 first_sided k label at_rest n some = (some, at_rest.domains n some)
 
 pub separate_here : (s : Scenario) (before : List ℕ) (label : ℕ → ℕ) → IsWithinPolicy (run (boot s) before) label → IsAtRest (run (boot s) before) label → AreSeparate (run (boot s) before) (Sided label) Nowhere
-separate_here s before label policy at_rest = separate_from (run (boot s) before) label (reached_sound s before).kept.tables policy at_rest
+separate_here s before label policy at_rest = separate_from (run (boot s) before) label (boot_run_fits s before) policy at_rest
 
 pub resting_turns : (s : Scenario) (before turns : List ℕ) (label : ℕ → ℕ) → IsWithinPolicy (run (boot s) before) label → IsAtRest (run (boot s) before) label → MayTakeTurns (run (boot s) before) label turns
 resting_turns s before turns label policy at_rest =

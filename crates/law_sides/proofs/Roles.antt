@@ -1,7 +1,7 @@
--- What the tests of roles say of a state: the sides with the bare domains, and the mute ones, are two closed sets, beside which all is at rest.
+-- What the tests of roles say of a state.
 use Rattle.std.proofs.Common.{◌≡◌, ◌≢◌, ◌⊎◌, ℕ, List, [], ◌∷◌, refl, sym, ap, ◌∙◌, subst, inl, inr}
 use Rattle.std.specs.Prelude.{◌==◌, ◌&&◌, ◌||◌, Bool, true, false, not, Contains, is_some, slice_get, Option, Some}
-use Rattle.std.specs.List.{AllByRecursion, enumerate_from, list_all}
+use Rattle.std.specs.List.{enumerate_from, list_all}
 use Rattle.std.proofs.lemmas.Bool.{and_parts, eq-eqb, ne_eqb, or_cases}
 use Rattle.nova_objects.specs.declared.object.Object.TheVariants.{Pd, Ec}
 use Rattle.nova_range.specs.declared.range.Kind.{Kind}
@@ -11,21 +11,13 @@ use Rattle.nova_model.specs.Edges.{edge_of}
 use Rattle.nova_model.specs.State.{KernelState, context_at, pd_in, pd_of}
 use Rattle.nova_model.specs.declared.context.EcState.{EcState}
 use Rattle.nova_model.specs.declared.delegation.Derivation.{Derivation}
-use Rattle.law_forest.proofs.Members.{all_at, in_from_contains}
 use Rattle.law_turns.specs.Tables.{HasTables}
 use Rattle.law_integrity.proofs.Labels.{IsEc, context_ec}
 use Rattle.law_sides.specs.Resting.{is_resting}
-use Rattle.law_sides.specs.Roles.{AreHarmless, is_at_rest, is_bare, is_bare_by, is_bare_in, is_domain, is_held, is_if_there, is_mute, is_mute_by, is_mute_in, is_no_grant, is_none_or, is_powerless, is_reached_by, is_uncalled, gives_no_first, rests_by, rests_in, target_domain, waits_for_none, waits_within, waits_without}
-use Rattle.law_sides.proofs.Lists.{numbered_at}
+use Rattle.law_sides.specs.Roles.{AreHarmless, is_at_rest, is_bare, is_bare_by, is_bare_in, is_controlled, is_domain, is_held, is_if_there, is_mute, is_mute_by, is_mute_in, is_no_grant, is_none_or, is_other, is_powerless, is_reached_by, is_uncalled, gives_no_first, rests_by, rests_in, target_domain, waits_for_none, waits_within, waits_without}
+use Rattle.law_sides.proofs.Lists.{all_of, numbered_at, of_one}
 
 -- TESTS OF ALL
-
-all_of : {T : Type 0} (p : T → Bool) (xs : List T) → list_all p xs ≡ true → AllByRecursion (λ (x : T). p x ≡ true) xs
-all_of p [] h = tt
-all_of p (x ∷ xs) h = let two = and_parts (p x) (list_all p xs) h in (two.0, all_of p xs two.1)
-
-pub of_one : {T : Type 0} (p : T → Bool) (xs : List T) (x : T) → list_all p xs ≡ true → Contains xs x → p x ≡ true
-of_one p xs x h there = all_at (λ y. p y ≡ true) xs x (all_of p xs h) (in_from_contains xs x there)
 
 of_number : {X : Type 0} (p : ℕ × X → Bool) (xs : List X) (n : ℕ) (x : X) → list_all p (enumerate_from 0 xs) ≡ true → slice_get xs n ≡ Some x → p (n, x) ≡ true
 of_number {X} p xs n x h at = numbered_at (λ (e : ℕ × X). p e ≡ true) xs n x (all_of p (enumerate_from 0 xs) h) at
@@ -75,8 +67,9 @@ pub record IsMute (k : KernelState) (label : ℕ → ℕ) (n : ℕ) : Type 0 whe
   pub other : is_bare k label n ≡ false
   pub mute : is_mute k label n ≡ true
 
-abbrev pub SidedOrBare : KernelState → (ℕ → ℕ) → ℕ → Type 0
-SidedOrBare k label n = (label n ≢ 0) ⊎ IsBare k label n
+-- the sides, with what is trusted and not at rest
+abbrev pub Living : KernelState → (ℕ → ℕ) → ℕ → Type 0
+Living k label n = (label n ≢ 0) ⊎ (IsBare k label n ⊎ IsMute k label n)
 
 module _ (k : KernelState) (label : ℕ → ℕ) (tables : HasTables k) (n : ℕ) where
   -- at rest
@@ -88,12 +81,12 @@ module _ (k : KernelState) (label : ℕ → ℕ) (tables : HasTables k) (n : ℕ
     rest_unreached d there kind some to =
         not_both (is_reached_by k label n d) (is_reached k label n d kind some to) (of_one (rests_by k label n) k.delegations.list d parts.0 there)
 
-    pub rest_resting : (ec : ℕ) (x : EcState) → context_at k ec ≡ Some x → pd_of k ec ≡ n → is_resting x.state ≡ true
+    pub rest_resting : (ec : ℕ) (x : EcState) → context_at k ec ≡ Some x → pd_of k ec ≡ n → is_resting k (is_other n) x ≡ true
     rest_resting ec x at of =
         let m = context_ec k ec tables (ap (λ (o : Option EcState). is_some o) at) in
         let own : m.domain ≡ n = sym (same_domain k ec m) ∙ of in
-        if_there (λ (y : EcState). is_resting y.state) (context_at k ec) x
-        (then_true (m.domain == n) (is_if_there (λ (y : EcState). is_resting y.state) (context_at k ec)) (of_number (rests_in k n) k.objects ec (Ec m.domain m.cpu m.kind m.event) parts.1 m.object) (eq-eqb m.domain n own)) at
+        if_there (is_resting k (is_other n)) (context_at k ec) x
+        (then_true (m.domain == n) (is_if_there (is_resting k (is_other n)) (context_at k ec)) (of_number (rests_in k n) k.objects ec (Ec m.domain m.cpu m.kind m.event) parts.1 m.object) (eq-eqb m.domain n own)) at
 
   -- bare
   module _ (bare : is_bare k label n ≡ true) where
@@ -125,15 +118,17 @@ module _ (k : KernelState) (label : ℕ → ℕ) (tables : HasTables k) (n : ℕ
     mute_parts : (list_all (is_mute_by k label n) k.delegations.list ≡ true) × (list_all (is_mute_in k label n) (enumerate_from 0 k.objects) ≡ true)
     mute_parts = and_parts (list_all (is_mute_by k label n) k.delegations.list) (list_all (is_mute_in k label n) (enumerate_from 0 k.objects)) mute
 
-    mute_one : (d : Derivation) → Contains k.delegations.list d → (not (is_reached_by k label n d) ≡ true) × ((not (is_held n d) || is_none_or n (target_domain k d)) ≡ true)
+    mute_one : (d : Derivation) → Contains k.delegations.list d → (not (is_reached_by k label n d) ≡ true) × ((not (is_held n d) || (is_none_or n (target_domain k d) || is_controlled k label d)) ≡ true)
     mute_one d there =
-        and_parts (not (is_reached_by k label n d)) (not (is_held n d) || is_none_or n (target_domain k d)) (of_one (is_mute_by k label n) k.delegations.list d mute_parts.0 there)
+        and_parts (not (is_reached_by k label n d)) (not (is_held n d) || (is_none_or n (target_domain k d) || is_controlled k label d)) (of_one (is_mute_by k label n) k.delegations.list d mute_parts.0 there)
 
     pub mute_unreached : (d : Derivation) → Contains k.delegations.list d → d.kind ≡ Obj → label d.pd ≢ 0 → target_domain k d ≡ Some n → ⊥
     mute_unreached d there kind some to = not_both (is_reached_by k label n d) (is_reached k label n d kind some to) (mute_one d there).0
 
-    pub mute_own : (d : Derivation) → Contains k.delegations.list d → d.kind ≡ Obj → d.pd ≡ n → is_none_or n (target_domain k d) ≡ true
-    mute_own d there kind of = then_true (is_held n d) (is_none_or n (target_domain k d)) (mute_one d there).1 (is_held_by n d kind of)
+    pub mute_own : (d : Derivation) → Contains k.delegations.list d → d.kind ≡ Obj → d.pd ≡ n → (is_none_or n (target_domain k d) ≡ true) ⊎ (is_controlled k label d ≡ true)
+    mute_own d there kind of =
+        or_cases (is_none_or n (target_domain k d)) (is_controlled k label d)
+        (then_true (is_held n d) (is_none_or n (target_domain k d) || is_controlled k label d) (mute_one d there).1 (is_held_by n d kind of))
 
     mute_at : (ec : ℕ) (m : IsEc k ec) →
         ((not (m.domain == n) || is_if_there (λ (y : EcState). waits_within k n (edge_of y.state) && gives_no_first y.state) (context_at k ec)) ≡ true)
@@ -161,17 +156,22 @@ module _ (k : KernelState) (label : ℕ → ℕ) (tables : HasTables k) (n : ℕ
 -- what a trusted domain is
 pub data Role (k : KernelState) (label : ℕ → ℕ) (n : ℕ) : Type 0 where
   Bare : IsBare k label n → Role k label n
-  Rests : is_at_rest k label n ≡ true → Role k label n
   Mute : IsMute k label n → Role k label n
+  Rests : is_at_rest k label n ≡ true → is_mute k label n ≡ false → Role k label n
 
 pub role : (k : KernelState) (label : ℕ → ℕ) (n : ℕ) → AreHarmless k label → label n ≡ 0 → slice_get k.objects n ≡ Some Pd → Role k label n
 role k label n harmless trusted there = by_bare (is_bare k label n) refl
   where
-    by_roles : is_bare k label n ≡ false → (is_at_rest k label n ≡ true) ⊎ ((is_bare k label n || is_mute k label n) ≡ true) → Role k label n
-    by_roles other (inl rests) = Rests rests
-    by_roles other (inr both) =
-        Mute (record { trusted = trusted; there = there; other = other; mute = subst (λ (b : Bool). (b || is_mute k label n) ≡ true) other both })
+    rests : is_bare k label n ≡ false → is_mute k label n ≡ false → (is_at_rest k label n ≡ true) ⊎ ((is_bare k label n || is_mute k label n) ≡ true) → Role k label n
+    rests other others (inl rests_) = Rests rests_ others
+    rests other others (inr both) =
+        let none : (is_bare k label n || is_mute k label n) ≡ false = rw (other, others) refl in
+        let off : true ≡ false = sym both ∙ none in absurd (cc)
+
+    by_mute : is_bare k label n ≡ false → (b : Bool) → is_mute k label n ≡ b → Role k label n
+    by_mute other true is = Mute (record { trusted = trusted; there = there; other = other; mute = is })
+    by_mute other false is = rests other is (or_cases (is_at_rest k label n) (is_bare k label n || is_mute k label n) (harmless.trusted n trusted there))
 
     by_bare : (b : Bool) → is_bare k label n ≡ b → Role k label n
     by_bare true is = Bare (record { trusted = trusted; there = there; bare = is })
-    by_bare false is = by_roles is (or_cases (is_at_rest k label n) (is_bare k label n || is_mute k label n) (harmless.trusted n trusted there))
+    by_bare false is = by_mute is (is_mute k label n) refl

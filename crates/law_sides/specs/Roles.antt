@@ -5,7 +5,7 @@ use Rattle.nova_objects.specs.declared.object.Object.{Object}
 use Rattle.nova_objects.specs.declared.object.Object.TheVariants.{Pd, Ec, Sc, Pt}
 use Rattle.nova_range.specs.Rights.{allows}
 use Rattle.nova_range.specs.declared.rights.Rights.{Rights}
-use Rattle.nova_model.specs.Capabilities.{bind_portal_right, call_right, create_right}
+use Rattle.nova_model.specs.Capabilities.{bind_portal_right, bind_scheduling_right, call_right, create_right, event_right}
 use Rattle.nova_model.specs.Delegations.{is_memory}
 use Rattle.nova_model.specs.Edges.{edge_of}
 use Rattle.nova_model.specs.State.{KernelState, context_at, pd_of}
@@ -85,13 +85,16 @@ abbrev pub waits_without : KernelState → ℕ → Option ℕ → Bool
 waits_without k n None = true
 waits_without k n (Some handler) = not (pd_of k handler == n)
 
--- AT REST: no capability of a side leads there, and each execution context is parked or dead
+-- AT REST: no capability of a side leads there, and each execution context is parked or dead, or waits for good at a semaphore that no other domain may raise
+
+abbrev pub is_other : ℕ → ℕ → Bool
+is_other n m = not (m == n)
 
 abbrev pub rests_by : KernelState → (ℕ → ℕ) → ℕ → Derivation → Bool
 rests_by k label n d = not (is_reached_by k label n d)
 
 abbrev pub rests_in : KernelState → ℕ → ℕ × Object → Bool
-rests_in k n (m, Ec pd cpu kind event) = not (pd == n) || is_if_there (λ (x : EcState). is_resting x.state) (context_at k m)
+rests_in k n (m, Ec pd cpu kind event) = not (pd == n) || is_if_there (is_resting k (is_other n)) (context_at k m)
 rests_in k n (m, other) = true
 
 abbrev pub is_at_rest : KernelState → (ℕ → ℕ) → ℕ → Bool
@@ -111,11 +114,25 @@ is_bare_in k n (m, other) = true
 abbrev pub is_bare : KernelState → (ℕ → ℕ) → ℕ → Bool
 is_bare k label n = list_all (is_bare_by k label n) k.delegations.list && list_all (is_bare_in k n) (enumerate_from 0 k.objects)
 
--- MUTE: what it holds, but for memory and semaphores, is its own; no capability of a side leads there; and neither waits for a handler of the other, nor does it give a first range. So it gives nothing to sides. Semaphores and
--- memory it may share with them.
+-- MUTE: what it holds, but for memory and semaphores, is its own, or a side's that it controls at most; no capability of a side leads there; and neither waits for a handler of the other, nor does it give a first range. So it
+-- gives nothing to sides. Semaphores and memory it may share with them.
+
+-- by these rights it may control the object, and no more: it neither creates in a domain, nor binds to an execution context, nor calls a portal or sends exits to it
+abbrev pub controls_alone : Rights → Option Object → Bool
+controls_alone rights (Some Pd) = not (allows rights create_right)
+controls_alone rights (Some (Ec pd cpu kind event)) = not (allows rights bind_portal_right) && not (allows rights bind_scheduling_right)
+controls_alone rights (Some (Pt handler mtd ip)) = not (allows rights call_right) && not (allows rights event_right)
+controls_alone rights other = true
+
+abbrev pub is_side : (ℕ → ℕ) → Option ℕ → Bool
+is_side label None = false
+is_side label (Some n) = not (label n == 0)
+
+abbrev pub is_controlled : KernelState → (ℕ → ℕ) → Derivation → Bool
+is_controlled k label d = is_side label (target_domain k d) && controls_alone d.rights (slice_get k.objects d.target)
 
 abbrev pub is_mute_by : KernelState → (ℕ → ℕ) → ℕ → Derivation → Bool
-is_mute_by k label n d = not (is_reached_by k label n d) && (not (is_held n d) || is_none_or n (target_domain k d))
+is_mute_by k label n d = not (is_reached_by k label n d) && (not (is_held n d) || (is_none_or n (target_domain k d) || is_controlled k label d))
 
 abbrev pub is_mute_in : KernelState → (ℕ → ℕ) → ℕ → ℕ × Object → Bool
 is_mute_in k label n (m, Ec pd cpu kind event) =

@@ -7,8 +7,9 @@ use Rattle.nova_range.specs.Rights.{allows, write_right}
 use Rattle.nova_range.specs.declared.range.Kind.{Kind}
 use Rattle.nova_range.specs.declared.range.Kind.TheVariants.{Mem, Obj}
 use Rattle.nova_model.specs.Edges.{edge_of}
-use Rattle.nova_model.specs.State.{KernelState, context_at, pd_of}
+use Rattle.nova_model.specs.State.{KernelState, context_at, is_local_thread, pd_of}
 use Rattle.nova_model.specs.declared.context.EcState.{EcState}
+use Rattle.nova_model.specs.declared.context.Mark.{Mark}
 use Rattle.nova_model.specs.declared.context.State.{State}
 use Rattle.nova_model.specs.declared.context.State.TheVariants.{Blocked, Granting}
 use Rattle.nova_model.specs.declared.delegation.Derivation.{Derivation}
@@ -95,13 +96,25 @@ ties_by k list d = ties_of_kind k list d d.kind
 
 -- BY EXECUTION CONTEXTS
 
--- the domain of a handler is tied to that of who waits for it
+-- the domain of a handler is tied to that of who waits for it: to a side's own alone where that is a handler itself
+abbrev pub served : KernelState → ℕ → ℕ → ℕ → Tie
+served k handler n pd = record { from = pd_of k handler; to = pd; strict = is_local_thread k n; cause = cause.Serves handler n }
+
 abbrev pub serves_by : KernelState → ℕ → ℕ → Option ℕ → Option Tie
-serves_by k n pd (Some handler) = Some (strict (pd_of k handler) pd (cause.Serves handler n))
+serves_by k n pd (Some handler) = Some (served k handler n pd)
 serves_by k n pd None = None
 
 abbrev pub serves_of : KernelState → ℕ → ℕ → State → Option Tie
 serves_of k n pd state = serves_by k n pd (edge_of state)
+
+-- the domain of a handler that takes the items of a call, to that of its caller
+abbrev pub takes_by : KernelState → ℕ → ℕ → Option (ℕ × Mark) → Option Tie
+takes_by k n pd (Some (caller, mark)) = Some (strict pd (pd_of k caller) (cause.Takes n caller))
+takes_by k n pd None = None
+
+abbrev pub takes_of : KernelState → ℕ → ℕ → State → Option (ℕ × Mark) → Option Tie
+takes_of k n pd (Granting None) caller = takes_by k n pd caller
+takes_of k n pd other caller = None
 
 -- the domain of one that gives a first range, to the domain that gets it
 abbrev pub gives_of : ℕ → ℕ → State → Option Tie
@@ -122,7 +135,7 @@ queue_of k n pd (Blocked sm) = flat_map (λ (e : ℕ × Object). option_to_list 
 queue_of k n pd other = []
 
 abbrev pub ties_in : KernelState → ℕ → ℕ → Option EcState → List Tie
-ties_in k n pd (Some x) = option_to_list (serves_of k n pd x.state) ++ (option_to_list (gives_of n pd x.state) ++ queue_of k n pd x.state)
+ties_in k n pd (Some x) = option_to_list (serves_of k n pd x.state) ++ (option_to_list (takes_of k n pd x.state x.caller) ++ (option_to_list (gives_of n pd x.state) ++ queue_of k n pd x.state))
 ties_in k n pd None = []
 
 abbrev pub ties_at : KernelState → ℕ × Object → List Tie

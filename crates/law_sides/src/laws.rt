@@ -43,7 +43,8 @@ pub fn isolated_sides_touch_no_frame_of_another()
 {}
 
 /// Take isolated sides in such a state, in which all that is trusted is at rest: no capability of a side leads to it, and each of its execution
-/// contexts is parked or dead. Whatever turns follow, nobody acts that is trusted; so the premise of
+/// contexts is parked or dead, or waits for good at a semaphore: no side may raise it and no alarm rings it, and nothing is to come on its
+/// processor, so that no deadline ends the wait. Whatever turns follow, nobody acts that is trusted; so the premise of
 /// `sides_are_apart_beside_trusted_domains` on turns of what is trusted holds of them, the sides stay isolated, a side reaches a frame by a
 /// right only if it has all along, and it holds no right to an object but one that it has held all along, or to an object that it made since.
 /// There may be any number of sides. Nothing is said of how long a side waits for a turn, of clocks, or of how much memory the kernel has.
@@ -71,8 +72,8 @@ pub fn sides_beside_what_rests_are_apart_for_good()
 {}
 
 /// Take sides within their policy in such a state, in which each trusted domain is at rest, bare or mute. A bare one holds memory alone, and all that
-/// sides hold of it are portals for exits: a pager, a monitor, a console. A mute one holds nothing of a side's but memory and semaphores, and no
-/// side holds anything of its: a driver, a logger by buffers. Whatever turns follow, and whatever their programs do, each turn of what is
+/// sides hold of it are portals for exits: a pager, a monitor, a console. A mute one holds nothing of a side's but memory and semaphores, and what it
+/// controls at most, and no side holds anything of its: a driver, a logger by buffers, a watchdog. Whatever turns follow, and whatever their programs do, each turn of what is
 /// trusted is careful, so that the policy holds on. They may give memory to sides as they like.
 pub fn bare_and_mute_domains_are_careful()
     ensures turns { (scenario : Scenario) (before turns : List ℕ) (label : ℕ → ℕ)

@@ -5,7 +5,7 @@ use Rattle.nova_model.specs.declared.delegation.Derivation.{Derivation}
 use Rattle.nova_report.specs.Words.{line_feed}
 use Rattle.nova_ties.specs.Ties.{label_in}
 use Rattle.nova_ties.specs.declared.tie.Cause.{Cause}
-use Rattle.nova_ties.specs.declared.tie.Cause.TheVariants.{Domain, Context, Portal, Scheduling, Frames, Shared, Waits, Queue, Serves, Gives}
+use Rattle.nova_ties.specs.declared.tie.Cause.TheVariants.{Domain, Context, Portal, Scheduling, Frames, Shared, Waits, Queue, Serves, Takes, Gives}
 use Rattle.nova_ties.specs.declared.tie.Tie.{Tie}
 use Rattle.nova_naming.specs.Labels.{side_text}
 use Rattle.nova_naming.specs.Statements.{Stated}
@@ -32,6 +32,7 @@ cause_text (Shared cap other) = codes "shared cap " ++ (decimal cap ++ (codes " 
 cause_text (Waits cap ec) = codes "waits cap " ++ (decimal cap ++ (codes " ec " ++ decimal ec))
 cause_text (Queue ec other) = codes "queue ec " ++ (decimal ec ++ (codes " ec " ++ decimal other))
 cause_text (Serves handler ec) = codes "serves ec " ++ (decimal handler ++ (codes " ec " ++ decimal ec))
+cause_text (Takes handler ec) = codes "takes ec " ++ (decimal handler ++ (codes " ec " ++ decimal ec))
 cause_text (Gives ec) = codes "gives ec " ++ decimal ec
 
 abbrev pub strict_text : Bool → List ℕ

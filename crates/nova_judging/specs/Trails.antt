@@ -5,7 +5,7 @@ use Rattle.nova_model.specs.Lines.{line_by}
 use Rattle.nova_model.specs.declared.delegation.Derivation.{Derivation}
 use Rattle.nova_report.specs.Words.{line_feed, parent_word, space_word}
 use Rattle.nova_ties.specs.declared.tie.Cause.{Cause}
-use Rattle.nova_ties.specs.declared.tie.Cause.TheVariants.{Domain, Context, Portal, Scheduling, Frames, Shared, Waits, Queue, Serves, Gives}
+use Rattle.nova_ties.specs.declared.tie.Cause.TheVariants.{Domain, Context, Portal, Scheduling, Frames, Shared, Waits, Queue, Serves, Takes, Gives}
 
 -- the derivation of an id, its parent, the parent's parent and so on: ids fall, so that there are at most as many as the id and one
 abbrev pub trail : List Derivation → ℕ → List Derivation
@@ -38,4 +38,5 @@ cause_lines list (Shared cap other) = trail_lines list cap ++ trail_lines list o
 cause_lines list (Waits cap ec) = trail_lines list cap
 cause_lines list (Queue ec other) = []
 cause_lines list (Serves handler ec) = []
+cause_lines list (Takes handler ec) = []
 cause_lines list (Gives ec) = []

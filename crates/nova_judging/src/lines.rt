@@ -50,6 +50,7 @@ fn write_cause(out: &mut String, cause: Cause) -> Result<(), AllocError>
         Cause::Waits(cap, ec) => write!(out, "waits cap {cap} ec {ec}"),
         Cause::Queue(ec, other) => write!(out, "queue ec {ec} ec {other}"),
         Cause::Serves(handler, ec) => write!(out, "serves ec {handler} ec {ec}"),
+        Cause::Takes(handler, ec) => write!(out, "takes ec {handler} ec {ec}"),
         Cause::Gives(ec) => write!(out, "gives ec {ec}"),
     }
 }

@@ -111,6 +111,6 @@ pub(crate) fn write_cause_trails(
         Cause::Frames(cap, other) => write_trails(out, list, cap, other),
         Cause::Shared(cap, other) => write_trails(out, list, cap, other),
         Cause::Waits(cap, _) => write_trail(out, list, cap),
-        Cause::Queue(..) | Cause::Serves(..) | Cause::Gives(_) => Ok(()),
+        Cause::Queue(..) | Cause::Serves(..) | Cause::Takes(..) | Cause::Gives(_) => Ok(()),
     }
 }

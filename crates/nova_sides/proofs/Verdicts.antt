@@ -21,7 +21,7 @@ use Rattle.law_integrity.proofs.Labels.{context_ec, local_ec}
 use Rattle.nova_ties.specs.Ties.{AreRespected, Respects, is_broken, is_respected, label_in, or_trusted}
 use Rattle.nova_ties.proofs.Settling.{respected_from, respects_from}
 use Rattle.nova_ties.specs.declared.tie.Tie.{Tie}
-use Rattle.law_sides.specs.Resting.{IsAtRest, Sided, is_astray, is_astray_at, is_leading, is_leading_by, is_resting, is_stirring, is_stirring_at}
+use Rattle.law_sides.specs.Resting.{IsAtRest, Sided, is_astray, is_astray_at, is_leading, is_leading_by, is_resting, is_sided, is_stirring, is_stirring_at}
 use Rattle.law_sides.specs.Tied.{lead_of, ties}
 use Rattle.nova_sides.specs.Verdicts.{IsBreach, IsRestless}
 use Rattle.nova_sides.specs.declared.judging.Restless.{Restless}
@@ -130,17 +130,17 @@ rest_found k table tables no_astray no_leading no_stirring = record {
         by_kind Mem is h = absurd (cc)
         by_kind Obj is h = h
 
-    rests : (ec : ℕ) (x : EcState) → context_at k ec ≡ Some x → label_in table (pd_of k ec) ≡ 0 → IsMember k (λ m. Unit {0}) ec → is_resting x.state ≡ true
+    rests : (ec : ℕ) (x : EcState) → context_at k ec ≡ Some x → label_in table (pd_of k ec) ≡ 0 → IsMember k (λ m. Unit {0}) ec → is_resting k (is_sided (label_in table)) x ≡ true
     rests ec x at trusted m =
-        let here : is_stirring_at (label_in table m.domain) (context_at k ec) ≡ false =
+        let here : is_stirring_at k (label_in table) m.domain (context_at k ec) ≡ false =
         numbered_at (λ (e : ℕ × Object). is_stirring k (label_in table) e ≡ false) k.objects ec (Ec m.domain m.cpu m.kind m.event) stirring m.object in
-        let its : is_stirring_at (label_in table m.domain) (Some x) ≡ false = subst (λ (o : Option EcState). is_stirring_at (label_in table m.domain) o ≡ false) at here in
+        let its : is_stirring_at k (label_in table) m.domain (Some x) ≡ false = subst (λ (o : Option EcState). is_stirring_at k (label_in table) m.domain o ≡ false) at here in
         by_test (ap (label_in table) (sym (ap pd_in m.object)) ∙ trusted) its
       where
-        by_test : label_in table m.domain ≡ 0 → ((label_in table m.domain == 0) && not (is_resting x.state)) ≡ false → is_resting x.state ≡ true
-        by_test none h = elim (and_cases (label_in table m.domain == 0) (not (is_resting x.state)) h) [
+        by_test : label_in table m.domain ≡ 0 → ((label_in table m.domain == 0) && not (is_resting k (is_sided (label_in table)) x)) ≡ false → is_resting k (is_sided (label_in table)) x ≡ true
+        by_test none h = elim (and_cases (label_in table m.domain == 0) (not (is_resting k (is_sided (label_in table)) x)) h) [
           | inl off ↦ absurd (let yes = eq-eqb (label_in table m.domain) 0 none in let both : true ≡ false = sym yes ∙ off in cc)
-          | inr off ↦ not-false (is_resting x.state) off
+          | inr off ↦ not-false (is_resting k (is_sided (label_in table)) x) off
         ]
 
 -- why not
@@ -201,11 +201,11 @@ stirring_found k label e is =
     by_object : (n : ℕ) (o : Object) → slice_get k.objects n ≡ Some o → is_stirring k label (n, o) ≡ true → IsRestless k label (Stirs n)
     by_object n (Ec pd cpu its event) at h = by_context (context_at k n) refl h
       where
-        by_context : (c : Option EcState) → context_at k n ≡ c → is_stirring_at (label pd) c ≡ true → IsRestless k label (Stirs n)
+        by_context : (c : Option EcState) → context_at k n ≡ c → is_stirring_at k label pd c ≡ true → IsRestless k label (Stirs n)
         by_context None is_ h_ = absurd (cc)
         by_context (Some x) is_ h_ =
-            let parts = and_parts (label pd == 0) (not (is_resting x.state)) h_ in
-            (ap label (ap pd_in at) ∙ eqb-true (label pd) 0 parts.0, (x, is_, not-true (is_resting x.state) parts.1))
+            let parts = and_parts (label pd == 0) (not (is_resting k (is_sided label) x)) h_ in
+            (ap label (ap pd_in at) ∙ eqb-true (label pd) 0 parts.0, (x, is_, not-true (is_resting k (is_sided label) x) parts.1))
     by_object n Pd at h = absurd (cc)
     by_object n (Sc c cpu priority quantum) at h = absurd (cc)
     by_object n (Pt handler mtd ip) at h = absurd (cc)

@@ -7,7 +7,7 @@ use Rattle.nova_model.specs.declared.context.EcState.{EcState}
 use Rattle.law_integrity.specs.Confined.{IsOwned}
 use Rattle.nova_ties.specs.Ties.{Respects, is_broken}
 use Rattle.nova_ties.specs.declared.tie.Tie.{Tie}
-use Rattle.law_sides.specs.Resting.{IsAtRest, Sided, is_resting}
+use Rattle.law_sides.specs.Resting.{IsAtRest, Sided, is_resting, is_sided}
 use Rattle.law_sides.specs.Isolated.{AreIsolated}
 use Rattle.law_sides.specs.Tied.{ties}
 use Rattle.nova_sides.specs.declared.judging.Restless.{Restless}
@@ -15,11 +15,11 @@ use Rattle.nova_sides.specs.declared.judging.Restless.TheVariants.{Astray, Leads
 use Rattle.nova_sides.specs.declared.judging.Verdict.{Verdict}
 use Rattle.nova_sides.specs.declared.judging.Verdict.TheVariants.{Apart, Served, Breach}
 
--- which part of rest doesn't hold: a number with a side is of no domain; a capability of a side leads to what is trusted; or one of what is trusted is neither parked nor dead
+-- which part of rest doesn't hold: a number with a side is of no domain; a capability of a side leads to what is trusted; or an execution context of what is trusted isn't at rest
 abbrev pub IsRestless : KernelState → (ℕ → ℕ) → Restless → Type 0
 IsRestless k label (Astray n) = (label n ≢ 0) × (slice_get k.objects n ≢ Some Pd)
 IsRestless k label (Leads d) = Contains k.delegations.list d × (d.kind ≡ Obj) × (label d.pd ≢ 0) × (IsOwned k (Sided label) d.target (slice_get k.objects d.target) → ⊥)
-IsRestless k label (Stirs n) = (label (pd_of k n) ≡ 0) × ((x : EcState) × (context_at k n ≡ Some x) × (is_resting x.state ≡ false))
+IsRestless k label (Stirs n) = (label (pd_of k n) ≡ 0) × ((x : EcState) × (context_at k n ≡ Some x) × (is_resting k (is_sided label) x ≡ false))
 
 -- the first tie of the state that the labels don't respect, and so the sides aren't isolated
 pub record IsBreach (k : KernelState) (label : ℕ → ℕ) (t : Tie) : Type 0 where

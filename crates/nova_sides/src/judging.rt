@@ -18,7 +18,7 @@ pub enum Restless {
     Astray(u32),
     /// This capability of a side leads to what is trusted.
     Leads(Derivation),
-    /// This execution context is of what is trusted, and is neither parked nor dead.
+    /// This execution context is of what is trusted, and is neither parked nor dead, nor does it wait for good.
     Stirs(u32),
 }
 
@@ -45,7 +45,7 @@ fn first_restless(kernel: &Kernel, labels: &[u32], list: &[Derivation]) -> Optio
         Some(n) => Some(Restless::Astray(n)),
         None => match first_leading(kernel, labels, list) {
             Some(d) => Some(Restless::Leads(d)),
-            None => match first_stirring(kernel, labels) {
+            None => match first_stirring(kernel, labels, list) {
                 Some(n) => Some(Restless::Stirs(n)),
                 None => None,
             },

@@ -1,19 +1,93 @@
 ghost use Rattle.std.specs.Prelude.{◌≡◌, ◌<◌, ◌^◌, find, length, option_copied, option_map, slice_get, ℕ};
 ghost use Rattle.std.specs.List.{enumerate_from};
 ghost use Rattle.nova_model.specs.State.{context_at};
-ghost use Rattle.law_sides.specs.Resting.{is_astray, is_astray_at, is_leading, is_leading_by, is_resting, is_stirring, is_stirring_at};
+ghost use Rattle.nova_model.specs.Times.{until_due};
+ghost use Rattle.law_sides.specs.Resting.{is_astray, is_astray_at, is_leading, is_leading_by, is_nothing, is_resting, is_sided, is_stirring, is_stirring_at, is_unraised, is_unrung, raises};
+ghost use Rattle.law_sides.specs.Roles.{is_other};
 ghost use Rattle.nova_ties.specs.Ties.{label_in};
 
 use crate::common::is_object;
 use crate::holding::lead_of;
-use nova_kernel::{Derivation, Kernel, Object, State};
+use bitflags::Flags;
+use nova_kernel::{Derivation, EcState, Kernel, Object, Rights, State};
 use nova_ties::{Tie, label_of};
 
-/// It does nothing, and nothing but a call or an exit has it do something.
-pub(crate) fn is_resting(state: State) -> bool
-    ensures { result ≡ is_resting state }
+/// Whether a capability may raise a semaphore.
+fn raises(sm: u32, d: Derivation) -> bool
+    ensures { result ≡ raises sm d }
 {
-    matches!(state, State::Parked | State::Dead)
+    is_object(d.kind) && d.target == sm && d.rights.contains(Rights::UP)
+}
+
+/// Whether no side may raise a semaphore.
+fn is_unraised_by_sides(labels: &[u32], list: &[Derivation], sm: u32) -> bool
+    ensures { result ≡ is_unraised (is_sided (label_in labels.now)) list.now sm }
+{
+    list.iter()
+        .all(|&d| !(raises(sm, d) && label_of(labels, d.pd) != 0))
+}
+
+/// Whether no domain but one may raise a semaphore.
+fn is_unraised_by_others(n: u32, list: &[Derivation], sm: u32) -> bool
+    ensures { result ≡ is_unraised (is_other n) list.now sm }
+{
+    list.iter().all(|&d| !(raises(sm, d) && d.pd != n))
+}
+
+/// Whether a semaphore is no alarm's.
+fn is_unrung(kernel: &Kernel, sm: u32) -> bool
+    ensures { result ≡ is_unrung kernel.now.state.times sm }
+{
+    kernel.sources().iter().all(|a| a.sm != sm)
+}
+
+/// Whether nothing is to come on a processor: no deadline and no alarm.
+fn is_nothing(kernel: &Kernel, cpu: u32) -> bool
+    ensures { result ≡ is_nothing (until_due kernel.now.state.times cpu) }
+{
+    kernel.until_due(cpu).is_none()
+}
+
+/// Whether an execution context does nothing, and nothing but a call or an exit has it do something, where of all others sides alone act.
+fn rests_beside_sides(
+    kernel: &Kernel,
+    labels: &[u32],
+    list: &[Derivation],
+    context: &EcState,
+) -> bool
+    requires list { list.now ≡ kernel.now.state.delegations.list }
+    ensures { result ≡ is_resting kernel.now.state (is_sided (label_in labels.now)) context.now }
+{
+    match context.state {
+        State::Parked | State::Dead => true,
+        State::Blocked(sm) => {
+            is_unraised_by_sides(labels, list, sm)
+                && is_unrung(kernel, sm)
+                && is_nothing(kernel, context.cpu)
+        }
+        _ => false,
+    }
+}
+
+/// The same, where all other domains may act than one.
+pub(crate) fn rests_beside_others(
+    kernel: &Kernel,
+    list: &[Derivation],
+    n: u32,
+    context: &EcState,
+) -> bool
+    requires list { list.now ≡ kernel.now.state.delegations.list }
+    ensures { result ≡ is_resting kernel.now.state (is_other n) context.now }
+{
+    match context.state {
+        State::Parked | State::Dead => true,
+        State::Blocked(sm) => {
+            is_unraised_by_others(n, list, sm)
+                && is_unrung(kernel, sm)
+                && is_nothing(kernel, context.cpu)
+        }
+        _ => false,
+    }
 }
 
 /// Whether what has a side is no domain.
@@ -66,31 +140,42 @@ pub fn first_leading(kernel: &Kernel, labels: &[u32], list: &[Derivation]) -> Op
     Some(*leading_in(kernel, labels, list)?)
 }
 
-fn is_stirring_at(kernel: &Kernel, n: u32, label: u32) -> bool
-    ensures { result ≡ is_stirring_at label (context_at kernel.now.state n) }
+fn is_stirring_at(kernel: &Kernel, labels: &[u32], list: &[Derivation], n: u32, pd: u32) -> bool
+    requires list { list.now ≡ kernel.now.state.delegations.list }
+    ensures { result ≡ is_stirring_at kernel.now.state (label_in labels.now) pd (context_at kernel.now.state n) }
 {
     match kernel.ec(n) {
-        Some(context) => label == 0 && !is_resting(context.state),
+        Some(context) => {
+            label_of(labels, pd) == 0 && !rests_beside_sides(kernel, labels, list, context)
+        }
         None => false,
     }
 }
 
 /// Whether an execution context of what is trusted isn't at rest.
-fn is_stirring(kernel: &Kernel, labels: &[u32], n: u32, object: Object) -> bool
+fn is_stirring(
+    kernel: &Kernel,
+    labels: &[u32],
+    list: &[Derivation],
+    n: u32,
+    object: Object,
+) -> bool
+    requires list { list.now ≡ kernel.now.state.delegations.list }
     ensures { result ≡ is_stirring kernel.now.state (label_in labels.now) (n, object) }
 {
     match object {
-        Object::Ec { pd, .. } => is_stirring_at(kernel, n, label_of(labels, pd)),
+        Object::Ec { pd, .. } => is_stirring_at(kernel, labels, list, n, pd),
         _ => false,
     }
 }
 
 /// The first execution context of what is trusted that isn't at rest.
-pub fn first_stirring(kernel: &Kernel, labels: &[u32]) -> Option<u32>
+pub fn first_stirring(kernel: &Kernel, labels: &[u32], list: &[Derivation]) -> Option<u32>
+    requires list { list.now ≡ kernel.now.state.delegations.list }
     ensures { result ≡ option_map (λ e. e.0) (find (is_stirring kernel.now.state (label_in labels.now)) (enumerate_from 0 kernel.now.state.objects)) }
 {
     for (i, object) in kernel.objects().iter().enumerate() {
-        if is_stirring(kernel, labels, i as u32, *object) {
+        if is_stirring(kernel, labels, list, i as u32, *object) {
             return Some(i as u32);
         }
     }

@@ -5,11 +5,11 @@ ghost use Rattle.nova_objects.specs.declared.object.Object.TheVariants.{Pd};
 ghost use Rattle.nova_model.specs.State.{KernelState, context_at};
 ghost use Rattle.nova_ties.specs.Ties.{label_in};
 ghost use Rattle.law_sides.specs.Resting.{is_resting};
-ghost use Rattle.law_sides.specs.Roles.{AreHarmless, gives_no_first, is_at_rest, is_bare, is_bare_by, is_bare_in, is_domain, is_held, is_if_there, is_mute, is_mute_by, is_mute_in, is_no_grant, is_none_or, is_powerless, is_reached_by, is_uncalled, rests_by, rests_in, target_domain, waits_for_none, waits_within, waits_without};
+ghost use Rattle.law_sides.specs.Roles.{AreHarmless, controls_alone, gives_no_first, is_at_rest, is_bare, is_bare_by, is_bare_in, is_controlled, is_domain, is_held, is_if_there, is_mute, is_mute_by, is_mute_in, is_no_grant, is_none_or, is_other, is_powerless, is_reached_by, is_side, is_uncalled, rests_by, rests_in, target_domain, waits_for_none, waits_within, waits_without};
 ghost use Rattle.nova_sides.specs.Works.{role_of};
 
 use crate::common::{domain_of, is_object};
-use crate::resting::is_resting;
+use crate::resting::rests_beside_others;
 use crate::waiting::edge_of;
 use bitflags::Flags;
 use nova_kernel::{Derivation, EcState, Kernel, Mark, Object, Rights, State};
@@ -18,13 +18,14 @@ use nova_ties::label_of;
 /// What a trusted domain is.
 #[derive(Clone, Copy, Debug, PartialEq, Eq)]
 pub enum Role {
-    /// No capability of a side leads there, and each of its execution contexts is parked or dead.
+    /// No capability of a side leads there, and each of its execution contexts is parked or dead, or waits for good.
     Rests,
 
     /// It holds memory alone, and all that sides hold of it are portals for exits: it is careful whatever its program does.
     Bare,
 
-    /// It holds nothing of a side's but memory and semaphores, and no side holds anything of its: it is careful whatever its program does.
+    /// It holds nothing of a side's but memory, semaphores and what it controls at most, and no side holds anything of its: it is careful whatever its
+    /// program does.
     Mute,
 
     /// It is careful if its program is.
@@ -99,11 +100,45 @@ fn is_bare_by(kernel: &Kernel, labels: &[u32], n: u32, d: Derivation) -> bool
     !is_held(n, d) && (!is_reached_by(kernel, labels, n, d) || is_powerless(kernel, d))
 }
 
+/// Whether a capability allows to control its object, and no more.
+fn controls_alone(kernel: &Kernel, d: Derivation) -> bool
+    ensures { result ≡ controls_alone d.rights (slice_get kernel.now.state.objects d.target) }
+{
+    match kernel.object(d.target) {
+        Some(Object::Pd) => !d.rights.contains(Rights::CREATE),
+        Some(Object::Ec { .. }) => {
+            !d.rights.contains(Rights::BIND_PT) && !d.rights.contains(Rights::BIND_SC)
+        }
+        Some(Object::Pt { .. }) => {
+            !d.rights.contains(Rights::CALL) && !d.rights.contains(Rights::EVENT)
+        }
+        _ => true,
+    }
+}
+
+fn is_side(labels: &[u32], domain: Option<u32>) -> bool
+    ensures { result ≡ is_side (label_in labels.now) domain }
+{
+    match domain {
+        Some(n) => label_of(labels, n) != 0,
+        None => false,
+    }
+}
+
+/// Whether a capability leads to a side's object, and allows to control it at most.
+fn is_controlled(kernel: &Kernel, labels: &[u32], d: Derivation) -> bool
+    ensures { result ≡ is_controlled kernel.now.state (label_in labels.now) d }
+{
+    is_side(labels, target_domain(kernel, d)) && controls_alone(kernel, d)
+}
+
 fn is_mute_by(kernel: &Kernel, labels: &[u32], n: u32, d: Derivation) -> bool
     ensures { result ≡ is_mute_by kernel.now.state (label_in labels.now) n d }
 {
     !is_reached_by(kernel, labels, n, d)
-        && (!is_held(n, d) || is_none_or(n, target_domain(kernel, d)))
+        && (!is_held(n, d)
+            || is_none_or(n, target_domain(kernel, d))
+            || is_controlled(kernel, labels, d))
 }
 
 fn rests_by_all(kernel: &Kernel, labels: &[u32], list: &[Derivation], n: u32) -> bool
@@ -182,11 +217,12 @@ fn is_mute_context(kernel: &Kernel, n: u32, context: &EcState) -> bool
     waits_within(kernel, n, edge_of(context.state)) && gives_no_first(context.state)
 }
 
-fn rests_at(kernel: &Kernel, m: u32) -> bool
-    ensures { result ≡ is_if_there (λ x. is_resting x.state) (context_at kernel.now.state m) }
+fn rests_at(kernel: &Kernel, list: &[Derivation], n: u32, m: u32) -> bool
+    requires list { list.now ≡ kernel.now.state.delegations.list }
+    ensures { result ≡ is_if_there (is_resting kernel.now.state (is_other n)) (context_at kernel.now.state m) }
 {
     match kernel.ec(m) {
-        Some(context) => is_resting(context.state),
+        Some(context) => rests_beside_others(kernel, list, n, context),
         None => true,
     }
 }
@@ -218,11 +254,12 @@ fn is_without_at(kernel: &Kernel, n: u32, m: u32) -> bool
     }
 }
 
-fn rests_in(kernel: &Kernel, n: u32, m: u32, object: Object) -> bool
+fn rests_in(kernel: &Kernel, list: &[Derivation], n: u32, m: u32, object: Object) -> bool
+    requires list { list.now ≡ kernel.now.state.delegations.list }
     ensures { result ≡ rests_in kernel.now.state n (m, object) }
 {
     match object {
-        Object::Ec { pd, .. } => pd != n || rests_at(kernel, m),
+        Object::Ec { pd, .. } => pd != n || rests_at(kernel, list, n, m),
         _ => true,
     }
 }
@@ -248,11 +285,12 @@ fn is_mute_in(kernel: &Kernel, labels: &[u32], n: u32, m: u32, object: Object) -
     }
 }
 
-fn rests_in_all(kernel: &Kernel, n: u32) -> bool
+fn rests_in_all(kernel: &Kernel, list: &[Derivation], n: u32) -> bool
+    requires list { list.now ≡ kernel.now.state.delegations.list }
     ensures { result ≡ list_all (rests_in kernel.now.state n) (enumerate_from 0 kernel.now.state.objects) }
 {
     for (i, object) in kernel.objects().iter().enumerate() {
-        if !rests_in(kernel, n, i as u32, *object) {
+        if !rests_in(kernel, list, n, i as u32, *object) {
             return false;
         }
     }
@@ -287,7 +325,7 @@ fn is_at_rest(kernel: &Kernel, labels: &[u32], list: &[Derivation], n: u32) -> b
     requires list { list.now ≡ kernel.now.state.delegations.list }
     ensures { result ≡ is_at_rest kernel.now.state (label_in labels.now) n }
 {
-    rests_by_all(kernel, labels, list, n) && rests_in_all(kernel, n)
+    rests_by_all(kernel, labels, list, n) && rests_in_all(kernel, list, n)
 }
 
 fn is_bare(kernel: &Kernel, labels: &[u32], list: &[Derivation], n: u32) -> bool

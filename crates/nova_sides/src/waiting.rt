@@ -1,11 +1,11 @@
 ghost use Rattle.std.specs.Prelude.{◌≡◌, ◌++◌, ◌<◌, flat_map, option_to_list, OnOk, Some};
 ghost use Rattle.std.specs.List.{enumerate_from};
 ghost use Rattle.nova_model.specs.Edges.{edge_of};
-ghost use Rattle.nova_model.specs.State.{context_at};
-ghost use Rattle.law_sides.specs.Tied.{beside_at, beside_in, gives_of, is_blocked_at, queue_of, serves_of, strict, ties_at, weak};
+ghost use Rattle.nova_model.specs.State.{context_at, is_local_thread};
+ghost use Rattle.law_sides.specs.Tied.{beside_at, beside_in, gives_of, is_blocked_at, queue_of, served, serves_of, strict, takes_by, takes_of, ties_at, weak};
 
 use crate::common::{domain_of, is_blocked_at, push, strict, weak};
-use nova_kernel::{Kernel, Object, State};
+use nova_kernel::{EcKind, Kernel, Mark, Object, State};
 use nova_ties::{Cause, Tie};
 use std::alloc::AllocError;
 
@@ -21,11 +21,59 @@ pub(crate) fn edge_of(state: State) -> Option<u32>
     }
 }
 
+/// Whether an execution context is a local thread: a handler.
+fn is_local_thread(kernel: &Kernel, ec: u32) -> bool
+    ensures { result ≡ is_local_thread kernel.now.state ec }
+{
+    matches!(
+        kernel.object(ec),
+        Some(Object::Ec {
+            kind: EcKind::Local,
+            ..
+        })
+    )
+}
+
+fn served(kernel: &Kernel, handler: u32, n: u32, pd: u32) -> Tie
+    ensures { result ≡ served kernel.now.state handler n pd }
+{
+    Tie {
+        from: domain_of(kernel, handler),
+        to: pd,
+        strict: is_local_thread(kernel, n),
+        cause: Cause::Serves(handler, n),
+    }
+}
+
 fn serves_of(kernel: &Kernel, n: u32, pd: u32, state: State) -> Option<Tie>
     ensures { result ≡ serves_of kernel.now.state n pd state }
 {
     let handler = edge_of(state)?;
-    Some(strict(domain_of(kernel, handler), pd, Cause::Serves(handler, n)))
+    Some(served(kernel, handler, n, pd))
+}
+
+fn takes_by(kernel: &Kernel, n: u32, pd: u32, caller: Option<(u32, Mark)>) -> Option<Tie>
+    ensures { result ≡ takes_by kernel.now.state n pd caller }
+{
+    let (caller, _) = caller?;
+    let giver = domain_of(kernel, caller);
+    Some(strict(pd, giver, Cause::Takes(n, caller)))
+}
+
+/// The domain of the caller whose items a handler takes.
+fn takes_of(
+    kernel: &Kernel,
+    n: u32,
+    pd: u32,
+    state: State,
+    caller: Option<(u32, Mark)>,
+) -> Option<Tie>
+    ensures { result ≡ takes_of kernel.now.state n pd state caller }
+{
+    match state {
+        State::Granting(None) => takes_by(kernel, n, pd, caller),
+        _ => None,
+    }
 }
 
 fn gives_of(n: u32, pd: u32, state: State) -> Option<Tie>
@@ -98,6 +146,7 @@ fn push_at(out: &mut Vec<Tie>, kernel: &Kernel, n: u32, object: Object) -> Resul
         return Ok(());
     };
     push(out, serves_of(kernel, n, pd, context.state))?;
+    push(out, takes_of(kernel, n, pd, context.state, context.caller))?;
     push(out, gives_of(n, pd, context.state))?;
     push_queue(out, kernel, n, pd, context.state)
 }

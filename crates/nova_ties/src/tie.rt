@@ -19,6 +19,8 @@ pub enum Cause {
     Queue(u32, u32),
     /// A handler of the first is waited for, by a call, a help or an exit, by an execution context of the second.
     Serves(u32, u32),
+    /// A handler of the first takes the items of a call of an execution context of the second.
+    Takes(u32, u32),
     /// An execution context of the first gives the second its first range.
     Gives(u32),
 }
