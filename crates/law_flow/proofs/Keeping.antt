@@ -22,8 +22,8 @@ use Rattle.nova_model.specs.declared.deed.Deed.TheVariants as deeds
 use Rattle.nova_model.specs.declared.new_object.NewObject.{NewObject}
 use Rattle.law_forest.specs.Effects.{Falls, Passing, Ticks, ends_by, passing_ends, passing_semaphore, Answers, Becomes, Branch, Edit, Edits, Moves, Parks, Raises, Recalled, Resumes, Serves, Stays, all_edited, branched, edit_at, edited, edits_by, made_by, recalls_by, semaphore_by, semaphores_with, steps_by}
 use Rattle.law_forest.specs.Turns.{passing, turned}
-use Rattle.law_turns.proofs.Setting.{set_at}
 use Rattle.law_integrity.proofs.Entries.{change_each}
+use Rattle.law_forest.proofs.Doing.{set_at}
 use Rattle.law_flow.specs.Flow.{IsSide}
 use Rattle.law_flow.proofs.Deciding.{IsOwn}
 use Rattle.law_flow.proofs.Doing.{by_deed, made_none, branch_none}

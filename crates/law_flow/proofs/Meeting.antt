@@ -1,6 +1,6 @@
 -- A run that meets the premises: what of its state these look at is computed, and then each part is looked up.
 use Rattle.std.proofs.Common.{◌≡◌, ◌≢◌, ◌≤◌, ◌<◌, ◌+◌, ◌⊎◌, ℕ, List, [], ◌∷◌, refl, sym, ap, ◌∙◌, subst, inl, inr, arith}
-use Rattle.std.specs.Prelude.{Bool, true, false, Contains, IsSome, map, replicate, slice_get, Option, Some, None, option_map, option_and_then}
+use Rattle.std.specs.Prelude.{Bool, true, false, Contains, IsSome, map, replicate, slice_get, Option, Some, None, option_map}
 use Rattle.std.specs.List.{AllByRecursion}
 use Rattle.std.proofs.lemmas.Option.{same_Some}
 use Rattle.rv_model.specs.Codes.{instr_of}
@@ -32,18 +32,13 @@ use Rattle.nova_model.specs.declared.times.Deadline.{Deadline}
 use Rattle.law_forest.specs.Within.{LeadsTo}
 use Rattle.law_forest.proofs.Members.{IsIn, all_at, in_from_contains}
 use Rattle.law_integrity.specs.Confined.{AreSetsApart, IsClosed, IsIdle, IsMember, IsOwned, Of}
+use Rattle.law_turns.specs.Links.{caller_at as caller_of, state_at as state_of}
 use Rattle.law_flow.specs.Examples.{first_domains, first_objects, first_processors, other_domains, two_homes}
 use Rattle.law_flow.specs.Flow.{IsPartitioned, IsTimeless, own_turn}
 use Rattle.law_flow.specs.Processors.{IsDivided}
 use Rattle.law_flow.proofs.Looking.{AllAt, IsCalm, at_all, calm_context, calm_edge, calm_wait, either, entry_at, led, looked_up, no, own_object}
 
 -- WHAT THE PREMISES LOOK AT
-
-abbrev state_of : Option EcState → Option State
-state_of o = option_map (λ (x : EcState). x.state) o
-
-abbrev caller_of : Option EcState → Option (ℕ × Mark)
-caller_of o = option_and_then (λ (x : EcState). x.caller) o
 
 abbrev objects_there : List Object
 objects_there =

@@ -1,6 +1,6 @@
 -- What one of a side sees is the same in two states in which the side's part is.
 use Rattle.std.proofs.Common.{◌≡◌, ℕ, ◌+◌, ◌-◌, ◌/◌, ◌%◌, ◌==◌, zero, suc, List, refl, sym, ap, ap₂, ◌∙◌, subst}
-use Rattle.std.specs.Prelude.{Bool, true, false, ◌&&◌, ◌||◌, not, IsSome, is_some, slice_get, option_map, option_and_then, Option, Some, None, Ok, if◌then◌else◌}
+use Rattle.std.specs.Prelude.{Bool, true, false, ◌&&◌, ◌||◌, IsSome, is_some, slice_get, option_map, option_and_then, Option, Some, None, Ok, if◌then◌else◌}
 use Rattle.std.specs.List.{find}
 use Rattle.std.proofs.lemmas.Bool.{and_parts, eqb-true}
 use Rattle.std.proofs.lemmas.Option.{same_Some}
@@ -14,7 +14,7 @@ use Rattle.nova_range.specs.Rights.{allows, execute_right, read_right}
 use Rattle.nova_range.specs.declared.range.Kind.TheVariants.{Mem, Obj}
 use Rattle.nova_range.specs.declared.range.Range.{Range}
 use Rattle.nova_range.specs.declared.rights.Rights.{Rights}
-use Rattle.nova_range.specs.declared.status.Status.TheVariants.{Aborted, BadCpu, Timeout}
+use Rattle.nova_range.specs.declared.status.Status.TheVariants.{BadCpu}
 use Rattle.nova_model.specs.AddressSpaces.{AddressSpace, found, frame_for, loaded_from, own_page, space, space_through, words_at}
 use Rattle.nova_model.specs.Calls.{admitted, exit_admitted, is_parked, is_same_cpu}
 use Rattle.nova_model.specs.Capabilities.{allowed, is_pt, named, or_bad_cap}
@@ -24,9 +24,7 @@ use Rattle.nova_model.specs.Edges.{AreEdges, after_edges, caller_in, circle, cpu
 use Rattle.nova_model.specs.Portals.{handler_in, handler_of, identifier, ip_in, ip_of, mtd_in, number_in}
 use Rattle.nova_model.specs.Semaphores.{semaphore, semaphore_in}
 use Rattle.nova_model.specs.State.{Contexts, KernelState, Semaphore, context, context_in, ec_in, entry, event_base, event_base_in, is_local_in, is_local_thread, is_thread, is_thread_in, message, message_in, own_words, pd_in, pd_of, processor_in, processor_of}
-use Rattle.nova_model.specs.declared.admit.Admit.{Admit}
-use Rattle.nova_model.specs.declared.admit.Admit.TheVariants.{Refused, Help, Send}
-use Rattle.nova_model.specs.declared.admit.ExitAdmit.{ExitAdmit}
+use Rattle.nova_model.specs.declared.admit.Admit.TheVariants.{Refused}
 use Rattle.nova_model.specs.declared.admit.ExitAdmit.TheVariants as exit
 use Rattle.nova_model.specs.declared.context.EcState.{EcState}
 use Rattle.nova_model.specs.declared.context.Mark.{Mark}
@@ -37,6 +35,7 @@ use Rattle.law_forest.proofs.Members.{contains_from_in, found_in}
 use Rattle.law_forest.proofs.Transfers.{kinds_equal}
 use Rattle.law_turns.proofs.Tags.{get_map}
 use Rattle.law_integrity.proofs.Selected.{named_by}
+use Rattle.law_integrity.proofs.Masking.{admit_by, exit_by}
 use Rattle.law_flow.specs.Flow.{AreAlike, Front, Held, IsSide, front_of, fronts, held_by}
 
 -- both states, whose edges are sound
@@ -151,12 +150,6 @@ circle_same k l S P b h e p there =
     same_test (circle l.contexts h e) (circle k.contexts h e)
     (λ is. let way = theirs.0 is in ours.1 (way.0, sym (ways_same k l S P b way.0 h p) ∙ way.1))
     (λ is. let way = ours.0 is in theirs.1 (way.0, ways_same k l S P b way.0 h p ∙ way.1))
-
-abbrev admit_by : Bool → Bool → Bool → Bool → Admit
-admit_by same lost parked flag = if not same then Refused BadCpu else if lost then Refused Aborted else if parked then Send else if flag then Refused Timeout else Help
-
-abbrev exit_by : Bool → Bool → Bool → ExitAdmit
-exit_by same lost parked = if not same then exit.Dies else if lost then exit.Dies else if parked then exit.Sends else exit.Waits
 
 pub admitted_same : (k l : KernelState) (S P : ℕ → Type 0) → Both k l S P → (caller handler : ℕ) (flag : Bool) → P caller → P handler →
     admitted l.contexts caller handler flag ≡ admitted k.contexts caller handler flag

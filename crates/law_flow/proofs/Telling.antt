@@ -8,10 +8,9 @@ use Rattle.nova_model.specs.Times.{next_moment}
 use Rattle.nova_model.specs.Turn.{Step, answer_of, event_of, turn}
 use Rattle.nova_model.specs.declared.event.Event.{Event}
 use Rattle.nova_model.specs.declared.event.Turn.TheVariants.{Stepped}
-use Rattle.law_forest.specs.Turns.{Acts, IsTurning, Passes, Turning}
 use Rattle.law_forest.proofs.Actors.{chosen_answers}
 use Rattle.law_forest.proofs.Turning.{event_answered, event_at, event_in, none_taken, outcome}
-use Rattle.law_turns.proofs.Ticks.{event_on}
+use Rattle.law_turns.proofs.Traces.{turning_on}
 use Rattle.law_flow.specs.Processors.{events_on}
 
 -- the event of a turn by its answer, and of one who acts
@@ -23,10 +22,6 @@ chosen_told k cpu c is = event_told k cpu (event_of cpu c (deed k c.actor)) (cho
 
 pub none_told : (k : KernelState) (cpu : ℕ) → choice k cpu ≡ None → next_moment k.times cpu ≡ None → event_at k cpu ≡ None
 none_told k cpu none quiet = ap (option_map (λ (s : Step). s.event)) (none_taken k cpu none quiet)
-
-turning_on : (k : KernelState) (cpu : ℕ) (t : Turning) (e : Event) → IsTurning k cpu t e → e.cpu ≡ cpu
-turning_on k cpu t e (Acts c chosen is event) = ap (λ (x : Event). x.cpu) event
-turning_on k cpu t e (Passes p due is event) = ap (λ (x : Event). x.cpu) event ∙ event_on k cpu p
 
 on_it : (k : KernelState) (cpu : ℕ) → IfSome (event_at k cpu) (λ e. e.cpu ≡ cpu)
 on_it k cpu = outcome (λ s o. IfSome o (λ e. e.cpu ≡ cpu)) k cpu (λ none. tt) (turning_on k cpu)

@@ -215,7 +215,7 @@ pub record EndSame (k l : KernelState) (S P : ℕ → Bool) (es fs : List OwnDee
   pub deeds : fs ≡ es
   pub bytes : cs ≡ bs
 
-abbrev deed_for : KernelState → Option (ℕ × ℕ) → Option OwnDeed
+abbrev pub deed_for : KernelState → Option (ℕ × ℕ) → Option OwnDeed
 deed_for k o = option_map (λ (p : ℕ × ℕ). (p.0, deed k p.0)) o
 
 -- the second goes on by others' turns alone
@@ -232,7 +232,7 @@ others_alone S P (cpu ∷ us) k l t left same =
         record { alike = ended.alike; deeds = ap (λ (o : Option (ℕ × ℕ)). in_front (deed_for l o) (own_deeds S (after l cpu) us)) is ∙ ended.deeds; bytes = ap (λ (o : Option (ℕ × ℕ)). gain_for l cpu o ++ own_bytes S (after l cpu) us) is ∙ ended.bytes }
     by_own (Some p) is rest later = absurd (cc)
 
-abbrev Ends : KernelState → List ℕ → KernelState → List ℕ → (ℕ → Bool) → (ℕ → Bool) → Type 0
+abbrev pub Ends : KernelState → List ℕ → KernelState → List ℕ → (ℕ → Bool) → (ℕ → Bool) → Type 0
 Ends k ts l us S P = EndSame (run k ts) (run l us) S P (own_deeds S k ts) (own_deeds S l us) (own_bytes S k ts) (own_bytes S l us)
 
 -- the second goes on until its next own turn, which is as the first's

@@ -44,7 +44,8 @@ use Rattle.law_forest.proofs.Members.{IsIn, all_at, contains_from_in, found_in, 
 use Rattle.law_forest.proofs.Running.{revokes_there}
 use Rattle.law_forest.proofs.Selectors.{TakesSelector, call_takes}
 use Rattle.law_forest.proofs.Transfers.{kinds_equal, next_facts, left_facts, judged_facts, child_rights, sent_rights, child_is_range, free_child_fits}
-use Rattle.law_forest.proofs.Walk.{IfDone, job_at_cursor, IsGiving, sm_ctrl_holds, deed_holds}
+use Rattle.law_forest.proofs.Walk.{IfDone, IsGiving, sm_ctrl_holds, deed_holds}
+use Rattle.law_forest.specs.Items.{job_at_cursor}
 
 -- deciding: a selector that a deed takes is below 2^20 and free, the domain that takes it may make objects, a domain that it opens has the next
 -- number, a child that it gives is one, and a leaf that it takes is the next of its revoke
@@ -101,7 +102,7 @@ record IsNamed (k : KernelState) (domain owner : ℕ) : Type 0 where
   creator : MayCreate k domain
   its : owner ≡ creator.capability.target
 
-pd_there : (o : Option Object) → option_map is_pd o ≡ Some true → o ≡ Some Pd
+pub pd_there : (o : Option Object) → option_map is_pd o ≡ Some true → o ≡ Some Pd
 pd_there None h = absurd (cc)
 pd_there (Some Pd) h = refl
 pd_there (Some (Ec pd cpu kind event)) h = absurd (cc)

@@ -160,7 +160,7 @@ bare_forest cpus ram consoles root =
     subst IsForest (with_sc_is_all ram consoles) (forest_add (with_ec ram consoles) (object_derivation consoles 2 1) second (sc_fits ram consoles))
 
 -- images leave delegations
-with_images_delegations : (k : KernelState) (images : List Image) → (with_images k images).delegations ≡ k.delegations
+pub with_images_delegations : (k : KernelState) (images : List Image) → (with_images k images).delegations ≡ k.delegations
 with_images_delegations k [] = refl
 with_images_delegations k (image ∷ images) = with_images_delegations (with_image k image) images
 
@@ -193,7 +193,7 @@ source_rooted k s h =
 object_past : (consoles object rights n : ℕ) → object < 3 → 3 ≤ n → covers Obj 0 n (object_derivation consoles object rights) ≡ false
 object_past consoles object rights n one past = object_ends object n (omega (arith, one, past))
 
-both_all : {T : Type 0} (P : T → Type 0) (xs ys : List T) → AllByRecursion P xs → AllByRecursion P ys → AllByRecursion P (xs ++ ys)
+pub both_all : {T : Type 0} (P : T → Type 0) (xs ys : List T) → AllByRecursion P xs → AllByRecursion P ys → AllByRecursion P (xs ++ ys)
 both_all P [] ys first others = others
 both_all P (x ∷ xs) ys first others = (first.0, both_all P xs ys first.1 others)
 

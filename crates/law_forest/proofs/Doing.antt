@@ -19,7 +19,7 @@ use Rattle.nova_model.specs.declared.transfer.Sequel.TheVariants as sequel
 use Rattle.law_forest.specs.Effects.{Answers, Moves, applied, edit_at, effect, recalls_by, steps_by, store_words, words_stored}
 
 -- what holds of the entry of a number, where another or the same is set
-set_at : {T : Type 0} (Q : Option T → Type 0) (xs : List (Option T)) (e f : ℕ) (x : T) → Q (entry (slice_get xs f)) → (f ≡ e → Q (Some x)) →
+pub set_at : {T : Type 0} (Q : Option T → Type 0) (xs : List (Option T)) (e f : ℕ) (x : T) → Q (entry (slice_get xs f)) → (f ≡ e → Q (Some x)) →
     Q (entry (slice_get (slice_set xs e (Some x)) f))
 set_at Q [] e f x old new = old
 set_at Q (o ∷ xs) zero zero x old new = new refl

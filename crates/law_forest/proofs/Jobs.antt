@@ -10,17 +10,13 @@ use Rattle.nova_range.specs.declared.word.WordFault.{WordFault}
 use Rattle.nova_range.proofs.Parts.{is_clamped}
 use Rattle.nova_range.proofs.Words.{sound}
 use Rattle.nova_model.specs.Delegations.{is_same_kind}
-use Rattle.nova_model.specs.Transfers.{read_as, hotspot_in, job_at, job_between, job_of, source_of, dest_of}
+use Rattle.nova_model.specs.Transfers.{read_as, hotspot_in, job_at, job_between, job_of}
 use Rattle.nova_model.specs.declared.transfer.Job.{Job}
 use Rattle.nova_model.specs.declared.transfer.Skip.TheVariants.{Window}
-
--- what a transfer gives and where it gives it
-pub record AreRanges (j : Job) : Type 0 where
-  pub source : IsRange (source_of j)
-  pub dest : IsRange (dest_of j)
+use Rattle.law_forest.specs.Items.{AreRanges}
 
 -- a word that reads as a range
-read_range : (word : ℕ) (x : Range × Rights) → read_as (meaning_of word) ≡ Some x → IsRange x.0
+pub read_range : (word : ℕ) (x : Range × Rights) → read_as (meaning_of word) ≡ Some x → IsRange x.0
 read_range word x is = by_meaning (meaning_of word) (sound word) is
   where
     of_word : (o : Option (Range × Rights)) → HasWord o → o ≡ Some x → IsRange x.0

@@ -176,7 +176,7 @@ leaf_or_none r f forest = (λ h. none_left r f h, λ empty. by_leaf empty (next_
 
 -- it goes alone
 
-all_kept : (p : Derivation → Bool) (list : List Derivation) → AllByRecursion (λ a. p a ≡ true) list → filter p list ≡ list
+pub all_kept : (p : Derivation → Bool) (list : List Derivation) → AllByRecursion (λ a. p a ≡ true) list → filter p list ≡ list
 all_kept p [] all = refl
 all_kept p (x ∷ xs) all = rw all.0 (ap (λ (l : List Derivation). x ∷ l) (all_kept p xs all.1))
 

@@ -23,3 +23,4 @@ pub mod Under
 pub mod Doing
 pub mod Turning
 pub mod Actors
+pub mod Plain

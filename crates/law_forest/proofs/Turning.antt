@@ -49,7 +49,7 @@ acting_is k cpu c =
     ∙ ap (λ (s : KernelState). settled s cpu (acting k c)) (done_is k c.actor (deed k c.actor))
 
 -- a turn that is counted alone stirs nobody
-calm_counts : (g : ℕ) (counts : List (Option ℕ)) → stirred_counts (λ g. false) g counts ≡ counts
+pub calm_counts : (g : ℕ) (counts : List (Option ℕ)) → stirred_counts (λ g. false) g counts ≡ counts
 calm_counts g [] = refl
 calm_counts g (None ∷ counts) = ap (λ (l : List (Option ℕ)). None ∷ l) (calm_counts (g + 1) counts)
 calm_counts g (Some n ∷ counts) = ap (λ (l : List (Option ℕ)). Some n ∷ l) (calm_counts (g + 1) counts)

@@ -47,6 +47,7 @@ use Rattle.nova_model.specs.declared.transfer.ItemEnd.TheVariants.{Given, Skippe
 use Rattle.nova_model.specs.declared.transfer.Job.{Job}
 use Rattle.nova_model.specs.declared.transfer.Reason.{Reason}
 use Rattle.nova_model.specs.declared.transfer.Skip.{Skip}
+use Rattle.law_forest.specs.Items.{job_at_cursor}
 
 -- what holds of what is given, unless that is refused
 abbrev pub IfDone : {A : Type 0} → (A → Type 0) → Result A Status → Type 0
@@ -187,10 +188,6 @@ revoking_holds P k ec range own is h = by_leaf (next_leaf (record { pd = pd_of k
     by_leaf (Some leaf) next = h.removes range own leaf is next
 
 -- ONE THAT GIVES ITEMS
-
--- where it goes on with its present item
-abbrev pub job_at_cursor : KernelState → ℕ → Job → Job
-job_at_cursor k ec j = record j { cursor = (transfer k ec).cursor }
 
 -- what the present item reads as, where it is a delegation
 abbrev pub job_in : Delivery → Result Job Skip

@@ -4,3 +4,4 @@ pub mod Within
 pub mod Courses
 pub mod Effects
 pub mod Turns
+pub mod Items

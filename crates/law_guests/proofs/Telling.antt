@@ -37,14 +37,13 @@ use Rattle.law_isolation.specs.Law.{IsTaken, IsTakenAsSeen, answered}
 use Rattle.law_isolation.specs.Sound.{IsSound, IsVirtual}
 use Rattle.law_isolation.proofs.Admits.{input_met}
 use Rattle.law_isolation.proofs.Contents.{taken_as_seen}
-use Rattle.law_isolation.proofs.Exchanges.{covered_for}
-use Rattle.law_isolation.proofs.Seen.{view_is}
 use Rattle.law_isolation.proofs.Runs.{reached_sound, turn_is_one, turn_sound}
 use Rattle.law_origins.specs.Giving.{Acts}
 use Rattle.law_origins.specs.Whose.{HasRight}
 use Rattle.law_origins.proofs.Actors.{input_is}
 use Rattle.law_origins.proofs.Rights.{input_right}
 use Rattle.law_views.specs.Given.{given}
+use Rattle.law_views.proofs.Said.{view_covers}
 use Rattle.law_guests.proofs.Facts.{ViewFacts}
 use Rattle.law_integrity.specs.Confined.{IsMember, IsOwned, Of, Reach}
 use Rattle.law_integrity.proofs.Confining.{member_pd}
@@ -246,10 +245,6 @@ others_same timed k l S P b ec g p s covers (deeds.Finishes item end words follo
 others_same timed k l S P b ec g p s covers (deeds.Gives child cursor) own = absurd own
 others_same timed k l S P b ec g p s covers (deeds.Removes leaf) own = absurd own
 others_same timed k l S P b ec g p s covers other own = refl
-
--- frames that a view covers are those to which derivations of its domain lead
-view_covers : (k : KernelState) (g frame : ℕ) → IsSound k → is_covered (view k g).maps frame ≡ is_covered_for k (pd_of k g) frame
-view_covers k g frame sound = ap (λ (v : Guest). is_covered v.maps frame) (view_is k g) ∙ sym (covered_for (pd_of k g) frame k.delegations.list sound.forest.apart)
 
 same_of : (k l : KernelState) (ec g : ℕ) (d : Deed) → others_input l ec g d ≡ others_input k ec g d → input_of l ec g d ≡ input_of k ec g d
 unfolding input_of

@@ -13,7 +13,7 @@ use Rattle.nova_range.specs.Ranges.{end_of, overlaps}
 use Rattle.nova_range.specs.declared.range.Kind.TheVariants.{Mem}
 use Rattle.nova_model.specs.Capabilities.{is_vcpu}
 use Rattle.nova_model.specs.Delegations.{covers, has_place, is_same_kind, page_in, range_of, reach}
-use Rattle.nova_model.specs.Forest.{AreApart, IsForest}
+use Rattle.nova_model.specs.Forest.{IsForest}
 use Rattle.nova_model.specs.State.{KernelState, context, context_in, entry, pd_in, pd_of}
 use Rattle.nova_model.specs.Views.{view}
 use Rattle.nova_model.specs.declared.context.EcState.{EcState}
@@ -24,6 +24,7 @@ use Rattle.law_forest.proofs.Pairs.{pairs_at}
 use Rattle.law_forest.proofs.Transfers.{kinds_equal}
 use Rattle.law_isolation.specs.Sound.{IsSound, IsVirtual}
 use Rattle.law_views.specs.Seen.{AreCellsOf, AreMapsOf, IsMapped, IsShownAs, IsViewOf}
+use Rattle.law_turns.proofs.Holding.{Apart}
 use Rattle.law_guests.proofs.Facts.{ViewFacts}
 use Rattle.law_flow.specs.Flow.{AreAlike, Held, held_by}
 
@@ -49,9 +50,6 @@ covered pd page d is =
     let low : d.base ≤ page = grind (arith, nat_tests, places.0) in
     let high : page < d.base + 2 ^ d.order = grind (arith, nat_tests, places.1) in
     record { kind = sym (kinds_equal Mem d.kind parts.0); its = eqb-true d.pd pd rest.0; low = low; high = high }
-
-abbrev Apart : Derivation → Derivation → Type 0
-Apart a b = a.pd ≡ b.pd → a.kind ≡ b.kind → AreApart a b
 
 meet : (a b : Derivation) (page : ℕ) → a.base ≤ page → page < a.base + 2 ^ a.order → b.base ≤ page → page < b.base + 2 ^ b.order → overlaps (range_of a) (range_of b) ≡ true
 meet a b page low high least last = grind (arith, nat_tests, low, high, least, last)

@@ -30,9 +30,10 @@ use Rattle.nova_model.specs.declared.new_object.NewObject.{NewObject}
 use Rattle.nova_model.specs.declared.new_object.NewObject.TheVariants as new
 use Rattle.law_forest.proofs.Walk.{IfDone, deed_holds, sm_ctrl_holds}
 use Rattle.law_turns.specs.Asked.{AsksSchedule, HoldsAt}
-use Rattle.law_turns.proofs.Asking.{domain_there, made_as_asked, maker_is, makes_each}
+use Rattle.law_turns.proofs.Asking.{made_as_asked, maker_is, makes_each}
 use Rattle.law_turns.proofs.Holding.{free_from, idle_from}
 use Rattle.law_turns.proofs.Rows.{call_holds, named_holds, reply_holds}
+use Rattle.law_forest.proofs.Allowed.{pd_there as domain_there}
 use Rattle.law_integrity.specs.Births.{Asks, AsksOpening, MayMakeAt, call_for}
 use Rattle.law_integrity.proofs.Selected.{named_by}
 

@@ -20,9 +20,10 @@ use Rattle.law_turns.proofs.Blocking.{first_woken, woken_blocked}
 use Rattle.law_turns.proofs.Links.{place}
 use Rattle.law_turns.proofs.Referring.{Asks, Follows}
 use Rattle.law_turns.proofs.Serving.{IsActor, awaited, blocked_there, exit_reaches, of_there, reached_there, send_reaches}
-use Rattle.law_turns.proofs.Setting.{entry_other, set_at}
+use Rattle.law_turns.proofs.Setting.{entry_other}
 use Rattle.law_turns.proofs.TablesFit.{TablesFit}
 use Rattle.law_turns.specs.Links.{state_at}
+use Rattle.law_forest.proofs.Doing.{set_at}
 use Rattle.law_integrity.specs.Rightful.{IsCall, IsExitAt, IsRightful}
 use Rattle.law_integrity.specs.Integrity.{Called, ContextBy, ExitSent, Itself, Recalled, Resumed, Woken}
 use Rattle.nova_calls.specs.declared.numbers.TheConstants.{EC_CTRL}

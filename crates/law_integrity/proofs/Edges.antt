@@ -33,9 +33,10 @@ use Rattle.law_forest.proofs.Boots.{sources_keep}
 use Rattle.law_forest.proofs.Turning.{comes}
 use Rattle.law_isolation.proofs.Runs.{reached_sound}
 use Rattle.law_turns.specs.Tables.{HasTables, IsOf, Refers}
-use Rattle.law_turns.proofs.Setting.{get_kept, more_at, set_at}
+use Rattle.law_turns.proofs.Setting.{get_kept, more_at}
 use Rattle.law_origins.proofs.Bases.{reached_selectors}
 use Rattle.law_origins.proofs.Lists.{by_turns, run_append}
+use Rattle.law_forest.proofs.Doing.{set_at}
 use Rattle.law_integrity.specs.Rightful.{IsRightful}
 use Rattle.law_origins.specs.Giving.{Acts as Acting}
 use Rattle.law_integrity.specs.Rights.{CallsAt, ExitsAt}

@@ -5,7 +5,8 @@ use Rattle.std.proofs.lemmas.List.{length-map}
 use Rattle.nova_model.specs.Semaphores.{Semaphores, changed_by, semaphore_at}
 use Rattle.nova_model.specs.State.{Semaphore, entry}
 use Rattle.law_forest.specs.Effects.{joined, put, semaphores_with}
-use Rattle.law_turns.proofs.Setting.{set_at, set_length}
+use Rattle.law_turns.proofs.Setting.{set_length}
+use Rattle.law_forest.proofs.Doing.{set_at}
 
 pub put_each : {T : Type 0} (Q : Option T → Type 0) (xs : List (Option T)) (p : Option (ℕ × T)) (n : ℕ) → Q (entry (slice_get xs n)) →
     ((m : T) → p ≡ Some (n, m) → Q (Some m)) → Q (entry (slice_get (put xs p) n))

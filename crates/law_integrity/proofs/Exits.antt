@@ -19,8 +19,9 @@ use Rattle.nova_model.specs.declared.context.State.TheVariants.{Exiting, Sending
 use Rattle.law_turns.specs.Asked.{HoldsAt}
 use Rattle.law_turns.proofs.Holding.{named_is}
 use Rattle.law_origins.specs.Events.{AreSelectors}
+use Rattle.law_turns.proofs.Referring.{portal_at}
 use Rattle.law_integrity.specs.Rightful.{IsExitAt, IsOfExit}
-use Rattle.law_integrity.proofs.Selected.{named_by, portal_at}
+use Rattle.law_integrity.proofs.Selected.{named_by}
 use Rattle.law_integrity.proofs.Findings.{Found}
 
 same_ok : (a b : ℕ) (o : Result ℕ Status) → o ≡ Ok a → o ≡ Ok b → a ≡ b

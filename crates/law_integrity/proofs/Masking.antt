@@ -97,7 +97,7 @@ met_same cs ds a e = ap₂ (λ (n : ℕ) (f : ℕ → Option ℕ). met_within n 
 circle_same : (cs ds : Contexts) → AreMasked cs ds → (h e : ℕ) → circle cs h e ≡ circle ds h e
 circle_same cs ds a h e = ap (λ (l : List ℕ). list_any (λ x. e == x) l) (met_same cs ds a h)
 
-abbrev admit_by : Bool → Bool → Bool → Bool → Admit
+abbrev pub admit_by : Bool → Bool → Bool → Bool → Admit
 admit_by same lost parked flag = if not same then Refused BadCpu else if lost then Refused Aborted else if parked then Send else if flag then Refused Timeout else Help
 
 pub admitted_same : (cs ds : Contexts) → AreMasked cs ds → (caller handler : ℕ) (flag : Bool) → admitted cs caller handler flag ≡ admitted ds caller handler flag
@@ -109,7 +109,7 @@ admitted_same cs ds a caller handler flag =
     same : Bool
     same = is_same_cpu (cpu_in ds handler) (cpu_in ds caller)
 
-abbrev exit_by : Bool → Bool → Bool → ExitAdmit
+abbrev pub exit_by : Bool → Bool → Bool → ExitAdmit
 exit_by same lost parked = if not same then exit.Dies else if lost then exit.Dies else if parked then exit.Sends else exit.Waits
 
 pub exit_admitted_same : (cs ds : Contexts) → AreMasked cs ds → (ec handler : ℕ) → exit_admitted cs ec handler ≡ exit_admitted ds ec handler

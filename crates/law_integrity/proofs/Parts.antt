@@ -25,9 +25,10 @@ use Rattle.law_forest.specs.Courses.{IsLeaf}
 use Rattle.law_forest.specs.Made.{IsGivenChild}
 use Rattle.law_forest.proofs.Leaves.{leaf_facts}
 use Rattle.law_forest.proofs.Members.{contains_from_in, in_filtered, in_from_contains}
-use Rattle.law_forest.proofs.Walk.{EndsAs, giving_holds, job_at_cursor, job_in}
+use Rattle.law_forest.proofs.Walk.{EndsAs, giving_holds, job_in}
 use Rattle.law_turns.proofs.Leaving.{first_left}
 use Rattle.law_origins.proofs.Rights.{IsUnder, under}
+use Rattle.law_forest.specs.Items.{job_at_cursor}
 use Rattle.law_integrity.specs.Rightful.{MovesPast}
 use Rattle.law_integrity.specs.Rights.{GivesFirst, GivesTo, MayTake, RepliesWith, TakesOfCaller}
 use Rattle.law_integrity.proofs.Findings.{Ended, Found}

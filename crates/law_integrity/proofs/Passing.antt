@@ -1,11 +1,11 @@
 -- A turn in which nobody acts, part by part: what is due answers one that is blocked, and all else stays.
-use Rattle.std.proofs.Common.{◌≡◌, ℕ, zero, suc, ◌+◌, List, [], ◌∷◌, ◌⊎◌, refl, sym, ap, ◌∙◌, subst, inl, inr}
-use Rattle.std.specs.Prelude.{◌==◌, Bool, true, false, if◌then◌else◌, IfSome, IsSome, is_some, slice_get, slice_set, Option, Some, None, Ok, Err, Result, option_map}
+use Rattle.std.proofs.Common.{◌≡◌, ℕ, zero, suc, List, [], ◌∷◌, ◌⊎◌, refl, sym, ap, ◌∙◌, subst, inl, inr}
+use Rattle.std.specs.Prelude.{true, IfSome, IsSome, is_some, slice_get, slice_set, Option, Some, None, Ok, Err, Result, option_map}
 use Rattle.std.proofs.lemmas.Option.{same_Some}
 use Rattle.nova_range.specs.declared.status.Status.TheVariants.{Success, Timeout}
 use Rattle.nova_model.specs.Choice.{Candidate}
 use Rattle.nova_model.specs.Deeds.{answered}
-use Rattle.nova_model.specs.Semaphores.{changed, greatest, raised, semaphore, semaphore_at, without_one, woken, woken_of}
+use Rattle.nova_model.specs.Semaphores.{changed, raised, semaphore, semaphore_at, without_one, woken}
 use Rattle.nova_model.specs.State.{KernelState, Semaphore, context_at, deadline_of, ec_in, ec_of, entry}
 use Rattle.nova_model.specs.Times.{alarm_sm, deadline_sm, next_moment, rung_in, rung_once}
 use Rattle.nova_model.specs.Turn.{chosen_by, counted, event_without, number_in, state_after, status_of, tick_by, turn, turn_by, whom_of}
@@ -18,18 +18,18 @@ use Rattle.nova_model.specs.declared.times.Deadline.{Deadline}
 use Rattle.nova_model.specs.declared.times.Due.{Due}
 use Rattle.nova_model.specs.declared.times.Due.TheVariants as due
 use Rattle.law_forest.specs.Effects.{Falls, Passing, Ticks, alarm_up, alarms_with, all_edited, clears_by, deadlines_with, ends_by, passing_ends, passing_rings, passing_semaphore, semaphores_with, with_status}
-use Rattle.law_forest.specs.Turns.{IsPassing, passing, stirred_counts, turned}
-use Rattle.law_forest.proofs.Turning.{due_answers, due_turn, event_answered, event_in, tick_turn}
-use Rattle.law_turns.proofs.Blocking.{woken_blocked}
+use Rattle.law_forest.specs.Turns.{IsPassing, passing, turned}
+use Rattle.law_forest.proofs.Turning.{calm_counts, due_answers, due_turn, event_answered, event_in, tick_turn}
+use Rattle.law_turns.proofs.Blocking.{first_waits, woken_blocked}
 use Rattle.law_turns.proofs.Dues.{due_is}
 use Rattle.law_turns.proofs.Links.{place}
-use Rattle.law_turns.proofs.Passing.{late_waits}
+use Rattle.law_turns.proofs.Passing.{blocked_state as waits_there, due_deadline as deadline_due, late_waits}
 use Rattle.law_turns.proofs.Serving.{blocked_there}
 use Rattle.law_turns.proofs.Setting.{entry_itself, entry_other}
 use Rattle.law_turns.proofs.TablesFit.{TablesFit}
 use Rattle.law_integrity.specs.Integrity.{AlarmByTime, ClearedAwake, ClearedLate, ContextByTime, DeadlineByTime, IsByTime, IsComing, IsDone, IsRaised, LeftByLate, Rings, Rung, RungAwake, SemaphoreByTime, TimedOut, passed_by}
 use Rattle.law_integrity.proofs.Entries.{change_each, get_set}
-use Rattle.law_integrity.proofs.Waking.{alarm_raises, changed_at, cleared_itself, waits_there}
+use Rattle.law_integrity.proofs.Waking.{alarm_raises, changed_at, cleared_itself}
 
 -- what is due, if anything
 abbrev pub due_in : Passing → Option Due
@@ -43,18 +43,6 @@ coming k cpu Ticks is = (is.0, ap (option_map (λ (c : Candidate). c.sc)) is.1, 
 -- the alarm, or the deadline, that is due
 abbrev alarm_due : (k : KernelState) (cpu alarm : ℕ) → IsPassing k cpu (Falls (due.Alarm alarm)) → (a : AlarmState) × (slice_get k.times.alarms alarm ≡ Some a)
 alarm_due k cpu alarm is = let its = due_is k.times cpu (due.Alarm alarm) is in (its.entry.alarm, its.entry.there)
-
-abbrev deadline_due : (k : KernelState) (cpu ec : ℕ) → IsPassing k cpu (Falls (due.Deadline ec)) → (d : Deadline) × (deadline_of k.times ec ≡ Some d)
-deadline_due k cpu ec is = let its = due_is k.times cpu (due.Deadline ec) is in (its.entry.deadline, its.entry.there)
-
--- who is woken is the first that waits
-first_waits : (count first : ℕ) (ecs : List ℕ) → woken_of count ecs ≡ Ok (Some first) → (rest : List ℕ) × (ecs ≡ first ∷ rest)
-first_waits count first [] is = absurd (by_test (count == greatest) is)
-  where
-    by_test : (t : Bool) → if◌then◌else◌ {A = Result (Option ℕ) Overflow} t (Err (record {})) (Ok None) ≡ Ok (Some first) → ⊥
-    by_test true h = cc
-    by_test false h = cc
-first_waits count first (ec ∷ ecs) is = let same : ec ≡ first = cc in (ecs, ap (λ (n : ℕ). n ∷ ecs) same)
 
 -- at the alarm's semaphore
 first_rung : (k : KernelState) (alarm w : ℕ) (a : AlarmState) → slice_get k.times.alarms alarm ≡ Some a → alarm_up k alarm ≡ Ok (Some w) →
@@ -181,12 +169,6 @@ alarms_in_time k n (Falls (due.Deadline ec)) = inl refl
 alarms_in_time k n Ticks = inl refl
 
 -- A TURN
-
--- no count rises
-calm_counts : (g : ℕ) (counts : List (Option ℕ)) → stirred_counts (λ g. false) g counts ≡ counts
-calm_counts g [] = refl
-calm_counts g (None ∷ counts) = ap (λ (l : List (Option ℕ)). None ∷ l) (calm_counts (g + 1) counts)
-calm_counts g (Some n ∷ counts) = ap (λ (l : List (Option ℕ)). Some n ∷ l) (calm_counts (g + 1) counts)
 
 -- what is due is done
 get_itself : {T : Type 0} (xs : List T) (n : ℕ) (x v : T) → slice_get xs n ≡ Some x → slice_get (slice_set xs n v) n ≡ Some v

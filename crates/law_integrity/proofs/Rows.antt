@@ -13,8 +13,6 @@ use Rattle.nova_calls.specs.declared.numbers.TheConstants.{LOOKUP, CALL, CREATE_
 use Rattle.nova_calls.specs.Numbers.{number_of}
 use Rattle.nova_calls.proofs.Numbered.{read_numbered}
 use Rattle.nova_objects.specs.declared.object.Object.{Object}
-use Rattle.nova_range.specs.declared.range.Kind.{Kind}
-use Rattle.nova_range.specs.declared.range.Kind.TheVariants.{Mem, Obj}
 use Rattle.nova_range.specs.declared.range.Range.{Range}
 use Rattle.nova_range.specs.declared.rights.Rights.{Rights}
 use Rattle.nova_utcb.specs.Messages.{has_counts}
@@ -43,12 +41,14 @@ use Rattle.law_forest.proofs.Transfers.{kinds_equal}
 use Rattle.law_forest.proofs.Walk.{IfDone}
 use Rattle.law_turns.specs.Tables.{IsOf}
 use Rattle.law_turns.proofs.Rows.{call_holds, create_pd_holds, makes_hold, reply_holds}
+use Rattle.law_turns.proofs.Referring.{portal_at}
+use Rattle.law_turns.proofs.Holding.{has_from}
+use Rattle.law_turns.proofs.Creators.{same_kind as same_itself}
 use Rattle.law_integrity.specs.Rights.{CallsAt, IsAsking, Names}
 use Rattle.law_integrity.specs.Rightful.{HasFirstPlace, IsHelp, IsToldValue, LooksUp, OfNothing, OfRange, OfTicks}
 use Rattle.law_integrity.proofs.Refusals.{IsUndone, asked_holds, asked_undone}
-use Rattle.law_integrity.proofs.Selected.{ReadsAction, Selects, call_selected, named_by, names, portal_at}
+use Rattle.law_integrity.proofs.Selected.{ReadsAction, Selects, call_selected, named_by, names}
 use Rattle.law_integrity.proofs.Findings.{Found}
-use Rattle.law_integrity.proofs.Stores.{has_from}
 
 abbrev calls_at : (k : KernelState) (ec selector pt : ℕ) → IsAsking k ec → CALL ≡ reg (context k ec).regs 17 → (selector ≡ reg (context k ec).regs 10) × (selector < 2 ^ 20) → named k (pd_of k ec) is_pt call_right selector ≡ Ok pt →
     CallsAt k ec (handler_of k pt)
@@ -168,11 +168,6 @@ sm_found k ec sm act.Down asking numbered at reads = by_name (named k (pd_of k e
     by_name (Ok n) is = by_answer n is (answer_of (semaphore k.semaphores n)) refl
     by_name (Err status) is = tt
 sm_found k ec sm (act.DownWithin ticks) asking numbered at reads = within_found k ec sm ticks asking numbered at reads.0 reads.1
-
--- what a lookup tells
-same_itself : (kind : Kind) → is_same_kind kind kind ≡ true
-same_itself Mem = refl
-same_itself Obj = refl
 
 covers_first : (k : KernelState) (ec : ℕ) (range : Range) (d : Derivation) → HasFirstPlace k ec range d → covers range.kind (pd_of k ec) range.base d ≡ true
 covers_first k ec range d h =

@@ -1,6 +1,6 @@
 -- The selector in x10 of a call, and what it names.
 use Rattle.std.proofs.Common.{◌≡◌, ◌<◌, ◌≤◌, ℕ, ◌^◌, slice_get, Option, Some, None, Ok, IfSome, subst, refl, sym, arith}
-use Rattle.std.specs.Prelude.{◌==◌, Bool, true, Result, Err, option_and_then, option_map}
+use Rattle.std.specs.Prelude.{◌==◌, Bool, Result, Err, option_and_then, option_map}
 use Rattle.std.proofs.lemmas.Bool.Decides.{nat_tests}
 use Rattle.rv_model.specs.Registers.{Registers, reg}
 use Rattle.nova_calls.specs.Hypercalls.{call_row, ec_ctrl_row, lookup_row, readable, sc_ctrl_row, pt_ctrl_row, sm_ctrl_row, rows, call_of}
@@ -15,9 +15,7 @@ use Rattle.nova_range.specs.declared.range.Range.{Range}
 use Rattle.nova_range.specs.declared.rights.Rights.{Rights}
 use Rattle.nova_range.specs.declared.word.WordFault.{WordFault}
 use Rattle.nova_objects.specs.declared.object.Object.{Object}
-use Rattle.nova_objects.specs.declared.object.Object.TheVariants.{Pd, Ec, Sc, Pt, Sm}
-use Rattle.nova_model.specs.Capabilities.{is_pt, named}
-use Rattle.nova_model.specs.Portals.{handler_in, ip_in, mtd_in}
+use Rattle.nova_model.specs.Capabilities.{named}
 use Rattle.nova_model.specs.State.{KernelState, context, pd_of}
 use Rattle.law_turns.specs.Asked.{HoldsAt}
 use Rattle.law_turns.proofs.Holding.{IsNamedAt, named_at}
@@ -89,11 +87,3 @@ names k ec call selector right n is asks numbered at named_ = record { asks = as
 
 pub named_by : (k : KernelState) (domain : ℕ) (is : Object → Bool) (right selector n : ℕ) → named k domain is right selector ≡ Ok n → IsNamedAt k domain selector right is n
 named_by k domain is right selector n names = subst (IfDone (IsNamedAt k domain selector right is)) names (named_at k domain is right selector)
-
-pub portal_at : (o : Option Object) → option_map is_pt o ≡ Some true → o ≡ Some (Pt (handler_in o) (mtd_in o) (ip_in o))
-portal_at None h = absurd (cc)
-portal_at (Some Pd) h = absurd (cc)
-portal_at (Some (Ec pd cpu kind event)) h = absurd (cc)
-portal_at (Some (Sc ec cpu priority quantum)) h = absurd (cc)
-portal_at (Some (Pt ec mtd ip)) h = refl
-portal_at (Some Sm) h = absurd (cc)

@@ -5,45 +5,31 @@ use Rattle.std.specs.List.{find}
 use Rattle.std.proofs.lemmas.Bool.{and_parts, eqb-true}
 use Rattle.std.proofs.lemmas.Bool.Decides.{nat_tests}
 use Rattle.nova_guest.specs.Frames.{frame_with, read_in}
-use Rattle.nova_range.specs.Ranges.{HasPlace, overlaps}
+use Rattle.nova_range.specs.Ranges.{HasPlace}
 use Rattle.nova_range.specs.Rights.{execute_right, read_right, write_right}
 use Rattle.nova_range.specs.declared.range.Kind.TheVariants.{Mem}
-use Rattle.nova_range.specs.declared.range.Range.{Range}
 use Rattle.nova_utcb.specs.Messages.{loaded}
 use Rattle.nova_model.specs.AddressSpaces.{found, frame_for, loaded_from, message_size, own_page, space, words_at}
 use Rattle.nova_model.specs.Deeds.{address_space}
 use Rattle.nova_model.specs.Delegations.{covers, has_place, is_same_kind, page_in, range_of, reach}
-use Rattle.nova_model.specs.Forest.{AreApart, IsForest}
+use Rattle.nova_model.specs.Forest.{IsForest}
 use Rattle.nova_model.specs.State.{KernelState, is_thread, message, own_words, pd_of}
 use Rattle.nova_model.specs.declared.delegation.Derivation.{Derivation}
 use Rattle.law_forest.proofs.Members.{IsIn, all_at, found_in, in_from_contains, none_found}
 use Rattle.law_forest.proofs.Pairs.{pairs_at}
 use Rattle.law_forest.proofs.Transfers.{kinds_equal}
+use Rattle.law_turns.proofs.Holding.{Apart, from_has, has_from, meet}
 use Rattle.law_integrity.specs.Rights.{PageLeadsTo}
 use Rattle.law_integrity.specs.Spaces.{ByRead, Finds, InFrame, IsOwnPage, IsOwnWord, IsSpaceOf, Loads, Nowhere, OwnWords, FindsFrame, Refused, Taken, Takes}
-use Rattle.law_integrity.proofs.Stores.{has_from, leads_to}
+use Rattle.law_integrity.proofs.Stores.{leads_to}
 
 -- ONE DERIVATION COVERS A PAGE
-
-from_has : (r : Range) (place : ℕ) → HasPlace r place → has_place r place ≡ true
-from_has r place h = let least = h.from_base in let last = h.before_end in grind (arith, nat_tests)
-
-meet : (a b : Range) (place : ℕ) → HasPlace a place → HasPlace b place → overlaps a b ≡ true
-meet a b place h i =
-    let a_least = h.from_base in
-    let a_last = h.before_end in
-    let b_least = i.from_base in
-    let b_last = i.before_end in
-    grind (arith, nat_tests)
 
 covers_it : (k : KernelState) (domain page right frame : ℕ) (l : PageLeadsTo k domain page right frame) → covers Mem domain page l.derivation ≡ true
 covers_it k domain page right frame l =
     let kind : is_same_kind Mem l.derivation.kind ≡ true = ap (is_same_kind Mem) l.kind in
     let its : (l.derivation.pd == domain) ≡ true = let same = l.holder in grind arith in
     rw (kind, its) (from_has (range_of l.derivation) page l.place)
-
-abbrev Apart : Derivation → Derivation → Type 0
-Apart a b = a.pd ≡ b.pd → a.kind ≡ b.kind → AreApart a b
 
 -- two that cover a page of the domain are one
 one_covers : (k : KernelState) (domain page : ℕ) (a b : Derivation) → IsForest k.delegations → IsIn k.delegations.list a → IsIn k.delegations.list b → covers Mem domain page a ≡ true →

@@ -1,6 +1,6 @@
 -- Where a store goes: to its own message words, to a frame, or to a console.
 use Rattle.std.proofs.Common.{◌≡◌, ℕ, ◌/◌, ◌%◌, ◌+◌, ◌-◌, ◌⊎◌, List, [], ◌∷◌, ◌++◌, length, refl, sym, ap, ◌∙◌, subst, inl, inr, arith}
-use Rattle.std.specs.Prelude.{Bool, true, false, ◌==◌, ◌&&◌, if◌then◌else◌, is_some, nat_lt, nat_le, slice_get, Option, Some, None, option_map, option_and_then}
+use Rattle.std.specs.Prelude.{Bool, true, false, ◌==◌, ◌&&◌, if◌then◌else◌, is_some, nat_lt, slice_get, Option, Some, None, option_map, option_and_then}
 use Rattle.std.specs.List.{find}
 use Rattle.std.proofs.lemmas.Bool.{and_parts, eqb-true}
 use Rattle.std.proofs.lemmas.Bool.Decides.{nat_tests}
@@ -8,10 +8,8 @@ use Rattle.std.proofs.lemmas.Option.{same_Some}
 use Rattle.byteorder.specs.Endian.{little_bytes}
 use Rattle.rv_model.specs.Step.{Once, Raised, Went, Store}
 use Rattle.nova_guest.specs.Frames.{frame_with, replaced}
-use Rattle.nova_range.specs.Ranges.{HasPlace, end_of}
 use Rattle.nova_range.specs.Rights.{allows, write_right}
 use Rattle.nova_range.specs.declared.range.Kind.TheVariants.{Mem}
-use Rattle.nova_range.specs.declared.range.Range.{Range}
 use Rattle.nova_model.specs.AddressSpaces.{frame_for, message_size, own_page, stored_at}
 use Rattle.nova_model.specs.Deeds.{address_space, deed, instruction}
 use Rattle.nova_model.specs.Delegations.{covers, has_place, is_same_kind, page_in, range_of, reach}
@@ -26,18 +24,12 @@ use Rattle.law_forest.specs.Effects.{memory_with, store_by, store_words, words_s
 use Rattle.law_forest.proofs.Members.{IsIn, contains_from_in, found_in}
 use Rattle.law_forest.proofs.Transfers.{kinds_equal}
 use Rattle.law_turns.specs.Words.{IsAmongWords}
+use Rattle.law_turns.proofs.Holding.{has_from}
 use Rattle.law_integrity.specs.Rights.{PageLeadsTo, HasStore, StoresTo}
 use Rattle.law_integrity.specs.Integrity.{FrameBy, LogBy}
 use Rattle.law_integrity.proofs.Entries.{get_set}
 
 -- WHAT A PAGE LEADS TO
-
-pub has_from : (r : Range) (place : ℕ) → has_place r place ≡ true → HasPlace r place
-has_from r place h =
-    let parts = and_parts (nat_le r.base place) (nat_lt place (end_of r)) h in
-    let least = parts.0 in
-    let last = parts.1 in
-    record { from_base = grind (arith, nat_tests); before_end = grind (arith, nat_tests) }
 
 covering : (k : KernelState) (domain page right frame : ℕ) (d : Derivation) → IsIn k.delegations.list d → covers Mem domain page d ≡ true → allows d.rights right ≡ true →
     frame ≡ d.target + (page - d.base) → PageLeadsTo k domain page right frame

@@ -26,6 +26,7 @@ use Rattle.law_forest.specs.Effects.{Answers, Edit, Edits, Effect, Falls, Passin
 use Rattle.law_forest.specs.Turns.{Turning, acting, passing, passing_event, turned}
 use Rattle.law_turns.proofs.Setting.{get_other}
 use Rattle.law_origins.specs.Giving.{Acts}
+use Rattle.law_forest.proofs.Turning.{event_at as event_in}
 use Rattle.law_integrity.specs.Disclosure.{DifferInRegisters, IsUntold, IsUntoldAlong, registers_set, with_registers}
 use Rattle.law_integrity.proofs.Beside.{ChooseSame, both_after, both_events}
 use Rattle.law_integrity.proofs.Masking.{Words, choice_same, field_set, masked, over, reads_all, words_in}
@@ -199,9 +200,6 @@ passing_told : (k : KernelState) (cpu g : ℕ) (r : Registers) (p : Passing) →
 passing_told k cpu g r (Falls (due.Alarm alarm)) = refl
 passing_told k cpu g r (Falls (due.Deadline ec)) = refl
 passing_told k cpu g r Ticks = refl
-
-abbrev event_in : KernelState → ℕ → Option Event
-event_in k cpu = option_map (λ (s : Step). s.event) (turn k cpu)
 
 set_event : (k : KernelState) (cpu g : ℕ) (r : Registers) → IsUntold k (with_registers k g r) cpu g → event_in (with_registers k g r) cpu ≡ event_in k cpu
 set_event k cpu g r untold =

@@ -23,6 +23,7 @@ use Rattle.law_forest.specs.Effects.{Edits, Falls, Parks, Passing, Resumes, Tick
 use Rattle.law_forest.specs.Turns.{Turning, acting, passing, passing_event, turned}
 use Rattle.law_turns.proofs.Setting.{get_other}
 use Rattle.law_origins.specs.Giving.{Acts}
+use Rattle.law_forest.proofs.Turning.{event_at as event_in}
 use Rattle.law_integrity.specs.Disclosure.{DifferInWords, GivesItems, AreWordsUnread, AreWordsUnreadAlong, ItsOwn, ReadsWords, TakesItems, with_words, words_set}
 use Rattle.law_integrity.proofs.Beside.{ChooseSame, both_after, both_events}
 use Rattle.law_integrity.proofs.Masking.{ReadsSame, Words, choice_same, over, same_table, words_in}
@@ -191,9 +192,6 @@ turn_differ k l cpu m differ unread =
     subst (λ (s : KernelState). DifferInWords (after k cpu) (after s cpu) m) (sym differ.rest)
     (both_after (λ (a b : KernelState). DifferInWords a b m) k (with_words k m differ.words) cpu (set_chooses k cpu m differ.words) (record { words = differ.words; rest = refl })
     (passing_differ k cpu m differ.words) (λ c is. chosen_differ k cpu m differ.words c (unread c.actor (acts_of k cpu c is))))
-
-abbrev event_in : KernelState → ℕ → Option Event
-event_in k cpu = option_map (λ (s : Step). s.event) (turn k cpu)
 
 pub event_same : (k l : KernelState) (cpu m : ℕ) → DifferInWords k l m → AreWordsUnread k cpu m →
     option_map (λ (s : Step). s.event) (turn l cpu) ≡ option_map (λ (s : Step). s.event) (turn k cpu)

@@ -1,6 +1,6 @@
 -- A turn is the same over several things at once that who acts doesn't see.
 use Rattle.std.proofs.Common.{◌≡◌, ℕ, List, [], ◌∷◌, ◌++◌, refl, sym, ap, ◌∙◌, subst}
-use Rattle.std.specs.Prelude.{Contains, option_map, Option, slice_get}
+use Rattle.std.specs.Prelude.{Contains, option_map, slice_get}
 use Rattle.nova_objects.specs.declared.object.Object.{Object}
 use Rattle.nova_model.specs.Boot.{Scenario, boot}
 use Rattle.nova_model.specs.Choice.{Candidate, next_to_act, unless_due}
@@ -9,11 +9,11 @@ use Rattle.nova_model.specs.Runs.{after, run}
 use Rattle.nova_model.specs.State.{KernelState, context, pd_in, pd_of}
 use Rattle.nova_model.specs.Times.{due_on}
 use Rattle.nova_model.specs.Turn.{Step, turn}
-use Rattle.nova_model.specs.declared.event.Event.{Event}
 use Rattle.law_isolation.specs.Sound.{IsSound}
 use Rattle.law_isolation.proofs.Runs.{reached_sound}
 use Rattle.law_origins.specs.Giving.{Acts}
 use Rattle.law_origins.proofs.Lists.{run_append}
+use Rattle.law_forest.proofs.Turning.{event_at as event_in}
 use Rattle.law_integrity.specs.Confined.{AreSeparate, IsMember, Pair, ShareNothing, Side, grown}
 use Rattle.law_integrity.specs.Disclosure.{AreSecretsOf, AreUnseen, Differ, DiffersIn, GivesItems, InFrame, InRegisters, InWords, IsSecretOf, AreWordsUnread, IsUnseen, IsUntold, ItsOwn, ReadsWords, Secret, TakesItems, registers_set, words_set}
 use Rattle.law_integrity.specs.Rights.{PageLeadsTo}
@@ -88,9 +88,6 @@ all_over k m ec same [] h = tt
 all_over k m ec same (t ∷ secrets) h = (unseen_over k m ec same t h.0, all_over k m ec same secrets h.1)
 
 -- A TURN
-
-abbrev event_in : KernelState → ℕ → Option Event
-event_in k cpu = option_map (λ (s : Step). s.event) (turn k cpu)
 
 after_one : (s : Secret) (k m : KernelState) (cpu ec : ℕ) → Acts k cpu ec → IsUnseen k ec s → DiffersIn s k m → DiffersIn s (after k cpu) (after m cpu) × (event_in m cpu ≡ event_in k cpu)
 after_one (InRegisters n) k m cpu ec acts_ unseen differ =

@@ -33,6 +33,7 @@ use Rattle.law_turns.proofs.TablesFit.{TablesFit}
 use Rattle.law_turns.specs.Links.{state_at}
 use Rattle.law_turns.specs.Scheduling.{IsPaidBy}
 use Rattle.law_turns.specs.Tables.{HasTables}
+use Rattle.law_turns.proofs.Passing.{blocked_state as waits_there}
 use Rattle.law_integrity.specs.Integrity.{IsAwake, IsFirstAwake, IsNewBudget, IsRaised}
 use Rattle.law_integrity.proofs.Branches.{creator_of}
 use Rattle.law_integrity.proofs.Entries.{join_each, same_length}
@@ -43,10 +44,6 @@ pub cleared_itself : (ds : List (Option Deadline)) (n : ℕ) → entry (slice_ge
 cleared_itself [] n = refl
 cleared_itself (d ∷ ds) zero = refl
 cleared_itself (d ∷ ds) (suc n) = cleared_itself ds n
-
--- one that waits somewhere is in that state
-pub waits_there : (o : Option EcState) (x : EcState) (sm : ℕ) → o ≡ Some x → state_at o ≡ Some (Blocked sm) → x.state ≡ Blocked sm
-waits_there o x sm is waits = let both : Some x.state ≡ Some (Blocked sm) = sym (ap state_at is) ∙ waits in cc
 
 -- a semaphore that is there is changed
 pub changed_at : (change : Semaphore → Semaphore) (all : Semaphores) (sm : ℕ) → IfSome (semaphore_at all sm) (λ s. semaphore_at (changed change all sm) sm ≡ Some (change s))

@@ -26,6 +26,7 @@ use Rattle.nova_model.specs.declared.delegation.Derivation.{Derivation}
 use Rattle.nova_ec.specs.Ways.{EndsAt}
 use Rattle.law_forest.specs.Made.{MayCreate}
 use Rattle.law_turns.specs.Asked.{HoldsAt, IsCalling}
+use Rattle.law_turns.specs.Links.{IsCallerOf}
 
 -- WHO ACTS, AND WHO PAYS
 
@@ -108,7 +109,7 @@ pub record ExitsAt (k : KernelState) (ec handler : ℕ) : Type 0 where
 
 -- it serves the caller, who came by a call or an exit
 abbrev pub ServesCaller : KernelState → ℕ → ℕ → Mark → Type 0
-ServesCaller k ec caller mark = (context k ec).caller ≡ Some (caller, mark)
+ServesCaller = IsCallerOf
 
 -- there was no object of this number, and its domain may have objects made in a protection domain
 pub record IsNew (k : KernelState) (ec n : ℕ) : Type 0 where

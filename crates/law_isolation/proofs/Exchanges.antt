@@ -16,12 +16,13 @@ use Rattle.nova_model.specs.Forest.{ArePairs}
 use Rattle.nova_model.specs.Inputs.{contents_of, leads_to as leads}
 use Rattle.nova_model.specs.Views.{is_memory_of, map_of, maps_of, cells_from, cells_of}
 use Rattle.nova_model.specs.declared.delegation.Derivation.{Derivation}
+use Rattle.law_turns.proofs.Holding.{Apart as SameSpaceApart}
 use Rattle.law_isolation.specs.Sound.{AreWhole}
 use Rattle.law_isolation.proofs.KeyedLaws.{IsRising, placed_swap, all_placed, rising_placed_all}
-use Rattle.law_isolation.proofs.Spaces.{SameSpaceApart, MapsApart, maps_apart, maps_more, maps_same, cell_of}
+use Rattle.law_isolation.proofs.Spaces.{MapsApart, maps_apart, maps_more, maps_same, cell_of}
 
 -- cells in rising order are what their look-ups are
-cell_beyond : (f : ℕ) (cells : List Cell) → AllByRecursion (λ c. f < c.frame) cells → cell_at cells f ≡ None
+pub cell_beyond : (f : ℕ) (cells : List Cell) → AllByRecursion (λ c. f < c.frame) cells → cell_at cells f ≡ None
 cell_beyond f [] all = refl
 cell_beyond f (c ∷ cells) all = grind (arith, cell_beyond f cells all.1, all.0)
 

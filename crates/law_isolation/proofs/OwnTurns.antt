@@ -43,6 +43,7 @@ use Rattle.nova_model.specs.declared.deed.Deed.TheVariants.{Rests, Steps, Raises
 use Rattle.nova_utcb.specs.Messages.{exited}
 use Rattle.law_forest.proofs.Walk.{IfDone}
 use Rattle.law_turns.proofs.Holding.{IsNamedAt, named_at}
+use Rattle.law_forest.proofs.Plain.{and_false, and_true}
 use Rattle.law_isolation.specs.Law.{answered, IsPutOut, IsOneInput, PutsOut}
 use Rattle.law_isolation.proofs.Premises.{HasPremises, IsGuest, IsGuestState}
 use Rattle.law_isolation.proofs.Outputs.{IsOwn, console_output, guest_no_thread, own_output, own_space, put_out, put_output, step_output, store_output, wordless}
@@ -97,15 +98,6 @@ by_guest k g y i o is e = ap (λ (v : Guest). told v o) (view_self k g y is.ther
 
 acts_as : (k : KernelState) (g : ℕ) (s : State) → (context k g).state ≡ s → answered (guest_at k g) (Some Own) ≡ acted (guest_at k g) (guest_state s)
 acts_as k g s h = alone_acts (guest_at k g) ∙ ap (λ (t : State). acted (guest_at k g) (guest_state t)) h
-
--- it raises an exit: the startup exit, a recall, or that of an instruction
-and_true : (t : Bool) → (t && true) ≡ t
-and_true true = refl
-and_true false = refl
-
-and_false : (t : Bool) → (t && false) ≡ false
-and_false true = refl
-and_false false = refl
 
 starts : (k : KernelState) (g : ℕ) → IsGuest k g → (context k g).state ≡ Fresh → OwnLaw k g (Raises 0 0 0)
 starts k g is fresh = by_guest k g _ (Some Own) (Some (out.Exit 0 0 0)) is

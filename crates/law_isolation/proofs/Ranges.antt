@@ -29,11 +29,13 @@ use Rattle.nova_model.specs.Runs.{after}
 use Rattle.nova_model.specs.State.{KernelState, pd_of}
 use Rattle.nova_model.specs.Views.{cells_from, is_memory_of, map_of, maps_of, view}
 use Rattle.nova_model.specs.declared.delegation.Derivation.{Derivation}
+use Rattle.law_turns.proofs.Holding.{Apart as SameSpaceApart}
+use Rattle.law_forest.proofs.Boots.{with_images_delegations as images_delegations}
 use Rattle.law_isolation.specs.Sound.{AreRanges, AreWhole, IsRanged, IsSound}
 use Rattle.law_isolation.proofs.Exchanges.{none_overlap}
 use Rattle.law_isolation.proofs.Seen.{maps_at, view_is}
 use Rattle.law_isolation.proofs.Showing.{turn_frames}
-use Rattle.law_isolation.proofs.Spaces.{SameSpaceApart, maps_apart, maps_more, maps_same}
+use Rattle.law_isolation.proofs.Spaces.{maps_apart, maps_more, maps_same}
 
 -- TURNS KEEP THEM
 
@@ -127,10 +129,6 @@ object_ranged ram consoles object rights h = record {
   sort = λ memory. absurd (cc);
 }
 
-images_delegations : (k : KernelState) (images : List Image) → (with_images k images).delegations ≡ k.delegations
-images_delegations k [] = refl
-images_delegations k (image ∷ images) = images_delegations (with_image k image) images
-
 written_frames : (m : Memory) (f o w v : ℕ) (b : Option (List ℕ)) → length (written_in m b f o w v).ram ≡ length m.ram
 written_frames m f o w v None = refl
 written_frames m f o w v (Some bytes) = length-set m.ram f _
@@ -169,11 +167,15 @@ sources_ranged frames k (s ∷ sources) few h =
       tt,
     ))
 
-sources_frames : (k : KernelState) (sources : List Source) → (with_sources k sources).memory ≡ k.memory
+pub sources_frames : (k : KernelState) (sources : List Source) → (with_sources k sources).memory ≡ k.memory
 sources_frames k [] = refl
 sources_frames k (s ∷ sources) = sources_frames (with_source k s) sources
 
-images_objects : (k : KernelState) (images : List Image) → (with_images k images).objects ≡ k.objects
+pub images_cpus : (k : KernelState) (images : List Image) → (with_images k images).cpus ≡ k.cpus
+images_cpus k [] = refl
+images_cpus k (image ∷ images) = images_cpus (with_image k image) images
+
+pub images_objects : (k : KernelState) (images : List Image) → (with_images k images).objects ≡ k.objects
 images_objects k [] = refl
 images_objects k (image ∷ images) = images_objects (with_image k image) images
 

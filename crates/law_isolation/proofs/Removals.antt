@@ -13,9 +13,10 @@ use Rattle.nova_model.specs.Delegations.{Delegations, without}
 use Rattle.nova_model.specs.Forest.{ArePairs, IsForest}
 use Rattle.nova_model.specs.Views.{is_memory_of, map_in, map_of, maps_of, cells_from, cells_of}
 use Rattle.nova_model.specs.declared.delegation.Derivation.{Derivation}
+use Rattle.law_turns.proofs.Holding.{Apart as SameSpaceApart}
 use Rattle.law_isolation.proofs.Exchanges.{bases_apart}
 use Rattle.law_isolation.proofs.KeyedLaws.{IsRising, all_placed, rising_placed_all}
-use Rattle.law_isolation.proofs.Spaces.{SameSpaceApart, MapsApart, apart_maps_of, maps_apart, maps_more, maps_same, same_kind}
+use Rattle.law_isolation.proofs.Spaces.{MapsApart, apart_maps_of, maps_apart, maps_more, maps_same, same_kind}
 
 -- some of a list in rising order, where one more is put at its place
 placed_first : {T : Type 0} (key : T → ℕ) (x : T) (xs : List T) → AllByRecursion (λ y. key x < key y) xs → placed key x xs ≡ x ∷ xs

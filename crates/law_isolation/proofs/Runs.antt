@@ -43,7 +43,7 @@ turn_sound k cpu sound = record {
   whole = turn_whole k cpu sound.whole;
 }
 
-run_sound : (k : KernelState) (turns : List ℕ) → IsSound k → IsSound (run k turns)
+pub run_sound : (k : KernelState) (turns : List ℕ) → IsSound k → IsSound (run k turns)
 run_sound k [] sound = sound
 run_sound k (cpu ∷ turns) sound = run_sound (after k cpu) turns (turn_sound k cpu sound)
 

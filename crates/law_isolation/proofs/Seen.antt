@@ -3,6 +3,7 @@ use Rattle.std.proofs.Common.{◌≡◌, ℕ, zero, suc, ◌≢◌, List, [], �
 use Rattle.std.specs.Prelude.{slice_get, slice_set, Option, Some, None, IsSome}
 use Rattle.std.proofs.lemmas.Grind.{common_steps, elements}
 use Rattle.std.proofs.lemmas.Option.{gets}
+use Rattle.nova_guest.specs.declared.guest.Guest.{Guest}
 use Rattle.nova_guest.specs.declared.map.Map.{Map}
 use Rattle.nova_model.specs.Deeds.{with_context}
 use Rattle.nova_model.specs.Inputs.{stirred}
@@ -38,6 +39,9 @@ maps_at k g = maps_of (pd_of k g) k.delegations.list
 pub view_is : (k : KernelState) (g : ℕ) → view k g ≡ guest_of (context k g) (maps_at k g) k.memory.ram
 unfolding view
 view_is k g = refl
+
+pub view_registers : (k : KernelState) (g : ℕ) → (view k g).regs ≡ (context k g).regs
+view_registers k g = ap (λ (v : Guest). v.regs) (view_is k g)
 
 pub record IsSeenSame (k new : KernelState) (g : ℕ) : Type 0 where
   pub own : context new g ≡ context k g

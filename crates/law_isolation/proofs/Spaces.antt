@@ -19,15 +19,12 @@ use Rattle.nova_model.specs.Forest.{ArePairs, AreApart}
 use Rattle.nova_model.specs.Memory.{Memory}
 use Rattle.nova_model.specs.Views.{is_memory_of, map_of, maps_of, cells_from, cells_of}
 use Rattle.nova_model.specs.declared.delegation.Derivation.{Derivation}
+use Rattle.law_turns.proofs.Holding.{Apart as SameSpaceApart}
 use Rattle.law_isolation.proofs.KeyedLaws.{all_placed}
 
 -- no page of one map is one of the other's
 abbrev pub MapsApart : Map → Map → Type 0
 MapsApart a b = (a.base + 2 ^ a.order ≤ b.base) ⊎ (b.base + 2 ^ b.order ≤ a.base)
-
--- two derivations of one space lie apart
-abbrev pub SameSpaceApart : Derivation → Derivation → Type 0
-SameSpaceApart a b = a.pd ≡ b.pd → a.kind ≡ b.kind → AreApart a b
 
 pub apart_maps_of : (a b : Derivation) → AreApart a b → MapsApart (map_of a) (map_of b)
 apart_maps_of a b h = elim (cases_Bool (nat_lt a.base (b.base + 2 ^ b.order))) [
@@ -133,7 +130,7 @@ read_same list ram pd right address width apart =
 abbrev wordless : List Derivation → Memory → ℕ → AddressSpace
 wordless list memory pd = space_through list memory pd None
 
-no_words_if : (t : Bool) → ◌≡◌ {A = Option (List ℕ)} (if t then None else None) None
+pub no_words_if : (t : Bool) → ◌≡◌ {A = Option (List ℕ)} (if t then None else None) None
 no_words_if true = refl
 no_words_if false = refl
 

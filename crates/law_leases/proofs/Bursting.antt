@@ -29,7 +29,7 @@ use Rattle.law_isolation.specs.Law.{answered}
 use Rattle.law_isolation.specs.Sound.{IsSound, IsVirtual}
 use Rattle.law_isolation.proofs.Premises.{IsGuest, guest, premises}
 use Rattle.law_isolation.proofs.Runs.{turn_is_one, turn_sound, turn_virtual}
-use Rattle.law_isolation.proofs.Seen.{maps_at, view_is}
+use Rattle.law_isolation.proofs.Seen.{maps_at, view_is, view_registers as regs_seen}
 use Rattle.law_leases.specs.Advances.{IsLeasable, advanced, advanced_by, frames_stored, laid_over, next_frame, own_after}
 use Rattle.law_leases.proofs.Advanced.{advanced_again, advanced_none, midway, one_goes_on, paid_one}
 use Rattle.law_leases.proofs.Choosing.{choice_same, stamps_stay, turns_go_on}
@@ -66,9 +66,6 @@ one_step k cpu c b sound may acts out =
       seen = (turn_is_one k cpu c.actor sound may.guest).guest ∙ ap (λ (i : Option Input). (answered (view k c.actor) i).guest) (comes_own k cpu c acts p.does);
       covers = plain_ram k c.actor p.store (premises k sound);
     }
-
-regs_seen : (k : KernelState) (g : ℕ) → (view k g).regs ≡ (context k g).regs
-regs_seen k g = ap (λ (v : Guest). v.regs) (view_is k g)
 
 regs_of : (k : KernelState) (cpu : ℕ) (c : Candidate) (b : Budget) (n : ℕ) (regs : Registers) (ram : List (List ℕ)) (fs : List ℕ) → IsSome (context_at k c.actor) →
     (view (advanced_by k cpu c b n regs ram fs) c.actor).regs ≡ regs

@@ -34,7 +34,6 @@ use Rattle.law_leases.specs.Aims.{AreAimed}
 use Rattle.law_leases.specs.Commits.{IsCommitted, IsReached, LeaseRun, MayCommit, Stems, by_actor, by_room, commit_done, number_of, same_counts, stirs_now, lesser}
 use Rattle.law_leases.specs.Counts.{IsAsBefore, IsOn, IsPayer, IsUnstirred}
 use Rattle.law_leases.specs.Paging.{IsStepping, advanced_to}
-use Rattle.law_leases.specs.declared.commit.CommitDone.{CommitDone}
 use Rattle.law_leases.specs.declared.commit.CommitDone.TheVariants.{Dropped, Away, Committed}
 use Rattle.law_leases.proofs.Aims.{turn_aimed, more_aimed}
 use Rattle.law_leases.proofs.Homes.{chosen_home, home}
@@ -236,17 +235,13 @@ commit_traced l lease d b is = traced lease.steps.count l lease.cpu d b is.state
 
 -- THE ANSWERS
 
-abbrev committed_number : CommitDone → ℕ
-committed_number (Committed n) = n
-committed_number other = 0
-
 pub committed : (l : KernelState) (lease : LeaseRun) (left n : ℕ) → commit_done l lease left ≡ Committed n → IsCommitted l lease left n
 committed l lease left n is = by_counts (same_counts lease.kept (stirs_now l lease.guest lease.cpu)) refl is
   where
     by_fits : same_counts lease.kept (stirs_now l lease.guest lease.cpu) ≡ true → (c : Candidate) → choice l lease.cpu ≡ Some c → c.actor ≡ lease.guest → (t : Bool) →
         nat_le lease.steps.count left ≡ t → by_room lease.steps.count left t ≡ Committed n → IsCommitted l lease left n
     by_fits same c chosen acts true fits h =
-        let count : lease.steps.count ≡ n = ap committed_number h in
+        let count : lease.steps.count ≡ n = cc in
         record { same = same; chosen = c; is = chosen; actor = acts; count = count; room = grind (arith, fits, count) }
     by_fits same c chosen acts false fits h = absurd (cc)
 

@@ -65,7 +65,7 @@ deed_sets k ec p cpu (Blocks sm (Some d)) asks home ne n x is here = elim (entry
 ]
 deed_sets k ec p cpu other asks home ne n x is here = is
 
-joined_was : (ds : List (Option Deadline)) (made : Option NewObject) (n : ℕ) (x : Deadline) → entry (slice_get (joined ds (option_map no_deadline made)) n) ≡ Some x →
+pub joined_was : (ds : List (Option Deadline)) (made : Option NewObject) (n : ℕ) (x : Deadline) → entry (slice_get (joined ds (option_map no_deadline made)) n) ≡ Some x →
     entry (slice_get ds n) ≡ Some x
 joined_was ds None n x is = is
 joined_was ds (Some m) n x is = elim (entry_joined ds None n x is) [
@@ -84,7 +84,7 @@ home_of k p c sound acts =
     some_entry f (Some x) h = refl
 
 -- what comes by itself
-ends_clear : (ds : List (Option Deadline)) (o : Option (ℕ × Status)) (n : ℕ) (x : Deadline) → entry (slice_get (deadlines_with ds (clears_by o)) n) ≡ Some x → entry (slice_get ds n) ≡ Some x
+pub ends_clear : (ds : List (Option Deadline)) (o : Option (ℕ × Status)) (n : ℕ) (x : Deadline) → entry (slice_get (deadlines_with ds (clears_by o)) n) ≡ Some x → entry (slice_get ds n) ≡ Some x
 ends_clear ds None n x is = is
 ends_clear ds (Some (w, status)) n x is = (cleared ds w n x is).1
 

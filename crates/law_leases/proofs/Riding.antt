@@ -141,7 +141,7 @@ run_more : (n : ℕ) (k : KernelState) (cpu : ℕ) → run k (replicate (suc n) 
 run_more zero k cpu = refl
 run_more (suc n) k cpu = run_more n (after k cpu) cpu
 
-in_front_append : (o : Option Event) (xs ys : List Event) → in_front o (xs ++ ys) ≡ in_front o xs ++ ys
+pub in_front_append : (o : Option Event) (xs ys : List Event) → in_front o (xs ++ ys) ≡ in_front o xs ++ ys
 in_front_append None xs ys = refl
 in_front_append (Some e) xs ys = refl
 

@@ -9,14 +9,13 @@ use Rattle.nova_guest.specs.Frames.{frame_from}
 use Rattle.nova_guest.specs.Maps.{is_covered, page_in}
 use Rattle.nova_guest.specs.declared.guest.Guest.{Guest}
 use Rattle.nova_guest.specs.declared.input.Input.TheVariants as input
-use Rattle.nova_guest.specs.declared.input.Input.{Input}
 use Rattle.nova_guest.specs.declared.input.Input.TheVariants.{Own}
 use Rattle.nova_guest.specs.declared.map.Map.{Map}
 use Rattle.nova_range.specs.Rights.{write_right}
 use Rattle.nova_model.specs.AddressSpaces.{AddressSpace, message_size, own_page, stored_among}
 use Rattle.nova_model.specs.Choice.{Candidate, next_to_act, in_front}
 use Rattle.nova_model.specs.Deeds.{deed, deed_in, done, instruction, memory_after, messages_after, ready, signalled, stepped, stepping}
-use Rattle.nova_model.specs.Inputs.{foreign, foreign_at, foreign_by, frame_of_store, in_ram, is_covered_for, is_outside, only_if, input_of, own_input, store_of, stirred, stirred_count, stirred_from}
+use Rattle.nova_model.specs.Inputs.{foreign, foreign_at, foreign_by, frame_of_store, in_ram, is_covered_for, input_of, own_input, store_of, stirred, stirred_count, stirred_from}
 use Rattle.nova_model.specs.Runs.{after}
 use Rattle.nova_model.specs.State.{KernelState, budget_at, context, pd_of, with_ec}
 use Rattle.nova_model.specs.Turn.{budget_after, charged, counted, paid_by, quantum_in, stamp_after}
@@ -32,7 +31,9 @@ use Rattle.law_isolation.proofs.OwnTurns.{own_law}
 use Rattle.law_isolation.proofs.Outputs.{guest_no_thread, guest_sees, own_output, own_space, put_out, wordless}
 use Rattle.law_isolation.proofs.Premises.{HasPremises, IsGuest}
 use Rattle.law_isolation.proofs.Seen.{maps_at, view_is}
-use Rattle.law_isolation.proofs.Spaces.{cell_covered, frame_covered, frame_same}
+use Rattle.law_isolation.proofs.Spaces.{cell_covered, frame_covered, frame_same, no_words_if as no_words}
+use Rattle.law_turns.proofs.Stirring.{outside as from_outside}
+use Rattle.law_forest.proofs.Plain.{and_false as no_call}
 use Rattle.law_leases.specs.Advances.{advanced_by, budget_used, changed_by, frame_stored_to, is_used, next_frame, raised_count, raised_from, seen_of, with_cell}
 
 -- A PLAIN STEP
@@ -47,10 +48,6 @@ pub record IsPlain (k : KernelState) (g : ℕ) : Type 0 where
 deed_is : (k : KernelState) (g : ℕ) → (context k g).state ≡ Ready → (context k g).recall ≡ false → deed k g ≡ stepping k g (instruction k g)
 unfolding deed
 deed_is k g at_ready free = ap (deed_in k g) at_ready ∙ ap (ready k g) free
-
-no_call : (t : Bool) → (t && false) ≡ false
-no_call true = refl
-no_call false = refl
 
 -- an input of its own that puts out nothing is one
 pub plain : (k : KernelState) (g : ℕ) → HasPremises k → IsGuest k g → (context k g).state ≡ Ready → (context k g).recall ≡ false →
@@ -69,10 +66,6 @@ plain k g sound is at_ready free out = by_once (instruction k g) refl (deed_is k
     by_once (Went regs store) went does = record { regs = regs; store = store; went = went; does = does; quiet = law Steps does ∙ out }
 
 -- WHAT IT LEAVES
-
-no_words : (t : Bool) → ◌≡◌ {A = Option (List ℕ)} (if t then None else None) None
-no_words true = refl
-no_words false = refl
 
 messages_stay : (k : KernelState) (g : ℕ) (store : Option Store) → messages_after (wordless k g) g store k.messages ≡ k.messages
 messages_stay k g None = refl
@@ -139,10 +132,6 @@ same_instruction k g sound is = ap₂ one (ap (λ (v : Guest). v.regs) (view_is 
 next_is : (k : KernelState) (g : ℕ) → HasPremises k → IsGuest k g → (p : IsPlain k g) → next_frame (view k g) ≡ kernel_frame k g p.store
 next_is k g sound is p =
     ap (λ (o : Once). option_and_then (frame_stored_to (view k g)) (store_of o)) (same_instruction k g sound is ∙ p.went) ∙ next_of_store k g sound is p.store
-
--- what a store is for another
-abbrev from_outside : Option Input → Bool
-from_outside o = is_some (option_and_then (λ i. only_if (is_outside i) i) o)
 
 nothing_added : (count : ℕ) → count ≡ count + 0
 nothing_added count = omega arith

@@ -13,7 +13,6 @@ use Rattle.nova_objects.specs.declared.object.Object.TheVariants.{Ec, Sc}
 use Rattle.nova_objects.specs.declared.object.EcKind.TheVariants.{Vcpu}
 use Rattle.nova_model.specs.Capabilities.{is_vcpu}
 use Rattle.nova_model.specs.Choice.{Candidate}
-use Rattle.nova_model.specs.Creation.{object_of}
 use Rattle.nova_model.specs.Edges.{cpu_in}
 use Rattle.nova_model.specs.Guests.{input}
 use Rattle.nova_model.specs.Runs.{after, run}
@@ -22,8 +21,8 @@ use Rattle.nova_model.specs.Views.{view}
 use Rattle.nova_model.specs.declared.budget.Budget.{Budget}
 use Rattle.law_turns.specs.Stirs.{stirs_of}
 use Rattle.law_turns.specs.Tables.{HasTables, cpu_of}
-use Rattle.law_turns.proofs.Paying.{Adds, AddsNone, AddsOne, Comes, Idles, Takes, IsTurn, comes, still_budget, Passes}
-use Rattle.law_turns.proofs.Setting.{entry_other, get_kept, index_itself}
+use Rattle.law_turns.proofs.Paying.{Comes, Idles, IsTurn, Passes, Takes, comes, still_budget, still_object}
+use Rattle.law_turns.proofs.Setting.{entry_other, index_itself}
 use Rattle.law_turns.proofs.Stirring.{counts_outside}
 use Rattle.law_turns.proofs.Tags.{get_map}
 use Rattle.law_isolation.specs.Law.{answered}
@@ -34,10 +33,6 @@ use Rattle.law_leases.proofs.Homes.{chosen_home, home}
 use Rattle.law_leases.proofs.Unstirred.{apart_no, is_outside, is_own, processor_rises, processors_rise, run_rises, turn_rises, nobody_no}
 
 -- WHAT IS THERE STAYS
-
-still_object : (k s : KernelState) (ec n : ℕ) (o : Object) → Adds k s ec → slice_get k.objects n ≡ Some o → slice_get s.objects n ≡ Some o
-still_object k s ec n o (AddsNone objects budgets next) is = ap (λ (os : List Object). slice_get os n) objects ∙ is
-still_object k s ec n o (AddsOne made bound objects budgets next) is = ap (λ (os : List Object). slice_get os n) objects ∙ get_kept k.objects (object_of made) n o is
 
 turn_object : (k new : KernelState) (cpu n : ℕ) (o : Object) (event : Option Event) → Comes k new cpu event → slice_get k.objects n ≡ Some o → slice_get new.objects n ≡ Some o
 turn_object k new cpu n o event (Idles idle is its) at = ap (λ (s : KernelState). slice_get s.objects n) is ∙ at

@@ -19,7 +19,7 @@ use Rattle.law_forest.specs.Effects.{joined, Falls, Passing, Ticks, alarm_up, pa
 use Rattle.law_forest.proofs.Turning.{of_events}
 use Rattle.law_isolation.specs.Sound.{IsSound, IsVirtual}
 use Rattle.law_isolation.proofs.Runs.{turn_sound}
-use Rattle.nova_model.specs.Boot.{Image, Scenario, bare, boot, with_image, with_images}
+use Rattle.nova_model.specs.Boot.{Scenario, bare, boot, with_images}
 use Rattle.nova_model.specs.Capabilities.{is_vcpu}
 use Rattle.nova_model.specs.Choice.{Candidate, in_front}
 use Rattle.nova_model.specs.Runs.{after, run, trace}
@@ -27,15 +27,12 @@ use Rattle.nova_model.specs.State.{KernelState, ec_of}
 use Rattle.nova_model.specs.Turn.{Step, answer_of, turn, number_in, whom_of}
 use Rattle.nova_model.specs.declared.event.Event.{Event}
 use Rattle.nova_objects.specs.declared.object.Object.{Object}
+use Rattle.law_isolation.proofs.Ranges.{images_objects}
 use Rattle.law_origins.specs.Lives.{IsMade}
 use Rattle.law_origins.proofs.Actors.{actor_object, objects_after, was_virtual, there_within}
 use Rattle.law_origins.proofs.Lists.{by_turns, one_more, run_append}
 
 -- IT IS MADE
-
-images_objects : (k : KernelState) (images : List Image) → (with_images k images).objects ≡ k.objects
-images_objects k [] = refl
-images_objects k (image ∷ images) = images_objects (with_image k image) images
 
 none_at_root : (s : Scenario) (g : ℕ) → IsVirtual (bare s.cpus s.ram s.consoles s.root) g → ⊥
 none_at_root s zero is = absurd (cc)

@@ -9,7 +9,7 @@ use Rattle.nova_guest.specs.declared.input.Out.{Out}
 use Rattle.law_isolation.specs.Law.{bytes_of}
 use Rattle.law_isolation.specs.Shown.{exit_by, exit_with, gained_in, is_byte, is_exit, raise_of, second_of, shown}
 use Rattle.law_isolation.specs.Sound.{IsSound}
-use Rattle.law_isolation.proofs.Runs.{reached_sound, run_alone, turn_sound}
+use Rattle.law_isolation.proofs.Runs.{reached_sound, run_alone, run_sound, turn_sound}
 use Rattle.law_isolation.proofs.Shows.{bytes_of_shown, exits_of_shown, outputs_shown}
 use Rattle.nova_model.specs.Boot.{Scenario, boot}
 use Rattle.nova_model.specs.Choice.{in_front}
@@ -80,10 +80,6 @@ shown_since k turns g sound some m =
     ∙ (shown_append k (m.before ++ m.cpu ∷ []) m.later g
     ∙ (ap (λ (os : List Out). os ++ shown (run k (m.before ++ m.cpu ∷ [])) m.later g) (shown_none k (m.before ++ m.cpu ∷ []) g (unnamed k turns g sound some m))
     ∙ ap (λ (s : KernelState). shown s m.later g) (at_birth k turns g m)))
-
-run_sound : (k : KernelState) (turns : List ℕ) → IsSound k → IsSound (run k turns)
-run_sound k [] sound = sound
-run_sound k (cpu ∷ turns) sound = run_sound (after k cpu) turns (turn_sound k cpu sound)
 
 guest_alone : (k : KernelState) (turns : List ℕ) (g : ℕ) → IsSound k → 0 < length k.objects → (m : IsMade k turns g) → IsGuestAlone k turns g m
 guest_alone k turns g sound some m =

@@ -19,7 +19,7 @@ use Rattle.law_isolation.specs.Sound.{IsVirtual}
 use Rattle.law_isolation.proofs.OwnTurns.{caller_of, own_is}
 use Rattle.law_isolation.proofs.Runs.{reached_sound}
 use Rattle.law_isolation.proofs.Turns.{other_is}
-use Rattle.law_turns.proofs.Referring.{Asks, IsCallerOf, deed_asks}
+use Rattle.law_turns.proofs.Referring.{Asks, deed_asks}
 use Rattle.nova_model.specs.AddressSpaces.{frame_for, own_page}
 use Rattle.nova_model.specs.Boot.{Scenario, boot}
 use Rattle.nova_model.specs.Capabilities.{control_right, is_ec}
@@ -49,6 +49,7 @@ use Rattle.nova_range.specs.Rights.{allows, write_right}
 use Rattle.nova_range.specs.declared.range.Kind.{Kind}
 use Rattle.nova_range.specs.declared.range.Kind.TheVariants.{Mem, Obj}
 use Rattle.nova_range.specs.declared.range.Range.{Range}
+use Rattle.law_turns.specs.Links.{IsCallerOf}
 use Rattle.law_origins.specs.Giving.{Acts, FirstRange, IsGiver, IsTakenByRight, HasPageTo, Replies as RepliesWith, TakesItems}
 use Rattle.law_origins.specs.Sending.{HandlesLast}
 use Rattle.law_origins.specs.Whose.{HasRight, IsInputBy}

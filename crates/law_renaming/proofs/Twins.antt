@@ -17,7 +17,7 @@ use Rattle.nova_model.specs.declared.log.LogByte.{LogByte}
 use Rattle.law_isolation.specs.Law.{bytes_of}
 use Rattle.law_isolation.specs.Shown.{exits_in, gained, is_byte}
 use Rattle.law_isolation.specs.Sound.{IsSound, IsVirtual}
-use Rattle.law_isolation.proofs.Runs.{reached_sound, run_alone, space_is_own, turn_sound, turn_virtual}
+use Rattle.law_isolation.proofs.Runs.{reached_sound, run_alone, run_sound, space_is_own, turn_virtual}
 use Rattle.law_isolation.proofs.Showing.{exits_shown}
 use Rattle.law_isolation.proofs.Shows.{bytes_put}
 use Rattle.law_isolation.proofs.Spaces.{cell_of}
@@ -59,11 +59,6 @@ logs_same r m n [] (y ∷ ys) same = absurd same
 logs_same r m n (x ∷ xs) [] same = absurd same
 logs_same r m n (x ∷ xs) (y ∷ ys) same =
     (record { value = ap value_of same.0.1; stands = subst (Renames r (m + x.console)) (sym (ap frame_of same.0.1)) same.0.2 }, logs_same r m n xs ys same.1)
-
--- what holds along a run
-run_sound : (k : KernelState) (turns : List ℕ) → IsSound k → IsSound (run k turns)
-run_sound k [] sound = sound
-run_sound k (cpu ∷ turns) sound = run_sound (after k cpu) turns (turn_sound k cpu sound)
 
 run_virtual : (k : KernelState) (turns : List ℕ) (g : ℕ) → IsVirtual k g → IsVirtual (run k turns) g
 run_virtual k [] g is = is

@@ -40,6 +40,7 @@ use Rattle.law_turns.proofs.Serving.{actor_of}
 use Rattle.law_turns.proofs.States.{own_state}
 use Rattle.law_turns.proofs.TablesFit.{TablesFit, boot_run_fits, chosen_acts, gives_there}
 use Rattle.law_revocation.specs.Along.{acts_in, acts_once}
+use Rattle.law_revocation.proofs.Ending.{at_most_once}
 use Rattle.law_response.specs.Items.{GivesAlong, item_turns, later_turns, turns_from, turns_of_items}
 use Rattle.law_response.specs.Waits.{HasShared, IsSchedule, StaysRunnable, acts_itself, paid_in}
 use Rattle.law_response.proofs.Responding.{reached_is_kept}
@@ -225,14 +226,6 @@ turn_falls k by ec r gives now = by_moves moves
 
 some_left : (k : KernelState) (ec : ℕ) → 1 ≤ turns_of_items k ec
 some_left k ec = let is = from_is k ec (source k ec) (transfer k ec).item (transfer k ec).cursor in omega (arith, is)
-
-at_most_once : (ec : ℕ) (o : Option Candidate) → acts_once ec o ≤ 1
-at_most_once ec None = omega arith
-at_most_once ec (Some c) = by_test (c.actor == ec)
-  where
-    by_test : (t : Bool) → (if t then 1 else 0) ≤ 1
-    by_test true = omega arith
-    by_test false = omega arith
 
 own_turns : (k : KernelState) (turns : List ℕ) (ec : ℕ) → IsReached k → GivesAlong k ec turns → acts_in k ec turns ≤ turns_of_items k ec
 own_turns k [] ec r gives = omega arith

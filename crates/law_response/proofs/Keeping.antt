@@ -24,8 +24,9 @@ use Rattle.law_turns.proofs.GivingPremises.{Wants, deed_wants, is_apart, wants_q
 use Rattle.law_turns.proofs.Passing.{passing_contexts, passing_ending}
 use Rattle.law_turns.proofs.Referring.{deed_asks}
 use Rattle.law_turns.proofs.Serving.{actor_of}
-use Rattle.law_turns.proofs.Setting.{more_at, set_at}
+use Rattle.law_turns.proofs.Setting.{more_at}
 use Rattle.law_turns.proofs.TablesFit.{TablesFit, chosen_acts}
+use Rattle.law_forest.proofs.Doing.{set_at}
 
 abbrev pub Keeps : EcState → EcState → Type 0
 Keeps x y = is_giving x.state ≡ true → is_giving y.state ≡ true → (y.regs ≡ x.regs) × (y.caller ≡ x.caller)

@@ -1,16 +1,14 @@
 -- A part of an item takes some of the places that are left.
 use Rattle.std.proofs.Common.{◌≡◌, ℕ, ◌<◌, ◌≤◌, ◌+◌, ◌-◌, ◌^◌, List, refl, sym, ap, ap₂, ◌∙◌, subst, arith}
-use Rattle.std.specs.Prelude.{Bool, true, false, ◌%◌, ◌==◌, max, if◌then◌else◌, Option, Some, None, Result, Ok, Err, IfOk}
+use Rattle.std.specs.Prelude.{Bool, true, false, ◌%◌, ◌==◌, max, if◌then◌else◌, Option, Some, None, Ok, Err}
 use Rattle.std.proofs.lemmas.Nat.{pow_pos}
 use Rattle.rv_model.specs.Registers.{reg}
 use Rattle.nova_range.specs.Clamps.{clamp_of}
-use Rattle.nova_range.specs.RangeWords.{HasWord, meaning_of}
+use Rattle.nova_range.specs.RangeWords.{meaning_of}
 use Rattle.nova_range.specs.Ranges.{IsRange, end_of}
 use Rattle.nova_range.specs.declared.range.Range.{Range}
 use Rattle.nova_range.specs.declared.rights.Rights.{Rights}
-use Rattle.nova_range.specs.declared.word.WordFault.{WordFault}
 use Rattle.nova_range.proofs.Parts.{is_clamped}
-use Rattle.nova_range.proofs.Words.{sound}
 use Rattle.nova_utcb.specs.Messages.{counted_items, item_at}
 use Rattle.nova_model.specs.Deeds.{deed}
 use Rattle.nova_model.specs.Delegations.{is_same_kind, range_of}
@@ -28,9 +26,11 @@ use Rattle.nova_model.specs.declared.transfer.Delivery.{Delivery}
 use Rattle.nova_model.specs.declared.transfer.Job.{Job}
 use Rattle.nova_model.specs.declared.transfer.Skip.TheVariants.{Window}
 use Rattle.law_forest.proofs.Transfers.{left_facts, next_facts}
-use Rattle.law_forest.proofs.Walk.{IsDelegating, deed_holds, job_at_cursor, job_in}
+use Rattle.law_forest.proofs.Walk.{IsDelegating, deed_holds, job_in}
 use Rattle.law_turns.specs.Giving.{source, source_in}
 use Rattle.law_turns.proofs.Rows.{IsWhole, done_weaker, row_whole}
+use Rattle.law_forest.proofs.Jobs.{read_range}
+use Rattle.law_forest.specs.Items.{job_at_cursor}
 use Rattle.law_response.specs.Items.{item_turns, later_turns, places_left, turns_from, turns_of_items}
 
 -- THE WORDS OF THE PRESENT ITEM
@@ -74,19 +74,6 @@ record IsOfRange (word : ℕ) (j : Job) : Type 0 where
   reads : read_as (meaning_of word) ≡ Some (range, rights)
   begins : range.base ≤ j.source
   ends : j.source + 2 ^ j.order ≤ end_of range
-
-read_range : (word : ℕ) (x : Range × Rights) → read_as (meaning_of word) ≡ Some x → IsRange x.0
-read_range word x is = by_meaning (meaning_of word) (sound word) is
-  where
-    of_word : (o : Option (Range × Rights)) → HasWord o → o ≡ Some x → IsRange x.0
-    of_word None has e = absurd (cc)
-    of_word (Some (range, rights)) has e =
-        let same : (range, rights) ≡ x = cc in
-        subst (λ (y : Range × Rights). IsRange y.0) same has.0
-
-    by_meaning : (r : Result (Option (Range × Rights)) WordFault) → IfOk r HasWord → read_as r ≡ Some x → IsRange x.0
-    by_meaning (Ok o) has e = of_word o has e
-    by_meaning (Err fault) has e = absurd (cc)
 
 clamped_of : (word : ℕ) (s w : Range × Rights) (hotspot giver receiver : ℕ) → read_as (meaning_of word) ≡ Some s → IsRange s.0 → IsRange w.0 →
     IsOfRange word (job_at s.0 s.1 (clamp_of s.0 w.0 hotspot) giver receiver)

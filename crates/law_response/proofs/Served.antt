@@ -13,7 +13,7 @@ use Rattle.law_forest.proofs.Turning.{acts_chosen, event_at}
 use Rattle.law_turns.specs.Rounds.{AreRounds, GoesRound}
 use Rattle.law_turns.proofs.Candidates.{schedule_of, the_chosen}
 use Rattle.law_turns.proofs.Passes.{run_append}
-use Rattle.law_turns.proofs.Paying.{Comes, Idles, Passes, Takes, comes}
+use Rattle.law_turns.proofs.Paying.{Comes, Idles, Passes, Takes, comes, still_object}
 use Rattle.law_turns.proofs.Processors.{run_cpus}
 use Rattle.law_turns.proofs.Rotation.{rounds_go}
 use Rattle.law_turns.proofs.Ticks.{one_if}
@@ -23,7 +23,6 @@ use Rattle.law_response.proofs.Choosing.{candidate_of_schedule}
 use Rattle.law_response.proofs.Rounds.{served_by_rounds}
 use Rattle.law_response.proofs.Selves.{acts_in_time}
 use Rattle.law_response.proofs.Sharing.{reached_before, run_others}
-use Rattle.law_response.proofs.Waiting.{still_object}
 
 -- OBJECTS STAY
 

@@ -186,11 +186,6 @@ helps_in_time s before turns sc ec cpu priority quantum h b nobody its outranks 
 
 -- IT IS TAKEN
 
-of_parked : (o : Option State) → is_parked o ≡ true → o ≡ Some Parked
-of_parked (Some Parked) is = refl
-of_parked None is = absurd cc
-of_parked (Some other) is = absurd cc
-
 sends : (k : KernelState) (ec h : ℕ) (flag : Bool) → IsKept k → state_in k.contexts ec ≡ Some (Helping h) → state_in k.contexts h ≡ Some Parked → admitted k.contexts ec h flag ≡ Send
 sends k ec h flag kept at parks =
     ap (λ (t : Bool).

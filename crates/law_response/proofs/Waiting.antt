@@ -6,7 +6,6 @@ use Rattle.nova_objects.specs.declared.object.Object.{Object}
 use Rattle.nova_objects.specs.declared.object.Object.TheVariants.{Sc}
 use Rattle.nova_model.specs.Boot.{Scenario, boot}
 use Rattle.nova_model.specs.Choice.{Candidate, choice, next_to_act}
-use Rattle.nova_model.specs.Creation.{object_of}
 use Rattle.nova_model.specs.Runs.{after, run}
 use Rattle.nova_model.specs.State.{KernelState, budget_at, entry}
 use Rattle.nova_model.specs.Times.{due_on}
@@ -16,8 +15,8 @@ use Rattle.nova_model.specs.declared.times.Due.{Due}
 use Rattle.law_forest.specs.Effects.{Falls}
 use Rattle.law_forest.proofs.Turning.{acts_next, event_at, idle_none, passing_none}
 use Rattle.law_turns.proofs.Candidates.{schedule_of, the_chosen}
-use Rattle.law_turns.proofs.Paying.{Adds, AddsNone, AddsOne, Comes, Idles, IsTurn, Passes, Takes, comes, still_budget}
-use Rattle.law_turns.proofs.Setting.{entry_itself, entry_other, get_kept}
+use Rattle.law_turns.proofs.Paying.{Comes, Idles, IsTurn, Passes, Takes, comes, still_budget, still_object}
+use Rattle.law_turns.proofs.Setting.{entry_itself, entry_other}
 use Rattle.law_turns.proofs.Stamps.{AreStamped, run_stamped}
 use Rattle.law_turns.proofs.TablesFit.{boot_run_fits}
 use Rattle.law_turns.proofs.Ticks.{lengths, one_if}
@@ -50,10 +49,6 @@ reached_lengths : (k : KernelState) → IsReached k → length k.budgets ≡ len
 reached_lengths k r = subst (λ (s : KernelState). length s.budgets ≡ length s.objects) (sym r.is) (lengths (run (boot r.scenario) r.turns) (boot_run_fits r.scenario r.turns))
 
 -- WHAT BECOMES OF A SCHEDULING CONTEXT
-
-pub still_object : (k s : KernelState) (ec n : ℕ) (o : Object) → Adds k s ec → slice_get k.objects n ≡ Some o → slice_get s.objects n ≡ Some o
-still_object k s ec n o (AddsNone objects budgets next) is = ap (λ (os : List Object). slice_get os n) objects ∙ is
-still_object k s ec n o (AddsOne made bound objects budgets next) is = ap (λ (os : List Object). slice_get os n) objects ∙ get_kept k.objects (object_of made) n o is
 
 -- it stays as it is, or it pays: it keeps its stamp with a turn less, or takes a new one
 pub data HasGone (k : KernelState) (by sc quantum : ℕ) (b x : Budget) : Type 0 where

@@ -13,12 +13,12 @@ use Rattle.nova_model.specs.Deeds.{deed}
 use Rattle.nova_model.specs.Revokes.{Revocation}
 use Rattle.nova_model.specs.Running.{revoke_of, revoke_by}
 use Rattle.nova_model.specs.Runs.{after, run}
-use Rattle.nova_model.specs.State.{KernelState, context_at, pd_of}
+use Rattle.nova_model.specs.State.{KernelState, pd_of}
 use Rattle.nova_model.specs.declared.deed.Deed.{Deed}
 use Rattle.nova_model.specs.declared.deed.Deed.TheVariants.{Returns, Revokes}
 use Rattle.nova_model.specs.declared.event.EventKind.TheVariants.{Answer}
 use Rattle.nova_model.specs.declared.root.Root.{Root}
-use Rattle.law_turns.specs.Revoking.{revoke_after}
+use Rattle.law_turns.specs.Revoking.{AreCalm as AreIdle, revoke_after}
 use Rattle.law_turns.proofs.Revoking.{begins_asked}
 use Rattle.law_revocation.specs.Along.{HasEvent, Runs}
 use Rattle.law_revocation.specs.Called.{HasEndedAsCalled, WasCalled}
@@ -76,10 +76,6 @@ called k turns ec r sound none now = by_since (since k turns ec r sound now)
     by_since (inr c) = c
 
 -- at boot none runs
--- none is about to
-abbrev AreIdle : KernelState → Type 0
-AreIdle k = (pd ec : ℕ) → option_and_then (λ (x : EcState). revoke_by pd x.state) (context_at k ec) ≡ None
-
 bare_none : (cpus ram consoles : ℕ) (root : Root) → AreIdle (bare cpus ram consoles root)
 bare_none cpus ram consoles root pd zero = refl
 bare_none cpus ram consoles root pd (suc zero) = refl

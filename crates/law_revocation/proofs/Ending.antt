@@ -116,7 +116,7 @@ reached_told s before cpu ec h = told (run (boot s) before) cpu ec (reached_soun
 
 -- FROM THE ONE TO THE OTHER
 
-at_most_once : (ec : ℕ) (o : Option Candidate) → acts_once ec o ≤ 1
+pub at_most_once : (ec : ℕ) (o : Option Candidate) → acts_once ec o ≤ 1
 at_most_once ec None = omega arith
 at_most_once ec (Some c) = by_test (c.actor == ec)
   where

@@ -5,8 +5,6 @@ use Rattle.std.proofs.lemmas.Bool.{and_from, and_parts, eqb-true, eq-eqb, false_
 use Rattle.std.proofs.lemmas.Bool.Decides.{nat_tests}
 use Rattle.std.proofs.lemmas.Nat.{pow_pos}
 use Rattle.nova_range.specs.Ranges.{HasPlace, SharesPlace, end_of, is_inside, overlaps}
-use Rattle.nova_range.specs.declared.range.Kind.{Kind}
-use Rattle.nova_range.specs.declared.range.Kind.TheVariants.{Mem, Obj}
 use Rattle.nova_range.proofs.Meetings as meetings
 use Rattle.nova_model.specs.Delegations.{Delegations, added, is_same_kind, parent_of, range_of, with_id}
 use Rattle.nova_model.specs.Forest.{IsFitting, IsForest}
@@ -18,19 +16,10 @@ use Rattle.law_forest.proofs.Forests.{forest_add}
 use Rattle.law_forest.proofs.Lines.{member_found, parent_facts}
 use Rattle.law_forest.proofs.Members.{IsIn, contains_from_in, filtered_in, in_filtered, in_from_contains}
 use Rattle.law_forest.proofs.Scopes.{decided}
+use Rattle.law_forest.proofs.Plain.{kind_itself, same_kind}
 use Rattle.law_revocation.specs.Taken.{IsClear, IsGivenOfRange, IsOnLine, IsOwn, IsParent, IsRevokersTarget, IsRevokers, IsRemoved, Above, Given, Itself, Own}
 
 -- THE REVOKER'S
-
-same_kind : (a b : Kind) → is_same_kind a b ≡ true → b ≡ a
-same_kind Mem Mem h = refl
-same_kind Mem Obj h = absurd (cc)
-same_kind Obj Mem h = absurd (cc)
-same_kind Obj Obj h = refl
-
-kind_itself : (a : Kind) → is_same_kind a a ≡ true
-kind_itself Mem = refl
-kind_itself Obj = refl
 
 -- in the revoker's space, and with a place of the range
 met_parts : (r : Revocation) (a : Derivation) → is_met r a ≡ true → IsRevokers r a × (overlaps (range_of a) r.range ≡ true)

@@ -14,7 +14,7 @@ use Rattle.nova_model.specs.Deliveries.{delivery, flag}
 use Rattle.nova_model.specs.Hypercalls.{is_scheduled, maker}
 use Rattle.nova_model.specs.Revokes.{Revocation}
 use Rattle.nova_model.specs.Runs.{after}
-use Rattle.nova_model.specs.State.{KernelState, context, pd_of, transfer}
+use Rattle.nova_model.specs.State.{KernelState, context, pd_of}
 use Rattle.nova_model.specs.Transfers.{child_of, job_of, next_source, overlap_base}
 use Rattle.nova_model.specs.declared.delegation.Derivation.{Derivation}
 use Rattle.nova_model.specs.declared.event.EventKind.TheVariants.{Answer, Skip}
@@ -22,13 +22,10 @@ use Rattle.nova_model.specs.declared.transfer.Delivery.{Delivery}
 use Rattle.nova_model.specs.declared.transfer.Job.{Job}
 use Rattle.nova_model.specs.declared.transfer.Reason.TheVariants as reason
 use Rattle.law_turns.specs.Asked.{IsCalling}
+pub use Rattle.law_forest.specs.Items.{job_at_cursor as from_cursor}
 use Rattle.law_revocation.specs.Along.{HasEvent}
 
 -- PARTS
-
--- an item of the execution context, from where it is with it on
-abbrev pub from_cursor : KernelState → ℕ → Job → Job
-from_cursor k ec j = record j { cursor = (transfer k ec).cursor }
 
 -- the next part of its present item, which is a delegation, would make this child: that has a right, and its receiver holds none of its places
 pub record WouldGive (k : KernelState) (ec : ℕ) (x : Derivation) : Type 0 where

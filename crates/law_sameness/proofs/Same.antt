@@ -1,5 +1,5 @@
 -- Two vertices of which all that is read and all that is counted is the same are in one state.
-use Rattle.std.proofs.Common.{◌≡◌, ℕ, zero, suc, ◌+◌, ◌<◌, List, [], ◌∷◌, length, map, ap, ap₂, sym, ◌∙◌, subst, refl, arith}
+use Rattle.std.proofs.Common.{◌≡◌, ℕ, zero, suc, ◌<◌, List, [], ◌∷◌, length, map, ap, ap₂, sym, ◌∙◌, subst, refl, arith}
 use Rattle.std.specs.Prelude.{◌↔◌, Bool, true, false, slice_get, Option, Some, None, IfSome, is_some, option_map}
 use Rattle.std.proofs.lemmas.List.{length-map}
 use Rattle.nova_objects.specs.declared.object.Object.{Object}
@@ -14,8 +14,9 @@ use Rattle.nova_model.specs.declared.times.AlarmState.{AlarmState}
 use Rattle.nova_model.specs.declared.times.Deadline.{Deadline}
 use Rattle.nova_model.specs.declared.transfer.Transfer.{Transfer}
 use Rattle.law_turns.specs.Moments.{HasEntries}
-use Rattle.law_turns.specs.Tables.{HasTables, tags_from}
+use Rattle.law_turns.specs.Tables.{HasTables}
 use Rattle.law_turns.specs.Waiting.{IsAwaiting}
+use Rattle.law_turns.proofs.Tags.{tags_length}
 use Rattle.law_sameness.specs.Counts.{Counts, counts_of, stamp_in}
 use Rattle.law_sameness.specs.States.{AreReadAlike, IsAtRest, IsSameAt, count_in, is_guest_in}
 use Rattle.law_turns.specs.Keeping.{IsKept}
@@ -34,10 +35,6 @@ same_tables (x ∷ xs) (y ∷ ys) long each =
 
 table_length : {T : Type 0} (xs : List (Option T)) (is : Object → Bool) (os : List Object) → map is_some xs ≡ map is os → length xs ≡ length os
 table_length xs is os same = sym (length-map xs is_some) ∙ ap length same ∙ length-map os is
-
-tags_length : (n : ℕ) (os : List Object) → length (tags_from n os) ≡ length os
-tags_length n [] = refl
-tags_length n (o ∷ os) = ap suc (tags_length (n + 1) os)
 
 contexts_length : (k : KernelState) → HasTables k → length k.contexts ≡ length k.objects
 contexts_length k tables = sym (length-map k.contexts _) ∙ ap length tables.contexts ∙ tags_length 0 k.objects

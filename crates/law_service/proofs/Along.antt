@@ -1,6 +1,6 @@
 -- Two runs in which the same happens to a side's part, in the same order.
 use Rattle.std.proofs.Common.{◌≡◌, ℕ, List, [], ◌∷◌, ◌++◌, refl, sym, ap, ap₂, ◌∙◌, subst}
-use Rattle.std.specs.Prelude.{Bool, option_map, Option, Some, None}
+use Rattle.std.specs.Prelude.{Bool, Option, Some, None}
 use Rattle.nova_model.specs.Choice.{in_front}
 use Rattle.nova_model.specs.Deeds.{deed}
 use Rattle.nova_model.specs.Runs.{after, run}
@@ -10,12 +10,9 @@ use Rattle.nova_model.specs.declared.log.LogByte.{LogByte}
 use Rattle.law_isolation.proofs.Runs.{turn_sound}
 use Rattle.law_integrity.specs.Confined.{Of}
 use Rattle.law_flow.specs.Flow.{AreAtWorkTimeless, HasSameClock, IsAtWork, gain_for, own_bytes, own_deeds, own_turn}
-use Rattle.law_flow.proofs.Turns.{AreTwins, EndSame, OwnDeed, alike_flipped, alike_through, decided, own_alike, own_gains, own_side, working_timed}
+use Rattle.law_flow.proofs.Turns.{AreTwins, EndSame, Ends, OwnDeed, alike_flipped, alike_through, decided, deed_for, own_alike, own_gains, own_side, working_timed}
 use Rattle.law_service.specs.Service.{AreServed, Enters, Entry, IsEntered, IsServedBy, Own, course, entry_in, happening_of}
 use Rattle.law_service.proofs.Entering.{turns_alike}
-
-abbrev deed_for : KernelState → Option (ℕ × ℕ) → Option OwnDeed
-deed_for k o = option_map (λ (p : ℕ × ℕ). (p.0, deed k p.0)) o
 
 -- of a run what is done and shown, by its first turn and the others
 abbrev DeedsFrom : (ℕ → Bool) → KernelState → ℕ → List ℕ → List OwnDeed
@@ -58,9 +55,6 @@ nothing_more S P (cpu ∷ us) k l t served same =
         record { alike = ended.alike; deeds = deeds_so S l cpu us None is ∙ ended.deeds; bytes = bytes_so S l cpu us None is ∙ ended.bytes }
     by_own None is (Some e) at rest later = absurd (cc)
     by_own (Some p) is e at rest later = absurd (cc)
-
-abbrev Ends : KernelState → List ℕ → KernelState → List ℕ → (ℕ → Bool) → (ℕ → Bool) → Type 0
-Ends k ts l us S P = EndSame (run k ts) (run l us) S P (own_deeds S k ts) (own_deeds S l us) (own_bytes S k ts) (own_bytes S l us)
 
 abbrev GoesOn : KernelState → List ℕ → (ℕ → Bool) → (ℕ → Bool) → Type 0
 GoesOn k ts S P = (vs : List ℕ) (m : KernelState) → AreTwins k m S P → AreServed S P m vs → course S P k ts ≡ course S P m vs → Ends k ts m vs S P

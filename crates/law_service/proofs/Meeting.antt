@@ -1,6 +1,6 @@
 -- A run with a server that meets the premises: what they look at in its states is computed.
 use Rattle.std.proofs.Common.{◌≡◌, ℕ, List, [], ◌∷◌, refl, sym, ap, ◌∙◌, subst}
-use Rattle.std.specs.Prelude.{Bool, true, false, Contains, map, replicate, slice_get, Option, Some, None, option_map, option_and_then}
+use Rattle.std.specs.Prelude.{Bool, true, false, Contains, map, replicate, slice_get, Option, Some, None}
 use Rattle.std.specs.List.{AllByRecursion}
 use Rattle.std.proofs.lemmas.Option.{same_Some}
 use Rattle.rv_model.specs.Codes.{instr_of}
@@ -21,7 +21,6 @@ use Rattle.nova_model.specs.Semaphores.{has, semaphore_in, waits}
 use Rattle.nova_model.specs.State.{KernelState, Semaphore, context, entry, is_thread, is_thread_in, no_words}
 use Rattle.nova_model.specs.Times.{next_entry}
 use Rattle.nova_model.specs.Turn.{charged, turn}
-use Rattle.nova_model.specs.declared.context.EcState.{EcState}
 use Rattle.nova_model.specs.declared.context.Mark.{Mark}
 use Rattle.nova_model.specs.declared.context.State.{State}
 use Rattle.nova_model.specs.declared.context.State.TheVariants.{Dead, Exiting, Fresh, Helping, Parked}
@@ -34,16 +33,11 @@ use Rattle.law_integrity.specs.Confined.{Of}
 use Rattle.law_integrity.specs.Rights.{Again, AtCall, IsAsking}
 use Rattle.law_flow.specs.Flow.{AreAtWorkTimeless, IsAtWork, IsSide, is_at_work, own_turn}
 use Rattle.law_flow.proofs.Looking.{AllAt, IsCalm, at_all, calm_edge, calm_wait, entry_at, led, looked_up, no}
+use Rattle.law_turns.specs.Links.{caller_at as caller_of, state_at as state_of}
 use Rattle.law_service.specs.Examples.{served_tenants, tenant_domain, tenant_objects}
 use Rattle.law_service.specs.Service.{AreAdmitted, ByComputing, ByGift, Enters, Entry, IsWalled, Own, Return, course, entry_in, returned}
 
 -- WHAT THE STATES ARE
-
-abbrev state_of : Option EcState → Option State
-state_of o = option_map (λ (x : EcState). x.state) o
-
-abbrev caller_of : Option EcState → Option (ℕ × Mark)
-caller_of o = option_and_then (λ (x : EcState). x.caller) o
 
 abbrev pub first : KernelState
 first = run (boot served_tenants) (replicate 59 0)

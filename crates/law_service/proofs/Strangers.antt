@@ -1,6 +1,6 @@
 -- A stranger's turn leaves a side's part alone, by what integrity says of it.
 use Rattle.std.proofs.Common.{◌≡◌, ◌<◌, ◌⊎◌, ℕ, List, length, refl, sym, ap, ◌∙◌, subst, inl, inr, arith}
-use Rattle.std.specs.Prelude.{Bool, true, false, ◌==◌, not, Contains, IsSome, is_some, slice_get, option_map, option_and_then, Option, Some, None, if◌then◌else◌}
+use Rattle.std.specs.Prelude.{Bool, true, false, ◌==◌, not, Contains, IsSome, slice_get, option_map, option_and_then, Option, Some, None, if◌then◌else◌}
 use Rattle.std.specs.List.{find}
 use Rattle.std.proofs.lemmas.Bool.{eqb-true}
 use Rattle.std.proofs.lemmas.Option.{same_Some, slice_get_within}
@@ -42,6 +42,7 @@ use Rattle.law_flow.specs.Flow.{AreAlike, IsLeftAlone, IsSide, held_by}
 use Rattle.law_flow.proofs.Leaving.{find_less, of_another, raw, some_there, table_same}
 use Rattle.law_flow.proofs.Others.{first_waits, side_left, state_of_entry}
 use Rattle.law_flow.proofs.Seeing.{fronts_same}
+use Rattle.law_turns.proofs.Suited.{there_at as some_entry}
 use Rattle.law_service.specs.Service.{Entry, Gift, IsServedBy, IsStrange, IsStranger, entry_by, entry_in, entry_of, if_enters, if_of}
 use Rattle.law_service.proofs.Giving.{gives}
 
@@ -54,11 +55,6 @@ strange_out S P n (Some (Ec pd cpu kind event)) strange p = strange p
 strange_out S P n (Some (Sc donor cpu priority quantum)) strange p = strange p
 strange_out S P n (Some Sm) strange p = strange p
 strange_out S P n None strange p = strange p
-
-some_entry : {T : Type 0} (o : Option (Option T)) → option_map is_some o ≡ Some true → IsSome (entry o)
-some_entry None h = absurd (cc)
-some_entry (Some None) h = absurd (cc)
-some_entry (Some (Some x)) h = refl
 
 module _ (s : Scenario) (before : List ℕ) (S P : ℕ → Bool) (cpu ec : ℕ) (side : IsSide (run (boot s) before) (Of S) (Of P)) (there : (n : ℕ) → P n ≡ true → IsSome (slice_get (run (boot s) before).objects n))
     (acts_ : Acts (run (boot s) before) cpu ec) (stranger : IsStranger (run (boot s) before) (Of S) (Of P) cpu ec) where

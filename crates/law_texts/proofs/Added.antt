@@ -1,5 +1,5 @@
 -- The image of each block of words is one of the scenario's.
-use Rattle.std.proofs.Common.{◌≡◌, ℕ, List, [], ◌∷◌, ◌++◌, map, Some, refl, ap, sym, ◌∙◌, subst, inl, inr, append_assoc, append-nil}
+use Rattle.std.proofs.Common.{◌≡◌, ℕ, List, [], ◌∷◌, ◌++◌, map, Some, refl, ap, sym, ◌∙◌, subst, append-nil}
 use Rattle.std.specs.Prelude.{false, Result, Ok, Err}
 use Rattle.std.specs.List.{AllByRecursion}
 use Rattle.nova_model.specs.Memory.{Memory}
@@ -18,9 +18,10 @@ use Rattle.nova_scenario.specs.declared.scenario.Scenario.{Scenario}
 use Rattle.nova_scenario.specs.declared.statement.Form.{Form}
 use Rattle.nova_scenario.specs.declared.statement.Form.TheVariants as form
 use Rattle.nova_scenario.specs.declared.statement.Head.{Head}
-use Rattle.nova_scenario.proofs.LaidLemmas.{among_last, image_adds, executable_adds, address-is, source-images, whole-images}
+use Rattle.nova_scenario.proofs.LaidLemmas.{Grows, address-is, among_last, among_more, executable_adds, grows_on, image_adds, source-images, whole-images}
 use Rattle.nova_scenario.proofs.SoundLemmas.{and_then-ok, on_line-ok, settings-ok, ended-ok, or_missing-ok}
 use Rattle.nova_boot.specs.Lying.{LiesThere}
+use Rattle.nova_boot.proofs.Among.{of_one}
 use Rattle.law_texts.specs.Words.{HoldsBlock, HoldsItem}
 use Rattle.law_texts.proofs.Bytes.{words_lie}
 
@@ -44,17 +45,6 @@ IsAddedItem images bytes (SourceLine line head) = Unit {0}
 IsAddedItem images bytes (ImageBlock head block) = IsAddedBlock images bytes head.form head block
 
 -- IMAGES STAY
-
-abbrev Grows : List Image → List Image → Type 0
-Grows old new = (more : List Image) × (new ≡ old ++ more)
-
-grows_on : (a b c : List Image) → Grows a b → Grows b c → Grows a c
-grows_on a b c x y = (x.0 ++ y.0, y.1 ∙ ap (λ images. images ++ y.0) x.1 ∙ append_assoc a x.0 y.0)
-
-among_more : (image : Image) (images more : List Image) → IsAmong image images → IsAmong image (images ++ more)
-among_more image [] more among = absurd among
-among_more image (first ∷ images) more (inl is) = inl is
-among_more image (first ∷ images) more (inr later) = inr (among_more image images more later)
 
 stays : (old new : List Image) (said : Result (List ℕ) At) (head : Head) → Grows old new → IsAdded old said head → IsAdded new said head
 stays old new said head grows is = record {
@@ -130,11 +120,6 @@ read_added bytes d (item ∷ its) s is =
     ((item_stays a.0.images s.images bytes item rest.1 here.0, rest.0), grows_on d.images a.0.images s.images here.1 rest.1)
 
 -- SO THEY LIE IN MEMORY
-
-of_one : (P : Image → Type 0) (image : Image) (images : List Image) → AllByRecursion P images → IsAmong image images → P image
-of_one P image [] all among = absurd among
-of_one P image (first ∷ images) all (inl is) = subst P (sym is) all.0
-of_one P image (first ∷ images) all (inr later) = of_one P image images all.1 later
 
 module _ (m : Memory) (images : List Image) (there : AllByRecursion (LiesThere m) images) (bytes : List ℕ) where
   block_held : (f : Form) (head : Head) (block : Block) → IsAddedBlock images bytes f head block → HoldsBlock m bytes f head block

@@ -18,7 +18,8 @@ use Rattle.nova_scenario.specs.declared.statement.Setting.{Setting}
 use Rattle.nova_scenario.specs.declared.statement.Setting.TheVariants.{Cpus, Ram, Consoles, Root as RootLine}
 use Rattle.nova_scenario.specs.declared.statement.Start.{Start}
 use Rattle.nova_boot.specs.Boot.{scenario_of}
-use Rattle.nova_boot.proofs.Started.{boot_cpus, sources_memory}
+use Rattle.nova_boot.proofs.Started.{boot_cpus}
+use Rattle.law_isolation.proofs.Ranges.{sources_frames as sources_memory}
 use Rattle.law_texts.specs.Settings.{AreTold, IsRoot, IsTold, StartsAt}
 use Rattle.law_texts.proofs.Told.{AreSaid, IsRootSaid, IsSaid, lines_said}
 

@@ -7,7 +7,7 @@ use Rattle.rv_model.specs.declared.instr.Instr.{Instr}
 use Rattle.nova_guest.specs.Frames.{read_in}
 use Rattle.law_forest.proofs.Extremes.{filter_same}
 use Rattle.law_forest.proofs.Forests.{forest_without}
-use Rattle.law_forest.proofs.Leaves.{leaf_facts, leaf_or_none}
+use Rattle.law_forest.proofs.Leaves.{all_kept, leaf_facts, leaf_or_none}
 use Rattle.law_forest.proofs.Lines.{line_none}
 use Rattle.law_forest.proofs.Members.{IsIn, all_at, all_weaker, in_from_contains, in_filtered}
 use Rattle.law_forest.specs.Courses.{IsLeaf}
@@ -29,6 +29,7 @@ use Rattle.nova_model.specs.declared.deed.Deed.TheVariants.{Removes, Returns, Ra
 use Rattle.nova_model.specs.declared.delegation.Derivation.{Derivation}
 use Rattle.nova_objects.specs.declared.object.Object.TheVariants.{Sc}
 use Rattle.nova_range.specs.declared.range.Kind.TheVariants.{Obj}
+use Rattle.nova_nodes.proofs.Most.{others as lacking}
 use Rattle.law_texts.proofs.BenchStates.{Accounts, AreDomains, Tables, held, kernel, own_capabilities, ram_pages}
 use Rattle.law_texts.proofs.BenchTurn.{IsActing, IsTaken, no_candidates, no_entry, paid_once, turn_taken}
 use Rattle.law_texts.proofs.BenchMade.{IsMade, Capability, FirstPage, differ, find_none, the_first_page, with_made}
@@ -60,13 +61,6 @@ scope_is s n rest all =
     filter_same (in_scope the_revoke (with_made rest)) has_parent rest (λ x i. in_scope_is s n (own_capabilities ++ rest) x (all_at (IsMade s n) rest x all i))
 
 -- ONE GOES
-
-all_kept : (p : Derivation → Bool) (list : List Derivation) → AllByRecursion (λ a. p a ≡ true) list → filter p list ≡ list
-all_kept p [] all = refl
-all_kept p (x ∷ xs) all = rw all.0 (ap (λ (l : List Derivation). x ∷ l) (all_kept p xs all.1))
-
-abbrev lacking : ℕ → List Derivation → List Derivation
-lacking id list = filter (λ (d : Derivation). not (d.id == id)) list
 
 itself_gone : (n : ℕ) → not (n == n) ≡ false
 itself_gone n = grind arith

@@ -19,7 +19,7 @@ use Rattle.law_turns.specs.Moments.{HasAlarm, IsOnTime}
 use Rattle.law_turns.proofs.Dues.{due_is}
 use Rattle.law_turns.proofs.Setting.{get_joined}
 
-abbrev AreOnTime : List AlarmState → Type 0
+abbrev pub AreOnTime : List AlarmState → Type 0
 AreOnTime alarms = (i : ℕ) (a : AlarmState) → slice_get alarms i ≡ Some a → IsOnTime a
 
 -- what is found where one of a list is set

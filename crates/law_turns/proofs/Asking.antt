@@ -32,6 +32,7 @@ use Rattle.nova_model.specs.declared.delegation.Derivation.{Derivation}
 use Rattle.nova_model.specs.declared.new_object.NewObject.{NewObject}
 use Rattle.nova_model.specs.declared.new_object.NewObject.TheVariants as new
 use Rattle.law_forest.proofs.Walk.{IfDone, deed_holds, sm_ctrl_holds}
+use Rattle.law_forest.proofs.Allowed.{pd_there as domain_there}
 use Rattle.law_turns.specs.Asked.{AsksSchedule, HoldsAt, IsCalling, IsHeldAt, IsRevokedAt}
 use Rattle.law_turns.proofs.Holding.{IsNamedAt, free_from, from_free, from_idle, idle_from, named_at, named_is}
 use Rattle.law_turns.proofs.Rows.{call_holds, named_holds, reply_holds, create_pd_holds}
@@ -95,14 +96,6 @@ schedulable_is : (pd cpu event : ℕ) (kind : EcKind) → kind ≢ Local → is_
 schedulable_is pd cpu event Local other = absurd (other refl)
 schedulable_is pd cpu event Global other = refl
 schedulable_is pd cpu event Vcpu other = refl
-
-pub domain_there : (o : Option Object) → option_map is_pd o ≡ Some true → o ≡ Some Pd
-domain_there None h = absurd (cc)
-domain_there (Some Pd) h = refl
-domain_there (Some (Ec pd cpu kind event)) h = absurd (cc)
-domain_there (Some (Sc ec cpu priority quantum)) h = absurd (cc)
-domain_there (Some (Pt ec mtd ip)) h = absurd (cc)
-domain_there (Some Sm) h = absurd (cc)
 
 -- WHAT REGISTERS ASK FOR
 

@@ -157,7 +157,7 @@ wakes_none cs all sm wakes h =
     same_waits cs all (upped all sm) (only_the_woken_goes.nobody all sm (none_waits s.count s.waiting wakes)) (each_waits_alone.up all sm h.sound) h
 
 -- who is woken is the first that waits
-first_waits : (count first : ℕ) (ecs : List ℕ) → woken_of count ecs ≡ Ok (Some first) → (rest : List ℕ) × (ecs ≡ first ∷ rest)
+pub first_waits : (count first : ℕ) (ecs : List ℕ) → woken_of count ecs ≡ Ok (Some first) → (rest : List ℕ) × (ecs ≡ first ∷ rest)
 first_waits count first [] is = absurd (by_test (count == greatest) is)
   where
     by_test : (t : Bool) → if◌then◌else◌ {A = Result (Option ℕ) Overflow} t (Err (record {})) (Ok None) ≡ Ok (Some first) → ⊥

@@ -26,11 +26,12 @@ use Rattle.law_forest.specs.Effects.{applied, effect, joined, made_by, put, tran
 use Rattle.nova_model.specs.declared.times.Due.TheVariants as due
 use Rattle.law_forest.specs.Turns.{Acts, IsTurning, Turning, turned, Passes, passing_event}
 use Rattle.law_forest.proofs.Turning.{after_keeps, event_at, outcome}
+use Rattle.law_forest.proofs.Doing.{set_at}
 use Rattle.law_turns.specs.Giving.{counted_after, counted_by}
 use Rattle.law_turns.proofs.TablesFit.{TablesFit, boot_fits, chosen_acts, entry_acts, gives_there}
 use Rattle.law_turns.proofs.Giving.{Sound, at, boot_for, new_transfer, quiet_own, transfers_by, turned_gives}
 use Rattle.law_turns.proofs.GivingPremises.{Wants, deed_wants, is_of_item}
-use Rattle.law_turns.proofs.Setting.{more_at, set_at}
+use Rattle.law_turns.proofs.Setting.{more_at}
 
 -- HOW FAR THEY ARE
 

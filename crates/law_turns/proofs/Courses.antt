@@ -23,9 +23,10 @@ use Rattle.nova_model.specs.declared.transfer.Sequel.{Sequel}
 use Rattle.nova_model.specs.declared.transfer.Sequel.TheVariants as sequel
 use Rattle.law_forest.specs.Effects.{Answers, Edits, all_edited, edit_at, edited, edits_by, follows_by, recalls_by, semaphore_by, semaphores_with, steps_by, wakes_by}
 use Rattle.law_turns.specs.Tables.{IsOf}
-use Rattle.law_turns.proofs.Referring.{Asks, Follows, IsCallerOf}
+use Rattle.law_turns.proofs.Referring.{Asks, Follows}
 use Rattle.law_turns.proofs.Serving.{IsActor, IsReached, exit_reaches, exit_waits_edge, help_edge, send_reaches}
 use Rattle.law_turns.proofs.Setting.{set_length}
+use Rattle.law_turns.specs.Links.{IsCallerOf}
 
 -- one is the same as before, but for its recall, and what it is about to do; and for its registers where it gives no items then
 pub record IsSelf (x y : EcState) : Type 0 where

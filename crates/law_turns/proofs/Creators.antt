@@ -28,7 +28,7 @@ use Rattle.law_turns.specs.Giving.{GivesRange, whole}
 use Rattle.law_turns.proofs.GivingPremises.{HasRange}
 use Rattle.law_turns.proofs.Giving.{IsFor, IsForEntry, Sound, boot_run_for, entry_rests}
 
-same_kind : (kind : Kind) → is_same_kind kind kind ≡ true
+pub same_kind : (kind : Kind) → is_same_kind kind kind ≡ true
 same_kind Mem = refl
 same_kind Obj = refl
 

@@ -28,12 +28,12 @@ use Rattle.nova_ec.specs.Ways.{EndsAt, Leads}
 use Rattle.nova_sem.specs.Sound.{AreSound}
 use Rattle.nova_ec.proofs.Ends.{chases_end, circles_are_ways}
 use Rattle.nova_ec.proofs.Tables.{edges_kept, edges_more, edges_none, edges_set}
-use Rattle.law_turns.specs.Links.{state_at}
+use Rattle.law_turns.specs.Links.{IsCallerOf, state_at}
 use Rattle.law_turns.specs.Keeping.{IsKept}
 use Rattle.law_turns.proofs.Blocking.{woken_blocked}
 use Rattle.law_turns.proofs.Chosen.{choice_acts, chosen_does}
 use Rattle.law_turns.proofs.TablesFit.{TablesFit, after_fits, boot_fits, boot_run_fits, caller_there, chosen_acts, turned_fits}
-use Rattle.law_turns.proofs.Referring.{Asks, IsCallerOf, deed_asks}
+use Rattle.law_turns.proofs.Referring.{Asks, deed_asks}
 use Rattle.law_turns.proofs.Serving.{IsActor, IsReached, actor_of, blocked_there, of_there, reached_there, resumed_is}
 use Rattle.nova_model.specs.Edges.{MayWait}
 use Rattle.nova_model.specs.State.{ec_of}

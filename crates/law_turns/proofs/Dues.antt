@@ -1,9 +1,10 @@
 -- What is due is there: an alarm of the processor that goes on, or the deadline of an execution context there.
-use Rattle.std.proofs.Common.{◌≡◌, ℕ, suc, ◌+◌, List, [], ◌∷◌, ◌++◌, refl, ap, ◌∙◌, subst, arith}
+use Rattle.std.proofs.Common.{◌≡◌, ℕ, suc, ◌+◌, List, [], ◌∷◌, refl, ap, ◌∙◌, subst, arith}
 use Rattle.std.specs.Prelude.{◌==◌, ◌&&◌, Bool, true, false, nat_le, cond, slice_get, Option, Some, None, IfSome, option_and_then, if◌then◌else◌}
 use Rattle.std.specs.List.{AllByRecursion, find}
 use Rattle.std.proofs.lemmas.Bool.{eqb-true}
 use Rattle.nova_model.specs.State.{deadline_of, entry}
+use Rattle.law_forest.proofs.Boots.{both_all}
 use Rattle.law_turns.specs.Moments.{IsDueOn, IsEntry, IsEntryOf}
 use Rattle.nova_model.specs.Times.{Entry, Times, alarm_entries, alarm_entry, before_rest, clock, deadline_entries, deadline_entry, due_on, entries, goes_on, if_due, next_entry}
 use Rattle.nova_model.specs.declared.times.AlarmState.{AlarmState}
@@ -52,10 +53,6 @@ all_deadlines t cpu n [] is = tt
 all_deadlines t cpu n (d ∷ xs) is =
     front_all (IsEntryOf t cpu) (deadline_entry cpu n d) _ (deadline_is t cpu n d (ap (λ (o : Option (Option Deadline)). entry o) (rest_first t.deadlines n d xs is)))
     (all_deadlines t cpu (n + 1) xs (rest_next t.deadlines n d xs is))
-
-both_all : {T : Type 0} (P : T → Type 0) (xs ys : List T) → AllByRecursion P xs → AllByRecursion P ys → AllByRecursion P (xs ++ ys)
-both_all P [] ys first others = others
-both_all P (x ∷ xs) ys first others = (first.0, both_all P xs ys first.1 others)
 
 whole : {T : Type 0} (xs : List T) → IsRest xs 0 xs
 whole {T} xs i = let same : 0 + i ≡ i = omega arith in ap (λ (n : ℕ). slice_get xs n) same

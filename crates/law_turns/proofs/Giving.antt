@@ -1,6 +1,7 @@
 -- Whoever gives has a range and a protection domain to give it to, and whoever doesn't is at the beginning.
 use Rattle.nova_model.specs.Sources.{Source, with_source}
 use Rattle.law_forest.proofs.Boots.{sources_keep}
+use Rattle.law_forest.proofs.Doing.{set_at}
 use Rattle.law_turns.proofs.Passing.{IsEnding, passing_contexts, passing_ending}
 use Rattle.std.proofs.Common.{◌≡◌, ℕ, zero, suc, List, [], ◌∷◌, ◌++◌, length, refl, ap, ◌∙◌, sym, subst}
 use Rattle.std.specs.Prelude.{Bool, true, false, if◌then◌else◌, slice_get, slice_set, option_map, Option, Some, None, IsSome}
@@ -41,7 +42,7 @@ use Rattle.law_turns.proofs.TablesFit.{TablesFit, boot_fits, chosen_acts, turned
 use Rattle.law_turns.proofs.GivingPremises.{HasRange, Wants, deed_wants, is_of_item, wants_quiet}
 use Rattle.law_turns.proofs.Referring.{Asks, deed_asks}
 use Rattle.law_turns.proofs.Serving.{IsActor, actor_of, awaited}
-use Rattle.law_turns.proofs.Setting.{get_kept, more_at, set_at}
+use Rattle.law_turns.proofs.Setting.{get_kept, more_at}
 
 -- WHO GIVES AND WHO DOESN'T
 

@@ -27,14 +27,14 @@ use Rattle.law_turns.specs.Tables.{IsOf}
 
 -- ONE THAT COVERS
 
-has_from : (r : Range) (place : ℕ) → has_place r place ≡ true → HasPlace r place
+pub has_from : (r : Range) (place : ℕ) → has_place r place ≡ true → HasPlace r place
 has_from r place h =
     let parts = and_parts (nat_le r.base place) (nat_lt place (end_of r)) h in
     let least = parts.0 in
     let last = parts.1 in
     record { from_base = grind (arith, nat_tests); before_end = grind (arith, nat_tests) }
 
-from_has : (r : Range) (place : ℕ) → HasPlace r place → has_place r place ≡ true
+pub from_has : (r : Range) (place : ℕ) → HasPlace r place → has_place r place ≡ true
 from_has r place h = let least = h.from_base in let last = h.before_end in grind (arith, nat_tests)
 
 held_from : (k : KernelState) (domain selector : ℕ) (d : Derivation) → IsIn k.delegations.list d → covers Obj domain selector d ≡ true → IsHeldAt k domain selector d
@@ -56,7 +56,7 @@ from_held k domain selector d h =
 
 -- ONLY ONE
 
-meet : (a b : Range) (place : ℕ) → HasPlace a place → HasPlace b place → overlaps a b ≡ true
+pub meet : (a b : Range) (place : ℕ) → HasPlace a place → HasPlace b place → overlaps a b ≡ true
 meet a b place h i =
     let a_least = h.from_base in
     let a_last = h.before_end in
@@ -64,7 +64,7 @@ meet a b place h i =
     let b_last = i.before_end in
     grind (arith, nat_tests)
 
-abbrev Apart : Derivation → Derivation → Type 0
+abbrev pub Apart : Derivation → Derivation → Type 0
 Apart a b = a.pd ≡ b.pd → a.kind ≡ b.kind → AreApart a b
 
 not_both : (k : KernelState) (domain selector : ℕ) (a b : Derivation) → IsHeldAt k domain selector a → IsHeldAt k domain selector b → Apart a b → ⊥

@@ -20,9 +20,10 @@ use Rattle.nova_model.specs.declared.new_object.NewObject.TheVariants as new
 use Rattle.nova_model.specs.declared.transfer.ItemWords.{ItemWords}
 use Rattle.nova_model.specs.declared.transfer.Sequel.{Sequel}
 use Rattle.nova_model.specs.declared.transfer.Transfer.{Transfer}
+use Rattle.law_forest.proofs.Doing.{set_at}
 use Rattle.law_turns.specs.Giving.{source_in}
 use Rattle.law_turns.proofs.Giving.{at, new_transfer}
-use Rattle.law_turns.proofs.Setting.{more_at, set_at}
+use Rattle.law_turns.proofs.Setting.{more_at}
 use Rattle.law_turns.proofs.Messages.{IsFinish, NoSource, actor_none, more_words, no_source, words_in}
 use Rattle.law_turns.proofs.Awaiting.{Serves, served_waits}
 

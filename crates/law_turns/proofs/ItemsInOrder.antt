@@ -1,4 +1,5 @@
 -- A turn leaves whoever gives at its item or brings it to the next one, or it gives no more after the last one.
+use Rattle.law_forest.proofs.Doing.{set_at}
 use Rattle.law_turns.specs.Links.{state_at as state_found}
 use Rattle.law_turns.proofs.Passing.{passing_ending, IsEnding, passing_stays}
 use Rattle.std.proofs.Common.{◌≡◌, ◌<◌, ℕ, ◌+◌, List, [], ◌∷◌, ◌++◌, length, refl, ap, ◌∙◌, sym, subst, inl, inr}
@@ -37,7 +38,7 @@ use Rattle.law_turns.proofs.Ordered.{Stands, boot_run_stands, stands_at}
 use Rattle.law_turns.proofs.Progress.{last_is}
 use Rattle.law_turns.proofs.Referring.{Asks, deed_asks}
 use Rattle.law_turns.proofs.Serving.{IsActor, actor_of, is_blocked}
-use Rattle.law_turns.proofs.Setting.{entry_itself, entry_kept, set_at}
+use Rattle.law_turns.proofs.Setting.{entry_itself, entry_kept}
 use Rattle.law_turns.proofs.States.{Moves, is_waiting, others_move}
 
 -- STATES OF OTHERS

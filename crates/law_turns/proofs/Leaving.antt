@@ -6,8 +6,6 @@ use Rattle.std.proofs.lemmas.Bool.{and_from, and_parts, eqb-true, eq-eqb}
 use Rattle.std.proofs.lemmas.Bool.Decides.{nat_tests}
 use Rattle.nova_model.specs.Edges.{is_giving}
 use Rattle.nova_range.specs.Ranges.{SharesPlace, overlaps}
-use Rattle.nova_range.specs.declared.range.Kind.{Kind}
-use Rattle.nova_range.specs.declared.range.Kind.TheVariants.{Mem, Obj}
 use Rattle.nova_range.proofs.Meetings as meetings
 use Rattle.nova_model.specs.Deeds.{deed, deed_in}
 use Rattle.nova_model.specs.Delegations.{base_of, is_held_in, is_same_kind, meets, range_of}
@@ -34,21 +32,13 @@ use Rattle.nova_model.specs.declared.transfer.Skip.{Skip}
 use Rattle.law_forest.proofs.Extremes.{any_in, before_facts, least, none_before, none_passes}
 use Rattle.law_forest.proofs.Members.{IsIn, contains_from_in, filtered_in, in_filtered, in_from_contains}
 use Rattle.law_forest.proofs.Transfers.{judged_facts}
-use Rattle.law_forest.proofs.Walk.{IsGiving, IsSkipping, deed_holds, job_in, own_holds, job_at_cursor}
+use Rattle.law_forest.proofs.Walk.{IsGiving, IsSkipping, deed_holds, job_in, own_holds}
+use Rattle.law_forest.specs.Items.{job_at_cursor}
+use Rattle.law_forest.proofs.Plain.{kind_itself, same_kind}
 use Rattle.law_turns.specs.Left.{HasGivenAll, HasReason, IsFirstLeft, IsGivenOf, IsLeft, IsSkippedFor, NothingIsLeft}
 use Rattle.law_turns.proofs.Rows.{IsWhole, done_weaker, is_part, row_whole}
 
 -- THE TEST
-
-same_kind : (a b : Kind) → is_same_kind a b ≡ true → b ≡ a
-same_kind Mem Mem h = refl
-same_kind Mem Obj h = absurd (cc)
-same_kind Obj Mem h = absurd (cc)
-same_kind Obj Obj h = refl
-
-kind_itself : (a : Kind) → is_same_kind a a ≡ true
-kind_itself Mem = refl
-kind_itself Obj = refl
 
 left_from : (j : Job) (d : Derivation) → is_left j d ≡ true → IsLeft j d
 left_from j d h =

@@ -26,7 +26,7 @@ use Rattle.nova_model.specs.declared.transfer.ItemEnd.{ItemEnd}
 use Rattle.nova_model.specs.declared.transfer.ItemWords.{ItemWords}
 use Rattle.nova_model.specs.declared.transfer.Sequel.{Sequel}
 use Rattle.law_turns.specs.Words.{AreWritten, HasWritten, IsAmongWords, IsStepped, Stores, Stays, words_at, whose_words}
-use Rattle.law_turns.proofs.Referring.{Asks, IsCallerOf, deed_asks}
+use Rattle.law_turns.proofs.Referring.{Asks, deed_asks}
 use Rattle.law_turns.proofs.Setting.{entry_itself, entry_joined, entry_kept, entry_other, entry_set, set_length}
 use Rattle.std.specs.Prelude.{option_map}
 use Rattle.nova_model.specs.AddressSpaces.{words_at as words_reached}
@@ -36,6 +36,7 @@ use Rattle.nova_model.specs.declared.new_object.NewObject.{NewObject}
 use Rattle.law_forest.specs.Effects.{applied, effect, joined, made_by, put, store_words, words_by, words_stored}
 use Rattle.law_forest.specs.Turns.{Acts, IsTurning, Turning, turned, Passes, is_passing}
 use Rattle.law_forest.proofs.Turning.{IsTurn, along, turn_of, passing_kind, acting_kind}
+use Rattle.law_turns.specs.Links.{IsCallerOf}
 
 abbrev Messages : Type 0
 Messages = List (Option (List ℕ))

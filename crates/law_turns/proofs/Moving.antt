@@ -15,7 +15,8 @@ use Rattle.nova_model.specs.declared.transfer.Job.{Job}
 use Rattle.nova_model.specs.declared.transfer.Reason.{Reason}
 use Rattle.law_forest.proofs.Jobs.{job_ranges}
 use Rattle.law_forest.proofs.Transfers.{left_facts, next_facts}
-use Rattle.law_forest.proofs.Walk.{deed_holds, job_in, job_at_cursor}
+use Rattle.law_forest.proofs.Walk.{deed_holds, job_in}
+use Rattle.law_forest.specs.Items.{job_at_cursor}
 use Rattle.law_turns.specs.Giving.{MovesOn}
 use Rattle.law_turns.proofs.Rows.{IsWhole, done_weaker, row_whole}
 

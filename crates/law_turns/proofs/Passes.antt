@@ -28,7 +28,7 @@ passes_none (suc n) k most h =
 
 -- NO IDLE TURN
 
-free_append : (k : KernelState) (xs ys : List ℕ) → IsFreeOfIdle k xs → IsFreeOfIdle (run k xs) ys → IsFreeOfIdle k (xs ++ ys)
+pub free_append : (k : KernelState) (xs ys : List ℕ) → IsFreeOfIdle k xs → IsFreeOfIdle (run k xs) ys → IsFreeOfIdle k (xs ++ ys)
 free_append k [] ys first then_ = then_
 free_append k (x ∷ xs) ys first then_ = (first.0, free_append (after k x) xs ys first.1 then_)
 

@@ -34,7 +34,7 @@ abbrev pub IsEnding : Contexts → Option (ℕ × Status) → Type 0
 IsEnding cs o = IfSome o (λ p. IsBlockedIn cs p.0)
 
 -- a deadline that is due is there
-pub due_deadline : (k : KernelState) (cpu ec : ℕ) → IsPassing k cpu (Falls (due.Deadline ec)) → (d : Deadline) × (deadline_of k.times ec ≡ Some d)
+abbrev pub due_deadline : (k : KernelState) (cpu ec : ℕ) → IsPassing k cpu (Falls (due.Deadline ec)) → (d : Deadline) × (deadline_of k.times ec ≡ Some d)
 due_deadline k cpu ec is = let its = due_is k.times cpu (due.Deadline ec) is in (its.entry.deadline, its.entry.there)
 
 -- and who has it waits in the queue of its semaphore
@@ -85,7 +85,7 @@ pub data Passed (old new : Option EcState) : Type 0 where
   Same : new ≡ old → Passed old new
   Ended : (x : EcState) (sm : ℕ) (status : Status) → old ≡ Some x → x.state ≡ Blocked sm → new ≡ Some (answered x status None) → Passed old new
 
-blocked_state : (o : Option EcState) (x : EcState) (sm : ℕ) → o ≡ Some x → state_at o ≡ Some (Blocked sm) → x.state ≡ Blocked sm
+pub blocked_state : (o : Option EcState) (x : EcState) (sm : ℕ) → o ≡ Some x → state_at o ≡ Some (Blocked sm) → x.state ≡ Blocked sm
 blocked_state o x sm is waits = let both : Some x.state ≡ Some (Blocked sm) = sym (ap state_at is) ∙ waits in cc
 
 pub passing_each : (cs : Contexts) (o : Option (ℕ × Status)) → IsEnding cs o → (e : ℕ) → Passed (ec_in cs e) (ec_in (all_edited cs (ends_by o)) e)

@@ -53,7 +53,7 @@ still_budget k s ec n b (AddsNone objects budgets next) is = ap (λ (bs : List (
 still_budget k s ec n b (AddsOne made bound objects budgets next) is =
     ap (λ (bs : List (Option Budget)). entry (slice_get bs n)) budgets ∙ entry_kept k.budgets (budget_of k.next_stamp made) n b is
 
-still_object : (k s : KernelState) (ec n : ℕ) (o : Object) → Adds k s ec → slice_get k.objects n ≡ Some o → slice_get s.objects n ≡ Some o
+pub still_object : (k s : KernelState) (ec n : ℕ) (o : Object) → Adds k s ec → slice_get k.objects n ≡ Some o → slice_get s.objects n ≡ Some o
 still_object k s ec n o (AddsNone objects budgets next) is = ap (λ (os : List Object). slice_get os n) objects ∙ is
 still_object k s ec n o (AddsOne made bound objects budgets next) is =
     ap (λ (os : List Object). slice_get os n) objects ∙ get_kept k.objects (object_of made) n o is

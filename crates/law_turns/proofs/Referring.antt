@@ -41,9 +41,11 @@ use Rattle.nova_model.specs.declared.transfer.Delivery.{Delivery}
 use Rattle.nova_model.specs.declared.transfer.ItemWords.{ItemWords}
 use Rattle.nova_model.specs.declared.transfer.Sequel.{Sequel}
 use Rattle.nova_model.specs.declared.transfer.Sequel.TheVariants as sequel
+use Rattle.law_forest.proofs.Allowed.{pd_there}
 use Rattle.law_turns.specs.Tables.{IsOf, Refers, cpu_of}
 use Rattle.law_turns.proofs.Rows.{unless_holds, create_pd_holds}
 use Rattle.law_forest.proofs.Walk.{IfDone, IsExit, IsUntil, deed_holds, sm_ctrl_holds}
+use Rattle.law_turns.specs.Links.{IsCallerOf}
 
 -- a call that its handler, that of a portal, takes
 pub record IsSent (k : KernelState) (ec handler ip : ℕ) : Type 0 where
@@ -58,10 +60,6 @@ pub record IsExitSent (k : KernelState) (ec handler ip : ℕ) (mtd : Mtd) : Type
   pub portal : ℕ
   pub leads : slice_get k.objects portal ≡ Some (Pt handler mtd.0 ip)
   pub admits : exit_admitted k.contexts ec handler ≡ exit.Sends
-
--- it is the caller of this one, and came so
-abbrev pub IsCallerOf : KernelState → ℕ → ℕ → Mark → Type 0
-IsCallerOf k ec caller mark = (context k ec).caller ≡ Some (caller, mark)
 
 -- who is told what came of an item, and what follows its end
 abbrev pub TellsFor : KernelState → ℕ → Option ℕ → Type 0
@@ -131,14 +129,6 @@ makes_asks k ec domain number target pd new h = by_owner (maker k domain target 
     by_owner (Ok o) is = by_new (new o) (h o is)
     by_owner (Err status) is = tt
 
-pd_there : (o : Option Object) → option_map is_pd o ≡ Some true → o ≡ Some Pd
-pd_there None h = absurd (cc)
-pd_there (Some Pd) h = refl
-pd_there (Some (Ec pd cpu kind event)) h = absurd (cc)
-pd_there (Some (Sc ec cpu priority quantum)) h = absurd (cc)
-pd_there (Some (Pt ec mtd ip)) h = absurd (cc)
-pd_there (Some Sm) h = absurd (cc)
-
 ec_refers : (k : KernelState) (o cpu : ℕ) (kind : EcKind) (sp event : ℕ) (test : Bool) → IsOf k.objects is_pd o →
     IfDone (λ made. Refers k.objects (object_of made)) (unless test BadCpu (Ok (new.Ec o cpu kind sp event)))
 ec_refers k o cpu kind sp event true is = tt
@@ -181,7 +171,7 @@ opens_asks k ec target (Some range) = tt
 
 -- calls and replies
 
-portal_at : (o : Option Object) → option_map is_pt o ≡ Some true → o ≡ Some (Pt (handler_in o) (mtd_in o) (ip_in o))
+pub portal_at : (o : Option Object) → option_map is_pt o ≡ Some true → o ≡ Some (Pt (handler_in o) (mtd_in o) (ip_in o))
 portal_at None h = absurd (cc)
 portal_at (Some Pd) h = absurd (cc)
 portal_at (Some (Ec pd cpu kind event)) h = absurd (cc)

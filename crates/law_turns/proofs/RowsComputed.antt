@@ -38,7 +38,7 @@ row_b = record {
   sources = record { cpu = 0; first = 6; period = 1; count = 1 } ∷ [];
 }
 
-abbrev shown : Event → ℕ × ℕ × EventKind × ℕ × ℕ
+abbrev pub shown : Event → ℕ × ℕ × EventKind × ℕ × ℕ
 shown e = (e.sc, e.ec, e.kind, e.a, e.b)
 
 abbrev s : ℕ × ℕ × EventKind × ℕ × ℕ

@@ -105,15 +105,6 @@ joined_other [] x (suc n) other = refl
 joined_other (y ∷ xs) x zero other = refl
 joined_other (y ∷ xs) x (suc n) other = joined_other xs x n (λ same. other (ap suc same))
 
--- what holds at each number of a table where an entry is set, and where one joins
-pub set_at : {T : Type 0} (Q : Option T → Type 0) (xs : List (Option T)) (e f : ℕ) (x : T) → Q (entry (slice_get xs f)) → (f ≡ e → Q (Some x)) →
-    Q (entry (slice_get (slice_set xs e (Some x)) f))
-set_at Q [] e f x old new = old
-set_at Q (o ∷ xs) zero zero x old new = new refl
-set_at Q (o ∷ xs) zero (suc f) x old new = old
-set_at Q (o ∷ xs) (suc e) zero x old new = old
-set_at Q (o ∷ xs) (suc e) (suc f) x old new = set_at Q xs e f x old (λ same. new (ap suc same))
-
 pub more_at : {T : Type 0} (Q : Option T → Type 0) (xs : List (Option T)) (o : Option T) (f : ℕ) → Q (entry (slice_get xs f)) → (Q None → Q o) →
     Q (entry (slice_get (xs ++ o ∷ []) f))
 more_at Q [] o zero old new = new old

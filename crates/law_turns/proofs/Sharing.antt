@@ -29,7 +29,8 @@ use Rattle.law_forest.proofs.Changes.{boot_run_forest}
 use Rattle.law_forest.proofs.Members.{all_at, contains_from_in}
 use Rattle.law_forest.proofs.Multiples.{nested}
 use Rattle.law_forest.proofs.Transfers.{child_rights, judged_facts, left_facts, next_facts}
-use Rattle.law_forest.proofs.Walk.{IsGiving, deed_holds, job_in, job_at_cursor}
+use Rattle.law_forest.proofs.Walk.{IsGiving, deed_holds, job_in}
+use Rattle.law_forest.specs.Items.{job_at_cursor}
 use Rattle.law_turns.specs.Giving.{IsShared}
 use Rattle.law_turns.proofs.Rows.{IsWhole, done_weaker, is_part, row_whole}
 

@@ -10,13 +10,14 @@ use Rattle.nova_model.specs.declared.context.State.{State}
 use Rattle.nova_model.specs.declared.context.State.TheVariants.{Ready, Parked, Calling, Granting, Blocked}
 use Rattle.nova_model.specs.declared.deed.Deed.{Deed}
 use Rattle.law_forest.specs.Effects.{all_edited, edits_by}
+use Rattle.law_forest.proofs.Doing.{set_at}
 use Rattle.law_turns.specs.Links.{state_at}
 use Rattle.law_turns.proofs.Blocking.{woken_blocked}
 use Rattle.law_turns.proofs.Courses.{Courses, IsTo, deed_course}
 use Rattle.law_turns.proofs.TablesFit.{TablesFit, woken_apart}
 use Rattle.law_turns.proofs.Referring.{Asks}
 use Rattle.law_turns.proofs.Serving.{IsActor, awaited, reached_apart, resumed_is}
-use Rattle.law_turns.proofs.Setting.{entry_itself, entry_other, set_at}
+use Rattle.law_turns.proofs.Setting.{entry_itself, entry_other}
 
 -- ITS OWN
 

@@ -68,7 +68,7 @@ still k s ec g count d (Join made objects counts calm) is =
     ap (λ (cs : List (Option ℕ)). entry (slice_get cs g)) counts ∙ entry_kept k.stirs.guests (stir_count_of (object_of made)) g count is
 
 -- what the turn is for it
-abbrev outside : Option Input → Bool
+abbrev pub outside : Option Input → Bool
 outside o = is_some (option_and_then (λ i. only_if (is_outside i) i) o)
 
 abbrev count_by : Bool → ℕ → ℕ

@@ -20,7 +20,7 @@ tagged_at k n h =
     let e : 0 + n ≡ n = omega arith in
     tags_at k n h ∙ ap (λ (m : ℕ). option_map (tag_of m) (slice_get k.objects n)) e
 
-there_at : {T : Type 0} (o : Option (Option T)) → option_map is_some o ≡ Some true → IsSome (entry o)
+pub there_at : {T : Type 0} (o : Option (Option T)) → option_map is_some o ≡ Some true → IsSome (entry o)
 there_at None h = absurd (cc)
 there_at (Some None) h = absurd (cc)
 there_at (Some (Some x)) h = refl

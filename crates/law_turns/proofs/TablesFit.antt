@@ -40,7 +40,7 @@ use Rattle.law_forest.specs.Effects.{all_edited, joined, Answers, Becomes, Edit,
 use Rattle.law_forest.specs.Turns.{Acts, IsPassing, IsTurning, Passes, Turning, acting, passing, settled, turned}
 use Rattle.law_forest.proofs.Turning.{acts_chosen, after_keeps, along}
 use Rattle.law_turns.specs.Tables.{IsOf, Refers}
-use Rattle.law_turns.specs.Links.{AreServed, IsLinked, handles_items, state_at}
+use Rattle.law_turns.specs.Links.{AreServed, IsCallerOf, IsLinked, handles_items, state_at}
 use Rattle.law_turns.specs.Tables.{HasTables}
 use Rattle.law_turns.specs.Virtual.{AreGuests}
 use Rattle.law_turns.specs.Waiting.{AreBlocked, AreDeadlines}
@@ -50,7 +50,7 @@ use Rattle.law_turns.proofs.Deadlines.{deed_deadlines, joined_deadlines, passing
 use Rattle.law_turns.proofs.Passing.{IsEnding, passing_blocked, passing_contexts, passing_ending, passing_placed}
 use Rattle.law_turns.proofs.Chosen.{choice_acts}
 use Rattle.law_turns.proofs.Links.{IsNewborn, is_taking, served_more}
-use Rattle.law_turns.proofs.Referring.{Asks, Follows, IsCallerOf, TellsIn, deed_asks}
+use Rattle.law_turns.proofs.Referring.{Asks, Follows, TellsIn, deed_asks}
 use Rattle.law_turns.proofs.Serving.{IsActor, acts_on, actor_of, awaited, blocked_there, ends_on, exit_reaches, is_blocked, replies_on, reached_there, send_reaches, sends_on, stays_on, wakes_on}
 use Rattle.law_turns.proofs.Setting.{entry_other, get_last, joined_other}
 use Rattle.law_turns.proofs.TablesKept.{AreThere, IsPlaced, applied_tables, contexts_length, edited_tags, owner_thread, set_there, settled_tables, transfer_there, with_memory}

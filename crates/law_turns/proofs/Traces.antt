@@ -18,7 +18,7 @@ use Rattle.law_turns.proofs.Ticks.{event_on, ticks_are_turns}
 abbrev IsOn : ℕ → Step → Type 0
 IsOn cpu s = s.event.cpu ≡ cpu
 
-turning_on : (k : KernelState) (cpu : ℕ) (t : Turning) (e : Event) → IsTurning k cpu t e → e.cpu ≡ cpu
+pub turning_on : (k : KernelState) (cpu : ℕ) (t : Turning) (e : Event) → IsTurning k cpu t e → e.cpu ≡ cpu
 turning_on k cpu t e (Acts c chosen is event) = ap (λ (x : Event). x.cpu) event
 turning_on k cpu t e (Passes p due is event) = ap (λ (x : Event). x.cpu) event ∙ event_on k cpu p
 

@@ -28,10 +28,10 @@ use Rattle.nova_model.specs.declared.new_object.NewObject.TheVariants as new
 use Rattle.nova_model.specs.declared.root.Root.{Root}
 use Rattle.nova_range.specs.declared.status.Status.TheVariants.{Success}
 use Rattle.law_forest.specs.Effects.{applied, edits_by, effect, joined, made_by}
-use Rattle.law_turns.specs.Links.{AreServed}
+use Rattle.law_turns.specs.Links.{AreServed, IsCallerOf}
 use Rattle.law_turns.specs.Tables.{HasTables, IsOf}
 use Rattle.law_turns.specs.Virtual.{AreGuests, is_guest_state}
-use Rattle.law_turns.proofs.Referring.{Asks, IsCallerOf}
+use Rattle.law_turns.proofs.Referring.{Asks}
 use Rattle.law_turns.proofs.Courses.{Courses, IsCall, IsSelf, IsTo, deed_course, edited_length}
 use Rattle.law_turns.proofs.Serving.{IsActor, IsReached, mark_in, number_in}
 use Rattle.law_turns.proofs.Setting.{entry_below, entry_joined, entry_set, get_kept, get_last, joined_other}

@@ -1,23 +1,18 @@
 -- Callers and those who serve them, entry by entry of a table of execution contexts.
-use Rattle.std.specs.Prelude.{ℕ, ◌≡◌, Bool, true, false, Option, Some, None, IsSome, option_and_then, option_map}
+use Rattle.std.specs.Prelude.{ℕ, ◌≡◌, Bool, true, false, Option, Some, None, IsSome}
 use Rattle.nova_model.specs.Calls.{is_parked}
 use Rattle.nova_model.specs.Edges.{is_dead, is_free}
-use Rattle.nova_model.specs.State.{Contexts, ec_in}
+use Rattle.nova_model.specs.State.{Contexts, KernelState, context, ec_in}
 use Rattle.nova_model.specs.declared.context.EcState.{EcState}
 use Rattle.nova_model.specs.declared.context.Mark.{Mark}
 use Rattle.nova_model.specs.declared.context.Mark.TheVariants.{Call}
 use Rattle.nova_model.specs.declared.context.State.{State}
 use Rattle.nova_model.specs.declared.context.State.TheVariants.{Calling, Granting, Replying}
+pub use Rattle.nova_ec.specs.Entries.{caller_at, cpu_at, state_at}
 
--- of an entry: what the execution context is about to do, its caller, and its processor
-abbrev pub state_at : Option EcState → Option State
-state_at o = option_map (λ (x : EcState). x.state) o
-
-abbrev pub caller_at : Option EcState → Option (ℕ × Mark)
-caller_at o = option_and_then (λ (x : EcState). x.caller) o
-
-abbrev pub cpu_at : Option EcState → Option ℕ
-cpu_at o = option_map (λ (x : EcState). x.cpu) o
+-- it is the caller of this one, and came so
+abbrev pub IsCallerOf : KernelState → ℕ → ℕ → Mark → Type 0
+IsCallerOf k ec caller mark = (context k ec).caller ≡ Some (caller, mark)
 
 -- a handler that takes the items of a call, or gives those of its reply
 abbrev pub handles_items : Option State → Bool

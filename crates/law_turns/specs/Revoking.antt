@@ -1,5 +1,5 @@
 -- Revokes that run, along deeds and turns.
-use Rattle.std.specs.Prelude.{◌≡◌, ℕ, ◌==◌, Bool, if◌then◌else◌, List, length, Option, Some, None, Ok}
+use Rattle.std.specs.Prelude.{◌≡◌, ℕ, ◌==◌, Bool, if◌then◌else◌, List, length, Option, Some, None, Ok, option_and_then}
 use Rattle.std.specs.List.{filter_map, range_with_len}
 use Rattle.nova_calls.specs.Hypercalls.{call_of}
 use Rattle.nova_calls.specs.declared.call.Call.TheVariants.{Revoke}
@@ -7,10 +7,15 @@ use Rattle.nova_range.specs.declared.range.Range.{Range}
 use Rattle.nova_model.specs.Choice.{Candidate}
 use Rattle.nova_model.specs.Deeds.{deed}
 use Rattle.nova_model.specs.Revokes.{Revocation, next_leaf}
-use Rattle.nova_model.specs.Running.{Running, revoke_of, running_of}
-use Rattle.nova_model.specs.State.{KernelState, context, pd_of}
+use Rattle.nova_model.specs.Running.{Running, revoke_by, revoke_of, running_of}
+use Rattle.nova_model.specs.State.{KernelState, context, context_at, pd_of}
+use Rattle.nova_model.specs.declared.context.EcState.{EcState}
 use Rattle.nova_model.specs.declared.deed.Deed.{Deed}
 use Rattle.nova_model.specs.declared.deed.Deed.TheVariants.{Revokes, Returns}
+
+-- no revoke runs, whatever the protection domain
+abbrev pub AreCalm : KernelState → Type 0
+AreCalm k = (pd ec : ℕ) → option_and_then (λ (x : EcState). revoke_by pd x.state) (context_at k ec) ≡ None
 
 -- the revoke that an execution context runs after a deed of another or of itself: its own begins or returns, and all others stay
 abbrev pub revoke_after : KernelState → ℕ → Deed → ℕ → Option Revocation

@@ -20,8 +20,9 @@ use Rattle.nova_model.specs.Views.{view}
 use Rattle.nova_model.specs.declared.context.State.{State}
 use Rattle.nova_model.specs.declared.context.State.TheVariants.{Fresh, Ready, Calling, Exiting, Sending, Dead}
 use Rattle.nova_model.specs.declared.delegation.Derivation.{Derivation}
+use Rattle.law_isolation.proofs.Seen.{view_registers}
 use Rattle.law_views.specs.Seen.{AreCellsOf, AreMapsOf, IsShownAs, IsViewOf}
-use Rattle.law_views.proofs.Seen.{view_cells, view_maps, view_recall, view_registers, view_shown}
+use Rattle.law_views.proofs.Seen.{view_cells, view_maps, view_recall, view_shown}
 
 -- RISING LISTS
 

@@ -16,7 +16,7 @@ use Rattle.nova_guest.specs.Maps.{base_of, leads_to, overlaps}
 use Rattle.nova_guest.specs.declared.cell.Cell.{Cell}
 use Rattle.nova_guest.specs.declared.guest.Guest.{Guest}
 use Rattle.nova_guest.specs.declared.map.Map.{Map}
-use Rattle.law_isolation.proofs.Exchanges.{or_else}
+use Rattle.law_isolation.proofs.Exchanges.{cell_beyond as beyond, or_else}
 use Rattle.law_isolation.proofs.KeyedLaws.{IsRising, rising_placed_all}
 use Rattle.law_views.specs.Given.{AreCellsWith, AreMapsWith, IsElseSame, given}
 use Rattle.law_views.proofs.Alike.{rising_from}
@@ -37,10 +37,6 @@ put f c (d ∷ cells) none = by_tests (nat_lt c.frame d.frame) (c.frame == d.fra
     by_tests true equal is rest = grind arith
     by_tests false true is rest = absurd (grind (arith, is, none))
     by_tests false false is rest = let r = rest (grind (arith, is, none)) in grind (arith, is, r)
-
-beyond : (f : ℕ) (cells : List Cell) → AllByRecursion (λ c. f < c.frame) cells → cell_at cells f ≡ None
-beyond f [] all = refl
-beyond f (c ∷ cells) all = grind (arith, beyond f cells all.1, all.0)
 
 -- all that come
 come : (f : ℕ) (new cells : List Cell) → IsRising frame_of new →

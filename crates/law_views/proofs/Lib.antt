@@ -1,5 +1,5 @@
 mod Lists
-mod Said
+pub mod Said
 mod Seen
 mod Done
 mod Alike

@@ -20,7 +20,7 @@ use Rattle.law_isolation.proofs.Exchanges.{cells_rising}
 use Rattle.law_isolation.proofs.KeyedLaws.{IsRising, rising_placed_all}
 use Rattle.law_isolation.proofs.Premises.{IsGuestState, guest as guest_there}
 use Rattle.law_isolation.proofs.Seen.{maps_at, view_is}
-use Rattle.law_isolation.proofs.Spaces.{MapsApart, SameSpaceApart, cell_of, maps_apart, maps_more, maps_same}
+use Rattle.law_isolation.proofs.Spaces.{MapsApart, cell_of, maps_apart, maps_more, maps_same}
 use Rattle.nova_model.specs.Delegations.{is_memory}
 use Rattle.nova_model.specs.Exits.{raised_exit}
 use Rattle.nova_model.specs.Forest.{ArePairs}
@@ -30,11 +30,9 @@ use Rattle.nova_model.specs.declared.context.State.{State}
 use Rattle.nova_model.specs.declared.context.State.TheVariants.{Fresh, Ready, Calling, Exiting, Sending, Dead}
 use Rattle.nova_model.specs.declared.delegation.Derivation.{Derivation}
 use Rattle.law_origins.proofs.Rights.{kind_is}
+use Rattle.law_turns.proofs.Holding.{Apart as SameSpaceApart}
 use Rattle.law_views.proofs.Said.{of_memory}
 use Rattle.law_views.specs.Seen.{AreCellsOf, AreMapsOf, IsMapped, IsShownAs}
-
-pub view_registers : (k : KernelState) (g : ℕ) → (view k g).regs ≡ (context k g).regs
-view_registers k g = ap (λ (v : Guest). v.regs) (view_is k g)
 
 pub view_recall : (k : KernelState) (g : ℕ) → (view k g).recall ≡ (context k g).recall
 view_recall k g = ap (λ (v : Guest). v.recall) (view_is k g)

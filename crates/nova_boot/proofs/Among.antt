@@ -16,7 +16,7 @@ use Rattle.nova_boot.specs.Boot.{LieInRam}
 use Rattle.nova_boot.specs.Lying.{LiesThere, HoldsSegment, HoldsProgram, HoldsItem}
 use Rattle.nova_boot.proofs.Lying.{segment_held}
 
-of_one : (P : Image → Type 0) (image : Image) (images : List Image) → AllByRecursion P images → IsAmong image images → P image
+pub of_one : (P : Image → Type 0) (image : Image) (images : List Image) → AllByRecursion P images → IsAmong image images → P image
 of_one P image [] all among = absurd among
 of_one P image (first ∷ images) all (inl is) = subst P (sym is) all.0
 of_one P image (first ∷ images) all (inr later) = of_one P image images all.1 later

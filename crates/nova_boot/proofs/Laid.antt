@@ -10,16 +10,13 @@ use Rattle.nova_model.specs.Boot.{laid}
 use Rattle.nova_model.specs.Memory.{Memory, read, written, written_in}
 use Rattle.nova_guest.specs.Frames.{replaced}
 use Rattle.nova_frames.specs.Store.{AreWhole, AreApart}
+use Rattle.nova_memory.proofs.Remembered.{LeavesOthers}
 use Rattle.nova_boot.specs.Laid.{byte_at, IsLaid}
 
 -- what loads give of stores
 abbrev pub GivesStored : Type 0
 GivesStored = (m : Memory) (frame offset width value : ℕ) → AreWhole m.ram → frame < length m.ram → offset + width ≤ 4096 →
     read (written m frame offset width value) frame offset width ≡ value % 256 ^ width
-
-abbrev pub LeavesOthers : Type 0
-LeavesOthers = (m : Memory) (frame offset width value other place count : ℕ) → AreWhole m.ram → frame < length m.ram → offset + width ≤ 4096 →
-    AreApart frame offset width other place count → read (written m frame offset width value) other place count ≡ read m other place count
 
 -- two addresses are two places
 apart : (a other : ℕ) → other ≢ a → AreApart (a / 4096) (a % 4096) 1 (other / 4096) (other % 4096) 1

@@ -17,10 +17,11 @@ use Rattle.nova_scenario.specs.Images.{end_of}
 use Rattle.nova_scenario.specs.Segments.{segment_image}
 use Rattle.nova_scenario.specs.Sound.{LiesAt, ShareNone, AreApart as ImagesAreApart}
 use Rattle.nova_scenario.specs.declared.image.Image.{Image}
+use Rattle.nova_memory.proofs.Remembered.{LeavesOthers}
 use Rattle.nova_boot.specs.Boot.{image_of, EndsWithin, LieInRam}
 use Rattle.nova_boot.specs.Laid.{byte_at, IsLaid}
 use Rattle.nova_boot.specs.Lying.{LiesThere, HoldsImages, HoldsSegment}
-use Rattle.nova_boot.proofs.Laid.{GivesStored, LeavesOthers, laid_there, laid_whole}
+use Rattle.nova_boot.proofs.Laid.{GivesStored, laid_there, laid_whole}
 
 abbrev IsNotAt : ℕ → Image → Type 0
 IsNotAt address image = LiesAt image address → ⊥

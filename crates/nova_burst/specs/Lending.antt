@@ -8,9 +8,6 @@ use Rattle.nova_guest.specs.Frames.{frame_from}
 use Rattle.nova_guest.specs.declared.guest.Guest.{Guest}
 use Rattle.nova_guest.specs.declared.page.Page.{Page as Place}
 use Rattle.nova_range.specs.Rights.{execute_right}
-use Rattle.nova_objects.specs.declared.object.Object.{Object}
-use Rattle.nova_objects.specs.declared.object.Object.TheVariants.{Ec}
-use Rattle.nova_objects.specs.declared.object.EcKind.TheVariants.{Vcpu}
 use Rattle.nova_model.specs.Choice.{Candidate, choice, next_to_act}
 use Rattle.nova_model.specs.Delegations.{reach}
 use Rattle.nova_model.specs.Runs.{run, trace}
@@ -28,6 +25,7 @@ use Rattle.law_leases.specs.declared.commit.CommitDone.{CommitDone}
 use Rattle.law_leases.specs.declared.commit.CommitDone.TheVariants.{Away, Committed, Dropped}
 use Rattle.law_leases.specs.declared.steps.Page.{Page}
 use Rattle.law_leases.specs.declared.steps.Steps.{Steps}
+pub use Rattle.nova_turn.specs.Homes.{home_of as domain_of_virtual}
 use Rattle.nova_burst.specs.Copies.{known_in}
 use Rattle.nova_burst.specs.declared.copies.Known.{Known}
 
@@ -37,11 +35,6 @@ pub record LeaseView : Type 0 where
   pub known : List Known
 
 -- WHERE A LEASE MAY BE HAD
-
--- the protection domain of a virtual CPU
-abbrev pub domain_of_virtual : Option Object → Option ℕ
-domain_of_virtual (Some (Ec pd cpu Vcpu event)) = Some pd
-domain_of_virtual other = None
 
 abbrev pub is_ready : State → Bool
 is_ready Ready = true

@@ -1,8 +1,8 @@
 -- The form of the command line, and what words give to it.
-use Rattle.std.specs.Prelude.{List, [], ◌∷◌, codes, Option, Some, fold, option_map}
+use Rattle.std.specs.Prelude.{List, [], ◌∷◌, codes, Option, Some, fold}
 use Rattle.clap.specs.Walk.{Row, Rule, first_of}
 use Rattle.clap.specs.Simple.{App, new_app, new_rule, with_rule}
-use Rattle.nova_command.specs.Parsing.{Text, rows_given}
+use Rattle.nova_command.specs.Parsing.{Text, given_by}
 
 -- `--limit N`, one million where it is not given
 abbrev pub limit_option : Rule
@@ -34,4 +34,4 @@ given_in rows = record {
 
 -- what words give to the form, where the first of them is the program's name, or nothing
 unfoldable pub given : List Text → Option Given
-given words = option_map given_in (rows_given form words)
+given = given_by given_in form

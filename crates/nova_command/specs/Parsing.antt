@@ -1,5 +1,5 @@
 -- Words against the form of a command line.
-use Rattle.std.specs.Prelude.{◌≡◌, ℕ, true, List, [], ◌∷◌, Option, Some, None}
+use Rattle.std.specs.Prelude.{◌≡◌, ℕ, true, List, [], ◌∷◌, Option, Some, None, option_map}
 use Rattle.clap.specs.Faults.{fault_of, is_simple_and_free}
 use Rattle.clap.specs.Kinds.{Kinds}
 use Rattle.clap.specs.Simple.{App, is_simple, matches_of}
@@ -22,3 +22,7 @@ unless_fault (kind ∷ kinds) rows = None
 -- what words give to each argument of a form, where the first of them is the program's name, or nothing
 unfoldable pub rows_given : App → List Text → Option (List Row)
 rows_given form words = unless_fault (fault_of form words) (matches_of form words)
+
+-- the same, seen by what is made of them
+abbrev pub given_by : {G : Type 0} → (List Row → G) → App → List Text → Option G
+given_by made form words = option_map made (rows_given form words)

@@ -10,11 +10,9 @@ use Rattle.nova_model.specs.declared.event.Turn.TheVariants.{Stepped}
 use Rattle.law_turns.specs.Keeping.{IsKept}
 use Rattle.law_sameness.specs.Counts.{Counts, IsFresh, counts_after, counts_of, first_stamp, stamp_in}
 use Rattle.law_sameness.specs.States.{AreZero}
+use Rattle.law_sameness.proofs.Counted.{made_counts}
 use Rattle.nova_compare.specs.Steps.{IsAfter, IsSuccessor}
 use Rattle.nova_compare.specs.Vertices.{IsBooted, IsVertex}
-
-abbrev made_counts : List ℕ → List (Option ℕ) → ℕ → ℕ → Counts
-made_counts clocks stamps next id = record { clocks = clocks; stamps = stamps; next_stamp = next; next_id = id }
 
 pub boot_counts : (k : KernelState) (clocks : List ℕ) (stamps : List (Option ℕ)) (id : ℕ) → ((s : Scenario) → IsFresh (boot s)) → IsBooted k → clocks ≡ replicate k.cpus 0 →
     stamps ≡ map first_stamp k.objects → id ≡ k.consoles + 1 + length k.objects → record { clocks = clocks; stamps = stamps; next_stamp = 1; next_id = id } ≡ counts_of k

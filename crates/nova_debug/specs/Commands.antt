@@ -1,11 +1,10 @@
 -- What a line asks: its words, the verb, and the command.
-use Rattle.std.specs.Prelude.{ℕ, List, [], ◌∷◌, codes, Option, Some, None, option_map}
+use Rattle.std.specs.Prelude.{ℕ, List, [], ◌∷◌, codes, Option, Some, None}
 use Rattle.std.specs.List.{find}
 use Rattle.std.specs.Option.{option_and_then}
-use Rattle.std.specs.Result.{result_ok}
 use Rattle.std.specs.Str.{bytes_eq}
-use Rattle.nova_text.specs.Number.{number, u32_of}
 use Rattle.nova_text.specs.Token.{texts_of, tokens}
+pub use Rattle.nova_text.specs.Number.{number_of, numbers_of}
 use Rattle.nova_debug.specs.declared.verb.Verb.{Verb}
 use Rattle.nova_debug.specs.declared.verb.Verb.TheVariants as verb
 use Rattle.nova_debug.specs.declared.command.Command.{Command}
@@ -15,15 +14,6 @@ use Rattle.nova_telling.specs.declared.reading.Reading.TheVariants.{Place, Instr
 -- the words of a line, before its comment
 abbrev pub words_of : List ℕ → List (List ℕ)
 words_of line = texts_of (tokens 0 line)
-
--- the number below 2 ^ 32 that a word writes
-abbrev pub number_of : List ℕ → Option ℕ
-number_of word = result_ok (u32_of (number word))
-
--- the numbers that words write, where each writes one
-abbrev pub numbers_of : List (List ℕ) → Option (List ℕ)
-numbers_of [] = Some []
-numbers_of (word ∷ words) = option_and_then (λ n. option_map (λ ns. n ∷ ns) (numbers_of words)) (number_of word)
 
 -- the verbs
 abbrev pub verbs : List Verb

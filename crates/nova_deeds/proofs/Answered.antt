@@ -23,7 +23,7 @@ use Rattle.nova_choice.proofs.Serving.{IsServing}
 pub parked_local : (is_local : ℕ → Bool) (cs : Contexts) (c h : ℕ) → IsReached cs c h → AreServed is_local cs → is_local h ≡ true
 parked_local is_local cs c h reached served = ((served.well h).parked reached.parked).1
 
-parked_is : (o : Option State) → is_parked o ≡ true → o ≡ Some Parked
+pub parked_is : (o : Option State) → is_parked o ≡ true → o ≡ Some Parked
 parked_is (Some Parked) is = refl
 parked_is None is = absurd cc
 parked_is (Some other) is = absurd cc

@@ -12,6 +12,8 @@ use Rattle.nova_sched.specs.Queues.{Schedule, charged_schedule, charged_by, queu
 use Rattle.nova_sched.specs.declared.queued.Queued.{Queued}
 use Rattle.nova_choice.specs.Schedules.{AreQueued, budgets_of, leads, wanted, wanted_with}
 use Rattle.nova_choice.proofs.Budgets.{budgets_set}
+use Rattle.nova_choice.proofs.Marks.{with_budgets}
+use Rattle.nova_sched.specs.Lists.{paid as paid_entry}
 use Rattle.nova_deeds.specs.Stirs.{risen_in}
 use Rattle.nova_choice.proofs.Joins.{get_set_other, get_set_same}
 
@@ -38,10 +40,6 @@ held cs None b e h = absurd cc
 
 pub held_by : (k : KernelState) (s : Schedule) (sc : ℕ) (e : Queued) → AreQueued k s → queued_at s sc ≡ Some e → IsHeld (slice_get k.objects sc) (budget_at k sc) k.contexts e
 held_by k s sc e queued there = held k.contexts (slice_get k.objects sc) (budget_at k sc) e (sym (queued.entries sc) ∙ there)
-
--- the entry after the charge
-abbrev paid_entry : Queued → ℕ → Queued
-paid_entry e stamp = record e { budget = budget_after (is_spent e.budget) e.quantum stamp e.budget }
 
 charged_is : (s : Schedule) (sc : ℕ) (e : Queued) → queued_at s sc ≡ Some e →
     charged_schedule s sc ≡ record s { entries = slice_set s.entries sc (Some (paid_entry e s.next_stamp)); next_stamp = stamp_after (is_spent e.budget) s.next_stamp }
@@ -108,10 +106,6 @@ charged_queued k s cpu sc e queued there =
     (subst (λ (o : Option Budget). AreQueued (counted (paid_by k sc (quantum_in (slice_get k.objects sc)) o) cpu)
     (record s { entries = slice_set s.entries sc (Some (paid_entry e s.next_stamp)); next_stamp = stamp_after (is_spent e.budget) s.next_stamp }))
     (sym (held_by k s sc e queued there).budget) (paid_queued k s cpu sc e queued there))
-
--- the state with other budgets and another stamp
-with_budgets : KernelState → List (Option Budget) → ℕ → KernelState
-with_budgets k budgets stamp = record k { budgets = budgets; next_stamp = stamp }
 
 pub paid_shown : (k : KernelState) (s after : Schedule) (count sc : ℕ) → AreQueued k s → k.budgets ≡ budgets_of s count → IsSome (queued_at s sc) → after ≡ charged_schedule s sc →
     record k { budgets = budgets_of after count; next_stamp = after.next_stamp } ≡ paid_by k sc (quantum_in (slice_get k.objects sc)) (budget_at k sc)

@@ -4,6 +4,7 @@ use Rattle.std.specs.Prelude.{Bool, true, false, not, ◌&&◌, ◌||◌, Option
 use Rattle.std.specs.List.{list_any}
 use Rattle.std.proofs.lemmas.List.{drop_more}
 use Rattle.nova_model.specs.State.{entry}
+use Rattle.law_forest.proofs.Plain.{and_false as none_true, and_true as both_true}
 use Rattle.nova_deeds.specs.StirCounts.{count_in, risen, risen_from}
 use Rattle.nova_deeds.specs.StirCounts.{numbers_from, risen_at}
 
@@ -135,17 +136,9 @@ within (o ∷ counts) (suc g) count there = let h = within counts g count there 
 abbrev pub but : (ℕ → Bool) → List ℕ → ℕ → Bool
 but stirs left g = stirs g && not (is_in g left)
 
-none_true : (t : Bool) → (t && false) ≡ false
-none_true true = refl
-none_true false = refl
-
 or_false : (t : Bool) → (t || false) ≡ t
 or_false true = refl
 or_false false = refl
-
-both_true : (t : Bool) → (t && true) ≡ t
-both_true true = refl
-both_true false = refl
 
 pub but_all : (stirs : ℕ → Bool) (counts : List (Option ℕ)) → counts ≡ risen_from (but stirs (drop 0 (numbers_from 0 counts))) 0 counts
 but_all stirs counts =

@@ -1,27 +1,24 @@
 -- Whom a deed stirs, by what is left after it, and by what was before: the same.
 use Rattle.std.proofs.Common.{◌≡◌, ℕ, zero, suc, ◌+◌, ◌==◌, List, [], ◌∷◌, length, refl, ap, ap₂, ◌∙◌, arith}
 use Rattle.std.specs.Prelude.{Bool, true, false, ◌&&◌, nat_lt, if◌then◌else◌, Option, Some, None, is_some, option_map, option_and_then, slice_get}
-use Rattle.std.proofs.lemmas.List.{length-set}
 use Rattle.rv_model.specs.Step.{Once, Raised, Went, Store}
 use Rattle.nova_guest.specs.declared.input.Input.{Input}
 use Rattle.nova_range.specs.Rights.{write_right}
 use Rattle.nova_model.specs.AddressSpaces.{AddressSpace, frame_for, stored_at}
 use Rattle.nova_model.specs.Deeds.{address_space, done, instruction, memory_after, stepped}
 use Rattle.nova_model.specs.Inputs.{foreign_at, foreign_by, in_ram, input_of, is_covered_for, is_outside, is_stirred, only_if, others_input, own_input, store_of, stirred, stirred_count, stirred_from}
-use Rattle.nova_model.specs.Memory.{Memory, written_in}
+use Rattle.nova_model.specs.Memory.{Memory}
 use Rattle.nova_model.specs.State.{KernelState, pd_of}
 use Rattle.nova_model.specs.Views.{is_memory_of}
 use Rattle.nova_model.specs.declared.context.Mark.TheVariants as mark
 use Rattle.nova_model.specs.declared.deed.Deed.{Deed}
 use Rattle.nova_model.specs.declared.deed.Deed.TheVariants.{Steps, Raises, Dies, Sends, Recalls, Gives, Removes, Finishes, Replies, Aborts}
 use Rattle.nova_model.specs.declared.transfer.Sequel.TheVariants.{Replied}
+use Rattle.law_turns.proofs.Stirring.{outside as from_outside}
+use Rattle.law_forest.proofs.Plain.{length-written_in as written_length}
 use Rattle.nova_deeds.proofs.Calm.{with_guests}
 use Rattle.nova_deeds.specs.Stirs.{frame_at, is_seen, is_stirring, stirs_itself, stirs_other, written_frame}
 use Rattle.nova_deeds.specs.StirCounts.{risen, risen_from}
-
--- an input from outside
-abbrev from_outside : Option Input → Bool
-from_outside o = is_some (option_and_then (λ i. only_if (is_outside i) i) o)
 
 -- ITS OWN DEED
 
@@ -57,11 +54,6 @@ seen_by : (k : KernelState) (ec pd : ℕ) (o : Option Store) →
     is_seen k pd (option_and_then (frame_at k ec) o) ≡ from_outside (option_and_then (foreign_by k ec pd) o)
 seen_by k ec pd None = refl
 seen_by k ec pd (Some s) = seen_at k pd s (frame_for (address_space k ec) write_right s.address)
-
--- a store leaves the number of RAM frames
-written_length : (m : Memory) (o : Option (List ℕ)) (frame offset width value : ℕ) → length (written_in m o frame offset width value).ram ≡ length m.ram
-written_length m (Some bytes) frame offset width value = length-set m.ram frame _
-written_length m None frame offset width value = refl
 
 stored_length : (m : Memory) (s : Store) (o : Option ℕ) → length (stored_at m s o).ram ≡ length m.ram
 stored_length m s None = refl

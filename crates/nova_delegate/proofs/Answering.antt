@@ -21,7 +21,7 @@ use Rattle.nova_model.specs.declared.delegation.Derivation.{Derivation}
 use Rattle.law_forest.proofs.Members.{found_in, in_from_contains, contains_from_in}
 use Rattle.nova_nodes.specs.NodesStates.{IsPlaced, IsSound}
 use Rattle.nova_nodes.proofs.Found.{find_none, not_found}
-use Rattle.nova_nodes.proofs.Indexed.{kind_itself, same_kinds}
+use Rattle.law_forest.proofs.Plain.{kind_itself, same_kind as same_kinds}
 use Rattle.nova_delegate.specs.Answered.{Reads, Holds, IsNearest, IsAnswer, HasNoAnswer, no_item, no_window, not_held, no_ancestor, outside}
 use Rattle.nova_delegate.specs.Translations.{IsSeen}
 use Rattle.nova_delegate.proofs.Alike.{smaller_common, seen_alike, seen_has_word, rights_common}

@@ -9,12 +9,8 @@ use Rattle.nova_model.specs.Forest.{IsFitting}
 use Rattle.nova_model.specs.declared.transfer.Job.{Job}
 use Rattle.nova_model.specs.declared.transfer.Reason.{Reason}
 use Rattle.nova_nodes.specs.NodesStates.{IsPlaced}
-use Rattle.nova_range.specs.Ranges.{IsRange, end_of}
-
--- source and destination are ranges
-pub record IsUnderWay (j : Job) : Type 0 where
-  pub source : IsRange (source_of j)
-  pub dest : IsRange (dest_of j)
+use Rattle.nova_range.specs.Ranges.{end_of}
+pub use Rattle.law_forest.specs.Items.{AreRanges as IsUnderWay}
 
 -- ahead of the cursor: the giver's, of the item's kind, at or after the cursor, with some place at or after the source's first
 abbrev pub is_ahead : Job → Derivation → Bool

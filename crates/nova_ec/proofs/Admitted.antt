@@ -1,6 +1,6 @@
 -- Whom a call or an exit reaches, in words: each answer, and where it comes.
 use Rattle.std.proofs.Common.{◌≡◌, ◌⊎◌, inl, inr, ℕ, ap, refl, arith, IsSome}
-use Rattle.std.specs.Prelude.{◌↔◌, Bool, true, false, ◌||◌, not, Option, Some, None, option_map, if◌then◌else◌}
+use Rattle.std.specs.Prelude.{◌↔◌, Bool, true, false, ◌||◌, not, Option, Some, None, if◌then◌else◌}
 use Rattle.std.proofs.lemmas.Bool.{both_ways, or_cases, or_parts}
 use Rattle.nova_range.specs.declared.status.Status.TheVariants.{BadCpu, Aborted, Timeout}
 use Rattle.nova_model.specs.Calls.{admitted, exit_admitted, is_same_cpu, is_parked}
@@ -14,6 +14,7 @@ use Rattle.nova_model.specs.declared.context.EcState.{EcState}
 use Rattle.nova_model.specs.declared.context.State.{State}
 use Rattle.nova_model.specs.declared.context.State.TheVariants.{Dead, Parked}
 use Rattle.nova_ec.specs.Handlers.{AreTogether, IsLost, MayReply, IsWaiting}
+use Rattle.nova_ec.specs.Entries.{cpu_at}
 
 -- TESTS
 
@@ -33,10 +34,7 @@ Says cs e h true true p = AreTogether cs e h × IsLost cs e h
 Says cs e h true false true = MayReply cs e h × IsWaiting cs h
 Says cs e h true false false = MayReply cs e h × (IsWaiting cs h → ⊥)
 
--- of two entries, as their processors compare
-abbrev pub cpu_at : Option EcState → Option ℕ
-cpu_at o = option_map (λ (x : EcState). x.cpu) o
-
+-- two entries, as their processors compare
 same_yes : (o p : Option EcState) → is_same_cpu (cpu_at p) (cpu_at o) ≡ true → IsSome o × (cpu_at p ≡ cpu_at o)
 same_yes (Some x) (Some y) h = (refl, ap Some (let s : y.cpu ≡ x.cpu = grind (arith, h) in s))
 same_yes None (Some y) h = absurd cc

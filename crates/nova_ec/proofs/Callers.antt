@@ -1,16 +1,13 @@
 -- Callers of a table of execution contexts stay sound where one changes and where one joins.
 use Rattle.std.proofs.Common.{◌≡◌, ℕ, zero, suc, [], ◌∷◌, ◌++◌, ap, sym, ◌∙◌, subst, inl, inr, refl, arith}
-use Rattle.std.specs.Prelude.{Bool, true, false, ◌==◌, ◌≢◌, ◌⊎◌, Option, Some, None, IfSome, slice_set, option_map, option_and_then}
+use Rattle.std.specs.Prelude.{Bool, true, false, ◌==◌, ◌≢◌, ◌⊎◌, Option, Some, None, IfSome, slice_set, option_map}
 use Rattle.nova_model.specs.State.{Contexts, ec_in}
 use Rattle.nova_model.specs.Edges.{cpu_in, caller_in, AreCallers, MayServe}
 use Rattle.nova_model.specs.declared.context.EcState.{EcState}
 use Rattle.nova_model.specs.declared.context.Mark.{Mark}
+use Rattle.nova_ec.specs.Entries.{caller_at}
 use Rattle.nova_ec.specs.Tables.{MayBecome, IsServing}
 use Rattle.nova_ec.proofs.Tables.{ec_in-set_same, ec_in-set_other, cpu-set, cpu-more}
-
--- the caller of an entry
-abbrev caller_at : Option EcState → Option (ℕ × Mark)
-caller_at o = option_and_then (λ (x : EcState). x.caller) o
 
 caller_there : (cs : Contexts) (e : ℕ) (x : EcState) → ec_in cs e ≡ Some x → caller_in cs e ≡ x.caller
 caller_there cs e x there = ap caller_at there

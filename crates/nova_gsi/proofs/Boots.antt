@@ -10,6 +10,7 @@ use Rattle.nova_model.specs.declared.times.AlarmState.{AlarmState}
 use Rattle.law_forest.proofs.Boots.{sources_keep}
 use Rattle.law_turns.proofs.Setting.{joined_length}
 use Rattle.law_turns.proofs.TablesFit.{boot_fits}
+use Rattle.law_isolation.proofs.Ranges.{images_cpus, images_objects}
 use Rattle.nova_gsi.specs.Firings.{alarms_from, alarms_of, unrung}
 use Rattle.nova_gsi.proofs.Places.{IsAt}
 
@@ -32,10 +33,6 @@ pub images_alarms : (k : KernelState) (images : List Image) → (with_images k i
 images_alarms k [] = refl
 images_alarms k (image ∷ images) = images_alarms (with_image k image) images
 
-images_objects : (k : KernelState) (images : List Image) → (with_images k images).objects ≡ k.objects
-images_objects k [] = refl
-images_objects k (image ∷ images) = images_objects (with_image k image) images
-
 pub boot_alarms : (s : Scenario) → (boot s).times.alarms ≡ map unrung (alarms_of s)
 boot_alarms s =
     let k = with_images (bare s.cpus s.ram s.consoles s.root) s.images in
@@ -53,10 +50,6 @@ pub boot_clock : (s : Scenario) (cpu : ℕ) → clock (boot s).times cpu ≡ 0
 boot_clock s =
     sources_keep (λ (k : KernelState). (cpu : ℕ) → clock k.times cpu ≡ 0) (λ k source h. h) (with_images (bare s.cpus s.ram s.consoles s.root) s.images) s.sources
     (λ cpu. ap (λ (t : Times). clock t cpu) (images_alarms (bare s.cpus s.ram s.consoles s.root) s.images) ∙ zeros s.cpus cpu)
-
-images_cpus : (k : KernelState) (images : List Image) → (with_images k images).cpus ≡ k.cpus
-images_cpus k [] = refl
-images_cpus k (image ∷ images) = images_cpus (with_image k image) images
 
 pub boot_cpus : (s : Scenario) → (boot s).cpus ≡ s.cpus
 boot_cpus s =

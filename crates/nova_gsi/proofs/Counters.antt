@@ -21,6 +21,7 @@ use Rattle.law_forest.specs.Turns.{Acts, Idles, IsPassing, IsTurning, Passes, Ta
 use Rattle.law_forest.proofs.Turning.{acts_chosen, comes, idle_none, nothing_due, passing_none}
 use Rattle.law_turns.proofs.Referring.{Asks, deed_asks}
 use Rattle.law_turns.proofs.Setting.{entry_itself, entry_kept, entry_other}
+use Rattle.nova_sem.proofs.Waiting.{woken_if as full_or}
 use Rattle.nova_gsi.specs.Counters.{Ends, IsBalanced, ends_at, ends_by, ends_by_deed, no_ends, woken_ends}
 
 -- the semaphore is there after it, and its counter with the downs is what it was with the ups and the alarms
@@ -61,10 +62,6 @@ changes change all at sm s e there counts = by_test (at == sm) refl
     by_test false is =
         let differs : sm ≢ at = λ same. let e : (at == sm) ≡ true = rw same (grind arith) in absurd (cc) in
         still (changed change all at) sm s (changed_other change all at sm differs ∙ there)
-
--- an up where nobody waits
-abbrev full_or : Bool → Result (Option ℕ) Overflow
-full_or t = if t then Err (record {}) else Ok None
 
 up_counts : (count : ℕ) (waiting : List ℕ) (whom : Option ℕ) → woken_of count waiting ≡ Ok whom → (raised_with count waiting).count + woken_ends whom ≡ count + 1
 up_counts count (w ∷ ws) whom is = let same : Some w ≡ whom = cc in ap (λ (o : Option ℕ). count + woken_ends o) (sym same)

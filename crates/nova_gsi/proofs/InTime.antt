@@ -13,13 +13,13 @@ use Rattle.nova_model.specs.declared.times.Due.TheVariants as due
 use Rattle.law_forest.specs.Effects.{Falls}
 use Rattle.law_forest.proofs.Turning.{after_keeps, passing_none}
 use Rattle.law_turns.specs.Moments.{IsDueOn, IsFirstEntry}
-use Rattle.law_turns.proofs.Alarms.{on_time}
+use Rattle.law_turns.proofs.Alarms.{AreOnTime, on_time}
 use Rattle.law_turns.proofs.Dues.{due_is}
 use Rattle.law_turns.proofs.Links.{place}
 use Rattle.law_turns.proofs.Moments.{first_entry}
 use Rattle.law_turns.proofs.Passes.{run_append}
 use Rattle.nova_gsi.specs.Deadlines.{IsNoLater, entry_of, turns_before}
-use Rattle.nova_gsi.proofs.Standing.{AreOnTime, Nears, clock_more, due_fewer, least_deadline, not_calm, other_before, turn_nears}
+use Rattle.nova_gsi.proofs.Standing.{Nears, clock_more, due_fewer, least_deadline, not_calm, other_before, turn_nears}
 
 -- WHAT COMES FIRST
 

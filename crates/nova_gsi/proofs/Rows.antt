@@ -14,10 +14,10 @@ use Rattle.nova_model.specs.Sources.{Source}
 use Rattle.nova_model.specs.State.{KernelState, deadline_of}
 use Rattle.nova_model.specs.Times.{clock, next_entry}
 use Rattle.nova_model.specs.Turn.{charged, turn}
-use Rattle.nova_model.specs.declared.event.Event.{Event}
 use Rattle.nova_model.specs.declared.event.EventKind.{EventKind}
 use Rattle.nova_model.specs.declared.event.EventKind.TheVariants as event
 use Rattle.nova_model.specs.declared.times.Deadline.{Deadline}
+use Rattle.law_turns.proofs.RowsComputed.{shown}
 use Rattle.nova_gsi.specs.Counters.{total}
 use Rattle.nova_gsi.specs.Deadlines.{turns_before}
 use Rattle.nova_gsi.specs.Firings.{alarms_of, line, table}
@@ -34,9 +34,6 @@ row sources = record {
 
 abbrev once : Source
 once = record { cpu = 0; first = 6; period = 1; count = 1 }
-
-abbrev shown : Event → ℕ × ℕ × EventKind × ℕ × ℕ
-shown e = (e.sc, e.ec, e.kind, e.a, e.b)
 
 abbrev s : ℕ × ℕ × EventKind × ℕ × ℕ
 s = (2, 1, event.Step, 0, 0)

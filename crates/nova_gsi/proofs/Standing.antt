@@ -2,7 +2,6 @@
 use Rattle.std.proofs.Common.{◌≡◌, ℕ, zero, suc, ◌+◌, ◌<◌, ◌≤◌, List, [], ◌∷◌, refl, sym, ap, ◌∙◌, subst, inl, inr, arith}
 use Rattle.std.specs.Prelude.{◌≢◌, ◌⊎◌, ◌==◌, Bool, true, false, nat_le, nat_lt, filter, length, Contains, slice_get, slice_index, slice_set, if◌then◌else◌, Option, Some, None, IfSome, option_map}
 use Rattle.std.proofs.lemmas.Bool.{eqb-true, eq-eqb}
-use Rattle.nova_range.specs.declared.status.Status.{Status}
 use Rattle.nova_model.specs.Choice.{Candidate, next_to_act}
 use Rattle.nova_model.specs.Deeds.{deed}
 use Rattle.nova_model.specs.Runs.{after}
@@ -20,13 +19,15 @@ use Rattle.law_forest.specs.Effects.{Falls, Passing, Ticks, alarms_with, clears_
 use Rattle.law_forest.specs.Turns.{Acts, Idles, IsPassing, IsTurning, Passes, Takes, Turning, acting, passing, turned}
 use Rattle.law_forest.proofs.Turning.{acts_chosen, comes}
 use Rattle.law_forest.proofs.Walk.{IsDeadlineOf}
-use Rattle.law_turns.specs.Moments.{HasAlarm, HasDeadline, IsDueOn, IsFirstEntry, IsOnTime}
+use Rattle.law_turns.specs.Moments.{HasAlarm, HasDeadline, IsDueOn, IsFirstEntry}
 use Rattle.law_turns.proofs.Deadlines.{cleared}
 use Rattle.law_turns.proofs.Dues.{due_is}
 use Rattle.law_turns.proofs.Links.{place}
 use Rattle.law_turns.proofs.Moments.{early_far, first_entry, has_entries}
 use Rattle.law_turns.proofs.Referring.{Asks, deed_asks}
-use Rattle.law_turns.proofs.Setting.{entry_joined, entry_set}
+use Rattle.law_turns.proofs.Setting.{entry_set}
+use Rattle.law_leases.proofs.Nearing.{ends_clear, joined_was}
+use Rattle.law_turns.proofs.Alarms.{AreOnTime}
 use Rattle.nova_gsi.specs.Deadlines.{all_rings_left, deadlines_before, entry_of, turns_before}
 use Rattle.nova_gsi.specs.Firings.{moment}
 use Rattle.nova_gsi.proofs.Counted.{alarms_once, cleared_counted, cleared_fewer, counted, counted_one, ends_fewer, joined_entries, one_if, rings_now, set_fewer}
@@ -52,18 +53,6 @@ deed_sets k ec n (Blocks sm (Some d)) x asks is = elim (entry_set k.times.deadli
   | inr other ↦ inl other.1
 ]
 deed_sets k ec n other x asks is = inl is
-
-joined_was : (ds : List (Option Deadline)) (made : Option NewObject) (n : ℕ) (x : Deadline) → entry (slice_get (joined ds (option_map no_deadline made)) n) ≡ Some x →
-    entry (slice_get ds n) ≡ Some x
-joined_was ds None n x is = is
-joined_was ds (Some m) n x is = elim (entry_joined ds None n x is) [
-  | inl there ↦ there
-  | inr new ↦ absurd (let none = new.1 in cc)
-]
-
-ends_clear : (ds : List (Option Deadline)) (o : Option (ℕ × Status)) (n : ℕ) (x : Deadline) → entry (slice_get (deadlines_with ds (clears_by o)) n) ≡ Some x → entry (slice_get ds n) ≡ Some x
-ends_clear ds None n x is = is
-ends_clear ds (Some (w, status)) n x is = (cleared ds w n x is).1
 
 -- in a turn
 pub record IsSet (k : KernelState) (cpu ec : ℕ) (d : Deadline) : Type 0 where
@@ -134,9 +123,6 @@ other_before w ec m at other (inr same) =
     by_test false is least = absurd (let same : w ≡ ec = grind (arith, is, least) in other same)
 
 -- EACH TURN
-
-abbrev pub AreOnTime : List AlarmState → Type 0
-AreOnTime alarms = (i : ℕ) (a : AlarmState) → slice_get alarms i ≡ Some a → IsOnTime a
 
 -- fewer are due before it, by one where the turn is of its processor
 abbrev Fewer : KernelState → ℕ → ℕ → Deadline → List AlarmState → List (Option Deadline) → Type 0

@@ -20,6 +20,7 @@ use Rattle.law_forest.proofs.Turning.{after_keeps, comes}
 use Rattle.law_turns.proofs.Alarms.{source_more, turned_same}
 use Rattle.law_turns.proofs.Setting.{more_at}
 use Rattle.nova_times.specs.Kept.{IsAlarm}
+use Rattle.law_isolation.proofs.Ranges.{sources_frames as sources_memory}
 use Rattle.nova_kernel.specs.Begun.{AreCalm, IsAtBoot, IsBegun, sources_of}
 
 -- WITHOUT IMAGES
@@ -51,10 +52,6 @@ images_more k (x ∷ images) i = images_more (with_image k x) images i
 sources_laid : (k : KernelState) (sources : List Source) (m : Memory) → with_sources (record k { memory = m }) sources ≡ record (with_sources k sources) { memory = m }
 sources_laid k [] m = refl
 sources_laid k (s ∷ sources) m = sources_laid (with_source k s) sources m
-
-sources_memory : (k : KernelState) (sources : List Source) → (with_sources k sources).memory ≡ k.memory
-sources_memory k [] = refl
-sources_memory k (s ∷ sources) = sources_memory (with_source k s) sources
 
 image_more : (b : Scenario) (i : Image) → boot (record b { images = b.images ++ i ∷ [] }) ≡ with_image (boot b) i
 image_more b i =

@@ -1,7 +1,7 @@
 -- Turns that are taken in one call.
 use Rattle.std.proofs.Common.{◌≡◌, ◌+◌, ◌++◌, ◌≤◌, ◌∙◌, ℕ, List, [], ◌∷◌, ap, ap₂, sym, refl, arith}
 use Rattle.std.proofs.lemmas.List.{replicate-append-replicate}
-use Rattle.std.specs.Prelude.{Option, Some, None, Result, Ok, Err, IfOk, OnErr, option_map, replicate}
+use Rattle.std.specs.Prelude.{Some, Result, Ok, Err, IfOk, OnErr, option_map, replicate}
 use Rattle.law_turns.proofs.Passes.{run_append}
 use Rattle.nova_model.specs.Choice.{in_front}
 use Rattle.nova_model.specs.Runs.{after, run, trace}
@@ -10,6 +10,7 @@ use Rattle.nova_model.specs.Turn.{Step, turn}
 use Rattle.nova_model.specs.declared.event.Event.{Event}
 use Rattle.nova_model.specs.declared.event.Turn.{Turn}
 use Rattle.nova_model.specs.declared.event.Turn.TheVariants.{Stepped, Idle}
+use Rattle.law_leases.proofs.Riding.{in_front_append}
 use Rattle.nova_kernel.specs.Rides.{after_turns, last_turns}
 use Rattle.nova_kernel.specs.Views.{KernelView, turns_taken}
 
@@ -28,10 +29,6 @@ last_counted old new (Err e) counted refused = let same = ap (λ (v : KernelView
 
 pub turns_more : (n m : ℕ) (k : KernelState) (cpu : ℕ) → after_turns k cpu (n + m) ≡ after_turns (after_turns k cpu n) cpu m
 turns_more n m k cpu = ap (run k) (sym (replicate-append-replicate n m cpu)) ∙ run_append k (replicate n cpu) (replicate m cpu)
-
-in_front_append : (o : Option Event) (xs ys : List Event) → in_front o (xs ++ ys) ≡ in_front o xs ++ ys
-in_front_append None xs ys = refl
-in_front_append (Some e) xs ys = refl
 
 trace_append : (k : KernelState) (xs ys : List ℕ) → trace k (xs ++ ys) ≡ trace k xs ++ trace (run k xs) ys
 trace_append k [] ys = refl

@@ -23,7 +23,7 @@ use Rattle.law_leases.specs.Paging.{charged_at_once, charged_times}
 use Rattle.law_leases.specs.Rides.{rides}
 use Rattle.law_leases.proofs.Advanced.{set_there}
 use Rattle.law_leases.proofs.Paid.{charged_all}
-use Rattle.law_leases.proofs.Riding.{IsRidden, ridden}
+use Rattle.law_leases.proofs.Riding.{IsRidden, in_front_append, ridden}
 use Rattle.nova_choice.specs.Choices.{chosen_of}
 use Rattle.nova_choice.specs.Schedules.{AreQueued, budgets_of, is_ready}
 use Rattle.nova_choice.specs.declared.choice.Chosen.{Chosen}
@@ -254,10 +254,6 @@ module _ (p q r : Parts) (cpu : ℕ) (chosen : Chosen) (x y : Registers) (n most
       }
 
 -- SEVERAL QUANTA
-
-in_front_append : (o : Option Event) (xs ys : List Event) → in_front o (xs ++ ys) ≡ in_front o xs ++ ys
-in_front_append None xs ys = refl
-in_front_append (Some e) xs ys = refl
 
 trace_append : (k : KernelState) (xs ys : List ℕ) → trace k (xs ++ ys) ≡ trace k xs ++ trace (run k xs) ys
 trace_append k [] ys = refl

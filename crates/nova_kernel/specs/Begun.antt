@@ -1,21 +1,16 @@
 -- How a kernel begins, and the sources that it has.
-use Rattle.std.specs.Prelude.{◌≡◌, ℕ, ◌+◌, ◌≤◌, List, length, map, None, option_and_then}
+use Rattle.std.specs.Prelude.{◌≡◌, ◌+◌, ◌≤◌, List, length, map}
 use Rattle.std.specs.List.{AllByRecursion}
 use Rattle.nova_model.specs.Boot.{Scenario, boot}
-use Rattle.nova_model.specs.Running.{revoke_by}
-use Rattle.nova_model.specs.State.{KernelState, context_at}
-use Rattle.nova_model.specs.declared.context.EcState.{EcState}
+use Rattle.nova_model.specs.State.{KernelState}
 use Rattle.nova_model.specs.declared.times.Alarm.{Alarm}
 use Rattle.nova_model.specs.declared.times.AlarmState.{AlarmState}
 use Rattle.nova_times.specs.Kept.{IsAlarm}
+pub use Rattle.law_turns.specs.Revoking.{AreCalm}
 
 -- the alarms, as they were added
 abbrev pub sources_of : KernelState → List Alarm
 sources_of k = map (λ (a : AlarmState). a.alarm) k.times.alarms
-
--- no revoke runs, whatever the protection domain
-abbrev pub AreCalm : KernelState → Type 0
-AreCalm k = (pd ec : ℕ) → option_and_then (λ (x : EcState). revoke_by pd x.state) (context_at k ec) ≡ None
 
 -- it is the state of boot of a scenario; derivations have few numbers more than objects, and alarms are no more
 pub record IsAtBoot (k : KernelState) : Type 0 where

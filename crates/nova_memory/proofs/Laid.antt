@@ -1,13 +1,14 @@
 -- Pages of a machine that boots lead to frames, also when bytes were laid into RAM.
 use Rattle.std.proofs.Common.{◌∙◌, sym, subst, ◌/◌, ◌%◌, ◌≡◌, ℕ, zero, suc, ◌+◌, ◌^◌, ◌≤◌, List, [], ◌∷◌, ◌++◌, refl, arith}
-use Rattle.std.specs.Prelude.{Option, Some, None, slice_get, length, replicate, map}
+use Rattle.std.specs.Prelude.{slice_get, length, replicate, map}
 use Rattle.std.specs.List.{AllByRecursion, range_with_len}
-use Rattle.std.proofs.lemmas.List.{length-replicate, length-set}
+use Rattle.std.proofs.lemmas.List.{length-replicate}
 use Rattle.std.proofs.Math.Pow.{pow_mono}
 use Rattle.nova_model.specs.Boot.{laid, root_derivations, console_derivation, object_derivation}
-use Rattle.nova_model.specs.Memory.{Memory, written, written_in}
+use Rattle.nova_model.specs.Memory.{Memory, written}
 use Rattle.nova_model.specs.declared.delegation.Derivation.{Derivation}
 use Rattle.nova_frames.specs.Store.{FrameStore}
+use Rattle.law_forest.proofs.Plain.{length-written_in}
 use Rattle.nova_memory.specs.Reach.{LeadsToFrames, LeadToFrames}
 
 -- an object is no page
@@ -29,11 +30,6 @@ root_leads order consoles o c = record {
         (object-leads (2 ^ order + consoles) consoles 0 1, (object-leads (2 ^ order + consoles) consoles 1 7, (object-leads (2 ^ order + consoles) consoles 2 1, tt))),
   );
 }
-
--- bytes laid into RAM leave the number of its frames
-pub length-written_in : (m : Memory) (o : Option (List ℕ)) (frame offset width value : ℕ) → length (written_in m o frame offset width value).ram ≡ length m.ram
-length-written_in m (Some bytes) frame offset width value = length-set m.ram frame _
-length-written_in m None frame offset width value = refl
 
 pub laid_length : (m : Memory) (address : ℕ) (bytes : List ℕ) → length (laid m address bytes).ram ≡ length m.ram
 laid_length m address [] = refl

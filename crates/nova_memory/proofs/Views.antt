@@ -18,7 +18,7 @@ use Rattle.nova_model.specs.Forest.{ArePairs, IsForest}
 use Rattle.nova_model.specs.Views.{cells_from, is_memory_of, map_in, map_of, maps_of}
 use Rattle.nova_model.specs.declared.delegation.Derivation.{Derivation}
 use Rattle.law_forest.proofs.Members.{IsIn, all_at, all_from, filtered_in, found_in, in_filtered}
-use Rattle.nova_nodes.proofs.Found.{not_found}
+use Rattle.nova_nodes.proofs.Found.{all_true as all_passing, not_found, true_at as all_pass}
 use Rattle.nova_nodes.proofs.Indexed.{meeting}
 use Rattle.nova_nodes.proofs.Sorted.{filter_all, filter_none}
 
@@ -246,11 +246,6 @@ held pd place d h =
     let low = b.1 in
     (and_from (is_memory d.kind) (d.pd == pd) a.0 b.0, grind (arith, low))
 
-all_pass : {T : Type 0} (p : T → Bool) (xs : List T) (x : T) → list_all p xs ≡ true → IsIn xs x → p x ≡ true
-all_pass p [] x h i = absurd i
-all_pass p (y ∷ ys) x h (inl e) = let k : p y ≡ true = grind (arith, h) in ap p (sym e) ∙ k
-all_pass p (y ∷ ys) x h (inr i) = all_pass p ys x (let k : list_all p ys ≡ true = grind (arith, h) in k) i
-
 pub least_from : (pd place : ℕ) (list : List Derivation) (d : Derivation) → first_from list Mem pd place ≡ Some d → IsLeast pd place list d
 least_from pd place list d found =
     let ds = filter (holds_from Mem pd place) list in
@@ -351,10 +346,6 @@ has_least d (e ∷ ds) = by_test (has_least e ds) (nat_le d.base (has_least e ds
         above : (b : Derivation) → IsIn (d ∷ (e ∷ ds)) b → h.of.base ≤ b.base
         above b (inl same) = let base : d.base ≡ b.base = ap (λ (x : Derivation). x.base) same in grind (arith, is, base)
         above b (inr i) = h.least b i
-
-all_passing : {T : Type 0} (p : T → Bool) (xs : List T) → ((x : T) → IsIn xs x → p x ≡ true) → list_all p xs ≡ true
-all_passing p [] h = refl
-all_passing p (x ∷ xs) h = let first = h x (inl refl) in grind (arith, first, all_passing p xs (λ y i. h y (inr i)))
 
 least_none : (ds : List Derivation) → least_by derivation.base_of ds ≡ None → ds ≡ []
 least_none [] h = refl

@@ -1,11 +1,9 @@
 -- What a line of a policy says by itself.
-use Rattle.std.specs.Prelude.{ℕ, ◌==◌, Bool, false, not, ◌&&◌, ◌||◌, if◌then◌else◌, List, [], ◌∷◌, codes, length, nat_lt, Option, Some, None, option_map, Result, Ok, Err}
+use Rattle.std.specs.Prelude.{ℕ, ◌==◌, Bool, false, not, ◌&&◌, ◌||◌, if◌then◌else◌, List, [], ◌∷◌, codes, length, nat_lt, Option, Some, None, Result, Ok, Err}
 use Rattle.std.specs.Char.{is_ascii_alphabetic, is_ascii_alphanumeric}
 use Rattle.std.specs.List.{list_all}
-use Rattle.std.specs.Option.{option_and_then}
-use Rattle.std.specs.Result.{result_ok}
 use Rattle.std.specs.Str.{bytes_eq}
-use Rattle.nova_text.specs.Number.{number, u32_of}
+pub use Rattle.nova_text.specs.Number.{number_of, numbers_of}
 use Rattle.nova_naming.specs.declared.fault.PolicyWhy.{PolicyWhy}
 use Rattle.nova_naming.specs.declared.fault.PolicyWhy.TheVariants.{Word, Name, Number, Empty}
 
@@ -22,14 +20,6 @@ is_name_byte b = is_ascii_alphanumeric b || (b == 45 || b == 95)
 abbrev pub is_name : List ℕ → Bool
 is_name [] = false
 is_name (b ∷ bs) = is_ascii_alphabetic b && (list_all is_name_byte bs && (nat_lt (length bs) 32 && not (bytes_eq (b ∷ bs) (codes "trusted"))))
-
--- the number below 2 ^ 32 that a word writes; the numbers of words, where each writes one
-abbrev pub number_of : List ℕ → Option ℕ
-number_of word = result_ok (u32_of (number word))
-
-abbrev pub numbers_of : List (List ℕ) → Option (List ℕ)
-numbers_of [] = Some []
-numbers_of (word ∷ words) = option_and_then (λ n. option_map (λ ns. n ∷ ns) (numbers_of words)) (number_of word)
 
 -- the domains that words name: one at least
 abbrev pub some_of : Option (List ℕ) → Result (List ℕ) PolicyWhy

@@ -38,11 +38,11 @@ with_its_id = member_found
 
 -- a test of all, and one of them
 
-all_true : {T : Type 0} (p : T → Bool) (xs : List T) → ((x : T) → IsIn xs x → p x ≡ true) → list_all p xs ≡ true
+pub all_true : {T : Type 0} (p : T → Bool) (xs : List T) → ((x : T) → IsIn xs x → p x ≡ true) → list_all p xs ≡ true
 all_true p [] h = refl
 all_true p (x ∷ xs) h = let first = h x (inl refl) in grind (arith, first, all_true p xs (λ y i. h y (inr i)))
 
-true_at : {T : Type 0} (p : T → Bool) (xs : List T) (x : T) → list_all p xs ≡ true → IsIn xs x → p x ≡ true
+pub true_at : {T : Type 0} (p : T → Bool) (xs : List T) (x : T) → list_all p xs ≡ true → IsIn xs x → p x ≡ true
 true_at p [] x h i = absurd i
 true_at p (y ∷ ys) x h (inl e) = let k : p y ≡ true = grind (arith, h) in ap p (sym e) ∙ k
 true_at p (y ∷ ys) x h (inr i) = true_at p ys x (let k : list_all p ys ≡ true = grind (arith, h) in k) i

@@ -6,7 +6,6 @@ use Rattle.std.proofs.lemmas.Bool.{and_from, and_parts, eqb-true, eq-eqb}
 use Rattle.std.proofs.lemmas.Nat.{pow_pos}
 use Rattle.nova_range.specs.declared.index.Entry.{Entry}
 use Rattle.nova_range.specs.declared.range.Kind.{Kind}
-use Rattle.nova_range.specs.declared.range.Kind.TheVariants.{Mem, Obj}
 use Rattle.nova_range.specs.declared.range.Range.{Range}
 use Rattle.nova_range.specs.Ranges.{overlaps}
 use Rattle.nova_range.specs.Indices as index
@@ -15,6 +14,7 @@ use Rattle.nova_model.specs.Delegations.{Delegations, covers, has_place, holds_f
 use Rattle.nova_model.specs.Forest.{AreApart, IsForest}
 use Rattle.nova_model.specs.declared.delegation.Derivation.{Derivation}
 use Rattle.law_forest.proofs.Members.{IsIn, all_at, all_from, filtered_in, in_filtered, found_in, in_from_contains}
+use Rattle.law_forest.proofs.Plain.{kind_itself, same_kind as same_kinds}
 use Rattle.nova_nodes.specs.Spaces.{SpaceState, IsIndexed, IsEntryOf, entries_at, entry_of}
 use Rattle.nova_nodes.proofs.Found.{find_only, not_found, pairs_at, with_its_id, least_only}
 pub use Rattle.nova_range.proofs.Members.{in_left}
@@ -23,16 +23,6 @@ pub use Rattle.nova_range.proofs.Sorted.{in_put}
 use Rattle.nova_nodes.proofs.Sorted.{first_least, filter_none, held, key_held}
 
 -- kinds
-
-pub same_kinds : (a b : Kind) → is_same_kind a b ≡ true → b ≡ a
-same_kinds Mem Mem h = refl
-same_kinds Mem Obj h = absurd (cc)
-same_kinds Obj Mem h = absurd (cc)
-same_kinds Obj Obj h = refl
-
-pub kind_itself : (a : Kind) → is_same_kind a a ≡ true
-kind_itself Mem = refl
-kind_itself Obj = refl
 
 -- what a test of a space says: the derivation is in it, and passes the rest
 pub record IsInSpace (pd : ℕ) (kind : Kind) (rest : Bool) (d : Derivation) : Type 0 where

@@ -12,9 +12,10 @@ use Rattle.nova_model.specs.Delegations.{Delegations, has_place, is_same_kind, r
 use Rattle.nova_model.specs.Forest.{IsForest}
 use Rattle.nova_model.specs.declared.delegation.Derivation.{Derivation}
 use Rattle.law_forest.proofs.Members.{IsIn, all_at, all_from, all_more, filtered_in, in_filtered, in_from_contains, contains_from_in}
+use Rattle.law_forest.proofs.Plain.{kind_itself, same_kind as same_kinds}
 use Rattle.nova_nodes.specs.Spaces.{SpaceState, IsIndexed, IsEntryOf, entries_at, entry_of, is_of}
 use Rattle.nova_nodes.proofs.Found.{same_id}
-use Rattle.nova_nodes.proofs.Indexed.{same_kinds, kind_itself, meeting, kept_at, in_put, put_there, put_cases, last_in}
+use Rattle.nova_nodes.proofs.Indexed.{meeting, kept_at, in_put, put_there, put_cases, last_in}
 
 -- a space that is this one
 record IsSpace (pd : ℕ) (kind : Kind) (other : ℕ) (space : Kind) : Type 0 where

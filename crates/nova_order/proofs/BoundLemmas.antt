@@ -19,7 +19,7 @@ all_same : (P : ℕ → Type 0) (n x : ℕ) → P x → AllByRecursion P (replic
 all_same P zero x is = tt
 all_same P (suc n) x is = (is, all_same P n x is)
 
-both : (a b : Bool) → IsTrue (a && b) → IsTrue a × IsTrue b
+pub both : (a b : Bool) → IsTrue (a && b) → IsTrue a × IsTrue b
 both a b is = grind arith
 
 below : (a b : ℕ) → IsTrue (nat_lt a b) → a < b

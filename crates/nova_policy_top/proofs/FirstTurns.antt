@@ -7,6 +7,7 @@ use Rattle.std.proofs.Math.Seq.{take-append-add, take-suc}
 use Rattle.nova_order.specs.Blocks.{is_within, total, turns}
 use Rattle.nova_order.specs.declared.block.Block.{Block}
 use Rattle.nova_order.proofs.BlockLemmas.{length_turns, turns_push}
+use Rattle.nova_order.proofs.BoundLemmas.{both as parts}
 
 -- the first of the same number again and again
 first_same : (m n c : ℕ) → take m (replicate n c) ≡ replicate (min n m) c
@@ -101,10 +102,6 @@ first_within cpus most at blocks first of_blocks of_first is few within =
 
     small : (n : ℕ) → n ≤ at → IsTrue (nat_le n at)
     small n le = grind arith
-
--- each is of a processor that is there, as a test and as what holds of all
-parts : (a b : Bool) → IsTrue (a && b) → IsTrue a × IsTrue b
-parts a b is = grind arith
 
 whole : (a b : Bool) → IsTrue a → IsTrue b → IsTrue (a && b)
 whole a b p q = grind arith

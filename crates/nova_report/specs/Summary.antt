@@ -1,9 +1,10 @@
 -- The summary of a run, in one line.
-use Rattle.std.specs.Prelude.{ℕ, Bool, true, false, List, ◌++◌, filter, length, codes, decimal}
+use Rattle.std.specs.Prelude.{ℕ, Bool, true, false, List, ◌++◌, length, codes, decimal}
 use Rattle.nova_model.specs.State.{KernelState}
 use Rattle.nova_model.specs.declared.event.Event.{Event}
 use Rattle.nova_model.specs.declared.event.EventKind.{EventKind}
 use Rattle.nova_model.specs.declared.event.EventKind.TheVariants.{Made, Gone}
+pub use Rattle.nova_gsi.specs.Firings.{count_of as count}
 use Rattle.nova_report.specs.declared.bench.Counted.{Counted}
 use Rattle.nova_report.specs.declared.bench.Counted.TheVariants.{Children, Removals}
 use Rattle.nova_report.specs.Words.{line_feed}
@@ -27,9 +28,6 @@ is_gone e = gone_kind e.kind
 abbrev pub is_counted : Counted → Event → Bool
 is_counted Children = is_made
 is_counted Removals = is_gone
-
-abbrev pub count : (Event → Bool) → List Event → ℕ
-count p trace = length (filter p trace)
 
 -- the number of the scenario, the turns, the events of both kinds, and the derivations at the end
 unfoldable pub summary : ℕ → KernelState → List Event → List ℕ

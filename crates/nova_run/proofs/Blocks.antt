@@ -8,10 +8,11 @@ use Rattle.nova_order.specs.declared.block.Block.{Block}
 use Rattle.nova_order.proofs.BlockLemmas.{turns_push, length_turns}
 use Rattle.nova_order.proofs.BoundLemmas.{cpus_within, total_within}
 use Rattle.nova_order.proofs.PlaceLemmas.{fits_at, more_at, there_at}
+use Rattle.law_turns.proofs.Passes.{free_append}
 use Rattle.nova_run.specs.Finished.{IsFinished, IsIdleLine, IsFreeOfIdle}
 use Rattle.nova_run.specs.UnderWay.{IsReady, IsAlong, IsBegun, IsBlockTaken}
 use Rattle.nova_shared.specs.declared.finished.Finished.{Finished}
-use Rattle.nova_shared.proofs.Idle.{free_append, line_idle}
+use Rattle.nova_shared.proofs.Idle.{line_idle}
 use Rattle.nova_shared.proofs.Passing.{Finished-on}
 
 -- the turns of a block more

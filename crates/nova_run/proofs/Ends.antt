@@ -6,7 +6,7 @@ use Rattle.nova_model.specs.State.{KernelState}
 use Rattle.nova_model.specs.Choice.{is_quiet}
 use Rattle.nova_model.specs.Runs.{run, rounds, IsFreeOfIdle}
 use Rattle.law_turns.specs.Orders.{IsRunOut}
-use Rattle.law_turns.proofs.Passes.{run_append, rounds_run_out}
+use Rattle.law_turns.proofs.Passes.{free_append, rounds_run_out, run_append}
 use Rattle.law_turns.proofs.Processors.{run_cpus}
 use Rattle.nova_order.specs.Blocks.{turns}
 use Rattle.nova_order.proofs.BlockLemmas.{length_turns}
@@ -14,7 +14,6 @@ use Rattle.nova_order.proofs.BoundLemmas.{all_append}
 use Rattle.nova_run.specs.Finished.{IsFinished}
 use Rattle.nova_run.specs.UnderWay.{IsReady, Passed, left}
 use Rattle.nova_shared.specs.declared.finished.Finished.{Finished}
-use Rattle.nova_shared.proofs.Idle.{free_append}
 use Rattle.nova_shared.proofs.Passing.{Finished-on}
 
 module _ (k : KernelState) (limit : ℕ) (f g : Finished) (begun : IsFinished k (turns f.order.blocks) limit f) (ready : IsReady f) (ran : Passed f (rounds f.kernel.state (left f)) g) where

@@ -3,7 +3,7 @@ use Rattle.std.proofs.Common.{◌≡◌, ℕ, ◌+◌, ◌<◌, ◌≤◌, List,
 use Rattle.std.specs.Prelude.{true, false, is_some, Option, Some, None, option_map, Result, Ok, Err, IfSome, IfOk, OnOk, IsOk}
 use Rattle.std.proofs.lemmas.List.{length-append, length-replicate, replicate-append-replicate}
 use Rattle.law_leases.specs.Advances.{step_of}
-use Rattle.law_turns.proofs.Passes.{run_append}
+use Rattle.law_turns.proofs.Passes.{free_append, run_append}
 use Rattle.law_turns.proofs.Processors.{run_cpus}
 use Rattle.nova_kernel.specs.Rides.{last_turns}
 use Rattle.nova_kernel.specs.Views.{KernelView}
@@ -19,7 +19,6 @@ use Rattle.nova_run.specs.Taken.{last_events}
 use Rattle.nova_run.specs.UnderWay.{IsReady, Passed}
 use Rattle.nova_shared.specs.Steps.{ArePlainSteps, repeated}
 use Rattle.nova_shared.specs.declared.finished.Finished.{Finished}
-use Rattle.nova_shared.proofs.Idle.{free_append}
 use Rattle.nova_shared.proofs.Passing.{trace-append}
 use Rattle.nova_shared.proofs.Stepping.{events, run_turns, steps_taken, told_steps}
 

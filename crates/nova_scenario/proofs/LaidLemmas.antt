@@ -28,7 +28,7 @@ use Rattle.nova_scenario.specs.declared.statement.Head.{Head}
 use Rattle.nova_scenario.proofs.SoundLemmas.{and_then-ok, on_line-ok, settings-ok, executable-ok, ended-ok, or_missing-ok}
 
 -- one of some images is one of more
-among_more : (image : Image) (images more : List Image) → IsAmong image images → IsAmong image (images ++ more)
+pub among_more : (image : Image) (images more : List Image) → IsAmong image images → IsAmong image (images ++ more)
 among_more image [] more among = absurd among
 among_more image (first ∷ images) more (inl is) = inl is
 among_more image (first ∷ images) more (inr later) = inr (among_more image images more later)
@@ -51,13 +51,13 @@ all_laid front address file (s ∷ segments) =
     )
 
 -- what is read only adds images
-abbrev Grows : List Image → List Image → Type 0
+abbrev pub Grows : List Image → List Image → Type 0
 Grows old new = (more : List Image) × (new ≡ old ++ more)
 
 same_grows : (images : List Image) → Grows images images
 same_grows images = ([], sym (append-nil images))
 
-grows_on : (a b c : List Image) → Grows a b → Grows b c → Grows a c
+pub grows_on : (a b c : List Image) → Grows a b → Grows b c → Grows a c
 grows_on a b c x y = (x.0 ++ y.0, y.1 ∙ ap (λ images. images ++ y.0) x.1 ∙ append_assoc a x.0 y.0)
 
 apart_adds : (d e : Draft) (image : Image) → with_apart d image ≡ Ok e → e.images ≡ d.images ++ image ∷ []

@@ -39,7 +39,7 @@ changed_here change all sm (Some s) is there = ap semaphore_in (set_same all sm 
 
 -- UP
 
-abbrev woken_if : Bool → Result (Option ℕ) Overflow
+abbrev pub woken_if : Bool → Result (Option ℕ) Overflow
 woken_if t = if t then Err (record {}) else Ok None
 
 nobody_woken : (ec : ℕ) (t : Bool) → woken_if t ≡ Ok (Some ec) → has [] ec ≡ true

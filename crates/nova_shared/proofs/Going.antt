@@ -3,9 +3,9 @@ use Rattle.std.proofs.Common.{ℕ, ◌+◌, List, subst, replicate}
 use Rattle.std.proofs.lemmas.List.{replicate-append-replicate}
 use Rattle.nova_model.specs.State.{KernelState}
 use Rattle.nova_model.specs.Runs.{IsFreeOfIdle}
+use Rattle.law_turns.proofs.Passes.{free_append}
 use Rattle.nova_shared.specs.UnderWay.{Passed}
 use Rattle.nova_shared.specs.declared.finished.Finished.{Finished}
-use Rattle.nova_shared.proofs.Idle.{free_append}
 use Rattle.nova_shared.proofs.Passing.{Passed-through}
 
 -- turns of one processor so far, and more of them, none of them idle

@@ -11,11 +11,6 @@ use Rattle.nova_order.proofs.BoundLemmas.{turns_append}
 use Rattle.nova_order.proofs.PlaceLemmas.{split_at}
 use Rattle.nova_shared.specs.Finished.{IsIdleLine}
 
--- two parts of an order, each free of idle turns
-pub free_append : (k : KernelState) (xs ys : List ℕ) → IsFreeOfIdle k xs → IsFreeOfIdle (run k xs) ys → IsFreeOfIdle k (xs ++ ys)
-free_append k [] ys first then_ = then_
-free_append k (x ∷ xs) ys first then_ = (first.0, free_append (after k x) xs ys first.1 then_)
-
 -- the later part of an order, from where the first part led
 pub free_after : (k : KernelState) (xs ys : List ℕ) → IsFreeOfIdle k (xs ++ ys) → IsFreeOfIdle (run k xs) ys
 free_after k [] ys free = free

@@ -10,12 +10,12 @@ use Rattle.law_turns.proofs.Processors.{run_cpus}
 use Rattle.nova_order.specs.Blocks.{turns, total}
 use Rattle.nova_order.specs.declared.block.Block.{Block}
 use Rattle.nova_order.proofs.BlockLemmas.{length_turns}
+use Rattle.law_turns.proofs.Passes.{free_append}
 use Rattle.nova_shared.specs.Runs.{IsSharedRun}
 use Rattle.nova_shared.specs.Told.{IsTold, IsRefused}
 use Rattle.nova_shared.specs.UnderWay.{HasRoom, Passed, left, taken}
 use Rattle.nova_shared.specs.declared.finished.Finished.{Finished}
 use Rattle.nova_shared.specs.declared.turn.SharedTurn.TheVariants.{Stepped, Idle, AtLimit}
-use Rattle.nova_shared.proofs.Idle.{free_append}
 use Rattle.nova_shared.proofs.Passing.{run_on, trace_on}
 
 -- the turn of a processor that is not idle is no idle one

@@ -1,7 +1,9 @@
 -- Numbers as texts.
-use Rattle.std.specs.Prelude.{ℕ, Bool, ◌&&◌, if◌then◌else◌, List, codes, drop, length, nat_eq, nat_lt, ◌^◌, Option, Some, None, Result, Ok, Err}
+use Rattle.std.specs.Prelude.{ℕ, Bool, ◌&&◌, if◌then◌else◌, List, [], ◌∷◌, codes, drop, length, nat_eq, nat_lt, ◌^◌, Option, Some, None, Result, Ok, Err, option_map}
 use Rattle.std.specs.Char.{is_digit}
 use Rattle.std.specs.List.{list_all, starts_with}
+use Rattle.std.specs.Option.{option_and_then}
+use Rattle.std.specs.Result.{result_ok}
 use Rattle.std.specs.Str.Parse.{digits_value}
 use Rattle.nova_text.specs.declared.span.Span.{Span}
 use Rattle.nova_text.specs.declared.number.NumberError.{NumberError}
@@ -25,6 +27,14 @@ number token = if starts_with nat_eq token (codes "0x") then numeral 16 (drop 2 
 abbrev pub u32_of : Option ℕ → Result ℕ NumberError
 u32_of None = Err Malformed
 u32_of (Some n) = if nat_lt n (2 ^ 32) then Ok n else Err TooLarge
+
+-- the one that a word writes; the numbers of words, where each writes one
+abbrev pub number_of : List ℕ → Option ℕ
+number_of word = result_ok (u32_of (number word))
+
+abbrev pub numbers_of : List (List ℕ) → Option (List ℕ)
+numbers_of [] = Some []
+numbers_of (word ∷ words) = option_and_then (λ n. option_map (λ ns. n ∷ ns) (numbers_of words)) (number_of word)
 
 -- what is wrong with a token at a place
 abbrev pub fault_at : Span → NumberError → NumberFault

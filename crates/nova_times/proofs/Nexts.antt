@@ -9,6 +9,7 @@ use Rattle.nova_model.specs.declared.times.AlarmState.{AlarmState}
 use Rattle.nova_model.specs.declared.times.Deadline.{Deadline}
 use Rattle.nova_model.specs.declared.times.Due.{Due}
 use Rattle.nova_model.specs.declared.times.Due.TheVariants as due
+use Rattle.nova_range.specs.Members.{IsIn}
 use Rattle.nova_times.specs.Entries.{comes_first, precedes}
 use Rattle.nova_times.specs.Kept.{AreShown, alarm_leaf, alarm_leaves, deadline_leaf, deadline_leaves, seen}
 use Rattle.nova_times.specs.Processors.{first_of, is_due_by, moment_of}
@@ -18,10 +19,6 @@ use Rattle.nova_times.proofs.Orders.{NoLater, equal, lesser_in, lesser_left, les
 use Rattle.nova_times.proofs.Trees.{IsLeaf, least_before, least_in}
 
 -- LISTS
-
-abbrev pub IsIn : {T : Type 0} → List T → T → Type 0
-IsIn [] x = ⊥
-IsIn (y ∷ ys) x = (y ≡ x) ⊎ IsIn ys x
 
 every : (T : Type 0) (p : T → Bool) (xs : List T) → ((x : T) → IsIn xs x → p x ≡ true) → list_all p xs ≡ true
 every T p [] h = refl

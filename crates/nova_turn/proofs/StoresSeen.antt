@@ -16,7 +16,7 @@ use Rattle.nova_model.specs.declared.delegation.Derivation.{Derivation}
 use Rattle.nova_objects.specs.declared.object.Object.{Object}
 use Rattle.nova_deeds.specs.StirCounts.{risen_at, risen_from}
 use Rattle.nova_deeds.specs.Stirs.{is_stirring, risen_in}
-use Rattle.nova_memory.proofs.Laid.{length-written_in}
+use Rattle.law_forest.proofs.Plain.{length-written_in}
 use Rattle.nova_turn.specs.Beside.{with_regs}
 use Rattle.nova_turn.specs.Homes.{AreStirred, HasCounts, home_of}
 use Rattle.nova_turn.specs.Parts.{state_of}

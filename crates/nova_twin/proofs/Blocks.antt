@@ -4,7 +4,7 @@ use Rattle.std.specs.Prelude.{Bool, true, false, is_some, IsSome, IsTrue, nat_lt
 use Rattle.std.specs.List.{list_all}
 use Rattle.std.proofs.lemmas.List.{length-append, replicate-append-replicate}
 use Rattle.nova_kernel.specs.Views.{KernelView}
-use Rattle.law_turns.proofs.Passes.{run_append}
+use Rattle.law_turns.proofs.Passes.{free_append, run_append}
 use Rattle.nova_model.specs.Runs.{IsFreeOfIdle, after, run}
 use Rattle.nova_model.specs.State.{KernelState}
 use Rattle.nova_model.specs.Turn.{turn}
@@ -14,7 +14,7 @@ use Rattle.nova_order.proofs.BlockLemmas.{length_turns, turns_push}
 use Rattle.nova_order.proofs.PlaceLemmas.{fits_at, more_at, there_at}
 use Rattle.nova_shared.specs.Finished.{IsIdleLine}
 use Rattle.nova_shared.specs.UnderWay.{taken}
-use Rattle.nova_shared.proofs.Idle.{free_append, line_idle}
+use Rattle.nova_shared.proofs.Idle.{line_idle}
 use Rattle.nova_twin.specs.Follows.{Followed, followed, met, noted}
 use Rattle.nova_twin.specs.Passes.{IsBlockTaken, Passed}
 

@@ -1,4 +1,3 @@
-pub mod Scans
 pub mod Cuts
 pub mod Passes
 pub mod Ranges

@@ -1,5 +1,6 @@
+use Rattle.law_isolation.proofs.Seen.{view_registers}
 use Rattle.law_views.proofs.Alike.{one_view}
-use Rattle.law_views.proofs.Seen.{view_cells, view_maps, view_recall, view_registers, view_shown}
+use Rattle.law_views.proofs.Seen.{view_cells, view_maps, view_recall, view_shown}
 use Rattle.law_views.proofs.a_view_is_what_the_state_has.Goals as goal
 
 pub returns-clause-registers : goal.returns-clause-registers

@@ -1,9 +1,9 @@
 use Rattle.std.proofs.Common.{◌≡◌, ◌^◌, ◌*◌, length, subst, sym, refl, replicate, ℕ, List, arith}
 use Rattle.std.proofs.lemmas.List.{length-replicate}
 use Rattle.nova_model.specs.Boot.{bare, with_images}
+use Rattle.law_isolation.proofs.Ranges.{sources_frames as sources_memory}
 use Rattle.nova_boot.specs.Boot.{scenario_of, LieInRam}
 use Rattle.nova_boot.specs.Lying.{HoldsImages}
-use Rattle.nova_boot.proofs.Started.{sources_memory}
 use Rattle.nova_boot.proofs.Lying.{holds, empty_whole, empty_byte}
 use Rattle.nova_boot.proofs.laws.images_lie_in_memory.Goals as goal
 

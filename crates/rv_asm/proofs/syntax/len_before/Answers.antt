@@ -3,7 +3,7 @@ use Rattle.std.proofs.lemmas.Iterator.{YieldsList-from_slice}
 use Rattle.std.proofs.lemmas.Iterator.Search.{position_from_yields_List}
 use borrow.Author.Tests.{tests}
 use Rattle.std.proofs.Common.{◌==◌}
-use Rattle.rv_asm.proofs.Scans.{unwrap_or-position}
+use Rattle.nova_text.proofs.Scans.{unwrap_or-position}
 use Rattle.rv_asm.proofs.syntax.len_before.Goals as goal
 
 pub returns-clause-len : goal.returns-clause-len

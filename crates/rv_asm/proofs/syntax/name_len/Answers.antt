@@ -4,7 +4,7 @@ use Rattle.std.proofs.lemmas.Iterator.Search.{position_from_yields_List}
 use borrow.Author.Tests.{tests}
 use Rattle.std.proofs.Common.{not}
 use Rattle.rv_asm.specs.Syntax.{continues_name}
-use Rattle.rv_asm.proofs.Scans.{unwrap_or-position}
+use Rattle.nova_text.proofs.Scans.{unwrap_or-position}
 use Rattle.rv_asm.proofs.syntax.name_len.Goals as goal
 
 pub returns-clause-len : goal.returns-clause-len

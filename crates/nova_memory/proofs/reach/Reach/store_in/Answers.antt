@@ -1,9 +1,9 @@
 use Rattle.std.proofs.Common.{◌≡◌, ℕ, ◌+◌, ◌%◌, length, ap, ap₂, sym, ◌∙◌, subst}
 use Rattle.std.specs.Prelude.{slice_get}
 use Rattle.nova_model.specs.Memory.{Memory}
+use Rattle.law_forest.proofs.Plain.{length-written_in}
 use Rattle.nova_memory.specs.Recalled.{AreRecalled}
 use Rattle.nova_memory.specs.Reach.{LeadToFrames}
-use Rattle.nova_memory.proofs.Laid.{length-written_in}
 use Rattle.nova_memory.proofs.Remembered.{stored}
 use Rattle.nova_memory.proofs.reach.Reach.store_in.Goals as goal
 
