@@ -34,20 +34,11 @@ fn called(contexts: &Ecs, ec: u32) -> Option<u32>
     }
 }
 
-/// The execution context that acts in the turns of one that is not ready: the end of its chase, where that one acts. Few turns
-/// need it, so that it stays out of the code of each choice.
+/// The execution context that acts in the turns of one that is not ready: the end of its chase, where that one acts. Most wait for the reply
+/// of a handler that is ready. Few turns need it, so that it stays out of the code of each choice.
 #[inline(never)]
-fn chased_actor(contexts: &Ecs, ec: u32) -> Option<u32>
-    ensures actor { result ≡ actor_in contexts.now.items ec }
-    ensures there { IfSome result (λ actor. IsSome (ec_in contexts.now.items actor)) }
-{
-    contexts.actor(ec)
-}
-
-/// The same, where most that aren't ready wait for the reply of a handler that is.
-#[inline(always)]
 #[tactic(auto, using(crate::proofs::Handlers::handler_acts))]
-fn donee(contexts: &Ecs, ec: u32) -> Option<u32>
+fn chased_actor(contexts: &Ecs, ec: u32) -> Option<u32>
     ensures actor { result ≡ actor_in contexts.now.items ec }
     ensures there { IfSome result (λ actor. IsSome (ec_in contexts.now.items actor)) }
 {
@@ -57,7 +48,7 @@ fn donee(contexts: &Ecs, ec: u32) -> Option<u32>
     {
         return Some(handler);
     }
-    chased_actor(contexts, ec)
+    contexts.actor(ec)
 }
 
 /// The execution context that acts in the turns of a scheduling context; none where none acts, and of
@@ -69,7 +60,7 @@ pub fn actor_of(objects: &Objects, contexts: &Ecs, sc: u32) -> Option<u32>
 {
     match objects.get(sc) {
         Some(Object::Sc { ec, .. }) if is_ready(contexts, *ec) => Some(*ec),
-        Some(Object::Sc { ec, .. }) => donee(contexts, *ec),
+        Some(Object::Sc { ec, .. }) => chased_actor(contexts, *ec),
         _ => None,
     }
 }
