@@ -5,9 +5,7 @@ use Rattle.nova_model.specs.Boot.{boot}
 use Rattle.nova_boot.specs.Boot.{scenario_of}
 use Rattle.nova_command.specs.declared.command.Command.{Command}
 use Rattle.nova_command.specs.declared.command.Command.TheVariants.{Run, Solo, Check, Bench, Twin}
-use Rattle.nova_order.specs.Read.{order_of}
 use Rattle.nova_order.specs.declared.block.Block.{Block}
-use Rattle.nova_order.specs.declared.fault.OrderFault.{OrderFault}
 use Rattle.nova_order.specs.declared.fault.OrderFault.TheVariants as fault
 use Rattle.nova_scenario.specs.Scenario.{scenario}
 use Rattle.nova_scenario.specs.declared.scenario.Scenario.{Scenario}

@@ -1,5 +1,5 @@
 -- The order of turns that a command runs.
-use Rattle.std.specs.Prelude.{◌≡◌, ℕ, List, [], length, Some, None, Ok}
+use Rattle.std.specs.Prelude.{◌≡◌, ℕ, List, [], length, Some, None}
 use Rattle.nova_model.specs.State.{KernelState}
 use Rattle.nova_model.specs.Runs.{rounds}
 use Rattle.nova_command.specs.declared.command.Command.{Command}

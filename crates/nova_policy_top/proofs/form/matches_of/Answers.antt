@@ -1,5 +1,4 @@
-use Rattle.std.proofs.Common.{◌≡◌, ◌∙◌, true, map, ap, refl, sym, subst}
-use Rattle.clap.specs.Faults.{is_simple_and_free}
+use Rattle.std.proofs.Common.{map, refl, sym, subst}
 use Rattle.clap.specs.Matches.{found_of}
 use Rattle.clap.specs.Simple.{App, app_of, is_simple}
 use Rattle.clap.specs.Walk.{rows_of}
