@@ -47,7 +47,6 @@ use Rattle.law_integrity.proofs.Resting.{acts_in}
 use Rattle.law_sides.proofs.Entries.{as_member, grant_there}
 use Rattle.law_sides.proofs.Muted.{AreMute, calls_own, gift_out}
 
-
 -- WHAT IS MADE
 
 -- who makes an object may create

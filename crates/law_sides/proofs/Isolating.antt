@@ -197,7 +197,7 @@ module _ (k : KernelState) (label : ℕ → ℕ) (tables : HasTables k)
           by_respect m.domain (ap pd_in m.object)
           (some_all (Respects label) (serves_of k waiter m.domain x.state) (served k handler waiter m.domain)
           (all_left (Respects label) (option_to_list (serves_of k waiter m.domain x.state))
-              (option_to_list (takes_of k waiter m.domain x.state x.caller) ++ (option_to_list (gives_of waiter m.domain x.state) ++ queue_of k waiter m.domain x.state)) (here_ties waiter m x at))
+          (option_to_list (takes_of k waiter m.domain x.state x.caller) ++ (option_to_list (gives_of waiter m.domain x.state) ++ queue_of k waiter m.domain x.state)) (here_ties waiter m x at))
           (ap (serves_by k waiter m.domain) e) some)
 
   its_takes : (handler caller : ℕ) (mark : Mark) → (context k handler).state ≡ Granting None → (context k handler).caller ≡ Some (caller, mark) → label (pd_of k handler) ≢ 0 →

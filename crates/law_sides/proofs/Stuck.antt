@@ -75,8 +75,8 @@ module _ (k : KernelState) (acting : ℕ → Bool) (fits : TablesFit k) (n : ℕ
         let d = h.capability in
         not_both (raises sm d && acting d.pd)
         (both_true (raises sm d) (acting d.pd)
-            (both_true (not (is_memory d.kind)) ((d.target == sm) && allows d.rights up_right) (obj_not d.kind h.kind)
-            (both_true (d.target == sm) (allows d.rights up_right) (eq-eqb d.target sm h.leads) h.allowed)) (acts_ sm h))
+        (both_true (not (is_memory d.kind)) ((d.target == sm) && allows d.rights up_right) (obj_not d.kind h.kind)
+        (both_true (d.target == sm) (allows d.rights up_right) (eq-eqb d.target sm h.leads) h.allowed)) (acts_ sm h))
         (of_one (λ (e : Derivation). not (raises sm e && acting e.pd)) k.delegations.list d parts.0 h.there)
 
     unrung : (alarm : ℕ) (a : AlarmState) → slice_get k.times.alarms alarm ≡ Some a → a.alarm.sm ≡ sm → ⊥

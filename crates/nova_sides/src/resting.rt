@@ -153,13 +153,7 @@ fn is_stirring_at(kernel: &Kernel, labels: &[u32], list: &[Derivation], n: u32, 
 }
 
 /// Whether an execution context of what is trusted isn't at rest.
-fn is_stirring(
-    kernel: &Kernel,
-    labels: &[u32],
-    list: &[Derivation],
-    n: u32,
-    object: Object,
-) -> bool
+fn is_stirring(kernel: &Kernel, labels: &[u32], list: &[Derivation], n: u32, object: Object) -> bool
     requires list { list.now ≡ kernel.now.state.delegations.list }
     ensures { result ≡ is_stirring kernel.now.state (label_in labels.now) (n, object) }
 {
