@@ -1,5 +1,6 @@
 pub mod Bare
 pub mod Careful
+pub mod Controls
 pub mod Entries
 pub mod Frames
 pub mod Harmless
