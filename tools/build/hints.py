@@ -20,7 +20,7 @@ nova check SCENARIO           says whether a scenario has a fault
 nova twin NAME                compares a virtual CPU of one run with one of another
 nova bench NUMBER             makes NUMBER protection domains, 1 to {MOST_DOMAINS:,}
   --limit N                   the most turns, 1 to {MOST_TURNS:,} ({TURNS:,})
-./nova-explore SCENARIO ..    whether any order of turns leads to what is asked for; docs/EXPLORING.md tells more
+./nova-explore SCENARIO ..    whether any order of turns leads to what is asked for; ./nova-explore --help tells more
 ./nova-policy SCENARIO ..     which protection domains are isolated from which; ./nova-policy --help tells more
 ./nova draft WORD..           the same at once, unproved; ./nova draft --help tells more
 

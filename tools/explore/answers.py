@@ -7,6 +7,7 @@ from dataclasses import dataclass, field
 
 HEAD = re.compile(r"(?:(?P<found>found)|(?P<cut>cut)|never (?P<never>all|within \d+)|ends (?P<count>\d+) (?P<ends>all|cut|within \d+))")
 END = re.compile(r"end (\d+) states (\d+)")
+ABSENT = re.compile(r"ec (\d+) never there")
 BLOCK = re.compile(r"(\d+) (\d+)")
 ALONE = "one order"
 # The statuses of the program that come with an answer.
@@ -29,13 +30,14 @@ class Outcome:
 @dataclass(frozen=True, slots=True)
 class Answer:
     """An answer: `all`, `within N` or `cut`, where no order is found; how many states there were; whether there is one order alone; the order that is
-    found; and the outcomes, where these were asked for."""
+    found; the outcomes, where these were asked for; and the execution context that was asked about, where it is never there."""
 
     extent: str
     states: int
     is_alone: bool = False
     order: str | None = None
     outcomes: tuple[Outcome, ...] | None = None
+    absent: int | None = None
 
     @property
     def status(self) -> int:
@@ -61,6 +63,11 @@ class Lines:
         if not self.left:
             raise Unread("the answer ends too soon")
         return self.left.pop(0)
+
+    def absent(self) -> int | None:
+        """The execution context of which the next line says that it is never there; none where it doesn't."""
+        found = ABSENT.fullmatch(self.left[0]) if self.left else None
+        return int(found[1]) if found and self.next() else None
 
     def order(self) -> str:
         """The lines of an order that are next; there may be none."""
@@ -105,7 +112,7 @@ def read_answer(text: str) -> Answer:
         outcomes = tuple(outcome_of(lines, number) for number in range(1, int(head["count"]) + 1))
         answer = Answer(head["ends"], states, is_alone, outcomes=outcomes)
     else:
-        answer = Answer(head["never"] or "cut", states, is_alone)
+        answer = Answer(head["never"] or "cut", states, is_alone, absent=lines.absent() if head["never"] else None)
     if lines.left:
         raise Unread(f"{lines.left[0]!r} stands behind the answer")
     return answer

@@ -9,8 +9,8 @@ use Rattle.nova_model.specs.State.{KernelState}
 use Rattle.nova_search.specs.Searches.{state_at, state_of}
 use Rattle.nova_search.specs.declared.found.Found.{Found}
 use Rattle.nova_search.proofs.Growth.{state_here}
-use Rattle.nova_asking.specs.Answers.{AreDistinct, IsEnd, outcomes}
-use Rattle.nova_asking.specs.Searched.{HaveOutcomes, IsPlaceOf, KeepEnds, LeadThere}
+use Rattle.nova_asking.specs.Answers.{AreDistinct, EndsSo, IsEnd, outcomes}
+use Rattle.nova_asking.specs.Searched.{HaveOutcomes, HaveSoFar, IsPlaceOf, KeepEnds, LeadThere}
 use Rattle.nova_asking.specs.Outcomes.{outcome}
 use Rattle.nova_asking.specs.declared.ends.End.{End}
 use Rattle.nova_asking.proofs.Found.{place}
@@ -104,10 +104,6 @@ none_there (x ∷ ends) i text none all there =
     let less : there.0 < length (x ∷ ends) = omega (arith, is, long) in
     none x there.0 (omega (arith, less, all)) (sym (get_or-map outcome_of (x ∷ ends) there.0 x text less) ∙ there.2)
 
--- the outcomes of the states so far
-abbrev pub HaveSoFar : List KernelState → ℕ → List (List ℕ) → Type 0
-HaveSoFar states i texts = (d : KernelState) (j : ℕ) → j < i → is_quiet (slice_index_or states j d) ≡ true → Contains texts (outcome (slice_index_or states j d))
-
 pub have_all : (states : List KernelState) (i : ℕ) (texts : List (List ℕ)) → HaveSoFar states i texts → length states ≤ i → HaveOutcomes states texts
 have_all states i texts have all = record {
   each = λ s there quiet. subst (λ (x : KernelState). Contains texts (outcome x)) there.2
@@ -122,3 +118,9 @@ have_on states i old new have kept here d j less quiet = by_place (place j i les
     by_place (inl is) = kept (outcome (slice_index_or states j d)) (have d j is quiet)
     by_place (inr same) = subst (λ (n : ℕ). Contains new (outcome (slice_index_or states n d))) (sym same)
         (here d (subst (λ (n : ℕ). is_quiet (slice_index_or states n d) ≡ true) same quiet))
+
+-- where an outcome is not among those so far, no run has ended so in a state before the place
+pub not_before : (states : List KernelState) (place : ℕ) (texts : List (List ℕ)) (text : List ℕ) → HaveSoFar states place texts → (Contains texts text → ⊥) →
+    (i : ℕ) (d : KernelState) → i < place → EndsSo (slice_index_or states i d) text → ⊥
+not_before states place texts text have none i d less ends =
+    none (subst (λ (t : List ℕ). Contains texts t) (sym ends.outcome) (have d i less ends.quiet))

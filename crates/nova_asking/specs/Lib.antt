@@ -1,3 +1,4 @@
+pub mod Locations
 pub mod Questions
 pub mod Outcomes
 pub mod Answers

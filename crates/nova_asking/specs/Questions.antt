@@ -1,5 +1,5 @@
 -- What may be asked of a state.
-use Rattle.std.specs.Prelude.{ℕ, ◌+◌, ◌≤◌, ◌==◌, ◌&&◌, Bool, true, false, not, List, drop, filter, map, length, nat_eq, slice_get, Option, Some, None}
+use Rattle.std.specs.Prelude.{ℕ, ◌+◌, ◌≤◌, ◌==◌, ◌&&◌, Bool, true, false, not, List, drop, filter, map, length, nat_eq, slice_get, is_some, Option, Some, None}
 use Rattle.std.specs.List.{list_any, range_with_len, starts_with}
 use Rattle.byteorder.specs.Endian.{little_number}
 use Rattle.nova_model.specs.Choice.{is_quiet}
@@ -8,6 +8,7 @@ use Rattle.nova_model.specs.declared.context.EcState.{EcState}
 use Rattle.nova_model.specs.declared.context.State.{State}
 use Rattle.nova_model.specs.declared.context.State.TheVariants.{Blocked, Dead}
 use Rattle.nova_model.specs.declared.log.LogByte.{LogByte}
+use Rattle.nova_asking.specs.Locations.{some_is_at, two_are_at}
 use Rattle.nova_asking.specs.declared.question.Question.{Question}
 use Rattle.nova_asking.specs.declared.question.Question.TheVariants as question
 
@@ -49,17 +50,39 @@ abbrev pub is_left : Option EcState → Bool
 is_left (Some x) = not (is_over x.state)
 is_left None = false
 
+-- an execution context of this number is there
+abbrev pub has_context : ℕ → KernelState → Bool
+has_context ec k = is_some (context_at k ec)
+
+-- the execution context that a question names
+abbrev pub named : Question → Option ℕ
+named (question.DiesOf ec) = Some ec
+named (question.DiesBut ec) = Some ec
+named (question.Stuck ec) = Some ec
+named other = None
+
+-- whether one of another number is dead
+abbrev pub is_other_dead : ℕ → KernelState → ℕ → Bool
+is_other_dead ec k n = not (n == ec) && is_dead (context_at k n)
+
+abbrev pub some_other_is_dead : ℕ → KernelState → Bool
+some_other_is_dead ec k = list_any (is_other_dead ec k) (range_with_len 0 (length k.objects))
+
 -- whether an execution context of some number is so
 abbrev pub some_context : (Option EcState → Bool) → KernelState → Bool
 some_context test k = list_any (λ (n : ℕ). test (context_at k n)) (range_with_len 0 (length k.objects))
 
--- whether a state is what is asked for: a console shows these bytes first, a word of memory has this value, the run has ended while an execution context waits at a
--- semaphore, one is dead, this one is dead, the run has ended while this one is not dead, the run has ended
+-- whether a state is what is asked for: a console shows these bytes first, a word of memory has this value, a processor is about to execute the instruction at a location,
+-- two are, the run has ended while an execution context waits at a semaphore, one is dead, this one is, one but this is, the run has ended while this one is not dead,
+-- the run has ended
 unfoldable pub is_so : Question → KernelState → Bool
 is_so (question.Console console bytes) k = starts_with nat_eq (shown console k.memory.log) bytes
 is_so (question.Word frame offset value) k = has_word (slice_get k.memory.ram frame) offset value
+is_so (question.At location) k = some_is_at k location
+is_so (question.AtBoth first second) k = two_are_at k first second
 is_so question.Blocked k = is_quiet k && some_context waits k
 is_so question.Dies k = some_context is_dead k
 is_so (question.DiesOf ec) k = is_dead (context_at k ec)
+is_so (question.DiesBut ec) k = some_other_is_dead ec k
 is_so (question.Stuck ec) k = is_quiet k && is_left (context_at k ec)
 is_so question.Ends k = is_quiet k

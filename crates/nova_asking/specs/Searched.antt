@@ -1,59 +1,59 @@
 -- What a search found, and what was seen of it.
-use Rattle.std.specs.Prelude.{◌≡◌, ℕ, ◌<◌, true, false, List, length, All, Contains, Option, Some, None}
+use Rattle.std.specs.Prelude.{◌≡◌, ℕ, ◌<◌, Bool, true, false, List, length, slice_index_or, All, Contains, Option, Some, None}
 use Rattle.std.specs.List.{AllByRecursion}
 use Rattle.nova_model.specs.Choice.{is_quiet}
 use Rattle.nova_model.specs.State.{KernelState}
-use Rattle.nova_search.specs.Searches.{AreAll, AreAllWithin, AreLinked, IsReached, state_at, states_of}
+use Rattle.nova_search.specs.Searches.{AreAll, AreAllWithin, AreNearest, IsFirst, IsReached, state_at, states_of}
 use Rattle.nova_search.specs.declared.exploring.Explored.{Explored}
 use Rattle.nova_search.specs.declared.found.Found.{Found}
 use Rattle.nova_asking.specs.Answers.{AreDistinct, IsEnd, outcomes}
 use Rattle.nova_asking.specs.Outcomes.{outcome}
-use Rattle.nova_asking.specs.Questions.{is_so}
+use Rattle.nova_asking.specs.Questions.{has_context, named}
 use Rattle.nova_asking.specs.declared.ends.End.{End}
-use Rattle.nova_asking.specs.declared.extent.Extent.{Extent}
-use Rattle.nova_asking.specs.declared.extent.Extent.TheVariants.{Cut}
 use Rattle.nova_asking.specs.declared.question.Question.{Question}
-
--- so many states were found, each of which an order leads to; they are more than may be expanded where the search is cut
-pub record IsCount (k : KernelState) (most : ℕ) (extent : Extent) (count : ℕ) : Type 0 where
-  pub states : List KernelState
-  pub reached : All (IsReached k) states
-  pub number : length states ≡ count
-  pub more : extent ≡ Cut → most < count
-
--- ON THE WAY
 
 -- the state that was found first
 abbrev pub BeginsIn : KernelState → List Found → Type 0
 BeginsIn k found = (d : KernelState) → state_at found 0 d ≡ k
 
--- a search from a state found this
-pub record IsSearch (k : KernelState) (limit most : ℕ) (e : Explored) : Type 0 where
+-- what a search from a state found, nearest first
+pub record AreFrom (k : KernelState) (found : List Found) : Type 0 where
+  pub first : BeginsIn k found
+  pub nearest : AreNearest k (states_of found)
+
+-- a search from a state, for those that pass a test, found this
+pub record IsSearch (test : KernelState → Bool) (k : KernelState) (limit most : ℕ) (e : Explored) : Type 0 where
   pub reached : All (IsReached k) (states_of e.found.items)
+  pub nearest : AreNearest k (states_of e.found.items)
+  pub goal : IsFirst test (states_of e.found.items) e.goal
   pub within : e.is_over ≡ true → AreAllWithin k limit (states_of e.found.items)
   pub all : e.is_over ≡ true → e.is_whole ≡ true → AreAll k (states_of e.found.items)
-  pub more : e.is_over ≡ false → most < length e.found.items
+  pub more : e.goal ≡ None → e.is_over ≡ false → most < length e.found.items
   pub first : BeginsIn k e.found.items
-  pub linked : AreLinked e.found.items
 
--- none of the states is so
-pub record AreNot (q : Question) (states : List KernelState) : Type 0 where
-  pub each : (s : KernelState) → Contains states s → is_so q s ≡ false
+-- an execution context is in one of the states
+pub record IsPresent (ec : ℕ) (states : List KernelState) : Type 0 where
+  pub state : KernelState
+  pub there : Contains states state
+  pub has : has_context ec state ≡ true
 
--- the state at a place is so
-pub record IsSoAt (q : Question) (found : List Found) (place : ℕ) : Type 0 where
-  pub there : place < length found
-  pub is : (d : KernelState) → is_so q (state_at found place d) ≡ true
+-- the execution context that a question names is in none of the states; or it names none, or that is in one
+abbrev pub IsMissing : Question → List KernelState → Option ℕ → Type 0
+IsMissing q states (Some ec) = (named q ≡ Some ec) × ((s : KernelState) → Contains states s → has_context ec s ≡ false)
+IsMissing q states None = (ec : ℕ) → named q ≡ Some ec → IsPresent ec states
 
--- a place whose state is so, or none where none is
-abbrev pub IsPlaceSo : Question → List Found → Option ℕ → Type 0
-IsPlaceSo q found (Some place) = IsSoAt q found place
-IsPlaceSo q found None = AreNot q (states_of found)
+abbrev pub unless_at : Option ℕ → ℕ → Option ℕ
+unless_at (Some place) ec = None
+unless_at None ec = Some ec
 
 -- the place of an outcome, or none where it isn't there
 abbrev pub IsPlaceOf : List End → List ℕ → Option ℕ → Type 0
 IsPlaceOf ends text (Some place) = (place < length ends) × Contains (outcomes ends) text
 IsPlaceOf ends text None = Contains (outcomes ends) text → ⊥
+
+-- the outcome of each of the states before a place in which the run has ended is among these
+abbrev pub HaveSoFar : List KernelState → ℕ → List (List ℕ) → Type 0
+HaveSoFar states place texts = (d : KernelState) (i : ℕ) → i < place → is_quiet (slice_index_or states i d) ≡ true → Contains texts (outcome (slice_index_or states i d))
 
 -- the outcome of each of the states in which the run has ended is among these
 pub record HaveOutcomes (states : List KernelState) (outcomes : List (List ℕ)) : Type 0 where

@@ -1,74 +1,88 @@
-ghost use Rattle.std.specs.Prelude.{◌≡◌, ◌^◌, ◌≤◌, ℕ, IfOk};
+ghost use Rattle.std.specs.Prelude.{◌≡◌, ◌^◌, ◌<◌, ◌≤◌, ℕ, length, IfOk, IfSome};
 ghost use Rattle.nova_model.specs.State.{KernelState};
-ghost use Rattle.nova_search.specs.Searches.{AreLinked};
+ghost use Rattle.nova_search.specs.Searches.{AreLinked, states_of};
 ghost use Rattle.nova_asking.specs.Answers.{IsAnswer};
-ghost use Rattle.nova_asking.specs.Questions.{IsApt};
-ghost use Rattle.nova_asking.specs.Searched.{IsCount, IsPlaceSo, IsSearch};
+ghost use Rattle.nova_asking.specs.Questions.{IsApt, is_so};
+ghost use Rattle.nova_asking.specs.Searched.{IsMissing, IsSearch, unless_at};
 
 use crate::extent::Extent;
 use crate::path::order_to;
+use crate::presence::Presence;
 use crate::question::Question;
 use nova_compare::Vertex;
 use nova_order::Order;
-use nova_search::{Explored, Found, explore};
+use nova_search::{Explored, Found, explore, first_goal};
 use std::alloc::{AllocError, Global};
 
-/// What a search answers to a question: an order that leads to a state that is so, or that none of those that it went along does;
-/// how far it went, and how many states it found.
+/// What a search answers to a question.
 #[derive(Drop)]
-pub struct Answer {
-    pub order: Option<Order>,
-    pub extent: Extent,
-    pub states: usize,
+pub enum Answer {
+    /// This order leads to a state that is so. So many states were found until then.
+    Found {
+        order: Order,
+        states: usize,
+    },
+
+    /// None of the orders that it went along does: how far it went, how many states it found, and the execution context that is asked about where
+    /// it is in none of them.
+    Never {
+        extent: Extent,
+        states: usize,
+        absent: Option<u32>,
+    },
 }
 
 /// What is let go here is dropped apart from all else.
 pub(crate) fn let_go<T: Drop>(_value: T) {}
 
-/// The first place of what was found whose state is so.
-fn first_so(
-    alloc: Global,
-    question: &Question,
-    found: &[Found],
-) -> Result<Option<usize>, AllocError>
-    requires { IsApt question.now }
-    ensures { IfOk result (IsPlaceSo question.now found.now) }
+/// An execution context, where there is no place at which it is.
+fn unless_at(place: Option<usize>, ec: u32) -> Option<u32>
+    ensures { result ≡ unless_at place ec }
 {
-    for i in 0..found.len() {
-        if question.is_so(alloc, found[i].vertex.kernel())? {
-            return Ok(Some(i));
-        }
+    match place {
+        Some(_) => None,
+        None => Some(ec),
     }
-    Ok(None)
 }
 
-/// What is answered to a question by the states that a search found.
+/// The execution context that a question names, where it is in none of the states that were found.
+fn absent_in(alloc: Global, question: &Question, found: &[Found]) -> Result<Option<u32>, AllocError>
+    ensures { IfOk result (IsMissing question.now (states_of found.now)) }
+{
+    let Some(ec) = question.named() else {
+        return Ok(None);
+    };
+    let place = first_goal(alloc, found, 0, &Presence { ec })?;
+    Ok(unless_at(place, ec))
+}
+
+/// What is answered to a question by the states that a search for it found.
 fn answered(alloc: Global, question: &Question, explored: &Explored) -> Result<Answer, AllocError>
-    requires apt { IsApt question.now }
     requires linked { AreLinked explored.now.found.items }
-    ensures answer { (k : KernelState) (limit most : ℕ) → IsSearch k limit most explored.now → IfOk result (IsAnswer question.now k limit) }
-    ensures states { (k : KernelState) (limit most : ℕ) → IsSearch k limit most explored.now → IfOk result (λ a. IsCount k most a.extent a.states) }
+    requires there { IfSome explored.now.goal (λ place. place < length explored.now.found.items) }
+    ensures { (k : KernelState) (limit most : ℕ) → IsSearch (is_so question.now) k limit most explored.now → IfOk result (IsAnswer question.now k limit most) }
 {
     let found = explored.found.as_slice();
-    let extent = Extent::of(explored.is_over, explored.is_whole);
     let states = found.len();
-    let Some(place) = first_so(alloc, question, found)? else {
-        return Ok(Answer {
-            order: None,
-            extent,
-            states,
-        });
-    };
-    let order = order_to(alloc, found, place)?;
-    Ok(Answer {
-        order: Some(order),
-        extent,
-        states,
-    })
+    match explored.goal {
+        Some(place) => {
+            let order = order_to(alloc, found, place)?;
+            Ok(Answer::Found { order, states })
+        }
+        None => {
+            let extent = Extent::of(explored.is_over, explored.is_whole);
+            let absent = absent_in(alloc, question, found)?;
+            Ok(Answer::Never {
+                extent,
+                states,
+                absent,
+            })
+        }
+    }
 }
 
 /// What a search from `opening` answers to a question: along orders after which at most `limit` turns were taken, counted from its
-/// boot, and with at most `most` states expanded. The limit is at most 2^31.
+/// boot, and with at most `most` states expanded. It ends at the first state that is so. The limit is at most 2^31.
 pub fn judge(
     alloc: Global,
     opening: &Vertex,
@@ -78,10 +92,9 @@ pub fn judge(
 ) -> Result<Answer, AllocError>
     requires limit { limit ≤ 2 ^ 31 }
     requires apt { IsApt question.now }
-    ensures answer { IfOk result (IsAnswer question.now opening.now limit) }
-    ensures states { IfOk result (λ a. IsCount opening.now most a.extent a.states) }
+    ensures { IfOk result (IsAnswer question.now opening.now limit most) }
 {
-    let explored = explore(alloc, opening, limit, most)?;
+    let explored = explore(alloc, opening, limit, most, question)?;
     let answer = answered(alloc, question, &explored);
     let_go(explored);
     answer

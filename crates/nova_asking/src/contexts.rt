@@ -1,6 +1,6 @@
 ghost use Rattle.std.specs.Prelude.{◌≡◌};
 ghost use Rattle.nova_model.specs.State.{context_at};
-ghost use Rattle.nova_asking.specs.Questions.{is_dead, is_left, is_over, is_waiting, some_context, waits};
+ghost use Rattle.nova_asking.specs.Questions.{is_dead, is_left, is_other_dead, is_over, is_waiting, some_context, some_other_is_dead, waits};
 
 use nova_kernel::{Kernel, State};
 
@@ -66,6 +66,25 @@ pub(crate) fn some_is_dead(kernel: &Kernel) -> bool
 {
     for n in 0..kernel.objects().len() as u32 {
         if is_dead(kernel, n) {
+            return true;
+        }
+    }
+    false
+}
+
+/// Whether the execution context of a number is dead, and not that of another number.
+fn is_other_dead(kernel: &Kernel, ec: u32, n: u32) -> bool
+    ensures { result ≡ is_other_dead ec kernel.now.state n }
+{
+    n != ec && is_dead(kernel, n)
+}
+
+/// Whether some execution context of another number is dead.
+pub(crate) fn some_other_is_dead(kernel: &Kernel, ec: u32) -> bool
+    ensures { result ≡ some_other_is_dead ec kernel.now.state }
+{
+    for n in 0..kernel.objects().len() as u32 {
+        if is_other_dead(kernel, ec, n) {
             return true;
         }
     }

@@ -1,12 +1,12 @@
-ghost use Rattle.std.specs.Prelude.{◌≡◌, ◌^◌, ◌<◌, ◌≤◌, ℕ, true, length, IfOk, OnOk, Contains};
+ghost use Rattle.std.specs.Prelude.{◌≡◌, ◌^◌, ◌<◌, ◌≤◌, ℕ, true, false, length, IfOk, OnOk, Contains};
 ghost use Rattle.std.specs.Bool.{Decides};
 ghost use Rattle.std.specs.List.{AllByRecursion};
 ghost use Rattle.nova_model.specs.Choice.{is_quiet};
 ghost use Rattle.nova_model.specs.State.{KernelState};
 ghost use Rattle.nova_search.specs.Searches.{AreLinked, state_at, states_of};
-ghost use Rattle.nova_asking.specs.Answers.{AreDistinct, AreEnds, IsEnd, outcomes};
+ghost use Rattle.nova_asking.specs.Answers.{AreDistinct, AreEnds, IsCount, IsEnd, outcomes};
 ghost use Rattle.nova_asking.specs.Outcomes.{outcome};
-ghost use Rattle.nova_asking.specs.Searched.{BeginsIn, HaveOutcomes, IsCount, IsPlaceOf, IsSearch, KeepEnds, LeadThere};
+ghost use Rattle.nova_asking.specs.Searched.{AreFrom, HaveOutcomes, HaveSoFar, IsPlaceOf, IsSearch, KeepEnds, LeadThere};
 
 use crate::answer::let_go;
 use crate::extent::Extent;
@@ -14,7 +14,7 @@ use crate::outcome::outcome_of;
 use crate::path::order_to;
 use nova_compare::Vertex;
 use nova_order::Order;
-use nova_search::{Explored, Found, explore};
+use nova_search::{Explored, Found, NoGoal, explore};
 use std::alloc::{AllocError, Global};
 
 /// An outcome of a run, an order that ends in it, and in how many of the states that were found a run ends so.
@@ -78,9 +78,10 @@ fn enter(
 ) -> Result<(), AllocError>
     requires place { place < length found.now }
     requires linked { AreLinked found.now }
+    requires have { HaveSoFar (states_of found.now) place (outcomes ends.old.items) }
     requires quiet { (d : KernelState) → is_quiet (state_at found.now place d) ≡ true }
     ensures kept { OnOk result (KeepEnds ends.old.items ends.new.items) }
-    ensures lead { OnOk result ((k : KernelState) → BeginsIn k found.now → LeadThere k ends.old.items ends.new.items) }
+    ensures lead { OnOk result ((k : KernelState) → AreFrom k found.now → LeadThere k ends.old.items ends.new.items) }
     ensures there { OnOk result ((d : KernelState) → Contains (outcomes ends.new.items) (outcome (state_at found.now place d))) }
 {
     let outcome = outcome_of(alloc, found[place].vertex.kernel())?;
@@ -101,8 +102,9 @@ fn enter(
 fn see(alloc: Global, found: &[Found], place: usize, ends: &mut Vec<End>) -> Result<(), AllocError>
     requires place { place < length found.now }
     requires linked { AreLinked found.now }
+    requires have { HaveSoFar (states_of found.now) place (outcomes ends.old.items) }
     ensures kept { OnOk result (KeepEnds ends.old.items ends.new.items) }
-    ensures lead { OnOk result ((k : KernelState) → BeginsIn k found.now → LeadThere k ends.old.items ends.new.items) }
+    ensures lead { OnOk result ((k : KernelState) → AreFrom k found.now → LeadThere k ends.old.items ends.new.items) }
     ensures there { OnOk result ((d : KernelState) → is_quiet (state_at found.now place d) ≡ true → Contains (outcomes ends.new.items) (outcome (state_at found.now place d))) }
 {
     if !found[place].vertex.kernel().quiet() {
@@ -114,7 +116,7 @@ fn see(alloc: Global, found: &[Found], place: usize, ends: &mut Vec<End>) -> Res
 /// The outcomes of the states that were found.
 fn gather(alloc: Global, found: &[Found]) -> Result<Vec<End>, AllocError>
     requires { AreLinked found.now }
-    ensures each { IfOk result (λ ends. (k : KernelState) → BeginsIn k found.now → AllByRecursion (IsEnd k) ends.items) }
+    ensures each { IfOk result (λ ends. (k : KernelState) → AreFrom k found.now → AllByRecursion (IsEnd k) ends.items) }
     ensures all { IfOk result (λ ends. HaveOutcomes (states_of found.now) (outcomes ends.items)) }
     ensures once { IfOk result (λ ends. AreDistinct (outcomes ends.items)) }
 {
@@ -128,10 +130,10 @@ fn gather(alloc: Global, found: &[Found]) -> Result<Vec<End>, AllocError>
 /// The outcomes of the states that a search found.
 fn ends_of(alloc: Global, explored: &Explored) -> Result<Ends, AllocError>
     requires { AreLinked explored.now.found.items }
-    ensures each { (k : KernelState) (limit most : ℕ) → IsSearch k limit most explored.now → IfOk result (λ e. AllByRecursion (IsEnd k) e.ends.items) }
-    ensures all { (k : KernelState) (limit most : ℕ) → IsSearch k limit most explored.now → IfOk result (λ e. AreEnds k limit e.extent (outcomes e.ends.items)) }
+    ensures each { (k : KernelState) (limit most : ℕ) → IsSearch (λ _. false) k limit most explored.now → IfOk result (λ e. AllByRecursion (IsEnd k) e.ends.items) }
+    ensures all { (k : KernelState) (limit most : ℕ) → IsSearch (λ _. false) k limit most explored.now → IfOk result (λ e. AreEnds k limit e.extent (outcomes e.ends.items)) }
     ensures once { IfOk result (λ e. AreDistinct (outcomes e.ends.items)) }
-    ensures states { (k : KernelState) (limit most : ℕ) → IsSearch k limit most explored.now → IfOk result (λ e. IsCount k most e.extent e.states) }
+    ensures states { (k : KernelState) (limit most : ℕ) → IsSearch (λ _. false) k limit most explored.now → IfOk result (λ e. IsCount k most e.extent e.states) }
 {
     let found = explored.found.as_slice();
     let extent = Extent::of(explored.is_over, explored.is_whole);
@@ -158,7 +160,7 @@ pub fn list_ends(
     ensures once { IfOk result (λ e. AreDistinct (outcomes e.ends.items)) }
     ensures states { IfOk result (λ e. IsCount opening.now most e.extent e.states) }
 {
-    let explored = explore(alloc, opening, limit, most)?;
+    let explored = explore(alloc, opening, limit, most, &NoGoal)?;
     let ends = ends_of(alloc, &explored);
     let_go(explored);
     ends

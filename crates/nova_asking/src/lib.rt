@@ -6,8 +6,10 @@ mod bytes;
 mod contexts;
 mod ends;
 mod extent;
+mod locations;
 mod outcome;
 mod path;
+mod presence;
 mod question;
 mod scenarios;
 
@@ -15,5 +17,5 @@ pub use answer::{Answer, judge};
 pub use bytes::Bytes;
 pub use ends::{End, Ends, list_ends};
 pub use extent::Extent;
-pub use question::Question;
+pub use question::{Location, Question};
 pub use scenarios::{judge_scenario, list_scenario_ends};

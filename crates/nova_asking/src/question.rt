@@ -1,13 +1,22 @@
 ghost use Rattle.std.specs.Prelude.{◌≡◌, ◌+◌, ◌≤◌, IfOk, drop, length, nat_eq, slice_get};
 ghost use Rattle.byteorder.specs.Endian.{little_number};
 ghost use Rattle.std.specs.List.{starts_with};
-ghost use Rattle.nova_asking.specs.Questions.{IsApt, has_word, is_so, shown};
+ghost use Rattle.nova_asking.specs.Questions.{has_word, named, shown};
 
 use crate::bytes::Bytes;
-use crate::contexts::{is_dead, is_left, some_is_dead, some_waits};
+use crate::contexts::{is_dead, is_left, some_is_dead, some_other_is_dead, some_waits};
+use crate::locations::{some_is_at, two_are_at};
 use nova_guest::words::read_word;
 use nova_kernel::{Kernel, LogByte};
+use nova_search::Goal;
 use std::alloc::{AllocError, Global};
+
+/// An address of a protection domain.
+#[derive(Clone, Copy)]
+pub struct Location {
+    pub pd: u32,
+    pub address: u32,
+}
 
 /// What is asked of the states that a kernel comes to.
 #[derive(Drop)]
@@ -18,6 +27,12 @@ pub enum Question {
     /// Whether the word at an offset of a RAM frame has this value. The offset is at most 4,092.
     Word { frame: u32, offset: u32, value: u32 },
 
+    /// Whether a processor is about to execute the instruction at a location.
+    At { location: Location },
+
+    /// Whether a processor is about to execute the instruction at a location, and another one that at a second location.
+    AtBoth { first: Location, second: Location },
+
     /// Whether the run ends while an execution context waits at a semaphore.
     Blocked,
 
@@ -26,6 +41,9 @@ pub enum Question {
 
     /// Whether the execution context of this number dies.
     DiesOf { ec: u32 },
+
+    /// Whether an execution context of another number dies.
+    DiesBut { ec: u32 },
 
     /// Whether the run ends while the execution context of this number is there, and not dead.
     Stuck { ec: u32 },
@@ -74,13 +92,16 @@ fn has_word(kernel: &Kernel, frame: u32, offset: u32, value: u32) -> bool
     word_at(kernel.frame(frame), offset) == value
 }
 
-impl Question {
+impl Goal for Question {
+    ghost use Rattle.nova_asking.specs.Questions.{IsApt, is_so};
+
+    ghost apt = { IsApt };
+
+    ghost met = { is_so };
+
     /// Whether the state of a kernel is what is asked for.
     #[tactic(auto, unfolding(crate::specs::Questions::is_so))]
-    pub fn is_so(&self, alloc: Global, kernel: &Kernel) -> Result<bool, AllocError>
-        requires { IsApt self.now }
-        ensures { IfOk result (λ is. is ≡ is_so self.now kernel.now.state) }
-    {
+    fn is_met(&self, alloc: Global, kernel: &Kernel) -> Result<bool, AllocError> {
         match self {
             Question::Console { console, bytes } => shows(
                 alloc,
@@ -93,11 +114,34 @@ impl Question {
                 offset,
                 value,
             } => Ok(has_word(kernel, *frame, *offset, *value)),
+            Question::At { location } => Ok(some_is_at(kernel, *location)),
+            Question::AtBoth { first, second } => Ok(two_are_at(kernel, *first, *second)),
             Question::Blocked => Ok(kernel.quiet() && some_waits(kernel)),
             Question::Dies => Ok(some_is_dead(kernel)),
             Question::DiesOf { ec } => Ok(is_dead(kernel, *ec)),
+            Question::DiesBut { ec } => Ok(some_other_is_dead(kernel, *ec)),
             Question::Stuck { ec } => Ok(kernel.quiet() && is_left(kernel, *ec)),
             Question::Ends => Ok(kernel.quiet()),
+        }
+    }
+}
+
+impl Question {
+    /// The execution context that a question names.
+    pub(crate) fn named(&self) -> Option<u32>
+        ensures { result ≡ named self.now }
+    {
+        match self {
+            Question::DiesOf { ec } | Question::DiesBut { ec } | Question::Stuck { ec } => Some(
+                *ec,
+            ),
+            Question::Console { .. }
+            | Question::Word { .. }
+            | Question::At { .. }
+            | Question::AtBoth { .. }
+            | Question::Blocked
+            | Question::Dies
+            | Question::Ends => None,
         }
     }
 }

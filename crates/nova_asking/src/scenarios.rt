@@ -1,8 +1,7 @@
 ghost use Rattle.std.specs.Prelude.{◌≡◌, ◌^◌, ◌≤◌, IfOk};
 ghost use Rattle.std.specs.List.{AllByRecursion};
-ghost use Rattle.nova_asking.specs.Answers.{AreDistinct, AreEnds, IsAnswer, IsEnd, outcomes};
+ghost use Rattle.nova_asking.specs.Answers.{AreDistinct, AreEnds, IsAnswer, IsCount, IsEnd, outcomes};
 ghost use Rattle.nova_asking.specs.Questions.{IsApt};
-ghost use Rattle.nova_asking.specs.Searched.{IsCount};
 ghost use Rattle.nova_boot.specs.Boot.{scenario_of};
 ghost use Rattle.nova_model.specs.Boot.{boot};
 ghost use Rattle.nova_scenario.specs.Sound.{IsSound};
@@ -38,8 +37,7 @@ pub fn judge_scenario(
     requires sound { IsSound scenario.now }
     requires limit { limit ≤ 2 ^ 31 }
     requires apt { IsApt question.now }
-    ensures answer { IfOk result (IsAnswer question.now (boot (scenario_of scenario.now)) limit) }
-    ensures states { IfOk result (λ a. IsCount (boot (scenario_of scenario.now)) most a.extent a.states) }
+    ensures { IfOk result (IsAnswer question.now (boot (scenario_of scenario.now)) limit most) }
 {
     let opening = opening(alloc, scenario)?;
     let answer = judge(alloc, &opening, limit, most, question);

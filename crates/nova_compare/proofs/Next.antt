@@ -1,5 +1,5 @@
 -- The vertex of a kernel that begins, and the one after a turn.
-use Rattle.std.proofs.Common.{◌≡◌, ℕ, ◌+◌, List, [], length, map, ap, sym, ◌∙◌, subst, refl, arith}
+use Rattle.std.proofs.Common.{◌≡◌, ℕ, ◌+◌, List, [], length, map, ap, sym, ◌∙◌, subst, refl}
 use Rattle.std.specs.Prelude.{Option, Some, None, IsSome, replicate}
 use Rattle.nova_model.specs.Boot.{Scenario, boot}
 use Rattle.nova_model.specs.Runs.{after, run}
@@ -53,6 +53,6 @@ pub next_succeeds : (k s : KernelState) (cpu : ℕ) (e : Event) → IsAfter k cp
 next_succeeds k s cpu e a = record {
   state = a.state;
   there = some_turn (turn k cpu) e a.answer;
-  turns = (let more = a.turns in omega (arith, more));
+  turns = a.turns;
   cpus = a.cpus;
 }

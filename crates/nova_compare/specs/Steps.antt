@@ -1,5 +1,5 @@
 -- A turn that is taken on a copy, and the state that it leads to.
-use Rattle.std.specs.Prelude.{◌≡◌, ◌≤◌, ◌+◌, ℕ, Option, Some, None, IsSome}
+use Rattle.std.specs.Prelude.{◌≡◌, ◌+◌, ℕ, Option, Some, None, IsSome}
 use Rattle.nova_model.specs.Runs.{after}
 use Rattle.nova_model.specs.State.{KernelState}
 use Rattle.nova_model.specs.Turn.{answer_of, turn}
@@ -23,7 +23,7 @@ IsStepped k cpu (Some (next, e)) = IsAfter k cpu next.state e
 pub record IsSuccessor (s : KernelState) (cpu : ℕ) (t : KernelState) : Type 0 where
   pub state : t ≡ after s cpu
   pub there : IsSome (turn s cpu)
-  pub turns : t.turns ≤ s.turns + 1
+  pub turns : t.turns ≡ s.turns + 1
   pub cpus : t.cpus ≡ s.cpus
 
 -- the answer of trying a turn of a processor: the state after it, or none where the processor is idle

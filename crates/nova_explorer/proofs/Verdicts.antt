@@ -1,10 +1,10 @@
 -- What a text tells, by what was answered.
-use Rattle.std.proofs.Common.{◌≡◌, ℕ, List, Option, Some, None, subst, sym}
+use Rattle.std.proofs.Common.{◌≡◌, ℕ, List, subst, sym}
 use Rattle.std.specs.List.{AllByRecursion}
 use Rattle.nova_model.specs.State.{KernelState}
-use Rattle.nova_order.specs.Blocks.{BlockList}
-use Rattle.nova_asking.specs.Answers.{AreDistinct, AreEnds, IsEnd, IsToldBy, outcomes}
-use Rattle.nova_asking.specs.Searched.{IsCount}
+use Rattle.nova_asking.specs.Answers.{AreDistinct, AreEnds, IsAnswer, IsCount, IsEnd, outcomes}
+use Rattle.nova_asking.specs.declared.answer.Answer.{Answer}
+use Rattle.nova_asking.specs.declared.answer.Answer.TheVariants as answer
 use Rattle.nova_asking.specs.declared.ends.End.{End}
 use Rattle.nova_asking.specs.declared.extent.Extent.{Extent}
 use Rattle.nova_asking.specs.declared.extent.Extent.TheVariants.{All, Within, Cut}
@@ -13,19 +13,18 @@ use Rattle.nova_explorer.specs.Tellings.{AreEndsTold, IsAnswered, of_extent, ver
 use Rattle.nova_explorer.specs.Texts.{answer_text, ends_text}
 use Rattle.nova_explorer.specs.declared.verdict.Verdict.{Verdict}
 
-module _ (q : Question) (k : KernelState) (cpus limit most states : ℕ) (text : List ℕ) where
-  told : (extent : Extent) (order : Option BlockList) → IsToldBy q k limit extent order → IsCount k most extent states → text ≡ answer_text cpus limit extent states order
-      → IsAnswered q k cpus limit most (verdict_of order extent) text
-  told extent (Some order) leads count is = record { order = order.blocks; leads = leads; extent = extent; states = states; count = count; tells = is }
-  told All None never count is = record { never = never; states = states; count = count; tells = is }
-  told Within None never count is = record { never = never; states = states; count = count; tells = is }
-  told Cut None never count is = record { never = never; states = states; count = count; tells = is }
+module _ (q : Question) (k : KernelState) (cpus limit most : ℕ) (text : List ℕ) where
+  told : (a : Answer) → IsAnswer q k limit most a → text ≡ answer_text cpus limit a → IsAnswered q k cpus limit most (verdict_of a) text
+  told (answer.Found order states) by is = record { order = order.blocks; leads = by.leads; states = states; count = by.found; tells = is }
+  told (answer.Never All states absent) by is = record { never = by.never; states = states; count = by.count; named = absent; absent = by.absent; tells = is }
+  told (answer.Never Within states absent) by is = record { never = by.never; states = states; count = by.count; named = absent; absent = by.absent; tells = is }
+  told (answer.Never Cut states absent) by is = record { never = by.never; states = states; count = by.count; named = absent; absent = by.absent; tells = is }
 
-  pub answered : (n m : ℕ) (extent : Extent) (order : Option BlockList) (v : Verdict) → n ≡ limit → m ≡ most → IsToldBy q k n extent order → IsCount k m extent states
-      → text ≡ answer_text cpus limit extent states order → v ≡ verdict_of order extent → IsAnswered q k cpus limit most v text
-  answered n m extent order v turns expanded by count is verdict =
+  pub answered : (n m : ℕ) (a : Answer) (v : Verdict) → n ≡ limit → m ≡ most → IsAnswer q k n m a → text ≡ answer_text cpus limit a → v ≡ verdict_of a →
+      IsAnswered q k cpus limit most v text
+  answered n m a v turns expanded by is verdict =
       subst (λ (w : Verdict). IsAnswered q k cpus limit most w text) (sym verdict)
-      (told extent order (subst (λ (l : ℕ). IsToldBy q k l extent order) turns by) (subst (λ (l : ℕ). IsCount k l extent states) expanded count) is)
+      (told a (subst (λ (l : ℕ). IsAnswer q k limit l a) expanded (subst (λ (l : ℕ). IsAnswer q k l m a) turns by)) is)
 
 module _ (k : KernelState) (cpus limit most states : ℕ) (ends : List End) (text : List ℕ) (each : AllByRecursion (IsEnd k) ends) (once : AreDistinct (outcomes ends)) where
   told_ends : (extent : Extent) → AreEnds k limit extent (outcomes ends) → IsCount k most extent states → text ≡ ends_text cpus limit extent states ends

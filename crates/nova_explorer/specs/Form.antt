@@ -16,9 +16,9 @@ states_option = record (new_rule (codes "states")) { long = Some (codes "states"
 abbrev pub named : App
 named = fold with_rule (new_app (codes "nova_explore")) (new_rule (codes "scenario") ∷ new_rule (codes "question") ∷ [])
 
--- up to three words more
+-- up to four words more
 abbrev pub worded : App
-worded = fold with_rule named (new_rule (codes "first") ∷ new_rule (codes "second") ∷ new_rule (codes "third") ∷ [])
+worded = fold with_rule named (new_rule (codes "first") ∷ new_rule (codes "second") ∷ new_rule (codes "third") ∷ new_rule (codes "fourth") ∷ [])
 
 -- the same with the limits
 abbrev pub form : App
@@ -31,6 +31,7 @@ pub record Given : Type 0 where
   pub first : Option Text
   pub second : Option Text
   pub third : Option Text
+  pub fourth : Option Text
   pub turns : Option Text
   pub states : Option Text
 
@@ -41,6 +42,7 @@ given_in rows = record {
   first = first_of (codes "first") rows;
   second = first_of (codes "second") rows;
   third = first_of (codes "third") rows;
+  fourth = first_of (codes "fourth") rows;
   turns = first_of (codes "turns") rows;
   states = first_of (codes "states") rows;
 }

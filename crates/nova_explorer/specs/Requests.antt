@@ -2,6 +2,7 @@
 use Rattle.std.specs.Prelude.{ℕ, List, ◌∷◌, codes, Option, Some, None, Result, Ok, Err, option_and_then, option_map, if◌then◌else◌}
 use Rattle.std.specs.Str.{bytes_eq}
 use Rattle.hex.specs.Hex.{decode_of}
+use Rattle.nova_asking.specs.declared.question.Location.{Location}
 use Rattle.nova_asking.specs.declared.question.Question.{Question}
 use Rattle.nova_asking.specs.declared.question.Question.TheVariants as question
 use Rattle.nova_command.specs.Parsing.{Text}
@@ -17,8 +18,10 @@ word_of text =
     if bytes_eq text (codes "console") then Some word.Console
     else if bytes_eq text (codes "text") then Some word.Text
     else if bytes_eq text (codes "word") then Some word.Word
+    else if bytes_eq text (codes "at") then Some word.At
     else if bytes_eq text (codes "blocked") then Some word.Blocked
     else if bytes_eq text (codes "dies") then Some word.Dies
+    else if bytes_eq text (codes "but") then Some word.But
     else if bytes_eq text (codes "stuck") then Some word.Stuck
     else if bytes_eq text (codes "ends") then Some word.Ends
     else None
@@ -39,17 +42,57 @@ abbrev pub of_word : Option ℕ → Option ℕ → Option ℕ → Option Questio
 of_word (Some frame) (Some offset) (Some value) = Some (question.Word frame offset value)
 of_word _ _ _ = None
 
+abbrev pub location_of : Option ℕ → Option ℕ → Option Location
+location_of (Some pd) (Some address) = Some (record { pd = pd; address = address })
+location_of _ _ = None
+
+abbrev pub at_one : Option Location → Option Question
+at_one (Some location) = Some (question.At location)
+at_one None = None
+
+abbrev pub at_both : Option Location → Option Location → Option Question
+at_both (Some first) (Some second) = Some (question.AtBoth first second)
+at_both _ _ = None
+
+abbrev pub dies_but : Option Word → Option ℕ → Option Question
+dies_but (Some word.But) (Some ec) = Some (question.DiesBut ec)
+dies_but _ _ = None
+
 -- the questions, each by its word and the words after it
-abbrev pub asked : Option Word → Option Text → Option Text → Option Text → Option Question
-asked (Some word.Blocked) None None None = Some question.Blocked
-asked (Some word.Dies) None None None = Some question.Dies
-asked (Some word.Ends) None None None = Some question.Ends
-asked (Some word.Dies) (Some ec) None None = option_map (λ (n : ℕ). question.DiesOf n) (number_of ec)
-asked (Some word.Stuck) (Some ec) None None = option_map (λ (n : ℕ). question.Stuck n) (number_of ec)
-asked (Some word.Console) (Some console) (Some digits) None = on_console (number_of console) (bytes_of digits)
-asked (Some word.Text) (Some console) (Some text) None = on_console (number_of console) (Some text)
-asked (Some word.Word) (Some frame) (Some offset) (Some value) = of_word (number_of frame) (offset_of offset) (number_of value)
-asked _ _ _ _ = None
+abbrev pub of_none : Word → Option Question
+of_none word.Blocked = Some question.Blocked
+of_none word.Dies = Some question.Dies
+of_none word.Ends = Some question.Ends
+of_none _ = None
+
+abbrev pub of_one : Word → Text → Option Question
+of_one word.Dies ec = option_map (λ (n : ℕ). question.DiesOf n) (number_of ec)
+of_one word.Stuck ec = option_map (λ (n : ℕ). question.Stuck n) (number_of ec)
+of_one _ ec = None
+
+abbrev pub of_two : Word → Text → Text → Option Question
+of_two word.Dies but ec = dies_but (word_of but) (number_of ec)
+of_two word.Console console digits = on_console (number_of console) (bytes_of digits)
+of_two word.Text console text = on_console (number_of console) (Some text)
+of_two word.At pd address = at_one (location_of (number_of pd) (number_of address))
+of_two _ first second = None
+
+abbrev pub of_three : Word → Text → Text → Text → Option Question
+of_three word.Word frame offset value = of_word (number_of frame) (offset_of offset) (number_of value)
+of_three _ first second third = None
+
+abbrev pub of_four : Word → Text → Text → Text → Text → Option Question
+of_four word.At pd address other_pd other = at_both (location_of (number_of pd) (number_of address)) (location_of (number_of other_pd) (number_of other))
+of_four _ first second third fourth = None
+
+-- by how many words there are: behind one that is missing there is none
+abbrev pub asked : Option Word → Option Text → Option Text → Option Text → Option Text → Option Question
+asked None first second third fourth = None
+asked (Some word) None second third fourth = of_none word
+asked (Some word) (Some first) None third fourth = of_one word first
+asked (Some word) (Some first) (Some second) None fourth = of_two word first second
+asked (Some word) (Some first) (Some second) (Some third) None = of_three word first second third
+asked (Some word) (Some first) (Some second) (Some third) (Some fourth) = of_four word first second third fourth
 
 abbrev pub requested : Option Text → Option ℕ → Option ℕ → Option Question → Option Request
 requested (Some scenario) (Some turns) (Some states) (Some question) = Some (record { scenario = scenario; turns = turns; states = states; question = question })
@@ -57,7 +100,7 @@ requested _ _ _ _ = None
 
 -- the question that was given
 abbrev pub question_in : Given → Option Question
-question_in g = asked (option_and_then word_of g.question) g.first g.second g.third
+question_in g = asked (option_and_then word_of g.question) g.first g.second g.third g.fourth
 
 -- the request that was given
 abbrev pub request_with : Given → Option Question → Option Request

@@ -1,12 +1,13 @@
 -- What a text tells of the orders of turns from a state.
-use Rattle.std.specs.Prelude.{◌≡◌, ℕ, ◌^◌, Bool, true, List, nat_lt, Option, Some, None}
+use Rattle.std.specs.Prelude.{◌≡◌, ℕ, ◌^◌, Bool, true, List, nat_lt, Option}
 use Rattle.std.specs.List.{AllByRecursion}
 use Rattle.nova_model.specs.State.{KernelState}
-use Rattle.nova_order.specs.Blocks.{BlockList, turns}
+use Rattle.nova_order.specs.Blocks.{turns}
 use Rattle.nova_order.specs.declared.block.Block.{Block}
 use Rattle.nova_scenario.specs.declared.scenario.Scenario.{Scenario}
-use Rattle.nova_asking.specs.Answers.{AreDistinct, AreEnds, IsEnd, IsNever, IsWitness, outcomes}
-use Rattle.nova_asking.specs.Searched.{IsCount}
+use Rattle.nova_asking.specs.Answers.{AreDistinct, AreEnds, AreFound, IsAbsent, IsCount, IsEnd, IsNever, IsWitness, outcomes}
+use Rattle.nova_asking.specs.declared.answer.Answer.{Answer}
+use Rattle.nova_asking.specs.declared.answer.Answer.TheVariants as answer
 use Rattle.nova_asking.specs.declared.ends.End.{End}
 use Rattle.nova_asking.specs.declared.extent.Extent.{Extent}
 use Rattle.nova_asking.specs.declared.extent.Extent.TheVariants as extent
@@ -16,20 +17,21 @@ use Rattle.nova_explorer.specs.Texts.{ends_text, found_text, never_text}
 use Rattle.nova_explorer.specs.declared.verdict.Verdict.{Verdict}
 use Rattle.nova_explorer.specs.declared.verdict.Verdict.TheVariants.{All, Found, Within, Cut}
 
--- no order that a search of this extent went along leads to what was asked for
+-- no order that a search of this extent went along leads to what was asked for; where it is about an execution context that none of them leads to, this is told, too
 pub record IsToldNever (q : Question) (k : KernelState) (cpus limit most : ℕ) (extent : Extent) (text : List ℕ) : Type 0 where
   pub never : IsNever q k limit extent
   pub states : ℕ
   pub count : IsCount k most extent states
-  pub tells : text ≡ never_text cpus limit extent states
+  pub named : Option ℕ
+  pub absent : IsAbsent q k limit extent named
+  pub tells : text ≡ never_text cpus limit extent states named
 
--- an order does, without an idle turn, and its text is told
-pub record IsToldFound (q : Question) (k : KernelState) (cpus most : ℕ) (text : List ℕ) : Type 0 where
+-- a shortest order does, without an idle turn, and its text is told
+pub record IsToldFound (q : Question) (k : KernelState) (cpus : ℕ) (text : List ℕ) : Type 0 where
   pub order : List Block
   pub leads : IsWitness q k (turns order)
-  pub extent : Extent
   pub states : ℕ
-  pub count : IsCount k most extent states
+  pub count : AreFound k states
   pub tells : text ≡ found_text cpus states order
 
 -- what is told of a question on states
@@ -37,9 +39,9 @@ abbrev pub IsAnswered : Question → KernelState → ℕ → ℕ → ℕ → Ver
 IsAnswered q k cpus limit most All text = IsToldNever q k cpus limit most extent.All text
 IsAnswered q k cpus limit most Within text = IsToldNever q k cpus limit most extent.Within text
 IsAnswered q k cpus limit most Cut text = IsToldNever q k cpus limit most extent.Cut text
-IsAnswered q k cpus limit most Found text = IsToldFound q k cpus most text
+IsAnswered q k cpus limit most Found text = IsToldFound q k cpus text
 
--- different outcomes are told, each with an order that ends in it; each order that a search of this extent went along, and that ends the run, does so with one of them
+-- different outcomes are told, each with a shortest order that ends in it; each order that a search of this extent went along, and that ends the run, does so with one of them
 pub record AreToldEnds (k : KernelState) (cpus limit most : ℕ) (extent : Extent) (text : List ℕ) : Type 0 where
   pub ends : List End
   pub each : AllByRecursion (IsEnd k) ends
@@ -75,6 +77,6 @@ of_extent extent.All = All
 of_extent extent.Within = Within
 of_extent extent.Cut = Cut
 
-abbrev pub verdict_of : Option BlockList → Extent → Verdict
-verdict_of (Some order) extent = Found
-verdict_of None extent = of_extent extent
+abbrev pub verdict_of : Answer → Verdict
+verdict_of (answer.Found order states) = Found
+verdict_of (answer.Never extent states absent) = of_extent extent

@@ -1,10 +1,11 @@
 -- What is written, as text.
 use Rattle.std.specs.Prelude.{ℕ, ◌==◌, List, [], ◌++◌, flat_map, length, codes, decimal, Option, Some, None, if◌then◌else◌}
 use Rattle.std.specs.List.{enumerate_from}
-use Rattle.nova_order.specs.Blocks.{BlockList}
 use Rattle.nova_order.specs.Text.{text_of}
 use Rattle.nova_order.specs.declared.block.Block.{Block}
 use Rattle.nova_report.specs.Words.{line_feed}
+use Rattle.nova_asking.specs.declared.answer.Answer.{Answer}
+use Rattle.nova_asking.specs.declared.answer.Answer.TheVariants.{Found, Never}
 use Rattle.nova_asking.specs.declared.ends.End.{End}
 use Rattle.nova_asking.specs.declared.extent.Extent.{Extent}
 use Rattle.nova_asking.specs.declared.extent.Extent.TheVariants.{All, Within, Cut}
@@ -28,17 +29,27 @@ never_line Cut limit = extent_line Cut limit
 abbrev pub states_line : ℕ → List ℕ
 states_line states = codes "states " ++ (decimal states ++ line_feed)
 
-abbrev pub never_text : ℕ → ℕ → Extent → ℕ → List ℕ
-never_text cpus limit extent states = alone_line cpus ++ (never_line extent limit ++ states_line states)
+-- that none leads to a state with the execution context that was asked about; of a search that is cut this is not known
+abbrev pub never_there_line : ℕ → List ℕ
+never_there_line ec = codes "ec " ++ (decimal ec ++ codes " never there\n")
+
+abbrev pub absent_line : Extent → Option ℕ → List ℕ
+absent_line All (Some ec) = never_there_line ec
+absent_line Within (Some ec) = never_there_line ec
+absent_line Cut (Some ec) = []
+absent_line extent None = []
+
+abbrev pub never_text : ℕ → ℕ → Extent → ℕ → Option ℕ → List ℕ
+never_text cpus limit extent states absent = alone_line cpus ++ (never_line extent limit ++ (states_line states ++ absent_line extent absent))
 
 -- that one does, and its text
 abbrev pub found_text : ℕ → ℕ → List Block → List ℕ
 found_text cpus states order = alone_line cpus ++ (codes "found\n" ++ (states_line states ++ text_of order))
 
 -- either
-abbrev pub answer_text : ℕ → ℕ → Extent → ℕ → Option BlockList → List ℕ
-answer_text cpus limit extent states (Some order) = found_text cpus states order.blocks
-answer_text cpus limit extent states None = never_text cpus limit extent states
+abbrev pub answer_text : ℕ → ℕ → Answer → List ℕ
+answer_text cpus limit (Found order states) = found_text cpus states order.blocks
+answer_text cpus limit (Never extent states absent) = never_text cpus limit extent states absent
 
 abbrev pub end_line : ℕ → ℕ → List ℕ
 end_line number states = codes "end " ++ (decimal number ++ (codes " states " ++ (decimal states ++ line_feed)))

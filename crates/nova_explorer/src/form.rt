@@ -39,14 +39,15 @@ fn named<'a>(alloc: Global) -> Result<Command<'a>, AllocError>
         .arg(Arg::new(alloc, "question"))
 }
 
-/// The scenario, the word of the question, and up to three words more.
+/// The scenario, the word of the question, and up to four words more.
 fn worded<'a>(alloc: Global) -> Result<Command<'a>, AllocError>
     ensures { IfOk result (λ command. app_of command ≡ worded) }
 {
     named(alloc)?
         .arg(Arg::new(alloc, "first"))?
         .arg(Arg::new(alloc, "second"))?
-        .arg(Arg::new(alloc, "third"))
+        .arg(Arg::new(alloc, "third"))?
+        .arg(Arg::new(alloc, "fourth"))
 }
 
 /// The scenario, the words of the question, and the limits.

@@ -56,18 +56,23 @@ fn serve<D: Depot, O: Sink>(alloc: Global, request: &Request, depot: &mut D, out
 /// | `console N HEX` | console N shows these bytes first, two hexadecimal digits each |
 /// | `text N TEXT` | the same, with the bytes of the word TEXT |
 /// | `word FRAME OFFSET VALUE` | the word at OFFSET of a frame of RAM, from 0 to 4,092, is VALUE, its lowest byte first |
+/// | `at PD ADDRESS` | the execution context that a processor has chosen is about to execute the instruction at ADDRESS of the domain PD |
+/// | `at PD ADDRESS PD ADDRESS` | that of one processor at the first, and that of another one at the second |
 /// | `blocked` | no processor has a turn, and an execution context waits at a semaphore |
 /// | `dies`, `dies EC` | an execution context is dead, or that of this number |
+/// | `dies but EC` | one of another number is dead |
 /// | `stuck EC` | no processor has a turn, and the execution context of this number is there and not dead |
 ///
 /// Or it is `ends`: with which outcomes orders end, after which no processor has a turn. The answer is `Told` with one of these, and its text is then
 /// written, whole:
 ///
-/// - `Found`: an order without an idle turn leads there. Its lines are told.
+/// - `Found`: an order without an idle turn leads there, and none of fewer turns does. Its lines are told.
 /// - `All`: no order of the scenario's processors does, of whatever length. For `ends`: each order that ends the run does so with one of the outcomes
-///   that are told, each with an order without an idle turn that ends so.
+///   that are told, each with an order without an idle turn that ends so; none of fewer turns does.
 /// - `Within`: the same of orders of at most N turns.
 /// - `Cut`: more states were found than may be expanded, and nothing is said of orders but of those that are told.
+///
+/// Where the question names an execution context, and none of the orders of `All` or `Within` leads to a state with it, the text says so.
 ///
 /// The text also has how many states were found, to each of which an order leads; states that are not seen to be equal count apart.
 ///

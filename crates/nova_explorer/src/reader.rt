@@ -6,7 +6,7 @@ ghost use Rattle.nova_asking.specs.Questions.{IsApt};
 ghost use Rattle.nova_command.specs.CommandFault.{Answers, AnswersBy};
 ghost use Rattle.nova_explorer.specs.Form.{given_in};
 ghost use Rattle.nova_explorer.specs.Numbers.{HasBounds, number_of, offset_of};
-ghost use Rattle.nova_explorer.specs.Requests.{asked, bytes_of, of_word, on_console, question_in, request, request_of, request_with};
+ghost use Rattle.nova_explorer.specs.Requests.{at_both, at_one, bytes_of, dies_but, location_of, of_four, of_none, of_one, of_three, of_two, of_word, on_console, question_in, request, request_of, request_with, word_of};
 
 use crate::form::matches_of;
 use crate::numbers::{read_number, read_offset, read_states, read_turns};
@@ -14,7 +14,7 @@ use crate::request::Request;
 use crate::word::Word;
 use clap::ArgMatches;
 use hex::FromHexError;
-use nova_asking::{Bytes, Question};
+use nova_asking::{Bytes, Location, Question};
 use nova_command::{CommandFault, Name, text_of, with_program_name};
 use std::alloc::Global;
 
@@ -44,22 +44,67 @@ fn bytes_of(alloc: Global, digits: &str) -> Result<Vec<u8>, CommandFault>
     }
 }
 
+/// An address of a protection domain.
+fn location_of(pd: &str, address: &str) -> Option<Location>
+    ensures { result ≡ location_of (number_of pd.now) (number_of address.now) }
+{
+    match (read_number(pd), read_number(address)) {
+        (Some(pd), Some(address)) => Some(Location { pd, address }),
+        _ => None,
+    }
+}
+
+/// A question on an address of a protection domain.
+fn at_one(pd: &str, address: &str) -> Result<Question, CommandFault>
+    ensures exact { Answers (at_one (location_of (number_of pd.now) (number_of address.now))) result }
+    ensures apt { IfOk result IsApt }
+{
+    match location_of(pd, address) {
+        Some(location) => Ok(Question::At { location }),
+        None => Err(CommandFault::Usage),
+    }
+}
+
+/// A question on two addresses.
+fn at_both(first: Option<Location>, second: Option<Location>) -> Result<Question, CommandFault>
+    ensures exact { Answers (at_both first second) result }
+    ensures apt { IfOk result IsApt }
+{
+    match (first, second) {
+        (Some(first), Some(second)) => Ok(Question::AtBoth { first, second }),
+        _ => Err(CommandFault::Usage),
+    }
+}
+
+/// A question on execution contexts but one.
+fn dies_but(but: &str, ec: &str) -> Result<Question, CommandFault>
+    ensures exact { Answers (dies_but (word_of but.now) (number_of ec.now)) result }
+    ensures apt { IfOk result IsApt }
+{
+    match (Word::from_text(but), read_number(ec)) {
+        (Some(Word::But), Some(ec)) => Ok(Question::DiesBut { ec }),
+        _ => Err(CommandFault::Usage),
+    }
+}
+
 /// A question of one word.
 fn of_none(word: Word) -> Result<Question, CommandFault>
-    ensures exact { Answers (asked (Some word) None None None) result }
+    ensures exact { Answers (of_none word) result }
     ensures apt { IfOk result IsApt }
 {
     match word {
         Word::Blocked => Ok(Question::Blocked),
         Word::Dies => Ok(Question::Dies),
         Word::Ends => Ok(Question::Ends),
-        Word::Console | Word::Text | Word::Word | Word::Stuck => Err(CommandFault::Usage),
+        Word::Console | Word::Text | Word::Word | Word::At | Word::But | Word::Stuck => {
+            Err(CommandFault::Usage)
+        }
     }
 }
 
 /// A question of a word and one more.
 fn of_one(word: Word, first: &str) -> Result<Question, CommandFault>
-    ensures exact { Answers (asked (Some word) (Some first.now) None None) result }
+    ensures exact { Answers (of_one word first.now) result }
     ensures apt { IfOk result IsApt }
 {
     let Some(ec) = read_number(first) else {
@@ -68,21 +113,27 @@ fn of_one(word: Word, first: &str) -> Result<Question, CommandFault>
     match word {
         Word::Dies => Ok(Question::DiesOf { ec }),
         Word::Stuck => Ok(Question::Stuck { ec }),
-        Word::Blocked | Word::Ends | Word::Console | Word::Text | Word::Word => {
-            Err(CommandFault::Usage)
-        }
+        Word::Blocked
+        | Word::Ends
+        | Word::Console
+        | Word::Text
+        | Word::Word
+        | Word::At
+        | Word::But => Err(CommandFault::Usage),
     }
 }
 
 /// A question of a word and two more.
 fn of_two(alloc: Global, word: Word, first: &str, second: &str) -> Result<Question, CommandFault>
-    ensures exact { Answers (asked (Some word) (Some first.now) (Some second.now) None) result }
+    ensures exact { Answers (of_two word first.now second.now) result }
     ensures apt { IfOk result IsApt }
 {
     match word {
         Word::Console => on_console(first, bytes_of(alloc, second)?),
         Word::Text => on_console(first, Vec::from_slice(alloc, second.as_bytes())?),
-        Word::Blocked | Word::Dies | Word::Ends | Word::Stuck | Word::Word => {
+        Word::At => at_one(first, second),
+        Word::Dies => dies_but(first, second),
+        Word::Blocked | Word::But | Word::Ends | Word::Stuck | Word::Word => {
             Err(CommandFault::Usage)
         }
     }
@@ -105,14 +156,43 @@ fn of_word(frame: &str, offset: &str, value: &str) -> Result<Question, CommandFa
 
 /// A question of a word and three more.
 fn of_three(word: Word, first: &str, second: &str, third: &str) -> Result<Question, CommandFault>
-    ensures exact { Answers (asked (Some word) (Some first.now) (Some second.now) (Some third.now)) result }
+    ensures exact { Answers (of_three word first.now second.now third.now) result }
     ensures apt { IfOk result IsApt }
 {
     match word {
         Word::Word => of_word(first, second, third),
-        Word::Blocked | Word::Dies | Word::Ends | Word::Stuck | Word::Console | Word::Text => Err(
-            CommandFault::Usage,
-        ),
+        Word::Blocked
+        | Word::Dies
+        | Word::But
+        | Word::Ends
+        | Word::Stuck
+        | Word::Console
+        | Word::Text
+        | Word::At => Err(CommandFault::Usage),
+    }
+}
+
+/// A question of a word and four more.
+fn of_four(
+    word: Word,
+    first: &str,
+    second: &str,
+    third: &str,
+    fourth: &str,
+) -> Result<Question, CommandFault>
+    ensures exact { Answers (of_four word first.now second.now third.now fourth.now) result }
+    ensures apt { IfOk result IsApt }
+{
+    match word {
+        Word::At => at_both(location_of(first, second), location_of(third, fourth)),
+        Word::Blocked
+        | Word::Dies
+        | Word::But
+        | Word::Ends
+        | Word::Stuck
+        | Word::Console
+        | Word::Text
+        | Word::Word => Err(CommandFault::Usage),
     }
 }
 
@@ -125,14 +205,22 @@ fn question_of(alloc: Global, matches: &ArgMatches) -> Result<Question, CommandF
     let first = text_of(matches, "first");
     let second = text_of(matches, "second");
     let third = text_of(matches, "third");
-    match (word, first, second, third) {
-        (Some(word), None, None, None) => of_none(word),
-        (Some(word), Some(first), None, None) => of_one(word, first),
-        (Some(word), Some(first), Some(second), None) => of_two(alloc, word, first, second),
-        (Some(word), Some(first), Some(second), Some(third)) => {
-            of_three(word, first, second, third)
-        }
-        _ => Err(CommandFault::Usage),
+    let fourth = text_of(matches, "fourth");
+    let Some(word) = word else {
+        return Err(CommandFault::Usage);
+    };
+    let Some(first) = first else {
+        return of_none(word);
+    };
+    let Some(second) = second else {
+        return of_one(word, first);
+    };
+    let Some(third) = third else {
+        return of_two(alloc, word, first, second);
+    };
+    match fourth {
+        None => of_three(word, first, second, third),
+        Some(fourth) => of_four(word, first, second, third, fourth),
     }
 }
 

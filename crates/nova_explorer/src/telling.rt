@@ -1,6 +1,6 @@
 ghost use Rattle.std.specs.Prelude.{◌≡◌, ◌++◌, OnOk, IfOk, codes, length, string_bytes};
 ghost use Rattle.nova_order.specs.Text.{text_of};
-ghost use Rattle.nova_explorer.specs.Texts.{alone_line, answer_text, end_line, end_text, ends_text, extent_line, found_text, head_text, never_line, never_text, states_line};
+ghost use Rattle.nova_explorer.specs.Texts.{absent_line, alone_line, answer_text, end_line, end_text, ends_text, extent_line, found_text, head_text, never_line, never_text, states_line};
 
 use nova_asking::{Answer, End, Ends, Extent};
 use nova_order::Order;
@@ -47,6 +47,16 @@ fn write_states(out: &mut String, states: usize) -> Result<(), AllocError>
     writeln!(out, "states {states}")
 }
 
+/// That an execution context is never there, where a search that isn't cut found none of its number.
+fn write_absent(out: &mut String, extent: Extent, absent: Option<u32>) -> Result<(), AllocError>
+    ensures { OnOk result (string_bytes out.new ≡ string_bytes out.old ++ absent_line extent absent) }
+{
+    match (extent, absent) {
+        (Extent::All | Extent::Within, Some(ec)) => writeln!(out, "ec {ec} never there"),
+        _ => Ok(()),
+    }
+}
+
 /// Bytes behind a text.
 fn with_bytes(out: String, bytes: &[u8]) -> Result<Vec<u8>, AllocError>
     ensures { IfOk result (λ text. text.items ≡ string_bytes out ++ bytes.now) }
@@ -74,13 +84,15 @@ fn tell_never(
     limit: u32,
     extent: Extent,
     states: usize,
+    absent: Option<u32>,
 ) -> Result<Vec<u8>, AllocError>
-    ensures { IfOk result (λ text. text.items ≡ never_text cpus limit extent states) }
+    ensures { IfOk result (λ text. text.items ≡ never_text cpus limit extent states absent) }
 {
     let mut out = String::new(alloc);
     write_alone(&mut out, cpus)?;
     write_never(&mut out, extent, limit)?;
     write_states(&mut out, states)?;
+    write_absent(&mut out, extent, absent)?;
     Ok(out.into_bytes())
 }
 
@@ -91,11 +103,15 @@ pub(crate) fn tell_answer(
     limit: u32,
     answer: &Answer,
 ) -> Result<Vec<u8>, AllocError>
-    ensures { IfOk result (λ text. text.items ≡ answer_text cpus limit answer.now.extent answer.now.states answer.now.order) }
+    ensures { IfOk result (λ text. text.items ≡ answer_text cpus limit answer.now) }
 {
-    match &answer.order {
-        Some(order) => tell_found(alloc, cpus, order, answer.states),
-        None => tell_never(alloc, cpus, limit, answer.extent, answer.states),
+    match answer {
+        Answer::Found { order, states } => tell_found(alloc, cpus, order, *states),
+        Answer::Never {
+            extent,
+            states,
+            absent,
+        } => tell_never(alloc, cpus, limit, *extent, *states, *absent),
     }
 }
 

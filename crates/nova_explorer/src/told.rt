@@ -23,11 +23,11 @@ pub(crate) struct Told {
 
 /// The verdict of an answer.
 fn verdict_of(answer: &Answer) -> Verdict
-    ensures { result ≡ verdict_of answer.now.order answer.now.extent }
+    ensures { result ≡ verdict_of answer.now }
 {
-    match &answer.order {
-        Some(_) => Verdict::Found,
-        None => Verdict::of_extent(answer.extent),
+    match answer {
+        Answer::Found { .. } => Verdict::Found,
+        Answer::Never { extent, .. } => Verdict::of_extent(*extent),
     }
 }
 
@@ -87,8 +87,11 @@ fn has_place(scenario: &Scenario, question: &Question) -> bool
         Question::Console { console, .. } => *console < scenario.consoles,
         Question::Word { frame, .. } => *frame < 1 << scenario.ram,
         Question::Blocked
+        | Question::At { .. }
+        | Question::AtBoth { .. }
         | Question::Dies
         | Question::DiesOf { .. }
+        | Question::DiesBut { .. }
         | Question::Stuck { .. }
         | Question::Ends => true,
     }

@@ -1,13 +1,15 @@
 ghost use Rattle.std.specs.Prelude.{◌≡◌};
 
-/// The word that a question begins with.
+/// A word of a question: with which it begins, or that is part of it.
 #[derive(Clone, Copy)]
 pub(crate) enum Word {
     Console,
     Text,
     Word,
+    At,
     Blocked,
     Dies,
+    But,
     Stuck,
     Ends,
 }
@@ -23,8 +25,10 @@ impl Word {
             "console" => Some(Word::Console),
             "text" => Some(Word::Text),
             "word" => Some(Word::Word),
+            "at" => Some(Word::At),
             "blocked" => Some(Word::Blocked),
             "dies" => Some(Word::Dies),
+            "but" => Some(Word::But),
             "stuck" => Some(Word::Stuck),
             "ends" => Some(Word::Ends),
             _ => None,

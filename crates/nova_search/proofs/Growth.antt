@@ -4,10 +4,12 @@ use Rattle.std.specs.Prelude.{◌⊎◌, Option, Some, None, Bool, true, false, 
 use Rattle.std.proofs.lemmas.List.{append-nil, get_or-map, length-append, length-map, map-append}
 use Rattle.std.proofs.lemmas.List.Elements.{All-cons, All-contains, All-nil, All-push, Contains-append_left, Contains-get_or}
 use Rattle.std.specs.Bool.{OnTrue}
+use Rattle.std.specs.List.{AllByRecursion}
 use Rattle.nova_model.specs.State.{KernelState}
 use Rattle.nova_model.specs.Runs.{after}
 use Rattle.nova_compare.specs.Steps.{IsNext, IsSuccessor}
 use Rattle.nova_search.specs.declared.found.Found.{Found}
+use Rattle.nova_search.specs.Edges.{IsAt}
 use Rattle.nova_search.specs.Reductions.{IsStill}
 use Rattle.nova_search.specs.Searches.{AreVisited, Grows, IsExpanded, IsMore, IsReached, IsUnderWay, IsVisited, Keeps, state_at, state_of, states_of}
 use Rattle.nova_search.proofs.Ways.{begun, goes_on}
@@ -20,25 +22,30 @@ place i n less = by_test (nat_lt i n) refl
     by_test true is = inl (grind (arith, is))
     by_test false is = inr (grind (arith, is, less))
 
-pub same_grows : (xs : List KernelState) → Grows xs xs
-same_grows xs = record { more = []; whole = sym (append-nil xs) }
+pub same_grows : (xs : List KernelState) (turns : ℕ) → Grows xs xs turns
+same_grows xs turns = record { more = []; whole = sym (append-nil xs); taken = tt }
 
 pub same_keeps : (xs : List KernelState) → Keeps xs xs
 same_keeps xs = record { reached = λ k each. each }
 
-pub grows_on : (xs ys zs : List KernelState) → Grows xs ys → Grows ys zs → Grows xs zs
-grows_on xs ys zs g h = record {
+all_append : (P : KernelState → Type 0) (xs ys : List KernelState) → AllByRecursion P xs → AllByRecursion P ys → AllByRecursion P (xs ++ ys)
+all_append P [] ys first second = second
+all_append P (x ∷ xs) ys first second = (first.0, all_append P xs ys first.1 second)
+
+pub grows_on : {turns : ℕ} (xs ys zs : List KernelState) → Grows xs ys turns → Grows ys zs turns → Grows xs zs turns
+grows_on {turns} xs ys zs g h = record {
   more = g.more ++ h.more;
   whole = h.whole ∙ ap (λ (l : List KernelState). l ++ h.more) g.whole ∙ append_assoc xs g.more h.more;
+  taken = all_append (λ (s : KernelState). s.turns ≡ turns) g.more h.more g.taken h.taken;
 }
 
 pub keeps_on : (xs ys zs : List KernelState) → Keeps xs ys → Keeps ys zs → Keeps xs zs
 keeps_on xs ys zs g h = record { reached = λ k each. h.reached k (g.reached k each) }
 
-pub still_there : (xs ys : List KernelState) (s : KernelState) → Grows xs ys → Contains xs s → Contains ys s
+pub still_there : {turns : ℕ} (xs ys : List KernelState) (s : KernelState) → Grows xs ys turns → Contains xs s → Contains ys s
 still_there xs ys s g there = subst (λ (l : List KernelState). Contains l s) (sym g.whole) (Contains-append_left xs g.more s there)
 
-pub still_expanded : (n : ℕ) (xs ys : List KernelState) (s : KernelState) → Grows xs ys → IsExpanded n xs s → IsExpanded n ys s
+pub still_expanded : {turns : ℕ} (n : ℕ) (xs ys : List KernelState) (s : KernelState) → Grows xs ys turns → IsExpanded n xs s → IsExpanded n ys s
 still_expanded n xs ys s g e = record { each = λ cpu is. still_there xs ys (after s cpu) g (e.each cpu is); turns = e.turns }
 
 pub at_front : {T : Type 0} (xs ys : List T) (i : ℕ) (d : T) → i < length xs → slice_index_or (xs ++ ys) i d ≡ slice_index_or xs i d
@@ -46,13 +53,18 @@ at_front [] ys i d less = absurd (omega (arith, less))
 at_front (x ∷ xs) ys zero d less = refl
 at_front (x ∷ xs) ys (suc i) d less = at_front xs ys i d (omega (arith, less))
 
-pub still_at : (xs ys : List KernelState) (i : ℕ) (d : KernelState) → Grows xs ys → i < length xs → slice_index_or ys i d ≡ slice_index_or xs i d
+pub any_default : {T : Type 0} (l : List T) (i : ℕ) (d e : T) → i < length l → slice_index_or l i d ≡ slice_index_or l i e
+any_default [] i d e less = absurd (omega (arith, less))
+any_default (s ∷ l) zero d e less = refl
+any_default (s ∷ l) (suc i) d e less = any_default l i d e (omega (arith, less))
+
+pub still_at : {turns : ℕ} (xs ys : List KernelState) (i : ℕ) (d : KernelState) → Grows xs ys turns → i < length xs → slice_index_or ys i d ≡ slice_index_or xs i d
 still_at xs ys i d g less = ap (λ (l : List KernelState). slice_index_or l i d) g.whole ∙ at_front xs g.more i d less
 
 -- a turn of an idle processor
 pub idle_visited : (xs : List KernelState) (s : KernelState) (cpu : ℕ) → Contains xs s → after s cpu ≡ s → IsVisited xs xs s cpu
 idle_visited xs s cpu there idle = record {
-  grows = same_grows xs;
+  grows = same_grows xs (s.turns + 1);
   keeps = same_keeps xs;
   there = subst (λ (x : KernelState). Contains xs x) (sym idle) there;
   turns = subst (λ (x : KernelState). x.turns ≤ s.turns + 1) (sym idle) (omega arith);
@@ -62,9 +74,9 @@ idle_visited xs s cpu there idle = record {
 states_more : (old : List Found) (f : Found) → states_of (old ++ f ∷ []) ≡ states_of old ++ state_of f ∷ []
 states_more old f = map-append state_of old (f ∷ [])
 
-grows_by : (old new : List Found) (f : Found) → IsMore old f new → Grows (states_of old) (states_of new)
-grows_by old new f (inl same) = subst (λ (l : List Found). Grows (states_of old) (states_of l)) (sym same) (same_grows (states_of old))
-grows_by old new f (inr more) = record { more = state_of f ∷ []; whole = ap states_of more ∙ states_more old f }
+pub grows_by : (old new : List Found) (f : Found) (turns : ℕ) → IsMore old f new → (state_of f).turns ≡ turns → Grows (states_of old) (states_of new) turns
+grows_by old new f turns (inl same) is = subst (λ (l : List Found). Grows (states_of old) (states_of l) turns) (sym same) (same_grows (states_of old) turns)
+grows_by old new f turns (inr more) is = record { more = state_of f ∷ []; whole = ap states_of more ∙ states_more old f; taken = (is, tt) }
 
 keeps_by : (old new : List Found) (f : Found) (s : KernelState) (cpu : ℕ) → IsMore old f new → cpu < s.cpus → IsSuccessor s cpu (state_of f) →
     Contains (states_of old) s → Keeps (states_of old) (states_of new)
@@ -77,21 +89,21 @@ keeps_by old new f s cpu (inr more) is next there = record {
 pub next_visited : (old new : List Found) (f : Found) (s : KernelState) (cpu : ℕ) → IsMore old f new → Contains (states_of new) (state_of f) → cpu < s.cpus →
     IsSuccessor s cpu (state_of f) → Contains (states_of old) s → IsVisited (states_of old) (states_of new) s cpu
 next_visited old new f s cpu more there is next here = record {
-  grows = grows_by old new f more;
+  grows = grows_by old new f (s.turns + 1) more next.turns;
   keeps = keeps_by old new f s cpu more is next here;
   there = subst (λ (x : KernelState). Contains (states_of new) x) next.state there;
-  turns = subst (λ (x : KernelState). x.turns ≤ s.turns + 1) next.state next.turns;
+  turns = subst (λ (x : KernelState). x.turns ≤ s.turns + 1) next.state (let is = next.turns in omega (arith, is));
 }
 
 -- turns of no processor, and of one more
 pub none_visited : (xs : List KernelState) (s : KernelState) → AreVisited xs xs s 0
 none_visited xs s = record {
-  grows = same_grows xs;
+  grows = same_grows xs (s.turns + 1);
   keeps = same_keeps xs;
   expanded = record { each = λ cpu is. absurd (omega (arith, is)); turns = λ cpu is. absurd (omega (arith, is)) };
 }
 
-one_more : (n : ℕ) (ys zs : List KernelState) (s : KernelState) → Grows ys zs → IsExpanded n ys s → IsVisited ys zs s n → IsExpanded (n + 1) zs s
+one_more : {turns : ℕ} (n : ℕ) (ys zs : List KernelState) (s : KernelState) → Grows ys zs turns → IsExpanded n ys s → IsVisited ys zs s n → IsExpanded (n + 1) zs s
 one_more n ys zs s g e v = record {
   each = λ cpu is. each_by cpu (place cpu n is);
   turns = λ cpu is. turns_by cpu (place cpu n is);
@@ -130,7 +142,7 @@ underway_on k limit xs ys i is_whole way less visited = record {
   whole = λ whole j d is. whole_by whole j d (place j i is);
 }
   where
-    grows : Grows xs ys
+    grows : Grows xs ys ((slice_index_or xs i k).turns + 1)
     grows = (visited k).grows
 
     same : (j : ℕ) (d : KernelState) → j < length xs → slice_index_or ys j d ≡ slice_index_or xs j d
@@ -196,8 +208,8 @@ state_here xs i f d less is = at_place xs i d f less ∙ ap state_of (sym is)
 
 -- a state that is seen to be that at a place
 pub found_if : (r : Bool) (xs : List Found) (i : ℕ) (f : Found) (s : KernelState) → i < length xs → f ≡ slice_index_or xs i f → OnTrue r (state_of f ≡ s) → r ≡ true →
-    Contains (states_of xs) s
-found_if true xs i f s less is same holds = (i, (let long = length-map xs state_of in omega (arith, less, long)), state_here xs i f s less is ∙ same)
+    IsAt (states_of xs) i s
+found_if true xs i f s less is same holds = record { there = (let long = length-map xs state_of in omega (arith, less, long)); is = λ d. state_here xs i f d less is ∙ same }
 found_if false xs i f s less is same holds = absurd (cc)
 
 contains_here : (xs : List Found) (i : ℕ) (d : KernelState) → i < length xs → Contains (states_of xs) (state_at xs i d)

@@ -1,5 +1,5 @@
 -- From a state back to the first, by the turns after which states were found.
-use Rattle.std.proofs.Common.{◌≡◌, ◌⊎◌, ℕ, zero, suc, ◌+◌, ◌<◌, ◌≤◌, List, [], ◌∷◌, ◌++◌, length, reverse, refl, ap, sym, subst, ◌∙◌, arith, inl, inr}
+use Rattle.std.proofs.Common.{◌≡◌, ◌⊎◌, ℕ, ◌+◌, ◌<◌, ◌≤◌, List, [], ◌∷◌, ◌++◌, length, reverse, refl, ap, sym, subst, ◌∙◌, arith, inl, inr}
 use Rattle.std.specs.Prelude.{Option, Some, slice_index_or}
 use Rattle.std.proofs.lemmas.List.{length-map, map-append, reverse-append}
 use Rattle.nova_model.specs.State.{KernelState}
@@ -7,7 +7,7 @@ use Rattle.nova_model.specs.Runs.{IsFreeOfIdle, run}
 use Rattle.nova_compare.specs.Steps.{IsNext, IsSuccessor}
 use Rattle.nova_search.specs.declared.found.Found.{Found}
 use Rattle.nova_search.specs.Searches.{AreLinked, AreProcessors, IsLink, IsMore, IsWay, state_at, state_of, states_of}
-use Rattle.nova_search.proofs.Growth.{at_front, place, state_here}
+use Rattle.nova_search.proofs.Growth.{any_default, at_front, place, state_here}
 
 at_end : (xs : List Found) (f d : Found) → slice_index_or (xs ++ f ∷ []) (length xs) d ≡ f
 at_end [] f d = refl
@@ -65,17 +65,13 @@ linked_here xs ys f g next less is came some there (inr more) linked = subst (λ
     }
 
 -- a way from a state to another, with a turn before it
-way_before : (s t e : KernelState) (cpu : ℕ) (order : List ℕ) → cpu < s.cpus → IsSuccessor s cpu t → IsWay t e order → IsWay s e (cpu ∷ order)
+pub way_before : (s t e : KernelState) (cpu : ℕ) (order : List ℕ) → cpu < s.cpus → IsSuccessor s cpu t → IsWay t e order → IsWay s e (cpu ∷ order)
 way_before s t e cpu order there next way = record {
   processors = (there, subst (λ (n : ℕ). AreProcessors n order) next.cpus way.processors);
   no_idle = (next.there, subst (λ (x : KernelState). IsFreeOfIdle x order) next.state way.no_idle);
   state = way.state ∙ ap (λ (x : KernelState). run x order) next.state;
+  turns = let one = next.turns in let more = way.turns in omega (arith, one, more);
 }
-
-any_default : (l : List KernelState) (i : ℕ) (d e : KernelState) → i < length l → slice_index_or l i d ≡ slice_index_or l i e
-any_default [] i d e less = absurd (omega (arith, less))
-any_default (s ∷ l) zero d e less = refl
-any_default (s ∷ l) (suc i) d e less = any_default l i d e (omega (arith, less))
 
 -- no turns lead from a state to itself
 pub way_here : (xs : List Found) (i : ℕ) (path : List ℕ) → i < length xs → path ≡ [] → (e d : KernelState) → IsWay (state_at xs i d) (state_at xs i e) (reverse path)
@@ -83,8 +79,12 @@ way_here xs i path less none e d =
     subst (λ (o : List ℕ). IsWay (state_at xs i d) (state_at xs i e) (reverse o)) (sym none) (record {
       processors = tt;
       no_idle = tt;
-      state = any_default (states_of xs) i e d (let long = length-map xs state_of in omega (arith, less, long));
+      state = same;
+      turns = let is = ap (λ (s : KernelState). s.turns) same in omega (arith, is);
     })
+  where
+    same : state_at xs i e ≡ state_at xs i d
+    same = any_default (states_of xs) i e d (let long = length-map xs state_of in omega (arith, less, long))
 
 -- the turns back from a place so far, and one more
 pub way_back : (xs : List Found) (i : ℕ) (f : Found) (e : KernelState) (path : List ℕ) → 0 < i → i < length xs → f ≡ slice_index_or xs i f → AreLinked xs →

@@ -1,5 +1,5 @@
 -- Which states a kernel comes to, in whatever order its processors take their turns, and what a search of them says.
-use Rattle.std.specs.Prelude.{◌≡◌, ◌⊎◌, ℕ, ◌+◌, ◌<◌, ◌≤◌, Bool, true, List, [], ◌∷◌, ◌++◌, length, map, slice_index_or, Option, Some, None, All, Contains}
+use Rattle.std.specs.Prelude.{◌≡◌, ◌⊎◌, ℕ, ◌+◌, ◌<◌, ◌≤◌, Bool, true, false, List, [], ◌∷◌, ◌++◌, length, map, slice_index_or, Option, Some, None, All, Contains}
 use Rattle.std.specs.List.{AllByRecursion}
 use Rattle.nova_model.specs.State.{KernelState}
 use Rattle.nova_model.specs.Runs.{IsFreeOfIdle, after, run}
@@ -10,11 +10,12 @@ use Rattle.nova_search.specs.declared.found.Found.{Found}
 abbrev pub AreProcessors : ℕ → List ℕ → Type 0
 AreProcessors n order = AllByRecursion (λ (cpu : ℕ). cpu < n) order
 
--- an order that leads from one state to another, in which no turn is idle
+-- an order that leads from one state to another, in which no turn is idle: each of them counts
 pub record IsWay (k s : KernelState) (order : List ℕ) : Type 0 where
   pub processors : AreProcessors k.cpus order
   pub no_idle : IsFreeOfIdle k order
   pub state : s ≡ run k order
+  pub turns : s.turns ≡ k.turns + length order
 
 -- a state that a kernel comes to
 pub record IsReached (k s : KernelState) : Type 0 where
@@ -30,7 +31,6 @@ IsEnd k order None = Unit {0}
 -- an order was followed to a state
 pub record IsAlong (k s : KernelState) (order : List ℕ) : Type 0 where
   pub way : IsWay k s order
-  pub turns : s.turns ≤ k.turns + length order
   pub cpus : s.cpus ≡ k.cpus
 
 -- each order after which no more than `limit` turns were taken leads to one of the states
@@ -40,6 +40,28 @@ pub record AreAllWithin (k : KernelState) (limit : ℕ) (states : List KernelSta
 -- each order leads to one of the states
 pub record AreAll (k : KernelState) (states : List KernelState) : Type 0 where
   pub each : (order : List ℕ) → AreProcessors k.cpus order → Contains states (run k order)
+
+-- a state stands before a place
+pub record IsBefore (states : List KernelState) (place : ℕ) (s : KernelState) : Type 0 where
+  pub its_place : ℕ
+  pub before : its_place < place
+  pub is : slice_index_or states its_place s ≡ s
+
+-- nearest first: each order of fewer turns than a state has taken leads to a state before it
+pub record AreNearest (k : KernelState) (states : List KernelState) : Type 0 where
+  pub each : (place : ℕ) (d : KernelState) → place < length states → (order : List ℕ) → AreProcessors k.cpus order
+      → k.turns + length order < (slice_index_or states place d).turns → IsBefore states place (run k order)
+
+-- the state at a place passes a test, and none before it does
+pub record IsFirstAt (test : KernelState → Bool) (states : List KernelState) (place : ℕ) : Type 0 where
+  pub there : place < length states
+  pub passes : (d : KernelState) → test (slice_index_or states place d) ≡ true
+  pub none : (i : ℕ) (d : KernelState) → i < place → test (slice_index_or states i d) ≡ false
+
+-- the first place whose state passes a test, or none where no state does
+abbrev pub IsFirst : (KernelState → Bool) → List KernelState → Option ℕ → Type 0
+IsFirst test states (Some place) = IsFirstAt test states place
+IsFirst test states None = (s : KernelState) → Contains states s → test s ≡ false
 
 abbrev pub state_of : Found → KernelState
 state_of f = f.vertex
@@ -71,10 +93,11 @@ pub record IsExpanded (n : ℕ) (states : List KernelState) (s : KernelState) : 
 abbrev pub IsMore : List Found → Found → List Found → Type 0
 IsMore old f new = (new ≡ old) ⊎ (new ≡ old ++ f ∷ [])
 
--- what was found since stands behind what was found before
-pub record Grows (old new : List KernelState) : Type 0 where
+-- what was found since stands behind what was found before, and has taken so many turns
+pub record Grows (old new : List KernelState) (turns : ℕ) : Type 0 where
   pub more : List KernelState
   pub whole : new ≡ old ++ more
+  pub taken : AllByRecursion (λ (s : KernelState). s.turns ≡ turns) more
 
 -- where all states found before are reached from a state, all that are found now are
 pub record Keeps (old new : List KernelState) : Type 0 where
@@ -82,16 +105,22 @@ pub record Keeps (old new : List KernelState) : Type 0 where
 
 -- a turn of a processor was tried in a state: the state after it was found
 pub record IsVisited (old new : List KernelState) (s : KernelState) (cpu : ℕ) : Type 0 where
-  pub grows : Grows old new
+  pub grows : Grows old new (s.turns + 1)
   pub keeps : Keeps old new
   pub there : Contains new (after s cpu)
   pub turns : (after s cpu).turns ≤ s.turns + 1
 
 -- turns of all processors below `n` were tried in a state
 pub record AreVisited (old new : List KernelState) (s : KernelState) (n : ℕ) : Type 0 where
-  pub grows : Grows old new
+  pub grows : Grows old new (s.turns + 1)
   pub keeps : Keeps old new
   pub expanded : IsExpanded n new s
+
+-- States stand by turns. None has taken more than the limit allows, but for the first, nor more than one turn more than the state at a place.
+pub record AreByTurns (limit : ℕ) (states : List KernelState) (place : ℕ) : Type 0 where
+  pub rising : (i j : ℕ) (d : KernelState) → i ≤ j → j < length states → (slice_index_or states i d).turns ≤ (slice_index_or states j d).turns
+  pub near : place < length states → (i : ℕ) (d : KernelState) → i < length states → (slice_index_or states i d).turns ≤ (slice_index_or states place d).turns + 1
+  pub few : (i : ℕ) (d : KernelState) → 0 < i → i < length states → (slice_index_or states i d).turns ≤ limit
 
 -- Of the states that were found those before `place` are expanded, but for those that have taken `limit` turns; and where the search is whole, these are too.
 pub record IsUnderWay (k : KernelState) (limit : ℕ) (states : List KernelState) (place : ℕ) (is_whole : Bool) : Type 0 where

@@ -8,4 +8,5 @@ pub returns : goal.returns
 returns c =
     let one = c.in_ok-arg.ensures.shape c.new.ensures.optional.1 ∙ ap₂ with_rule c.in_ok-named.ensures c.new.ensures.rule in
     let two = c.in_ok-arg-2.ensures.shape c.new-2.ensures.optional.1 ∙ ap₂ with_rule one c.new-2.ensures.rule in
-    IfOk-weaker c.arg-3.result _ _ (λ command adds. adds.shape c.new-3.ensures.optional.1 ∙ ap₂ with_rule two c.new-3.ensures.rule) c.arg-3.ensures
+    let three = c.in_ok-arg-3.ensures.shape c.new-3.ensures.optional.1 ∙ ap₂ with_rule two c.new-3.ensures.rule in
+    IfOk-weaker c.arg-4.result _ _ (λ command adds. adds.shape c.new-4.ensures.optional.1 ∙ ap₂ with_rule three c.new-4.ensures.rule) c.arg-4.ensures

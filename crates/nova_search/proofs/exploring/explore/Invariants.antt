@@ -3,4 +3,4 @@ use Rattle.nova_search.proofs.exploring.explore.Given as goal
 
 -- the places so far
 abbrev pub invariant-loop-place : goal.invariant-loop-place
-invariant-loop-place l = IsGoing l.opening l.limit l.found.items l.place l.is_whole l.cpus
+invariant-loop-place g l = IsGoing (g.G.Goal.met l.goal) l.opening l.limit l.found.items l.edges.items l.place l.is_whole l.cpus

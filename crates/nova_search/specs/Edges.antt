@@ -1,0 +1,90 @@
+-- The turns that a search tried, as edges between places of what it found; and from which places they lead to an end of the run.
+use Rattle.std.specs.Prelude.{◌≡◌, ◌⊎◌, ℕ, ◌<◌, ◌≤◌, ◌++◌, Bool, true, false, List, length, slice_index_or, slice_set, Contains, if◌then◌else◌}
+use Rattle.nova_model.specs.Choice.{is_quiet}
+use Rattle.nova_model.specs.State.{KernelState}
+use Rattle.nova_model.specs.Runs.{after}
+use Rattle.nova_compare.specs.Steps.{IsSuccessor}
+use Rattle.nova_search.specs.Searches.{IsWay}
+use Rattle.nova_search.specs.declared.edges.Edge.{Edge}
+
+-- a state stands at a place
+pub record IsAt (states : List KernelState) (place : ℕ) (s : KernelState) : Type 0 where
+  pub there : place < length states
+  pub is : (d : KernelState) → slice_index_or states place d ≡ s
+
+abbrev pub edge : ℕ → ℕ → Edge
+edge from to = record { from = from; to = to }
+
+-- a turn that isn't idle leads from the state at one place to that at another
+pub record IsEdge (states : List KernelState) (e : Edge) : Type 0 where
+  pub from : e.from < length states
+  pub to : e.to < length states
+  pub cpu : ℕ
+  pub processor : (d : KernelState) → cpu < (slice_index_or states e.from d).cpus
+  pub next : (d : KernelState) → IsSuccessor (slice_index_or states e.from d) cpu (slice_index_or states e.to d)
+
+-- each of the edges is one, and none leads from a place before that of an earlier one
+pub record AreEdges (states : List KernelState) (edges : List Edge) : Type 0 where
+  pub each : (i : ℕ) (d : Edge) → i < length edges → IsEdge states (slice_index_or edges i d)
+  pub rising : (i j : ℕ) (d : Edge) → i ≤ j → j < length edges → (slice_index_or edges i d).from ≤ (slice_index_or edges j d).from
+
+-- they lead to later places
+pub record AreAhead (edges : List Edge) : Type 0 where
+  pub each : (i : ℕ) (d : Edge) → i < length edges → (slice_index_or edges i d).from < (slice_index_or edges i d).to
+
+-- an edge leads from a place to a state
+pub record IsLed (states : List KernelState) (edges : List Edge) (place : ℕ) (t : KernelState) : Type 0 where
+  pub to : ℕ
+  pub there : Contains edges (edge place to)
+  pub is : IsAt states to t
+
+-- a turn of a processor in the state at a place is idle, or an edge leads to the state after it
+abbrev pub IsTried : List KernelState → List Edge → ℕ → ℕ → Type 0
+IsTried states edges place cpu =
+    (d : KernelState) → (after (slice_index_or states place d) cpu ≡ slice_index_or states place d) ⊎ IsLed states edges place (after (slice_index_or states place d) cpu)
+
+-- so it is for each of the first processors
+abbrev pub AreTried : ℕ → List KernelState → List Edge → ℕ → Type 0
+AreTried n states edges place = (cpu : ℕ) → cpu < n → IsTried states edges place cpu
+
+-- an order without idle turns leads from a state to one of these in which the run has ended
+pub record HasEnd (states : List KernelState) (s : KernelState) : Type 0 where
+  pub end : KernelState
+  pub there : Contains states end
+  pub order : List ℕ
+  pub way : IsWay s end order
+  pub quiet : is_quiet end ≡ true
+
+-- whether a place is marked
+abbrev pub is_marked : List Bool → ℕ → Bool
+is_marked marks place = slice_index_or marks place false
+
+-- From the state at a place that is marked an order leads to an end. At one that isn't the run has not ended, and no edge leads to one that is.
+pub record AreMarks (states : List KernelState) (edges : List Edge) (marks : List Bool) : Type 0 where
+  pub long : length marks ≡ length states
+  pub ends : (i : ℕ) (d : KernelState) → i < length states → is_marked marks i ≡ true → HasEnd states (slice_index_or states i d)
+  pub quiet : (i : ℕ) (d : KernelState) → i < length states → is_marked marks i ≡ false → is_quiet (slice_index_or states i d) ≡ false
+  pub closed : (i : ℕ) (d : Edge) → i < length edges → is_marked marks (slice_index_or edges i d).from ≡ false → is_marked marks (slice_index_or edges i d).to ≡ false
+
+-- ON THE WAY
+
+-- the mark of a place to which an edge leads is passed on to that from which it leads
+abbrev pub passed_on : List Bool → Edge → List Bool
+passed_on marks e = if is_marked marks e.to then slice_set marks e.from true else marks
+
+-- marks that were passed on by the edges from one on
+pub record AreMarksFrom (states : List KernelState) (edges : List Edge) (first : ℕ) (marks : List Bool) : Type 0 where
+  pub long : length marks ≡ length states
+  pub ends : (i : ℕ) (d : KernelState) → i < length states → is_marked marks i ≡ true → HasEnd states (slice_index_or states i d)
+  pub quiet : (i : ℕ) (d : KernelState) → i < length states → is_marked marks i ≡ false → is_quiet (slice_index_or states i d) ≡ false
+  pub closed : (i : ℕ) (d : Edge) → first ≤ i → i < length edges → is_marked marks (slice_index_or edges i d).from ≡ false → is_marked marks (slice_index_or edges i d).to ≡ false
+
+-- none of the edges leads from a place behind this one
+pub record AreUpTo (states : List KernelState) (edges : List Edge) (place : ℕ) : Type 0 where
+  pub are : AreEdges states edges
+  pub most : (i : ℕ) (d : Edge) → i < length edges → (slice_index_or edges i d).from ≤ place
+
+-- what was entered since stands behind what was there
+pub record Extends (old new : List Edge) : Type 0 where
+  pub more : List Edge
+  pub whole : new ≡ old ++ more
