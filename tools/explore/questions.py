@@ -10,7 +10,7 @@ CONSOLE = re.compile(r"^console (\d+) ([0-9a-f]+)$", re.MULTILINE)
 RESTS = "run quiet "
 # How many words follow each word of a question; and of those the tool has beside them.
 OWN = {"asserts": (0,)}
-FORMS = {"console": (2,), "text": (2,), "word": (3,), "blocked": (0,), "dies": (0, 1), "stuck": (1,), "ends": (0,)}
+FORMS = {"console": (2,), "text": (2,), "word": (3,), "blocked": (0,), "dies": (0, 1, 2), "stuck": (1,), "at": (2, 4), "ends": (0,)}
 
 
 def number_of(text: str) -> int:
@@ -49,10 +49,10 @@ class Question:
     @property
     def is_of_memory(self) -> bool:
         """Whether reports don't tell what is asked for."""
-        return self.words[0] == "word"
+        return self.words[0] in ("word", "at")
 
     def is_so(self, report: str) -> bool:
-        """Whether a report tells what is asked for. Of memory it tells nothing, and the answer is true."""
+        """Whether a report tells what is asked for. Of memory and of what is next it tells nothing, and the answer is true."""
         word, *given = self.words
         states, is_over = states_in(report), report.startswith(RESTS)
         match word:
@@ -64,6 +64,8 @@ class Question:
                 return is_over and "blocked" in states.values()
             case "stuck":
                 return is_over and states.get(number_of(given[0]), "dead") != "dead"
+            case "dies" if given[:1] == ["but"]:
+                return any(state == "dead" for number, state in states.items() if number != number_of(given[1]))
             case "dies":
                 return "dead" in (states.values() if not given else [states.get(number_of(given[0]))])
             case _:

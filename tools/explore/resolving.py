@@ -89,8 +89,12 @@ def question_of(words: Sequence[str], naming: Naming, rounds: Callable[[], str])
         raise Refused(f"{name} wants {wanted} words behind it, and has {len(given)}")
     if name == "asserts":
         return Question(("word", *map(str, mark_of(naming.executable("asserts"))), str(FAILED)))
+    if name == "dies" and len(given) == 2 and given[0] != "but":
+        raise Refused(f"dies wants one execution context, or `but` and one, and has {' '.join(given)}")
     if name in ("dies", "stuck") and given:
-        given = [naming.context(given[0], rounds())]
+        given = [*given[:-1], naming.context(given[-1], rounds())]
+    if name == "at":
+        given = [number(text, 0, WORD_END - 1, what) for text, what in zip(given, ("PD", "ADDRESS") * 2, strict=False)]
     if name == "word":
         most = (WORD_END - 1, PAGE - WORD, WORD_END - 1)
         given = [number(value_of(text), 0, *rest) for text, *rest in zip(given, most, ("FRAME", "OFFSET", "VALUE"), strict=True)]

@@ -28,6 +28,12 @@ def clause_of(words: Sequence[str]) -> str:
             return "an execution context dies"
         case ["dies", one]:
             return f"{context(one)} dies"
+        case ["dies", "but", one]:
+            return f"an execution context but {context(one)} dies"
+        case ["at", domain, address]:
+            return f"domain {domain} is about to execute {address}"
+        case ["at", first, here, second, there]:
+            return f"domain {first} is about to execute {here} and domain {second} {there}"
         case ["stuck", one]:
             return f"the run ends and {context(one)} isn't dead"
         case ["text", console, text]:
