@@ -299,7 +299,7 @@ beyond_only k s moved at waiter queued only = record {
     by_owner (Some ec) avoids = λ n meets. let last = last_edge (edge k.contexts) n ec at meets in avoids n (last.1 ∙ ap Some (sym (only last.0 last.2)))
 
 -- the state with other budgets and another stamp
-pub with_budgets : KernelState → List (Option Budget) → ℕ → KernelState
+unfoldable pub with_budgets : KernelState → List (Option Budget) → ℕ → KernelState
 with_budgets k budgets stamp = record k { budgets = budgets; next_stamp = stamp }
 
 -- marks show nothing
