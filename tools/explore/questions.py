@@ -49,10 +49,10 @@ class Question:
     @property
     def is_of_memory(self) -> bool:
         """Whether reports don't tell what is asked for."""
-        return self.words[0] in ("word", "at")
+        return self.words[0] == "word"
 
     def is_so(self, report: str) -> bool:
-        """Whether a report tells what is asked for. Of memory and of what is next it tells nothing, and the answer is true."""
+        """Whether a report tells what is asked for. Of memory, and of what is next, it tells nothing: then the answer is true."""
         word, *given = self.words
         states, is_over = states_in(report), report.startswith(RESTS)
         match word:
