@@ -32,6 +32,7 @@ POLICY_HELP = f"""\
 ./nova-policy SCENARIO        which protection domains are isolated from which, at the end of a run
   --at TURN                   after turn TURN, 0 to {MOST_TURNS:,} ({TURNS:,}, or the end of the run)
   --until TURN                in the first state up to turn TURN in which they aren't, from --at on (0); else in the last
+  --flow TURN                 after turn TURN, and of each side whether nothing of the others reaches it; in place of --at
   --order ORDER               of the run in the order of turns of ORDER, in place of rounds
   --policy POLICY             with the sides of POLICY; without, the root's domain, 0, is trusted, and the finest sides of the others are told
 ./nova draft policy WORD..    the same at once, unproved
@@ -57,8 +58,8 @@ the scenario, 5 no such console or frame, 6 the answer isn't written, 8 out of m
 # The help of each program, by its name behind nova_.
 HELPS = {"": HELP, "policy": POLICY_HELP, "explore": EXPLORE_HELP}
 # The options of a request, with the word behind each.
-POLICY_OPTIONS = {"--at": "TURN", "--until": "TURN", "--order": "ORDER", "--policy": "POLICY"}
-TURN_OPTIONS = ("--at", "--until")
+POLICY_OPTIONS = {"--at": "TURN", "--until": "TURN", "--flow": "TURN", "--order": "ORDER", "--policy": "POLICY"}
+TURN_OPTIONS = ("--at", "--until", "--flow")
 # The names of each command, and what the last one is for.
 FORMS = {
     "run": ("SCENARIO", "ORDER"),
@@ -264,9 +265,11 @@ class Request:
                 return found
         if len(found.names) != 1:
             found.why = f"there is a word too many: {found.names[1]!r}" if found.names else "no scenario is named"
-        first, last = (number_of(found.options.get(option, "")) for option in TURN_OPTIONS)
+        first, last = (number_of(found.options.get(option, "")) for option in ("--at", "--until"))
         if first is not None and last is not None and last < first:
             found.why = "--until is before --at"
+        if "--flow" in found.options and not {"--at", "--until"}.isdisjoint(found.options):
+            found.why = "--flow stands in place of --at, and without --until"
         return found
 
     def take(self, word: str, left: Iterator[str]) -> None:

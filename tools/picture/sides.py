@@ -24,6 +24,7 @@ NUMBER = re.compile(r"0|[1-9]\d*|0x[0-9a-fA-F]+")
 SIDE = re.compile(r"(trusted|side [A-Za-z0-9_-]+):((?: \d+)*)")
 ROLE = re.compile(r"domain (\d+) (bare|mute|at work)")
 PROCESSOR = re.compile(r"processor (\d+):((?: [A-Za-z0-9_-]+)*)")
+FLOW = re.compile(r"flow [A-Za-z0-9_-]+ (own(?: \d+)*|waits ec \d+|[A-Z][A-Za-z]+\.[a-z]+(?: (?:cap|target|object|ec|processor|source|sm) \d+)+)")
 
 
 @dataclass(frozen=True, slots=True)
@@ -117,6 +118,8 @@ def read_line(told: Told, text: str, line: int) -> None:
         told.verdict = told.verdict or word
     elif word == "tie":
         told.ties.append(read_tie(rest, line))
+    elif FLOW.fullmatch(text) is not None:
+        return  # not drawn
     elif (role := ROLE.fullmatch(text)) is not None and told.verdict == "served":
         told.roles[int(role[1])] = role[2]
     elif (processor := PROCESSOR.fullmatch(text)) is not None and int(processor[1]) == len(told.processors):

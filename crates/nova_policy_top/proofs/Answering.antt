@@ -47,7 +47,7 @@ module _ {D : Type 0} (d : Depots D) (q : Request) (old : D) where
 
   -- all came, and this was decided
   pub decided : (first second new : D) (from : ScenarioText) (order : Option BlockList) (policy : Option (List Stated)) (r : Result Told Exit) → ScenarioCame d q.scenario old from first
-      → OrderCameIfNamed d q.order from.cpus first order second → PolicyCameIfNamed d q.policy second policy new → IsDecided (boot (scenario_of from)) order policy q.span r
+      → OrderCameIfNamed d q.order from.cpus first order second → PolicyCameIfNamed d q.policy second policy new → IsDecided (boot (scenario_of from)) order policy q.span q.flow r
       → IsPrepared d q old new r
   decided first second new from order policy (Ok t) came along named is = record {
     from = from;

@@ -1,5 +1,5 @@
 -- The turns that were taken, and what is decided of them.
-use Rattle.std.proofs.Common.{◌≡◌, ℕ, ◌+◌, ◌<◌, ◌≤◌, List, [], ◌∷◌, length, take, Option, Some, None, Result, Ok, Err, inl, inr, refl, sym, subst, arith, append-nil, string_bytes}
+use Rattle.std.proofs.Common.{◌≡◌, ℕ, Bool, ◌+◌, ◌<◌, ◌≤◌, List, [], ◌∷◌, length, take, Option, Some, None, Result, Ok, Err, inl, inr, refl, sym, subst, arith, append-nil, string_bytes}
 use Rattle.std.specs.Prelude.{IfErr, IfOk}
 use Rattle.std.specs.List.{AllByRecursion}
 use Rattle.law_turns.specs.Orders.{IsRunOut}
@@ -8,12 +8,14 @@ use Rattle.nova_model.specs.Runs.{IsFreeOfIdle, after, rounds, run}
 use Rattle.nova_model.specs.State.{KernelState}
 use Rattle.nova_order.specs.Blocks.{BlockList, IsOrder, turns}
 use Rattle.nova_order.specs.declared.block.Block.{Block}
+use Rattle.nova_judging.specs.declared.answer.Answer.{Answer}
 use Rattle.nova_judging.specs.declared.answer.Told.{Told as Answered}
 use Rattle.nova_naming.specs.Statements.{Stated}
 use Rattle.nova_shared.specs.Finished.{IsFinished}
 use Rattle.nova_shared.specs.declared.finished.Finished.{Finished}
 use Rattle.nova_watching.specs.Watched.{AreIsolatedBefore, IsBrokenOn, IsTold}
-use Rattle.nova_policy_top.specs.Runs.{HasNoStranger, HasRun, HasTaken, IsDecided, IsDecidedOn, IsMisnamed, IsNotRun, IsStopped, IsStrange, IsUndecided, IsUntoldOn, first_turns}
+use Rattle.nova_policy_top.specs.Flows.{AreFlowsIf, HasLines}
+use Rattle.nova_policy_top.specs.Runs.{HasNoStranger, HasRun, HasTaken, IsAnsweredOn, IsDecided, IsDecidedOn, IsMisnamed, IsNotRun, IsStopped, IsStrange, IsToldOn, IsUndecided, IsUntoldOn, first_turns}
 use Rattle.nova_policy_top.specs.declared.exit.Exit.{Exit}
 use Rattle.nova_policy_top.specs.declared.exit.Exit.TheVariants.{Told, Usage, ReadFault, TooLong, Scenario as ScenarioFault, Order, Idle, Policy, NoDomain, WriteFault, Memory}
 use Rattle.nova_policy_top.specs.declared.request.Span.{Span}
@@ -105,6 +107,21 @@ module _ (k now : KernelState) (list : List ℕ) (policy : Option (List Stated))
     first = inl refl;
   }
 
+-- with the lines of flows after it
+pub answered : (k now : KernelState) (list : List ℕ) (policy : Option (List Stated)) (from : ℕ) (flow : Bool) (first t : Answered) (lines : List ℕ) → now ≡ run k list
+    → IsDecidedOn k list policy from (Ok first) → AreFlowsIf flow policy now lines → HasLines first lines t → IsAnsweredOn k list policy from flow (Ok t)
+answered k now list policy from flow first t lines ran told flows with = record {
+  first = string_bytes first.text;
+  lines = lines;
+  whole = with.text;
+  told = subst (λ (a : Answer). IsToldOn k list policy from a (string_bytes first.text)) (sym with.answer) told;
+  flows = subst (λ (s : KernelState). AreFlowsIf flow policy s lines) ran flows;
+}
+
+pub unanswered : (k : KernelState) (list : List ℕ) (policy : Option (List Stated)) (from : ℕ) (flow : Bool) (e : Exit) (r : Result Answered Exit) → r ≡ Err e → IsUntoldOn k list policy e
+    → IsAnsweredOn k list policy from flow r
+unanswered k list policy from flow e r is fault = subst (IsAnsweredOn k list policy from flow) (sym is) fault
+
 -- no turn is one after so many
 pub none_late : (policy : Option (List Stated)) (from : ℕ) (k : KernelState) (n : ℕ) (list : List ℕ) → n + length list ≤ from → AreIsolatedBefore policy from k n list
 none_late policy from k n [] few = tt
@@ -124,12 +141,12 @@ untold k order policy span (Idle line) is = absurd is
 untold k order policy span (Policy line why) is = is
 untold k order policy span WriteFault is = is
 
-pub decided_by : (k : KernelState) (order : Option BlockList) (policy : Option (List Stated)) (span : Span) (f : Finished) (from : ℕ) (r : Result Answered Exit) → HasRun k order span.until f → from ≡ span.from
-    → IsDecidedOn k (turns f.order.blocks) policy from r → IsDecided k order policy span r
-decided_by k order policy span f from r ran same is =
-    by_result r (subst (λ (n : ℕ). IsDecidedOn k (first_turns k order span.until) policy n r) same (subst (λ (l : List ℕ). IsDecidedOn k l policy from r) ran.order is))
+pub decided_by : (k : KernelState) (order : Option BlockList) (policy : Option (List Stated)) (span : Span) (flow : Bool) (f : Finished) (from : ℕ) (r : Result Answered Exit) → HasRun k order span.until f → from ≡ span.from
+    → IsAnsweredOn k (turns f.order.blocks) policy from flow r → IsDecided k order policy span flow r
+decided_by k order policy span flow f from r ran same is =
+    by_result r (subst (λ (n : ℕ). IsAnsweredOn k (first_turns k order span.until) policy n flow r) same (subst (λ (l : List ℕ). IsAnsweredOn k l policy from flow r) ran.order is))
   where
-    by_result : (q : Result Answered Exit) → IsDecidedOn k (first_turns k order span.until) policy span.from q → IsDecided k order policy span q
+    by_result : (q : Result Answered Exit) → IsAnsweredOn k (first_turns k order span.until) policy span.from flow q → IsDecided k order policy span flow q
     by_result (Ok t) told = told
     by_result (Err e) fault = untold k order policy span e fault
 
@@ -149,6 +166,6 @@ stops k order policy span (Policy line why) is = is
 stops k order policy span (NoDomain line domain) is = absurd is
 stops k order policy span WriteFault is = is
 
-pub stops_by : (k : KernelState) (order : Option BlockList) (policy : Option (List Stated)) (span : Span) (e : Exit) (r : Result Answered Exit) → r ≡ Err e → IsStopped k order span.until e
-    → IsDecided k order policy span r
-stops_by k order policy span e r is stopped = subst (IsDecided k order policy span) (sym is) (stops k order policy span e stopped)
+pub stops_by : (k : KernelState) (order : Option BlockList) (policy : Option (List Stated)) (span : Span) (flow : Bool) (e : Exit) (r : Result Answered Exit) → r ≡ Err e → IsStopped k order span.until e
+    → IsDecided k order policy span flow r
+stops_by k order policy span flow e r is stopped = subst (IsDecided k order policy span flow) (sym is) (stops k order policy span e stopped)

@@ -4,7 +4,7 @@ use Rattle.clap.specs.Walk.{Row, Rule, first_of}
 use Rattle.clap.specs.Simple.{App, new_app, new_rule, with_rule}
 use Rattle.nova_command.specs.Parsing.{Text, given_by}
 
--- `--order ORDER`, `--at TURN`, `--until TURN` and `--policy POLICY`
+-- `--order ORDER`, `--at TURN`, `--until TURN`, `--policy POLICY` and `--flow TURN`
 abbrev pub order_option : Rule
 order_option = record (new_rule (codes "order")) { long = Some (codes "order") }
 
@@ -17,17 +17,21 @@ at_option = record (new_rule (codes "at")) { long = Some (codes "at") }
 abbrev pub until_option : Rule
 until_option = record (new_rule (codes "until")) { long = Some (codes "until") }
 
+abbrev pub flow_option : Rule
+flow_option = record (new_rule (codes "flow")) { long = Some (codes "flow") }
+
 -- the name of the scenario, and the options
 abbrev pub form : App
-form = with_rule (with_rule (with_rule (with_rule (with_rule (new_app (codes "nova_policy")) (new_rule (codes "scenario"))) order_option) at_option) until_option) policy_option
+form = with_rule (with_rule (with_rule (with_rule (with_rule (with_rule (new_app (codes "nova_policy")) (new_rule (codes "scenario"))) order_option) at_option) until_option) policy_option) flow_option
 
--- what words give to each of the five
+-- what words give to each of the six
 pub record Given : Type 0 where
   pub scenario : Option Text
   pub order : Option Text
   pub at : Option Text
   pub until : Option Text
   pub policy : Option Text
+  pub flow : Option Text
 
 abbrev pub given_in : List Row → Given
 given_in rows = record {
@@ -36,6 +40,7 @@ given_in rows = record {
   at = first_of (codes "at") rows;
   until = first_of (codes "until") rows;
   policy = first_of (codes "policy") rows;
+  flow = first_of (codes "flow") rows;
 }
 
 -- what words give to the form, where the first of them is the program's name, or nothing

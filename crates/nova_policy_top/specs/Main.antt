@@ -57,7 +57,7 @@ pub record IsToldOf {D : Type 0} (d : Depots D) (q : Request) (old new : D) (ans
   pub order : Option BlockList
   pub policy : Option (List Stated)
   pub came : AllCame d q old from order policy new
-  pub told : IsToldIn (boot (scenario_of from)) order policy q.span answer text
+  pub told : IsToldIn (boot (scenario_of from)) order policy q.span q.flow answer text
 
 abbrev pub IsPrepared : {D : Type 0} → Depots D → Request → D → D → Result Told Exit → Type 0
 IsPrepared d q old new (Ok t) = IsToldOf d q old new t.answer (string_bytes t.text)

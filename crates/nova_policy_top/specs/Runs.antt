@@ -1,5 +1,5 @@
 -- A scenario's run up to a turn, and what is told of the states on it.
-use Rattle.std.specs.Prelude.{◌≡◌, ◌⊎◌, ℕ, true, ◌<◌, ◌≤◌, List, [], ◌++◌, length, take, Option, Some, None, Result, Ok, Err, string_bytes}
+use Rattle.std.specs.Prelude.{◌≡◌, ◌⊎◌, ℕ, Bool, true, ◌<◌, ◌≤◌, List, [], ◌++◌, length, take, Option, Some, None, Result, Ok, Err, string_bytes}
 use Rattle.std.specs.List.{AllByRecursion}
 use Rattle.nova_model.specs.State.{KernelState}
 use Rattle.nova_model.specs.Runs.{IsFreeOfIdle, rounds, run}
@@ -12,6 +12,7 @@ use Rattle.nova_judging.specs.Labelled.{first_stranger}
 use Rattle.nova_judging.specs.declared.answer.Answer.{Answer}
 use Rattle.nova_judging.specs.declared.answer.Told.{Told}
 use Rattle.nova_watching.specs.Watched.{AreIsolatedBefore, IsBrokenOn, IsTold, is_breaking}
+use Rattle.nova_policy_top.specs.Flows.{AreFlowsIf}
 use Rattle.nova_policy_top.specs.declared.exit.Exit.{Exit}
 use Rattle.nova_policy_top.specs.declared.exit.Exit.TheVariants.{Idle, NoDomain, Memory}
 use Rattle.nova_policy_top.specs.declared.request.Span.{Span}
@@ -105,9 +106,21 @@ abbrev pub IsDecidedOn : KernelState → List ℕ → Option (List Stated) → �
 IsDecidedOn k list policy from (Ok t) = IsToldOn k list policy from t.answer (string_bytes t.text)
 IsDecidedOn k list policy from (Err exit) = IsUntoldOn k list policy exit
 
+-- and after it, where flows are asked for, their lines of the state at the end of the run
+pub record IsToldWith (k : KernelState) (list : List ℕ) (policy : Option (List Stated)) (from : ℕ) (flow : Bool) (answer : Answer) (text : List ℕ) : Type 0 where
+  pub first : List ℕ
+  pub lines : List ℕ
+  pub whole : text ≡ first ++ lines
+  pub told : IsToldOn k list policy from answer first
+  pub flows : AreFlowsIf flow policy (run k list) lines
+
+abbrev pub IsAnsweredOn : KernelState → List ℕ → Option (List Stated) → ℕ → Bool → Result Told Exit → Type 0
+IsAnsweredOn k list policy from flow (Ok t) = IsToldWith k list policy from flow t.answer (string_bytes t.text)
+IsAnsweredOn k list policy from flow (Err exit) = IsUntoldOn k list policy exit
+
 -- the same of a span of a run, by an order or round robin
-abbrev pub IsToldIn : KernelState → Option BlockList → Option (List Stated) → Span → Answer → List ℕ → Type 0
-IsToldIn k order policy span answer text = IsToldOn k (first_turns k order span.until) policy span.from answer text
+abbrev pub IsToldIn : KernelState → Option BlockList → Option (List Stated) → Span → Bool → Answer → List ℕ → Type 0
+IsToldIn k order policy span flow answer text = IsToldWith k (first_turns k order span.until) policy span.from flow answer text
 
 abbrev pub IsUndecided : KernelState → Option BlockList → Option (List Stated) → Span → Exit → Type 0
 IsUndecided k order policy span (NoDomain line domain) = IsMisnamedOn k (first_turns k order span.until) policy line domain
@@ -115,6 +128,6 @@ IsUndecided k order policy span (Idle line) = IsIdleIn k order span.until line
 IsUndecided k order policy span Memory = Unit {0}
 IsUndecided k order policy span _ = ⊥
 
-abbrev pub IsDecided : KernelState → Option BlockList → Option (List Stated) → Span → Result Told Exit → Type 0
-IsDecided k order policy span (Ok t) = IsToldIn k order policy span t.answer (string_bytes t.text)
-IsDecided k order policy span (Err exit) = IsUndecided k order policy span exit
+abbrev pub IsDecided : KernelState → Option BlockList → Option (List Stated) → Span → Bool → Result Told Exit → Type 0
+IsDecided k order policy span flow (Ok t) = IsToldIn k order policy span flow t.answer (string_bytes t.text)
+IsDecided k order policy span flow (Err exit) = IsUndecided k order policy span exit

@@ -1,5 +1,5 @@
 -- What words ask for.
-use Rattle.std.specs.Prelude.{ℕ, List, ◌∷◌, codes, nat_le, if◌then◌else◌, Option, Some, None, option_and_then}
+use Rattle.std.specs.Prelude.{ℕ, Bool, List, ◌∷◌, codes, is_some, nat_le, if◌then◌else◌, Option, Some, None, option_and_then}
 use Rattle.nova_command.specs.Number.{number_within}
 use Rattle.nova_policy_top.specs.Form.{Given, given}
 use Rattle.nova_policy_top.specs.declared.request.Request.{Request}
@@ -22,13 +22,23 @@ abbrev pub spanned : Option (List ℕ) → Option (List ℕ) → Option Span
 spanned at None = option_and_then (λ turn. between turn turn) (turn_or 1000000 at)
 spanned at (Some text) = option_and_then (λ until. option_and_then (λ from. between from until) (turn_or 0 at)) (turn_of text)
 
--- a scenario and these turns, with the order and the policy where they are named
-abbrev pub requested : Option (List ℕ) → Option (List ℕ) → Option Span → Option (List ℕ) → Option Request
-requested (Some scenario) order (Some span) policy = Some (record { scenario = scenario; order = order; span = span; policy = policy })
-requested scenario order span policy = None
+-- the turn of `--flow` stands in place of that of `--at`, with no last turn
+abbrev pub flowed : Option (List ℕ) → Option (List ℕ) → List ℕ → Option Span
+flowed None None text = spanned (Some text) None
+flowed None (Some until) text = None
+flowed (Some at) until text = None
+
+abbrev pub span_of : Option (List ℕ) → Option (List ℕ) → Option (List ℕ) → Option Span
+span_of at until None = spanned at until
+span_of at until (Some text) = flowed at until text
+
+-- a scenario and these turns, with the order and the policy where they are named, and whether flows are asked for
+abbrev pub requested : Option (List ℕ) → Option (List ℕ) → Option Span → Option (List ℕ) → Bool → Option Request
+requested (Some scenario) order (Some span) policy flow = Some (record { scenario = scenario; order = order; span = span; policy = policy; flow = flow })
+requested scenario order span policy flow = None
 
 abbrev pub asked_of : Given → Option Request
-asked_of g = requested g.scenario g.order (spanned g.at g.until) g.policy
+asked_of g = requested g.scenario g.order (span_of g.at g.until g.flow) g.policy (is_some g.flow)
 
 -- what the words after the program's name ask for, or nothing
 unfoldable pub asked : List (List ℕ) → Option Request

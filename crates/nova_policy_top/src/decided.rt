@@ -4,9 +4,11 @@ ghost use Rattle.nova_boot.specs.Boot.{scenario_of};
 ghost use Rattle.nova_model.specs.Boot.{boot};
 ghost use Rattle.nova_order.specs.Blocks.{is_within, turns};
 ghost use Rattle.nova_scenario.specs.Sound.{IsSound};
-ghost use Rattle.nova_policy_top.specs.Runs.{HasTaken, IsDecided, IsDecidedOn, IsNamedBy, IsToldBefore};
+ghost use Rattle.nova_policy_top.specs.Flows.{HasLines};
+ghost use Rattle.nova_policy_top.specs.Runs.{HasTaken, IsAnsweredOn, IsDecided, IsDecidedOn, IsNamedBy, IsToldBefore};
 
 use crate::exit::Exit;
+use crate::flows::flows_if;
 use crate::request::Span;
 use crate::running::run_to;
 use nova_boot::boot;
@@ -80,22 +82,51 @@ fn told_on(
     }
 }
 
-/// What the sides of a policy are in the first state of a span of a scenario's run in which they aren't isolated, or else in the last.
+/// What was told, with lines after it.
+fn with_lines(told: Told, lines: &str) -> Result<Told, AllocError>
+    ensures { IfOk result (HasLines told lines.now) }
+{
+    let mut told = told;
+    told.text.push_str(lines)?;
+    Ok(told)
+}
+
+/// What is told, with the flows of the last state where they are asked for.
+fn told_with(
+    alloc: Global,
+    scenario: &Scenario,
+    run: &Finished,
+    policy: &Option<Policy>,
+    from: u64,
+    flow: bool,
+) -> Result<Told, Exit>
+    requires sound { IsSound scenario.now }
+    requires run { HasTaken (boot (scenario_of scenario.now)) (turns run.now.order.blocks) run.now }
+    ensures { IsAnsweredOn (boot (scenario_of scenario.now)) (turns run.now.order.blocks) policy.now from flow result }
+{
+    let told = told_on(alloc, scenario, run, policy, from)?;
+    let lines = flows_if(alloc, flow, policy, &run.kernel)?;
+    Ok(with_lines(told, &lines)?)
+}
+
+/// What the sides of a policy are in the first state of a span of a scenario's run in which they aren't isolated, or else in the last; with the flows
+/// of the last where they are asked for.
 pub fn decide(
     alloc: Global,
     scenario: &Scenario,
     order: &Option<Order>,
     policy: &Option<Policy>,
     span: Span,
+    flow: bool,
 ) -> Result<Told, Exit>
     requires sound { IsSound scenario.now }
     requires last { span.until ≤ 10000000 }
     requires within { IfSome order.now (λ o. IsTrue (is_within scenario.now.cpus 10000000 o.blocks)) }
-    ensures { IsDecided (boot (scenario_of scenario.now)) order.now policy.now span result }
+    ensures { IsDecided (boot (scenario_of scenario.now)) order.now policy.now span flow result }
 {
     let run = run_to(alloc, scenario, order, span.until)?;
     let from = u64::from(span.from);
-    let told = told_on(alloc, scenario, &run, policy, from);
+    let told = told_with(alloc, scenario, &run, policy, from, flow);
     let_go(run);
     told
 }

@@ -36,7 +36,7 @@ pub enum Exit {
     Told(Answer),
 
     /// The words ask for nothing. Nothing is written.
-    #[error("usage: nova_policy SCENARIO [--order ORDER] [--at TURN] [--until TURN] [--policy POLICY]")]
+    #[error("usage: nova_policy SCENARIO [--order ORDER] [--at TURN] [--until TURN] [--policy POLICY] [--flow TURN]")]
     Usage,
 
     /// A file could not be fetched. Nothing is written.

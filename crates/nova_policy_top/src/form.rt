@@ -4,7 +4,7 @@ ghost use Rattle.clap.specs.Simple.{app_of};
 ghost use Rattle.clap.specs.Walk.{rows_of, rule_of};
 ghost use Rattle.clap.specs.Matches.{found_of};
 ghost use Rattle.nova_command.specs.CommandFault.{AnswersBy};
-ghost use Rattle.nova_policy_top.specs.Form.{at_option, form, given, given_in, order_option, policy_option, until_option};
+ghost use Rattle.nova_policy_top.specs.Form.{at_option, flow_option, form, given, given_in, order_option, policy_option, until_option};
 
 use clap::{Arg, ArgMatches, Command};
 use nova_command::{CommandFault, parse};
@@ -38,6 +38,13 @@ fn policy_option<'a>(alloc: Global) -> Arg<'a>
     Arg::new(alloc, "policy").long("policy")
 }
 
+fn flow_option<'a>(alloc: Global) -> Arg<'a>
+    ensures rule { rule_of result ≡ flow_option }
+    ensures local { result.global ≡ false }
+{
+    Arg::new(alloc, "flow").long("flow")
+}
+
 /// The name of the scenario, and the options.
 fn form<'a>(alloc: Global) -> Result<Command<'a>, AllocError>
     ensures { IfOk result (λ command. app_of command ≡ form) }
@@ -47,7 +54,8 @@ fn form<'a>(alloc: Global) -> Result<Command<'a>, AllocError>
         .arg(order_option(alloc))?
         .arg(at_option(alloc))?
         .arg(until_option(alloc))?
-        .arg(policy_option(alloc))
+        .arg(policy_option(alloc))?
+        .arg(flow_option(alloc))
 }
 
 /// What words give to the form, where the first of them is the program's name.

@@ -5,6 +5,7 @@
 mod decided;
 mod exit;
 mod fetched;
+mod flows;
 mod form;
 mod main_call;
 mod request;

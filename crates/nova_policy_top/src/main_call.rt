@@ -21,7 +21,14 @@ fn prepare<D: Depot>(alloc: Global, request: &Request, depot: &mut D) -> Result<
     let scenario = load_scenario(alloc, depot, request.scenario.as_str())?;
     let order = fetch_order_if_named(alloc, depot, &request.order, scenario.cpus)?;
     let policy = fetch_policy_if_named(alloc, depot, &request.policy)?;
-    decide(alloc, &scenario, &order, &policy, request.span)
+    decide(
+        alloc,
+        &scenario,
+        &order,
+        &policy,
+        request.span,
+        request.flow,
+    )
 }
 
 /// Writes what was told.
@@ -47,7 +54,8 @@ fn serve<D: Depot, O: Sink>(alloc: Global, request: &Request, depot: &mut D, out
 }
 
 /// The top call: what the words ask for is decided over the depot's files, and the text that tells it is written to `out`. The words are
-/// those after the program's own name: `SCENARIO [--order ORDER] [--at TURN] [--until TURN] [--policy POLICY]`, each TURN from 0 to 10,000,000.
+/// those after the program's own name: `SCENARIO [--order ORDER] [--at TURN] [--until TURN] [--policy POLICY] [--flow TURN]`, each
+/// TURN from 0 to 10,000,000.
 ///
 /// SCENARIO is fetched and read, of at most 16 MiB; then ORDER, of its processors, of at most 10,000,000 turns and 64 MiB; then POLICY, of at
 /// most 1 MiB. The scenario's run is taken from its boot state over the first turns of the order, or of round robin. Of a state is told what the
@@ -56,7 +64,8 @@ fn serve<D: Depot, O: Sink>(alloc: Global, request: &Request, depot: &mut D, out
 /// `--until`, in which the sides aren't isolated; or the last, where they are in each. A run that ends before has its last state there.
 /// The answer is `Told` with what they are: isolated or not, and what is trusted at rest or not, both exactly. The text is then written, whole:
 /// the turns, the verdict with where its capabilities came from, the finest sides, the sides of each processor, and the ties of sides to other
-/// domains.
+/// domains. `--flow` stands in place of `--at`, without `--until`, and tells after that of each side whether the premises of noninterference on
+/// divided processors hold of it in this state, or which one fails first.
 ///
 /// Other answers, each with its cause: Usage exactly where the words ask for nothing. ReadFault only where the count of failed fetches of one of
 /// the names rose. TooLong where more bytes came than may; Scenario, Order and Policy where the bytes that came are none, with the first line

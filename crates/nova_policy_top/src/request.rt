@@ -1,10 +1,10 @@
 // Words to a request.
-ghost use Rattle.std.specs.Prelude.{◌≡◌, ◌≤◌, IfOk, IfSome, Some, map, option_map, string_bytes};
+ghost use Rattle.std.specs.Prelude.{◌≡◌, ◌≤◌, IfOk, IfSome, Some, is_some, map, option_map, string_bytes};
 ghost use Rattle.clap.specs.Walk.{rows_of};
 ghost use Rattle.clap.specs.Matches.{found_of};
 ghost use Rattle.nova_command.specs.CommandFault.{Answers};
 ghost use Rattle.nova_policy_top.specs.Form.{given_in};
-ghost use Rattle.nova_policy_top.specs.Words.{asked, asked_of, between, spanned, turn_of, turn_or};
+ghost use Rattle.nova_policy_top.specs.Words.{asked, asked_of, between, flowed, span_of, spanned, turn_of, turn_or};
 
 use crate::form::matches_of;
 use clap::ArgMatches;
@@ -32,6 +32,9 @@ pub struct Request {
 
     /// The file of the policy. Where none is named, the root's domain is trusted, and the finest sides of all others are looked for.
     pub policy: Option<Name>,
+
+    /// Whether is told of each side in the last state if the premises of noninterference on divided processors hold of it.
+    pub flow: bool,
 }
 
 /// The last turn that may be asked for.
@@ -99,6 +102,35 @@ fn spanned(at: Option<&str>, until: Option<&str>) -> Option<Span>
     }
 }
 
+/// The one turn that is given for flows, where no others are.
+fn flowed(at: Option<&str>, until: Option<&str>, flow: &str) -> Option<Span>
+    ensures exact { result ≡ flowed (option_map (λ t. t.now) at.entry) (option_map (λ t. t.now) until.entry) flow.now }
+    ensures last { IfSome result (λ span. span.until ≤ 10000000) }
+{
+    match (at, until) {
+        (None, None) => span_at(Some(flow)),
+        (Some(_), _) | (None, Some(_)) => None,
+    }
+}
+
+/// The turns that are asked for.
+fn span_of(at: Option<&str>, until: Option<&str>, flow: Option<&str>) -> Option<Span>
+    ensures exact { result ≡ span_of (option_map (λ t. t.now) at.entry) (option_map (λ t. t.now) until.entry) (option_map (λ t. t.now) flow.entry) }
+    ensures last { IfSome result (λ span. span.until ≤ 10000000) }
+{
+    match flow {
+        Some(flow) => flowed(at, until, flow),
+        None => spanned(at, until),
+    }
+}
+
+/// Whether there is a text.
+fn is_given(text: Option<&str>) -> bool
+    ensures { result ≡ is_some (option_map (λ t. t.now) text.entry) }
+{
+    text.is_some()
+}
+
 /// The name that a text is, where there is a text.
 fn name_if_any(alloc: Global, text: Option<&str>) -> Result<Option<Name>, AllocError>
     ensures { IfOk result (λ name. name ≡ option_map (λ t. t.now) text.entry) }
@@ -121,6 +153,7 @@ fn request_for(
       order = (given_in (rows_of (found_of matches.now))).order;
       span = span;
       policy = (given_in (rows_of (found_of matches.now))).policy;
+      flow = is_some (given_in (rows_of (found_of matches.now))).flow;
     }) }
 {
     let scenario = Name::from_text(alloc, scenario)?;
@@ -131,6 +164,7 @@ fn request_for(
         order,
         span,
         policy,
+        flow: is_given(text_of(matches, "flow")),
     })
 }
 
@@ -142,17 +176,22 @@ fn request_of(alloc: Global, matches: &ArgMatches) -> Result<Request, CommandFau
     let Some(scenario) = text_of(matches, "scenario") else {
         return Err(CommandFault::Usage);
     };
-    let Some(span) = spanned(text_of(matches, "at"), text_of(matches, "until")) else {
+    let Some(span) = span_of(
+        text_of(matches, "at"),
+        text_of(matches, "until"),
+        text_of(matches, "flow"),
+    ) else {
         return Err(CommandFault::Usage);
     };
     Ok(request_for(alloc, matches, scenario, span)?)
 }
 
-/// Reads the words after the program's own name: `SCENARIO [--order ORDER] [--at TURN] [--until TURN] [--policy POLICY]`, the options anywhere
+/// Reads the words after the program's own name: `SCENARIO [--order ORDER] [--at TURN] [--until TURN] [--policy POLICY] [--flow TURN]`, the options anywhere
 /// among them.
 ///
 /// TURN is decimal digits, or `0x` and hexadecimal digits, of a number from 0 to 10,000,000. Without `--until` the one turn is that of `--at`, or
-/// 1,000,000; with it the first turn is that of `--at`, or 0, and not after the last. `Usage` comes exactly where the words are no request, and asking for help or for the version is none. `Memory` says nothing of the words.
+/// 1,000,000; with it the first turn is that of `--at`, or 0, and not after the last. `--flow` stands in place of `--at`, and with neither of the two. `Usage`
+/// comes exactly where the words are no request, and asking for help or for the version is none. `Memory` says nothing of the words.
 #[tactic(auto, unfolding(crate::specs::Words::asked))]
 pub fn read_request(alloc: Global, words: &[String]) -> Result<Request, CommandFault>
     ensures exact { Answers (asked (map string_bytes words.now)) result }

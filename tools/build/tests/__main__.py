@@ -303,6 +303,7 @@ class Hints(unittest.TestCase):
             (["a", "--at", "x"], "--at: 'x' is no number"),
             (["a", "--until", "0x989681"], "--until: 10,000,001 is more than 10,000,000"),
             (["a", "--at", "4", "--until", "3"], "--until is before --at"),
+            (["a", "--flow", "4", "--until", "5"], "--flow stands in place of --at, and without --until"),
         ):
             with self.subTest(words):
                 self.assertEqual(policy_hints(words), [f"these words are no request: {why}. ./nova-policy --help lists them"])

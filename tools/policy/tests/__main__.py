@@ -50,6 +50,9 @@ WRONG = (
     (["examples/apart.nova", "--from", "9"], 2),
     (["examples/apart.nova", "--until", "10000001"], 2),
     (["examples/apart.nova", "--at", "9", "--until", "8"], 2),
+    (["examples/apart.nova", "--at", "9", "--flow", "9"], 2),
+    (["examples/apart.nova", "--flow", "9", "--until", "9"], 2),
+    (["examples/apart.nova", "--flow", "10000001"], 2),
     (["examples/no_such.nova"], 3),
     (["examples/apart.nova", "--policy", "no_such.policy"], 3),
     (["examples/apart.order"], 4),
@@ -137,10 +140,10 @@ class Read(unittest.TestCase):
     """What is no answer isn't read."""
 
     def test_an_answer_is_read_with_its_ties_or_refused(self) -> None:
-        told = read_sides("turn 3\nbreach a:5 trusted:0 domain cap 9 strict\nfrom 9 - 0 obj 0 0 1 0\ntrusted: 0\nside a: 5\nprocessor 0: a 4\nprocessor 1:\ntie a:5 4:4 queue ec 1 ec 2\n")
+        told = read_sides("turn 3\nbreach a:5 trusted:0 domain cap 9 strict\nfrom 9 - 0 obj 0 0 1 0\ntrusted: 0\nside a: 5\nprocessor 0: a 4\nprocessor 1:\ntie a:5 4:4 queue ec 1 ec 2\nflow a own 0 1\nflow 4 IsGuarded.memory cap 9 target 2\n")
         self.assertEqual((told.turn, told.breach.strict, told.links[0].parent, told.sides, told.ties[0].text), (3, True, None, {"a": (5,)}, "queue ec 1 ec 2"))
         self.assertEqual(told.processors, [("a", "4"), ()])
-        for text in ("", "turn x\n", "turn 3\n", "turn 3\napart", "turn 3\napart\nhello\n", "turn 3\napart\nprocessor 1: a\n", "turn 3\nbreach a:5 b:6 portal ec 3\n", "turn 3\napart\ntie a:5 portal cap 3\n"):
+        for text in ("", "turn x\n", "turn 3\n", "turn 3\napart", "turn 3\napart\nhello\n", "turn 3\napart\nprocessor 1: a\n", "turn 3\nbreach a:5 b:6 portal ec 3\n", "turn 3\napart\ntie a:5 portal cap 3\n", "turn 3\napart\nflow a\n"):
             with self.subTest(text), self.assertRaises(Fault):
                 read_sides(text)
 

@@ -7,12 +7,12 @@ use Rattle.nova_policy_top.proofs.decided.decide.Goals as goal
 pub returns-in_err-run : goal.returns-in_err-run
 returns-in_err-run c =
     let is : c.from_residual.result ≡ Err c.in_err-run.field-0.0 = search rules in
-    stops_by (boot (scenario_of c.args.scenario.now)) c.args.order.now c.args.policy.now c.args.span c.in_err-run.field-0.0 _ is c.in_err-run.ensures.idle
+    stops_by (boot (scenario_of c.args.scenario.now)) c.args.order.now c.args.policy.now c.args.span c.args.flow c.in_err-run.field-0.0 _ is c.in_err-run.ensures.idle
 
-pub told_on-told-requires-clause-run : goal.told_on-told-requires-clause-run
-told_on-told-requires-clause-run c = taken_by (boot (scenario_of c.args.scenario.now)) _ c.in_ok-run.run' c.in_ok-run.ensures.run
+pub told_with-told-requires-clause-run : goal.told_with-told-requires-clause-run
+told_with-told-requires-clause-run c = taken_by (boot (scenario_of c.args.scenario.now)) _ c.in_ok-run.run' c.in_ok-run.ensures.run
 
 pub returns : goal.returns
 returns c =
     let same : c.from-from.result ≡ c.args.span.from = search rules in
-    decided_by (boot (scenario_of c.args.scenario.now)) c.args.order.now c.args.policy.now c.args.span c.in_ok-run.run' c.from-from.result _ c.in_ok-run.ensures.run same c.told_on-told.ensures
+    decided_by (boot (scenario_of c.args.scenario.now)) c.args.order.now c.args.policy.now c.args.span c.args.flow c.in_ok-run.run' c.from-from.result _ c.in_ok-run.ensures.run same c.told_with-told.ensures

@@ -1,6 +1,6 @@
 use Rattle.std.proofs.Common.{map, refl, sym, subst}
 use Rattle.clap.specs.Matches.{found_of}
-use Rattle.clap.specs.Simple.{App, app_of, is_simple}
+use Rattle.clap.specs.Simple.{App}
 use Rattle.clap.specs.Walk.{rows_of}
 use Rattle.clap.proofs.OnLiterals.{clap_on_literals}
 use Rattle.nova_command.proofs.Parsed.{answers_more}

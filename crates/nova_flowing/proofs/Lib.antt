@@ -1,0 +1,12 @@
+mod Ranges
+mod Reflecting
+mod Finding
+mod Lineages
+mod Apart
+mod Side
+mod Guarded
+mod Divided
+mod Answering
+mod Alike
+mod Numbered
+mod Telling

@@ -1,0 +1,7 @@
+pub use Rattle.law_flow.specs.Flow
+pub use Rattle.law_flow.specs.Processors
+pub mod Tests
+pub mod Leaks
+pub mod Premises
+pub mod Tables
+pub mod Lines

@@ -1,0 +1,201 @@
+// Lines that tell of each side whether the premises hold.
+ghost use Rattle.std.specs.Prelude.{◌≡◌, ◌++◌, ◌≤◌, ◌^◌, ◌<◌, OnOk, codes, flat_map, length, string_bytes};
+ghost use Rattle.std.specs.List.{enumerate_from, position, range_with_len};
+ghost use Rattle.nova_flowing.specs.Lines.{begins_side, flow_line, flow_lines, flow_text, has_label, home_text, homes_text, is_place, field_word, place_text, verdict_text};
+ghost use Rattle.nova_flowing.specs.Tests.{is_in};
+
+use crate::deciding::{Verdict, decide};
+use crate::leak::{Field, Place};
+use crate::sides::division_of;
+use crate::tables::is_in;
+use nova_kernel::{Derivation, Kernel};
+use nova_naming::Policy;
+use std::alloc::{AllocError, Global};
+
+/// A field of the law's conditions.
+fn field_word<'a>(field: Field) -> &'a str
+    ensures { result.now ≡ field_word field }
+{
+    match field {
+        Field::There => "IsClosed.there",
+        Field::Disjoint => "AreSeparate.disjoint",
+        Field::Capabilities => "IsClosed.capabilities",
+        Field::Waiters => "IsClosed.edges",
+        Field::Firsts => "IsClosed.firsts",
+        Field::Rest => "AreSeparate.rest",
+        Field::Objects => "AreSetsApart.objects",
+        Field::Waits => "AreSetsApart.first",
+        Field::Queues => "AreSetsApart.queues",
+        Field::Holds => "IsSide.holds",
+        Field::Handlers => "IsSide.handlers",
+        Field::Edges => "IsSide.edges",
+        Field::Callers => "IsSide.callers",
+        Field::Queued => "IsSide.queues",
+        Field::Blocked => "IsSide.blocked",
+        Field::Members => "IsSide.members",
+        Field::Owned => "IsGuarded.owned",
+        Field::Semaphores => "IsGuarded.semaphores",
+        Field::Lines => "IsGuarded.lines",
+        Field::Memory => "IsGuarded.memory",
+        Field::Contexts => "HasHome.contexts",
+        Field::Schedules => "HasHome.schedules",
+        Field::Alarms => "HasHome.alarms",
+        Field::Rings => "HasHome.rings",
+        Field::Others => "IsDivided.others",
+        Field::Creates => "IsDivided.creates",
+    }
+}
+
+/// What a premise fails of.
+fn write_place(out: &mut String, place: Place) -> Result<(), AllocError>
+    ensures { OnOk result (string_bytes out.new ≡ string_bytes out.old ++ place_text place) }
+{
+    match place {
+        Place::Capability { cap, target } => writeln!(out, " cap {cap} target {target}"),
+        Place::Object { object } => writeln!(out, " object {object}"),
+        Place::Context { ec, cpu } => writeln!(out, " ec {ec} processor {cpu}"),
+        Place::Source { source, cpu, sm } => {
+            writeln!(out, " source {source} processor {cpu} sm {sm}")
+        }
+    }
+}
+
+fn write_home(out: &mut String, home: &[bool], cpu: u32) -> Result<(), AllocError>
+    ensures { OnOk result (string_bytes out.new ≡ string_bytes out.old ++ home_text (is_in home.now) cpu) }
+{
+    if is_in(home, cpu) {
+        write!(out, " {cpu}")
+    } else {
+        Ok(())
+    }
+}
+
+/// The processors of a side.
+fn write_homes(out: &mut String, home: &[bool], cpus: u32) -> Result<(), AllocError>
+    ensures { OnOk result (string_bytes out.new ≡ string_bytes out.old ++ homes_text (is_in home.now) cpus) }
+{
+    for cpu in 0..cpus {
+        write_home(out, home, cpu)?;
+    }
+    Ok(())
+}
+
+fn write_own(out: &mut String, home: &[bool], cpus: u32) -> Result<(), AllocError>
+    ensures { OnOk result (string_bytes out.new ≡ string_bytes out.old ++ verdict_text (is_in home.now) cpus Verdict.Own) }
+{
+    out.push_str(" own")?;
+    write_homes(out, home, cpus)?;
+    out.push_str("\n")
+}
+
+fn write_failing(out: &mut String, field: Field, place: Place) -> Result<(), AllocError>
+    ensures { OnOk result (string_bytes out.new ≡ string_bytes out.old ++ (codes " " ++ (field_word field ++ place_text place))) }
+{
+    let word = field_word(field);
+    write!(out, " {word}")?;
+    write_place(out, place)
+}
+
+/// Whether the premises hold, in words.
+fn write_verdict(
+    out: &mut String,
+    home: &[bool],
+    cpus: u32,
+    verdict: Verdict,
+) -> Result<(), AllocError>
+    ensures { OnOk result (string_bytes out.new ≡ string_bytes out.old ++ verdict_text (is_in home.now) cpus verdict) }
+{
+    match verdict {
+        Verdict::Own => write_own(out, home, cpus),
+        Verdict::Waits { ec } => writeln!(out, " waits ec {ec}"),
+        Verdict::Fails { leak, .. } => write_failing(out, leak.field, leak.place),
+    }
+}
+
+/// A side in a line.
+fn write_flow(
+    alloc: Global,
+    out: &mut String,
+    policy: &Policy,
+    kernel: &Kernel,
+    list: &[Derivation],
+    labels: &[u32],
+    label: u32,
+) -> Result<(), AllocError>
+    requires list { list.now ≡ kernel.now.state.delegations.list }
+    requires labels { length labels.now ≤ length kernel.now.state.objects }
+    ensures { OnOk result (string_bytes out.new ≡ string_bytes out.old ++ flow_text policy.now kernel.now.state labels.now label) }
+{
+    let v = division_of(alloc, kernel, list, labels, label)?;
+    let verdict = decide(kernel, list, &v);
+    let cpus = kernel.cpus();
+    out.push_str("flow ")?;
+    policy.write_side(out, label)?;
+    write_verdict(out, &v.home, cpus, verdict)
+}
+
+/// The first number with a label.
+fn place_of(labels: &[u32], label: u32) -> Option<usize>
+    ensures { result ≡ position (has_label label) labels.now }
+{
+    labels.iter().position(|&other| other == label)
+}
+
+fn is_place(n: usize, place: Option<usize>) -> bool
+    ensures { result ≡ is_place n place }
+{
+    match place {
+        Some(place) => place == n,
+        None => false,
+    }
+}
+
+/// Whether a number is the first of a side.
+fn begins_side(labels: &[u32], n: usize, label: u32) -> bool
+    ensures { result ≡ begins_side labels.now n label }
+{
+    label != 0 && is_place(n, place_of(labels, label))
+}
+
+fn write_flow_at(
+    alloc: Global,
+    out: &mut String,
+    policy: &Policy,
+    kernel: &Kernel,
+    list: &[Derivation],
+    labels: &[u32],
+    n: usize,
+    label: u32,
+) -> Result<(), AllocError>
+    requires list { list.now ≡ kernel.now.state.delegations.list }
+    requires labels { length labels.now ≤ length kernel.now.state.objects }
+    ensures { OnOk result (string_bytes out.new ≡ string_bytes out.old ++ flow_line policy.now kernel.now.state labels.now (n, label)) }
+{
+    if begins_side(labels, n, label) {
+        write_flow(alloc, out, policy, kernel, list, labels, label)
+    } else {
+        Ok(())
+    }
+}
+
+/// Writes of each side of `labels`, the labels of the domains of `kernel` by number, whether the premises of noninterference on divided processors hold
+/// in its present state, of which `list` has all derivations: `own` with the side's processors, or the first that fails, by the field of the law's
+/// conditions, with the capability, object, execution context or source of which it does; or `waits` with an execution context of no side that is blocked, where only a deadline
+/// of its may be against it. The only refusal is of memory.
+pub fn write_flows(
+    alloc: Global,
+    out: &mut String,
+    policy: &Policy,
+    kernel: &Kernel,
+    list: &[Derivation],
+    labels: &[u32],
+) -> Result<(), AllocError>
+    requires list { list.now ≡ kernel.now.state.delegations.list }
+    requires labels { length labels.now ≤ length kernel.now.state.objects }
+    ensures { OnOk result (string_bytes out.new ≡ string_bytes out.old ++ flow_lines policy.now kernel.now.state labels.now) }
+{
+    for (n, label) in labels.iter().enumerate() {
+        write_flow_at(alloc, out, policy, kernel, list, labels, n, *label)?;
+    }
+    Ok(())
+}

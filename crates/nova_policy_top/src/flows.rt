@@ -1,0 +1,135 @@
+// Lines that tell of each side whether the premises of noninterference on divided processors hold.
+ghost use Rattle.std.specs.Prelude.{◌≡◌, ◌≤◌, ◌<◌, ◌^◌, IfOk, length, string_bytes};
+ghost use Rattle.law_sides.specs.Tied.{ties};
+ghost use Rattle.nova_judging.specs.Answers.{AreSettled};
+ghost use Rattle.nova_judging.specs.Labelled.{labelled, labels_of};
+ghost use Rattle.nova_flowing.specs.Lines.{flow_lines};
+ghost use Rattle.nova_watching.specs.Watched.{trusted_root};
+ghost use Rattle.nova_policy_top.specs.Flows.{AreFinestFlows, AreFlows, AreFlowsIf};
+
+use nova_flowing::write_flows;
+use nova_kernel::{Kernel, Object};
+use nova_naming::Policy;
+use nova_sides::{derivations_of, ties};
+use nova_ties::{Tie, settle};
+use std::alloc::{AllocError, Global};
+
+/// The most objects of a state that is judged.
+const MOST: usize = 1 << 31;
+
+/// The label of an object.
+fn labelled(policy: &Policy, n: u32, object: Object) -> u32
+    requires { n < 2 ^ 31 }
+    ensures { result ≡ labelled policy.now (n, object) }
+{
+    match object {
+        Object::Pd => policy.label_of(n),
+        _ => 0,
+    }
+}
+
+/// The labels that a policy gives to the objects of a kernel.
+#[tactic(auto, unfolding(nova_judging::specs::Labelled::labels_of))]
+fn labels_of(alloc: Global, policy: &Policy, kernel: &Kernel) -> Result<Vec<u32>, AllocError>
+    requires few { length kernel.now.state.objects ≤ 2 ^ 31 }
+    ensures { IfOk result (λ labels. labels.items ≡ labels_of policy.now kernel.now.state) }
+{
+    let mut labels = Vec::new(alloc);
+    for (i, object) in kernel.objects().iter().enumerate() {
+        labels.push(labelled(policy, i as u32, *object))?;
+    }
+    Ok(labels)
+}
+
+/// The lines of the sides of some labels.
+fn flows_by(
+    alloc: Global,
+    policy: &Policy,
+    kernel: &Kernel,
+    labels: &[u32],
+) -> Result<String, AllocError>
+    ensures { IfOk result (λ text. string_bytes text ≡ flow_lines policy.now kernel.now.state labels.now) }
+{
+    if labels.len() > kernel.objects().len() {
+        return Err(AllocError);
+    }
+    let list = derivations_of(alloc, kernel)?;
+    let mut text = String::new(alloc);
+    write_flows(alloc, &mut text, policy, kernel, &list, labels)?;
+    Ok(text)
+}
+
+/// The lines of the sides of a policy, as it names them.
+fn flows_named(alloc: Global, policy: &Policy, kernel: &Kernel) -> Result<String, AllocError>
+    requires few { length kernel.now.state.objects ≤ 2 ^ 31 }
+    ensures { IfOk result (λ text. string_bytes text ≡ flow_lines policy.now kernel.now.state (labels_of policy.now kernel.now.state)) }
+{
+    let labels = labels_of(alloc, policy, kernel)?;
+    flows_by(alloc, policy, kernel, &labels)
+}
+
+/// Joins sides to the finest that respect the ties of a state, or answers the tie for which there are none.
+fn settle_in(kernel: &Kernel, labels: &mut [u32], tied: &[Tie]) -> Option<Tie>
+    requires ties { tied.now ≡ ties kernel.now.state }
+    ensures { AreSettled kernel.now.state labels.old labels.new result }
+{
+    settle(labels, tied)
+}
+
+/// The lines of the finest sides to which those of a policy can be joined, or none.
+fn flows_settled(
+    alloc: Global,
+    policy: &Policy,
+    kernel: &Kernel,
+    tied: &[Tie],
+    labels: &mut [u32],
+) -> Result<String, AllocError>
+    requires ties { tied.now ≡ ties kernel.now.state }
+    requires labels { labels.old ≡ labels_of policy.now kernel.now.state }
+    ensures { IfOk result (λ text. AreFinestFlows policy.now kernel.now.state (string_bytes text)) }
+{
+    match settle_in(kernel, labels, tied) {
+        Some(_) => Ok(String::new(alloc)),
+        None => flows_by(alloc, policy, kernel, labels),
+    }
+}
+
+/// The lines of the finest sides beside a trusted root, or none.
+fn flows_finest(alloc: Global, kernel: &Kernel) -> Result<String, AllocError>
+    requires few { length kernel.now.state.objects ≤ 2 ^ 31 }
+    ensures { IfOk result (λ text. AreFinestFlows trusted_root kernel.now.state (string_bytes text)) }
+{
+    let policy = Policy::trusting(alloc, 0)?;
+    let tied = ties(alloc, kernel)?;
+    let mut labels = labels_of(alloc, &policy, kernel)?;
+    flows_settled(alloc, &policy, kernel, &tied, &mut labels)
+}
+
+/// The lines of the sides of a policy, or of the finest where there is no policy.
+fn flows_of(alloc: Global, policy: &Option<Policy>, kernel: &Kernel) -> Result<String, AllocError>
+    ensures { IfOk result (λ text. AreFlows policy.now kernel.now.state (string_bytes text)) }
+{
+    if kernel.objects().len() > MOST {
+        return Err(AllocError);
+    }
+    match policy {
+        Some(policy) => flows_named(alloc, policy, kernel),
+        None => flows_finest(alloc, kernel),
+    }
+}
+
+/// The lines, where they are asked for.
+pub fn flows_if(
+    alloc: Global,
+    flow: bool,
+    policy: &Option<Policy>,
+    kernel: &Kernel,
+) -> Result<String, AllocError>
+    ensures { IfOk result (λ text. AreFlowsIf flow policy.now kernel.now.state (string_bytes text)) }
+{
+    if flow {
+        flows_of(alloc, policy, kernel)
+    } else {
+        Ok(String::new(alloc))
+    }
+}
