@@ -1,8 +1,8 @@
 -- Sides whose labels respect the ties of the state are isolated.
 use Rattle.std.proofs.Common.{◌≡◌, ◌≢◌, ◌⊎◌, ◌++◌, ℕ, refl, sym, ap, ◌∙◌, subst, inl, inr}
-use Rattle.std.specs.Prelude.{Bool, true, false, if◌then◌else◌, flat_map, is_some, Contains, slice_get, Option, Some, None, option_map, option_and_then, option_to_list}
+use Rattle.std.specs.Prelude.{◌||◌, Bool, true, false, if◌then◌else◌, flat_map, is_some, Contains, slice_get, Option, Some, None, option_map, option_and_then, option_to_list}
 use Rattle.std.specs.List.{AllByRecursion, enumerate_from}
-use Rattle.std.proofs.lemmas.Bool.{eq-eqb}
+use Rattle.std.proofs.lemmas.Bool.{eq-eqb, or_parts}
 use Rattle.nova_objects.specs.declared.object.Object.{Object}
 use Rattle.nova_objects.specs.declared.object.Object.TheVariants.{Pd, Ec, Sc, Pt, Sm}
 use Rattle.nova_range.specs.Rights.{allows, write_right}
@@ -23,7 +23,7 @@ use Rattle.law_integrity.proofs.Edges.{at_index}
 use Rattle.law_integrity.proofs.Labels.{IsEc, context_ec, edge_ec, local_ec}
 use Rattle.nova_ties.specs.Ties.{AreRespected, Respects}
 use Rattle.nova_ties.specs.declared.tie.Cause.TheVariants as cause
-use Rattle.law_sides.specs.Isolated.{AreIsolated, commands_any}
+use Rattle.law_sides.specs.Isolated.{AreIsolated, came_by_exit, commands_any}
 use Rattle.law_sides.specs.Tied.{beside_at, beside_in, gives_of, lead_of, overlaps, overlaps_all, overlaps_by, queue_of, served, serves_by, serves_of, shares, shares_all, shares_by, strict, takes_by, takes_of, ties, ties_at, ties_by, ties_in, ties_of_kind, waits_all, waits_at, waits_in, weak}
 use Rattle.law_sides.proofs.Frames.{frame_meets}
 use Rattle.law_sides.proofs.Lists.{all_left, all_right, flat_all, numbered_all, some_all}
@@ -183,22 +183,32 @@ module _ (k : KernelState) (label : ℕ → ℕ) (tables : HasTables k)
       by_contexts (Some x) (Some y) at there first second =
           by_members x y at there first second (context_ec k n tables (ap (λ (o : Option EcState). is_some o) at)) (context_ec k m tables (ap (λ (o : Option EcState). is_some o) there))
 
-  its_edges : (waiter handler : ℕ) → edge k.contexts waiter ≡ Some handler → label (pd_of k handler) ≢ 0 → MayWait k label (label (pd_of k handler)) waiter
-  its_edges waiter handler is some = by_context (edge_ec k waiter handler tables is) (context_at k waiter) refl is
+  -- the tie of a wait
+  its_wait : (waiter handler : ℕ) → edge k.contexts waiter ≡ Some handler → label (pd_of k handler) ≢ 0 →
+      (label (pd_of k waiter) ≡ label (pd_of k handler)) ⊎ (((is_local_thread k waiter || came_by_exit k waiter handler) ≡ false) × (label (pd_of k waiter) ≡ 0))
+  its_wait waiter handler is some = by_context (edge_ec k waiter handler tables is) (context_at k waiter) refl is
     where
-      by_respect : (pd : ℕ) → pd_of k waiter ≡ pd → (label pd ≡ label (pd_of k handler)) ⊎ ((is_local_thread k waiter ≡ false) × (label pd ≡ 0)) → MayWait k label (label (pd_of k handler)) waiter
-      by_respect pd its (inl same) = inl (ap label its ∙ same)
-      by_respect pd its (inr client) = inr (ap label its ∙ client.1, client.0)
-
       by_context : IsMember k (λ m. Unit {0}) waiter → (o : Option EcState) → context_at k waiter ≡ o → option_and_then edge_of (option_map (λ x. x.state) o) ≡ Some handler →
-          MayWait k label (label (pd_of k handler)) waiter
+          (label (pd_of k waiter) ≡ label (pd_of k handler)) ⊎ (((is_local_thread k waiter || came_by_exit k waiter handler) ≡ false) × (label (pd_of k waiter) ≡ 0))
       by_context m None at e = absurd (cc)
       by_context m (Some x) at e =
-          by_respect m.domain (ap pd_in m.object)
+          subst (λ (pd : ℕ). (label pd ≡ label (pd_of k handler)) ⊎ (((is_local_thread k waiter || came_by_exit k waiter handler) ≡ false) × (label pd ≡ 0))) (sym (ap pd_in m.object))
           (some_all (Respects label) (serves_of k waiter m.domain x.state) (served k handler waiter m.domain)
           (all_left (Respects label) (option_to_list (serves_of k waiter m.domain x.state))
           (option_to_list (takes_of k waiter m.domain x.state x.caller) ++ (option_to_list (gives_of waiter m.domain x.state) ++ queue_of k waiter m.domain x.state)) (here_ties waiter m x at))
           (ap (serves_by k waiter m.domain) e) some)
+
+  its_edges : (waiter handler : ℕ) → edge k.contexts waiter ≡ Some handler → label (pd_of k handler) ≢ 0 → MayWait k label (label (pd_of k handler)) waiter
+  its_edges waiter handler is some = elim (its_wait waiter handler is some) [
+    | inl same ↦ inl same
+    | inr client ↦ inr (client.1, (or_parts (is_local_thread k waiter) (came_by_exit k waiter handler) client.0).0)
+  ]
+
+  its_exits : (waiter handler : ℕ) → edge k.contexts waiter ≡ Some handler → came_by_exit k waiter handler ≡ true → label (pd_of k handler) ≢ 0 → label (pd_of k waiter) ≡ label (pd_of k handler)
+  its_exits waiter handler is came some = elim (its_wait waiter handler is some) [
+    | inl same ↦ same
+    | inr client ↦ let none : true ≡ false = sym came ∙ (or_parts (is_local_thread k waiter) (came_by_exit k waiter handler) client.0).1 in absurd (cc)
+  ]
 
   its_takes : (handler caller : ℕ) (mark : Mark) → (context k handler).state ≡ Granting None → (context k handler).caller ≡ Some (caller, mark) → label (pd_of k handler) ≢ 0 →
       label (pd_of k caller) ≡ label (pd_of k handler)
@@ -247,6 +257,7 @@ module _ (k : KernelState) (label : ℕ → ℕ) (tables : HasTables k)
       queues = its_queues;
     };
     powers = its_powers;
+    exits = its_exits;
     frames = its_frames;
   }
 

@@ -8,6 +8,7 @@ use Rattle.nova_range.specs.Rights.{write_right}
 use Rattle.nova_range.specs.declared.range.Kind.TheVariants.{Obj}
 use Rattle.nova_model.specs.Boot.{Scenario, boot}
 use Rattle.nova_model.specs.Choice.{Candidate, next_to_act}
+use Rattle.nova_model.specs.Edges.{edge}
 use Rattle.nova_model.specs.Runs.{after, run}
 use Rattle.nova_model.specs.State.{KernelState, pd_in, pd_of}
 use Rattle.nova_model.specs.declared.context.EcState.{EcState}
@@ -19,12 +20,13 @@ use Rattle.law_isolation.proofs.Runs.{reached_sound}
 use Rattle.law_origins.specs.Giving.{Acts}
 use Rattle.law_origins.proofs.Lists.{run_append}
 use Rattle.law_integrity.specs.Confined.{AreSeparate, IsMember, IsOwned, Reach, ReachAny, grown, more}
-use Rattle.law_integrity.specs.Trusted.{IsWithinPolicy, Labelled, OrTrusted, ReachesSince, labels, labels_after}
+use Rattle.law_integrity.specs.Waits.{HasLocalEdges}
+use Rattle.law_integrity.specs.Trusted.{IsWithinPolicy, Labelled, MayWait, OrTrusted, ReachesSince, labels, labels_after}
 use Rattle.law_integrity.proofs.Confined.{separate_along}
 use Rattle.law_integrity.proofs.Confining.{acting_one, any_reached, member_pd, object_kept, reached_none}
-use Rattle.law_integrity.proofs.Edges.{at_index}
+use Rattle.law_integrity.proofs.Edges.{at_index, local_edges}
 use Rattle.law_integrity.proofs.Homes.{reached_homed}
-use Rattle.law_integrity.proofs.Labels.{context_ec, labels_made, labels_old}
+use Rattle.law_integrity.proofs.Labels.{IsEc, context_ec, labels_made, labels_old, local_ec}
 use Rattle.law_sides.specs.Isolated.{AreIsolated}
 use Rattle.law_sides.specs.Resting.{IsAtRest, Sided}
 use Rattle.law_sides.proofs.Stuck.{Nowhere}
@@ -42,18 +44,19 @@ last_only (y ∷ os) o (suc n) x none is = ap suc (last_only os o n x none is)
 abbrev pub AreAll : KernelState → (ℕ → ℕ) → (ℕ → Type 0) → Type 0
 AreAll k label S = (n : ℕ) → label n ≢ 0 → slice_get k.objects n ≡ Some Pd → S n
 
--- who acts is of the set, where its domain has a label
+-- an execution context is of the set, where its domain has a label; so is one that acts
+ec_of_all : (k : KernelState) (label : ℕ → ℕ) (S : ℕ → Type 0) (ec : ℕ) → HasTables k → AreAll k label S → IsEc k ec → label (pd_of k ec) ≢ 0 → IsMember k S ec
+ec_of_all k label S ec tables all m some = record {
+  domain = m.domain;
+  cpu = m.cpu;
+  kind = m.kind;
+  event = m.event;
+  object = m.object;
+  of = all m.domain (λ none. some (ap label (ap pd_in m.object) ∙ none)) (at_index (Refers k.objects) k.objects ec (Ec m.domain m.cpu m.kind m.event) tables.refer m.object);
+}
+
 actor_of : (k : KernelState) (label : ℕ → ℕ) (S : ℕ → Type 0) (cpu ec : ℕ) → HasTables k → AreAll k label S → Acts k cpu ec → label (pd_of k ec) ≢ 0 → IsMember k S ec
-actor_of k label S cpu ec tables all acts_ some =
-    let m = context_ec k ec tables (ap (λ (o : Option EcState). is_some o) (acting_one k cpu ec acts_).there) in
-    record {
-      domain = m.domain;
-      cpu = m.cpu;
-      kind = m.kind;
-      event = m.event;
-      object = m.object;
-      of = all m.domain (λ none. some (ap label (ap pd_in m.object) ∙ none)) (at_index (Refers k.objects) k.objects ec (Ec m.domain m.cpu m.kind m.event) tables.refer m.object);
-    }
+actor_of k label S cpu ec tables all acts_ some = ec_of_all k label S ec tables all (context_ec k ec tables (ap (λ (o : Option EcState). is_some o) (acting_one k cpu ec acts_).there)) some
 
 pub all_after : (k : KernelState) (label : ℕ → ℕ) (S : ℕ → Type 0) (cpu : ℕ) → HasTables k → AreAll k label S → AreAll (after k cpu) (labels_after k label cpu) (more k S cpu)
 all_after k label S cpu tables all n some there = by_object (slice_get k.objects n) refl
@@ -125,7 +128,7 @@ since_first k label (cpu ∷ turns) side right frame since = since.0
 pub resting_isolated : (s : Scenario) (before turns : List ℕ) (label : ℕ → ℕ) → AreIsolated (run (boot s) before) label → IsAtRest (run (boot s) before) label →
     AreIsolated (run (run (boot s) before) turns) (labels (run (boot s) before) label turns)
 resting_isolated s before turns label isolated at_rest =
-    record { policy = policy; powers = λ d there kind some power. own d there kind some; frames = λ side other frame some more reach any. apart side other frame some more reach any }
+    record { policy = policy; powers = λ d there kind some power. own d there kind some; exits = λ waiter handler is came some. waits waiter handler is some; frames = λ side other frame some more reach any. apart side other frame some more reach any }
   where
     k : KernelState
     k = run (boot s) before
@@ -147,6 +150,28 @@ resting_isolated s before turns label isolated at_rest =
     own d there kind some =
         own_of (run k turns) later (grown k (Sided label) turns) (later d.pd) d.target (slice_get (run k turns).objects d.target) (λ m g. sided_along k label (Sided label) turns (first_sided k label at_rest) m g)
         (separate.first.capabilities d there (all_along s before turns label (Sided label) (λ n is at. is) d.pd some (holder d there)) kind) (policy.capabilities d there kind some).leads
+
+    -- who waits for a handler of a side, by whatever way, is of the sides, so of that side
+    waits : (waiter handler : ℕ) → edge (run k turns).contexts waiter ≡ Some handler → later (pd_of (run k turns) handler) ≢ 0 → later (pd_of (run k turns) waiter) ≡ later (pd_of (run k turns) handler)
+    waits waiter handler is some = by_wait (policy.edges waiter handler is some)
+      where
+        met : run (boot s) (before ++ turns) ≡ run k turns
+        met = run_append (boot s) before turns
+
+        here : IsEc (run k turns) handler
+        here = local_ec (run k turns) handler (subst HasLocalEdges met (local_edges s (before ++ turns)) waiter handler is)
+
+        handling : IsMember (run k turns) (grown k (Sided label) turns) handler
+        handling = ec_of_all (run k turns) later (grown k (Sided label) turns) handler (subst HasTables met (reached_sound s (before ++ turns)).kept.tables)
+            (all_along s before turns label (Sided label) (λ n has at. has)) here some
+
+        waiting : later (pd_of (run k turns) waiter) ≢ 0
+        waiting = sided_along k label (Sided label) turns (first_sided k label at_rest) (pd_of (run k turns) waiter)
+            (member_pd (run k turns) (grown k (Sided label) turns) waiter (separate.first.edges waiter handler is handling))
+
+        by_wait : MayWait (run k turns) later (later (pd_of (run k turns) handler)) waiter → later (pd_of (run k turns) waiter) ≡ later (pd_of (run k turns) handler)
+        by_wait (inl same) = same
+        by_wait (inr client) = absurd (waiting client.0)
 
     apart : (side other frame : ℕ) → side ≢ 0 → other ≢ 0 → Reach (run k turns) (Labelled later side) write_right frame → ReachAny (run k turns) (Labelled later other) frame → other ≡ side
     apart side other frame some more_ reach any =

@@ -1,6 +1,6 @@
 -- Labels of isolated sides respect the ties of the state.
 use Rattle.std.proofs.Common.{◌≡◌, ◌≢◌, ◌⊎◌, ◌++◌, ℕ, refl, sym, ap, ◌∙◌, subst, inl, inr}
-use Rattle.std.specs.Prelude.{◌==◌, Bool, true, false, if◌then◌else◌, flat_map, slice_get, Option, Some, None, option_map, option_and_then, option_to_list}
+use Rattle.std.specs.Prelude.{◌==◌, ◌||◌, Bool, true, false, if◌then◌else◌, flat_map, slice_get, Option, Some, None, option_map, option_and_then, option_to_list}
 use Rattle.std.specs.List.{AllByRecursion, enumerate_from}
 use Rattle.std.proofs.lemmas.Bool.{cases_eq, eqb-true}
 use Rattle.std.proofs.lemmas.Option.{same_Some}
@@ -9,7 +9,7 @@ use Rattle.nova_objects.specs.declared.object.Object.TheVariants.{Pd, Ec, Sc, Pt
 use Rattle.nova_range.specs.Rights.{allows, write_right}
 use Rattle.nova_range.specs.declared.range.Kind.{Kind}
 use Rattle.nova_range.specs.declared.range.Kind.TheVariants.{Mem, Obj}
-use Rattle.nova_model.specs.Edges.{edge_of}
+use Rattle.nova_model.specs.Edges.{edge, edge_of}
 use Rattle.nova_model.specs.State.{KernelState, context, context_at, context_in, is_local_thread, pd_in, pd_of}
 use Rattle.nova_model.specs.declared.context.EcState.{EcState}
 use Rattle.nova_model.specs.declared.context.Mark.{Mark}
@@ -23,7 +23,7 @@ use Rattle.law_integrity.proofs.Confining.{member_pd}
 use Rattle.nova_ties.specs.Ties.{AreRespected, Respects}
 use Rattle.nova_ties.specs.declared.tie.Cause.TheVariants as cause
 use Rattle.nova_ties.specs.declared.tie.Tie.{Tie}
-use Rattle.law_sides.specs.Isolated.{AreIsolated, commands_any}
+use Rattle.law_sides.specs.Isolated.{AreIsolated, came_by_exit, commands_any}
 use Rattle.law_sides.specs.Tied.{beside_at, beside_in, gives_of, is_blocked_at, lead_of, meets, overlaps, overlaps_all, overlaps_by, queue_of, serves_by, serves_of, shares, shares_all, shares_by, strict, takes_of, ties, ties_at, ties_by, ties_in, ties_of_kind, waits_all, waits_at, waits_in, weak}
 use Rattle.law_sides.proofs.Frames.{meets_frame}
 use Rattle.law_sides.proofs.Lists.{all_append, all_flat, all_numbered, all_some}
@@ -145,13 +145,19 @@ module _ (k : KernelState) (label : ℕ → ℕ) (isolated : AreIsolated k label
       by_edge : (o : Option ℕ) → edge_of x.state ≡ o → AllByRecursion R (option_to_list (serves_by k n pd o))
       by_edge None is = tt
       by_edge (Some handler) is = (
-        (λ some. by_waits handler (policy.edges n handler (ap (λ (o : Option EcState). option_and_then edge_of (option_map (λ y. y.state) o)) at ∙ is) some)),
+        (λ some. by_way handler some (ap (λ (o : Option EcState). option_and_then edge_of (option_map (λ y. y.state) o)) at ∙ is) (came_by_exit k n handler) refl),
         tt,
       )
         where
-          by_waits : (h : ℕ) → MayWait k label (label (pd_of k h)) n → (label pd ≡ label (pd_of k h)) ⊎ ((is_local_thread k n ≡ false) × (label pd ≡ 0))
-          by_waits h (inl same) = inl (sym (ap label its) ∙ same)
-          by_waits h (inr client) = inr (client.1, sym (ap label its) ∙ client.0)
+          by_waits : (h : ℕ) → came_by_exit k n h ≡ false → MayWait k label (label (pd_of k h)) n →
+              (label pd ≡ label (pd_of k h)) ⊎ (((is_local_thread k n || came_by_exit k n h) ≡ false) × (label pd ≡ 0))
+          by_waits h called (inl same) = inl (sym (ap label its) ∙ same)
+          by_waits h called (inr client) = inr (ap (λ (b : Bool). b || came_by_exit k n h) client.1 ∙ called, sym (ap label its) ∙ client.0)
+
+          by_way : (h : ℕ) → label (pd_of k h) ≢ 0 → edge k.contexts n ≡ Some h → (t : Bool) → came_by_exit k n h ≡ t →
+              (label pd ≡ label (pd_of k h)) ⊎ (((is_local_thread k n || came_by_exit k n h) ≡ false) × (label pd ≡ 0))
+          by_way h some waits true exits = inl (sym (ap label its) ∙ isolated.exits n h waits exits some)
+          by_way h some waits false called = by_waits h called (policy.edges n h waits some)
 
   takes : (n pd : ℕ) (x : EcState) → pd_of k n ≡ pd → context_at k n ≡ Some x → AllByRecursion R (option_to_list (takes_of k n pd x.state x.caller))
   takes n pd x its at = by_state x.state x.caller (state_at (context_at k n) x at) (ap (λ (o : Option EcState). (context_in o).caller) at)

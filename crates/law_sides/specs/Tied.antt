@@ -16,7 +16,7 @@ use Rattle.nova_model.specs.declared.delegation.Derivation.{Derivation}
 use Rattle.nova_ties.specs.declared.tie.Cause.{Cause}
 use Rattle.nova_ties.specs.declared.tie.Cause.TheVariants as cause
 use Rattle.nova_ties.specs.declared.tie.Tie.{Tie}
-use Rattle.law_sides.specs.Isolated.{commands}
+use Rattle.law_sides.specs.Isolated.{came_by_exit, commands}
 
 -- to a side's own or to what is trusted; to a side's own
 abbrev pub weak : ℕ → ℕ → Cause → Tie
@@ -96,9 +96,9 @@ ties_by k list d = ties_of_kind k list d d.kind
 
 -- BY EXECUTION CONTEXTS
 
--- the domain of a handler is tied to that of who waits for it: to a side's own alone where that is a handler itself
+-- the domain of a handler is tied to that of who waits for it: to a side's own alone where that is a handler itself, or came by an exit
 abbrev pub served : KernelState → ℕ → ℕ → ℕ → Tie
-served k handler n pd = record { from = pd_of k handler; to = pd; strict = is_local_thread k n; cause = cause.Serves handler n }
+served k handler n pd = record { from = pd_of k handler; to = pd; strict = is_local_thread k n || came_by_exit k n handler; cause = cause.Serves handler n }
 
 abbrev pub serves_by : KernelState → ℕ → ℕ → Option ℕ → Option Tie
 serves_by k n pd (Some handler) = Some (served k handler n pd)

@@ -1,7 +1,8 @@
 ghost use Rattle.std.specs.Prelude.{◌≡◌, ◌++◌, ◌<◌, flat_map, option_to_list, OnOk, Some};
 ghost use Rattle.std.specs.List.{enumerate_from};
 ghost use Rattle.nova_model.specs.Edges.{edge_of};
-ghost use Rattle.nova_model.specs.State.{context_at, is_local_thread};
+ghost use Rattle.nova_model.specs.State.{context, context_at, context_in, is_local_thread};
+ghost use Rattle.law_sides.specs.Isolated.{came_by_exit, is_exit_of, is_sending};
 ghost use Rattle.law_sides.specs.Tied.{beside_at, beside_in, gives_of, is_blocked_at, queue_of, served, serves_of, strict, takes_by, takes_of, ties_at, weak};
 
 use crate::common::{domain_of, is_blocked_at, push, strict, weak};
@@ -34,13 +35,41 @@ fn is_local_thread(kernel: &Kernel, ec: u32) -> bool
     )
 }
 
+fn is_sending(kernel: &Kernel, ec: u32) -> bool
+    ensures { result ≡ is_sending (context kernel.now.state ec).state }
+{
+    match kernel.ec(ec) {
+        Some(context) => matches!(context.state, State::Sending(..)),
+        None => false,
+    }
+}
+
+fn serves_exit(kernel: &Kernel, handler: u32, waiter: u32) -> bool
+    ensures { result ≡ is_exit_of waiter (context kernel.now.state handler).caller }
+{
+    match kernel.ec(handler) {
+        Some(context) => match context.caller {
+            Some((caller, Mark::Exit)) => caller == waiter,
+            _ => false,
+        },
+        None => false,
+    }
+}
+
+/// Whether an execution context that waits for a handler came by an exit.
+fn came_by_exit(kernel: &Kernel, waiter: u32, handler: u32) -> bool
+    ensures { result ≡ came_by_exit kernel.now.state waiter handler }
+{
+    is_sending(kernel, waiter) || serves_exit(kernel, handler, waiter)
+}
+
 fn served(kernel: &Kernel, handler: u32, n: u32, pd: u32) -> Tie
     ensures { result ≡ served kernel.now.state handler n pd }
 {
     Tie {
         from: domain_of(kernel, handler),
         to: pd,
-        strict: is_local_thread(kernel, n),
+        strict: is_local_thread(kernel, n) || came_by_exit(kernel, n, handler),
         cause: Cause::Serves(handler, n),
     }
 }
