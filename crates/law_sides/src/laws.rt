@@ -72,9 +72,9 @@ pub fn sides_beside_what_rests_are_apart_for_good()
 {}
 
 /// Take sides within their policy in such a state, in which each trusted domain is at rest, bare or mute. A bare one holds memory alone, and all that
-/// sides hold of it are portals for exits: a pager, a monitor, a console. A mute one holds nothing of a side's but memory and semaphores, and what it
-/// controls at most, and no side holds anything of its: a driver, a logger by buffers, a watchdog. Whatever turns follow, and whatever their programs do, each turn of what is
-/// trusted is careful, so that the policy holds on. They may give memory to sides as they like.
+/// sides hold of it are portals for exits: a pager, a monitor, a console. A mute one holds nothing of another domain's but memory and semaphores, and
+/// of a side's what it controls at most, and no side holds anything of its: a driver, a logger by buffers, a watchdog. Whatever turns follow, and
+/// whatever their programs do, each turn of what is trusted is careful, so that the policy holds on. They may give memory to sides as they like.
 pub fn bare_and_mute_domains_are_careful()
     ensures turns { (scenario : Scenario) (before turns : List ℕ) (label : ℕ → ℕ)
         → IsWithinPolicy (run (boot scenario) before) label → AreHarmless (run (boot scenario) before) label

@@ -21,11 +21,12 @@ pub enum Role {
     /// No capability of a side leads there, and each of its execution contexts is parked or dead, or waits for good.
     Rests,
 
-    /// It holds memory alone, and all that sides hold of it are portals for exits: it is careful whatever its program does.
+    /// It holds memory alone, and all that sides hold of it are portals for exits: where no trusted domain is at work, it is careful whatever its program
+    /// does.
     Bare,
 
-    /// It holds nothing of a side's but memory, semaphores and what it controls at most, and no side holds anything of its: it is careful whatever its
-    /// program does.
+    /// It holds nothing of another domain's but memory and semaphores, and of a side's what it controls at most, and no side holds anything of its:
+    /// where no trusted domain is at work, it is careful whatever its program does.
     Mute,
 
     /// It is careful if its program is.
